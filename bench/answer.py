@@ -1,0 +1,125 @@
+#!/usr/bin/env python3
+"""Measures how fast the built program acknowledges messages. Plain Python 3, no packages.
+
+Usage: bench/answer.py [PROGRAM]
+
+PROGRAM is the built program, crates/hl7_engine/out/hl7_engine where left out ('rt run' in
+crates/hl7_engine builds it). All figures come from this one run, and every figure that has a
+bound is printed with it. Where python3-hl7 is installed, the same blocks are parsed and
+acknowledged with that library too, in this process, and the ratio is printed.
+The exit status is 0 where every bound is met, else 1.
+"""
+import os
+import sys
+import tempfile
+import time
+
+HERE = os.path.dirname(os.path.abspath(__file__))
+PROGRAM = os.path.join(HERE, '..', 'crates', 'hl7_engine', 'out', 'hl7_engine')
+FEW, MANY = 2_000, 200_000
+ENDLESS = 64 * 1024 * 1024
+MIB = 1024 * 1024
+
+
+def admission(n):
+    """A realistic ADT^A01 of about 700 bytes, with a control id of its own."""
+    fields = [
+        f'MSH|^~\\&|REGADT|MCM|ENGINE|HUB|20231114221300||ADT^A01^ADT_A01|MSG{n:09d}|P|2.5.1|||AL|NE',
+        'EVN|A01|20231114221300||ADM|1007^Nightingale^Florence^^^Ms|20231114220900',
+        f'PID|1||{n % 9_999_999:07d}^^^MCM^MR~{n % 888_888:06d}^^^SSA^SS||EVERYWOMAN^EVE^E^^MRS^^L|JONES|19620320|F||2106-3|'
+        '153 FERNWOOD DR^^STATESVILLE^OH^35292^USA^H||(206)555-0123^PRN^PH~(206)555-0177^ORN^CP|(206)555-0199|EN|M|CHR|'
+        'AC555-44-4444||DL-00123^OH|||||||||N',
+        'NK1|1|JONES^BARBARA^K|SPO^Spouse|153 FERNWOOD DR^^STATESVILLE^OH^35292|(206)555-0124||EC^Emergency contact',
+        'PV1|1|I|W^389^1^MCM^^^^N|E|||1234^Ripley^Ellen^^^Dr||5678^House^Gregory^^^Dr|MED|||A0||2|VIP|'
+        '1234^Ripley^Ellen^^^Dr|IP|V100245^^^MCM^VN|SELF',
+        'AL1|1|DA|1545^Penicillin^99MCM|SV|Produces hives',
+        'DG1|1|I10|J18.9^Pneumonia, unspecified organism^I10C||20231114|A',
+    ]
+    return ('\r'.join(fields) + '\r').encode()
+
+
+def framed(text):
+    return b'\x0b' + text + b'\x1c\r'
+
+
+def run(program, source, sink):
+    """Runs the program on a file; gives seconds, peak memory in bytes, and the status."""
+    with open(source, 'rb') as fed, open(sink, 'wb') as got:
+        began = time.perf_counter()
+        child = os.posix_spawn(program, [program], {}, file_actions=[
+            (os.POSIX_SPAWN_DUP2, fed.fileno(), 0), (os.POSIX_SPAWN_DUP2, got.fileno(), 1)])
+        _, status, usage = os.wait4(child, 0)
+        took = time.perf_counter() - began
+    return took, usage.ru_maxrss * 1024, os.waitstatus_to_exitcode(status)
+
+
+def best(program, source, sink, times):
+    runs = [run(program, source, sink) for _ in range(times)]
+    assert all(status == 0 for _, _, status in runs), 'the program did not end with status 0'
+    return min(took for took, _, _ in runs), max(peak for _, peak, _ in runs)
+
+
+def library_seconds(texts):
+    """Seconds a message of parsing and acknowledging with python-hl7, None where it isn't installed."""
+    try:
+        import hl7
+    except ImportError:
+        return None
+    texts = [text.decode() for text in texts]
+    began = time.perf_counter()
+    for text in texts:
+        str(hl7.parse(text).create_ack('CA'))
+    return (time.perf_counter() - began) / len(texts)
+
+
+def main():
+    program = os.path.abspath(sys.argv[1] if len(sys.argv) > 1 else PROGRAM)
+    failed = []
+
+    def tell(line, holds=None):
+        print(line + ('' if holds is None else '  ok' if holds else '  MISSED'))
+        if holds is False:
+            failed.append(line)
+
+    with tempfile.TemporaryDirectory() as folder:
+        source, sink = os.path.join(folder, 'in'), os.path.join(folder, 'out')
+        seconds = {}
+        for count, times in ((FEW, 15), (MANY, 3)):
+            with open(source, 'wb') as f:
+                for n in range(count):
+                    f.write(framed(admission(n)))
+            size = os.path.getsize(source)
+            took, peak = best(program, source, sink, times)
+            with open(sink, 'rb') as f:
+                accepted = f.read().count(b'\rMSA|CA|MSG')
+            assert accepted == count, f'{accepted} of {count} messages were accepted'
+            seconds[count] = took / count
+            tell(f'{count:>7} messages of {size // count} bytes: {count / took:,.0f} messages a second, '
+                 f'{1e6 * took / count:.2f} microseconds a message, {size / took / MIB:,.0f} MiB/s, '
+                 f'peak memory {peak / MIB:.0f} MiB')
+            bound = 2 * size + 50_000_000
+            tell(f'        peak memory at most twice the input and 50 MB ({bound / MIB:.0f} MiB)', peak <= bound)
+        good = size / took
+        ratio = seconds[MANY] / seconds[FEW]
+        tell(f'time a message at {MANY} over that at {FEW}: {ratio:.2f} (at most 1.3)', ratio <= 1.3)
+
+        with open(source, 'wb') as f:
+            f.write(b'\x0b' + b'A' * ENDLESS)
+        took, peak = best(program, source, sink, 3)
+        tell(f'a block of {ENDLESS // MIB} MiB that never ends: {ENDLESS / took / MIB:,.0f} MiB/s '
+             f'(at least a tenth of {good / MIB:,.0f})', ENDLESS / took >= good / 10)
+        tell(f'        peak memory {peak / MIB:.1f} MiB (bounded: at most 16)', peak <= 16 * MIB)
+
+    library = library_seconds([admission(n) for n in range(FEW)])
+    if library is None:
+        print('python3-hl7 is not installed: no ratio to it')
+    else:
+        ratio = library / seconds[FEW]
+        tell(f'python-hl7, parsing and acknowledging the same {FEW}: {1e6 * library:.0f} microseconds a message, '
+             f'{ratio:.0f} times as many (at least 200)', ratio >= 200)
+    print(f'cores: {os.cpu_count()}')
+    return 1 if failed else 0
+
+
+if __name__ == '__main__':
+    sys.exit(main())

@@ -1,0 +1,11 @@
+pub mod Cuts
+pub mod Appending
+pub mod ReadSteps
+pub mod Searching
+pub mod Steps
+pub mod Settled
+pub mod Rules
+pub mod Pieces
+pub mod Bounds
+pub mod DataLaws
+pub mod Rows

@@ -1,0 +1,84 @@
+-- The steps of a framer, by what their searches found.
+use Rattle.std.proofs.Common.{◌≡◌, ℕ, ◌+◌, ◌-◌, ◌<◌, true, ◌==◌, List, [], ◌∷◌, ◌++◌, length, take, drop, get_or, refl, sym, ap, ◌∙◌, subst, arith, length-take, ⊎_elim}
+use Rattle.std.proofs.lemmas.Bool.{eqb-true, ne_eqb, or_cases}
+use Rattle.std.proofs.lemmas.List.{take_rest}
+use Rattle.std.proofs.lemmas.List.Elements.{recursion_from_All, All-from_recursion}
+use Rattle.memchr.specs.Find.{Passes, Nowhere, NoneBefore, is_byte, is_byte2}
+use Rattle.mllp_frame.specs.declared.Break.TheVariants.{NewStart, BadEnd}
+use Rattle.mllp_frame.specs.declared.TheConstants.{START_BLOCK, END_BLOCK, CARRIAGE_RETURN}
+use Rattle.mllp_frame.specs.Event.{Event, broken}
+use Rattle.mllp_frame.specs.Framing.{ended_block, shortened, least_too_long, begun_block, ending_block}
+use Rattle.mllp_frame.specs.Stage.{Reads, IsShortData}
+use Rattle.mllp_frame.proofs.Cuts.{Plain, Plain-append, Plain-take}
+use Rattle.mllp_frame.proofs.Searching.{fails_before, fails_all, split_at}
+use Rattle.mllp_frame.proofs.ReadSteps.{outside_none, outside_start, inside_data, inside_start, inside_end, ended_whole, ended_bad}
+
+-- what is left behind a place, as `&piece[at..]` reads it
+abbrev pub behind : List ℕ → ℕ → List ℕ
+behind piece at = take (length piece - at) (drop at piece)
+
+plain_of : (d : List ℕ) → IsShortData d → Plain d
+plain_of d short = recursion_from_All _ d short.plain
+
+pub short_more : (d more : List ℕ) → IsShortData d → Plain more → IsShortData (shortened (d ++ more))
+short_more d more old new = record {
+  plain = All-from_recursion _ (shortened (d ++ more)) (Plain-take least_too_long (d ++ more) (Plain-append d more (plain_of d old) new));
+  bounded = omega (arith, length-take least_too_long (d ++ more));
+}
+
+pub short_none : IsShortData []
+short_none = record { plain = λ k d below. absurd (omega arith); bounded = omega arith }
+
+-- a string round the place of a byte
+round : (piece : List ℕ) (at b : ℕ) → at < length piece → get_or piece at 0 ≡ b → piece ≡ take at piece ++ b ∷ behind piece (at + 1)
+round piece at b fits is =
+    split_at piece at fits
+    ∙ ap (λ x. take at piece ++ x ∷ drop (at + 1) piece) is
+    ∙ ap (λ l. take at piece ++ b ∷ l) (sym (take_rest piece (at + 1)))
+
+module _ (old : List Event) (piece : List ℕ) where
+  pub no_start : Nowhere (Passes (is_byte START_BLOCK) piece) 0 (length piece) → Reads old old piece []
+  no_start none = outside_none old piece (fails_all (is_byte START_BLOCK) piece none)
+
+  pub some_start : (at : ℕ) → NoneBefore (Passes (is_byte START_BLOCK) piece) 0 (length piece) at → Passes (is_byte START_BLOCK) piece at → Reads old old piece (START_BLOCK ∷ behind piece (at + 1))
+  some_start at first is =
+      let whole : piece ≡ take at piece ++ START_BLOCK ∷ behind piece (at + 1) = round piece at START_BLOCK first.high (eqb-true _ _ is) in
+      subst (λ l. Reads old old l (START_BLOCK ∷ behind piece (at + 1))) (sym whole)
+      (outside_start old (take at piece) (behind piece (at + 1)) (fails_before (is_byte START_BLOCK) piece at (omega (arith, first.high)) first.before))
+
+  pub data_all : (d : List ℕ) → IsShortData d → Nowhere (Passes (is_byte2 START_BLOCK END_BLOCK) piece) 0 (length piece) → Reads old old (begun_block d ++ piece) (begun_block (shortened (d ++ piece)) ++ [])
+  data_all d short none = inside_data old d piece (plain_of d short) (fails_all (is_byte2 START_BLOCK END_BLOCK) piece none)
+
+  pub plain_all : Nowhere (Passes (is_byte2 START_BLOCK END_BLOCK) piece) 0 (length piece) → Plain piece
+  plain_all none = fails_all (is_byte2 START_BLOCK END_BLOCK) piece none
+
+  pub plain_before : (at : ℕ) → NoneBefore (Passes (is_byte2 START_BLOCK END_BLOCK) piece) 0 (length piece) at → Plain (take at piece)
+  plain_before at first = fails_before (is_byte2 START_BLOCK END_BLOCK) piece at (omega (arith, first.high)) first.before
+
+  pub data_start : (d : List ℕ) (at : ℕ) → IsShortData d → NoneBefore (Passes (is_byte2 START_BLOCK END_BLOCK) piece) 0 (length piece) at → get_or piece at 0 ≡ START_BLOCK → Reads old (old ++ broken NewStart ∷ []) (begun_block d ++ piece) (START_BLOCK ∷ behind piece (at + 1))
+  data_start d at short first is =
+      let whole : piece ≡ take at piece ++ START_BLOCK ∷ behind piece (at + 1) = round piece at START_BLOCK first.high is in
+      subst (λ l. Reads old (old ++ broken NewStart ∷ []) (begun_block d ++ l) (START_BLOCK ∷ behind piece (at + 1))) (sym whole)
+      (inside_start old d (take at piece) (behind piece (at + 1)) (plain_of d short) (plain_before at first))
+
+  other : (b : ℕ) → is_byte2 START_BLOCK END_BLOCK b ≡ true → (b ≡ START_BLOCK → ⊥) → b ≡ END_BLOCK
+  other b is apart = ⊎_elim (λ start. absurd (apart (eqb-true _ _ start))) (λ end. eqb-true _ _ end) (or_cases (b == START_BLOCK) (b == END_BLOCK) is)
+
+  pub data_end : (d : List ℕ) (at : ℕ) → IsShortData d → NoneBefore (Passes (is_byte2 START_BLOCK END_BLOCK) piece) 0 (length piece) at → Passes (is_byte2 START_BLOCK END_BLOCK) piece at → (get_or piece at 0 ≡ START_BLOCK → ⊥) → Reads old old (begun_block d ++ piece) (ending_block (shortened (d ++ take at piece)) ++ behind piece (at + 1))
+  data_end d at keeps first is apart =
+      let whole : piece ≡ take at piece ++ END_BLOCK ∷ behind piece (at + 1) = round piece at END_BLOCK first.high (other (get_or piece at 0) is apart) in
+      subst (λ l. Reads old old (begun_block d ++ l) (ending_block (shortened (d ++ take at piece)) ++ behind piece (at + 1))) (sym whole)
+      (inside_end old d (take at piece) (behind piece (at + 1)) (plain_of d keeps) (plain_before at first))
+
+  first_of : (b : ℕ) → 0 < length piece → get_or piece 0 0 ≡ b → piece ≡ b ∷ behind piece 1
+  first_of b some is = round piece 0 b some is
+
+  pub whole_block : (d : List ℕ) → IsShortData d → 0 < length piece → get_or piece 0 0 ≡ CARRIAGE_RETURN → Reads old (old ++ ended_block d ∷ []) (ending_block d ++ piece) (behind piece 1)
+  whole_block d short some is =
+      subst (λ l. Reads old (old ++ ended_block d ∷ []) (ending_block d ++ l) (behind piece 1)) (sym (first_of CARRIAGE_RETURN some is))
+      (ended_whole old d (behind piece 1) (plain_of d short))
+
+  pub bad_end : (d : List ℕ) → IsShortData d → 0 < length piece → (get_or piece 0 0 ≡ CARRIAGE_RETURN → ⊥) → Reads old (old ++ broken BadEnd ∷ []) (ending_block d ++ piece) piece
+  bad_end d short some apart =
+      subst (λ l. Reads old (old ++ broken BadEnd ∷ []) (ending_block d ++ l) l) (sym (first_of (get_or piece 0 0) some refl))
+      (ended_bad old d (behind piece 1) (get_or piece 0 0) (plain_of d short) (ne_eqb _ _ apart))

@@ -1,0 +1,5 @@
+pub mod Event
+pub mod Framing
+pub mod Framed
+pub mod Stage
+pub mod Calls

@@ -1,0 +1,184 @@
+//! The framing of HL7's minimal lower layer protocol (MLLP), Release 1: messages as blocks of a byte stream.
+//!
+//! A block is the start block character, the data, the end block character and a carriage return (MLLP Release 1,
+//! block format). The standard has data hold the carriage return and bytes above 0x1F. Here data may hold any byte but
+//! the start and the end block character. Bytes outside blocks are skipped, and Release 1 has no acknowledgment bytes
+//! of its own.
+#![tactic(auto)]
+
+ghost use Rattle.std.specs.Prelude.{◌≡◌, ◌≤◌, [], ◌∷◌, ◌++◌, length, OnOk, OnErr};
+ghost use Rattle.mllp_frame.specs.Event.{block};
+ghost use Rattle.mllp_frame.specs.Framing.{blocks, open_end, block_bytes, IsData};
+
+mod laws;
+mod reading;
+
+pub use laws::{
+    any_pieces, blocks_hold_data, cutting_rules, longer_streams, open_end_is_short, reading_back,
+};
+use reading::{Stage, read};
+use std::alloc::{AllocError, Global};
+use std::collections::VecDeque;
+use std::marker::Model;
+use thiserror::Error;
+
+/// The start block character, which opens a block (MLLP Release 1, block format: `<SB>`).
+pub const START_BLOCK: u8 = 0x0B;
+
+/// The end block character, which ends a block's data (MLLP Release 1, block format: `<EB>`).
+pub const END_BLOCK: u8 = 0x1C;
+
+/// The carriage return that has to follow the end block character (MLLP Release 1, block format: `<CR>`).
+pub const CARRIAGE_RETURN: u8 = 0x0D;
+
+/// The most data bytes that a block may have: 1 MiB. The standard has no such limit.
+pub const DATA_MAX: usize = 1_048_576;
+
+/// How a block was broken.
+#[derive(Clone, Copy, Debug, PartialEq, Eq)]
+pub enum Break {
+    /// A start block character came in its data. It opens the next block.
+    NewStart,
+    /// Its end block character was followed by another byte than a carriage return. That byte stands outside of blocks.
+    BadEnd,
+    /// It ended with more than [`DATA_MAX`] data bytes.
+    TooLong,
+}
+
+/// What a stream holds, in order. Bytes outside of blocks give no event.
+#[derive(Debug, PartialEq, Eq, Drop)]
+pub enum FrameEvent {
+    /// A whole block, by its data, of at most [`DATA_MAX`] bytes.
+    Block(Vec<u8>),
+    /// A broken block, whose data is dropped.
+    Broken(Break),
+}
+
+/// Why a piece of a stream was refused.
+#[derive(Clone, Copy, Debug, PartialEq, Eq, Error)]
+pub enum FrameFault {
+    /// Memory was refused, so that the rest of the stream can't be read. The events found so far can still be taken.
+    #[error("no memory for the stream")]
+    NoMemory,
+    /// Memory was refused for an earlier piece.
+    #[error("an earlier piece of the stream was refused")]
+    Failed,
+}
+
+impl From<AllocError> for FrameFault {
+    ghost use Rattle.std.specs.Prelude.{◌≡◌};
+    ghost use Rattle.mllp_frame.specs.declared.FrameFault.TheVariants.{NoMemory};
+
+    ghost from_gives = { λ _ fault. fault ≡ NoMemory };
+
+    fn from(_: AllocError) -> Self {
+        FrameFault::NoMemory
+    }
+}
+
+/// Finds the blocks of a stream that comes in pieces, however it is cut.
+///
+/// Contracts see the events to come, the open end of the stream, and whether memory was refused. Beside the events
+/// at most one block's data is held.
+#[derive(Drop)]
+pub struct Framer {
+    alloc: Global,
+    /// The events to come.
+    events: VecDeque<FrameEvent>,
+    /// Where in the stream the framer stands; none where memory was refused.
+    stage: Option<Stage>,
+}
+
+impl Model for Framer {
+    ghost use Rattle.std.specs.Prelude.{[], map, is_none};
+    ghost use Rattle.std.specs.List.{AllByRecursion};
+    ghost use Rattle.std.specs.Option.{ForSome, option_map_or};
+    ghost use Rattle.mllp_frame.specs.Framed.{Framed};
+
+    ghost Value = { Framed };
+
+    ghost use Rattle.mllp_frame.specs.Event.{event_of};
+    ghost use Rattle.mllp_frame.specs.Framing.{HoldsData};
+    ghost use Rattle.mllp_frame.specs.Stage.{open_block, HoldsShortData};
+
+    ghost view = { λ f. record { to_come = map event_of f.events.items; open_end = option_map_or open_block f.stage []; failed = is_none f.stage } };
+
+    ghost invariant = { λ f. ForSome f.stage HoldsShortData × AllByRecursion HoldsData (map event_of f.events.items) };
+}
+
+impl Framer {
+    ghost use Rattle.std.specs.Prelude.{◌≡◌, ◌↔◌, slice_get, true, OnOk, IfSome, IsErrOf, option_map};
+    ghost use Rattle.mllp_frame.specs.Event.{event_of};
+    ghost use Rattle.mllp_frame.specs.Framing.{HoldsData};
+    ghost use Rattle.mllp_frame.specs.Framed.{blank, fed, taken, GivesUp};
+
+    /// A framer at the start of a stream.
+    pub fn new(alloc: Global) -> Self
+        ensures { result ≡ blank }
+    {
+        Framer {
+            alloc,
+            events: VecDeque::new(alloc),
+            stage: Some(Stage::Outside),
+        }
+    }
+
+    /// Reads the next piece of the stream, of any length.
+    ///
+    /// # Errors
+    ///
+    /// `NoMemory` where a growth was refused: the first of the piece's events may have been found, and the rest of the
+    /// stream is given up. From then on `Failed`.
+    pub fn feed(&mut self, piece: &[u8]) -> Result<(), FrameFault>
+        ensures ok { OnOk result (self.new ≡ fed self.old piece.now) }
+
+        ensures failed { (result ≡ Err FrameFault.Failed) ↔ (self.old.failed ≡ true) }
+        ensures unchanged { IsErrOf result FrameFault.Failed → self.new ≡ self.old }
+
+        ensures gives_up { IsErrOf result FrameFault.NoMemory → GivesUp self.old self.new piece.now }
+    {
+        let Some(stage) = self.stage.take() else {
+            return Err(FrameFault::Failed);
+        };
+        self.stage = Some(read(self.alloc, stage, &mut self.events, piece)?);
+        Ok(())
+    }
+
+    /// Takes the next event, if one is left. It never asks for memory, and a framer that has failed still hands out
+    /// the events that it found.
+    pub fn next(&mut self) -> Option<FrameEvent>
+        ensures event { option_map event_of result ≡ slice_get self.old.to_come 0 }
+        ensures rest { self.new ≡ taken self.old }
+
+        // A block's data can be read as a message, and written as a block again.
+        ensures sound { IfSome result (λ event. HoldsData (event_of event)) }
+    {
+        self.events.pop_front()
+    }
+}
+
+/// Appends a block with this text as its data. The text holds neither of the two framing bytes; its length has no
+/// limit here, and a reader takes [`DATA_MAX`] bytes.
+///
+/// # Errors
+///
+/// `AllocError` where `out` could not grow; it is then as it was.
+pub fn write_block(text: &[u8], out: &mut Vec<u8>) -> Result<(), AllocError>
+    requires { IsData text.now }
+    ensures ok { OnOk result (out.new.items ≡ out.old.items ++ block_bytes text.now) }
+    ensures err { OnErr result (out.new.items ≡ out.old.items) }
+
+    // Who reads what was written finds the block, with the same data, behind what stood there before.
+    ensures read_back { OnOk result (length text.now ≤ DATA_MAX → open_end out.old.items ≡ [] →
+        blocks out.new.items ≡ blocks out.old.items ++ block text.now ∷ []) }
+{
+    out.reserve(text.len() + 3)?;
+    out.push_reserved(START_BLOCK);
+    out.extend_from_slice(text)?;
+    out.push_reserved(END_BLOCK);
+    out.push_reserved(CARRIAGE_RETURN);
+    Ok(())
+}
+
+#[cfg(test)]
+mod tests;
