@@ -1,0 +1,4 @@
+pub mod QueueLemmas
+pub mod SlotLaws
+pub mod SlotLemmas
+mod WorkedSlots

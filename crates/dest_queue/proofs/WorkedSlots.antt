@@ -1,0 +1,46 @@
+-- Slots written out: three attempts are allowed, and ten seconds lie between two.
+use Rattle.std.proofs.Common.{◌≡◌, ℕ, [], ◌∷◌, None, Some, Ok, Err, refl}
+use Rattle.row_store.specs.declared.Row.{Row}
+use Rattle.dest_queue.specs.declared.slots.Addressed.{Addressed}
+use Rattle.dest_queue.specs.declared.SlotState.TheVariants.{Waiting, InFlight, Failed}
+use Rattle.dest_queue.specs.declared.FailCause.TheVariants.{Exhausted, Cancelled}
+use Rattle.dest_queue.specs.declared.Outcome.TheVariants.{Delivered, Again}
+use Rattle.dest_queue.specs.declared.SettleRefusal.TheVariants.{NotInFlight, NoSlot}
+use Rattle.dest_queue.specs.States.{settle_answer}
+use Rattle.dest_queue.specs.Slots.{state_at}
+use Rattle.dest_queue.specs.Queues.{cancel, waiting_at}
+
+-- a retry waits, and none follows the third attempt
+first_retry : settle_answer (Some (InFlight 1)) Again 1 100 3 10 ≡ Ok (Waiting 1 110)
+first_retry = refl
+
+second_retry : settle_answer (Some (InFlight 2)) Again 2 111 3 10 ≡ Ok (Waiting 2 121)
+second_retry = refl
+
+no_third_retry : settle_answer (Some (InFlight 3)) Again 3 121 3 10 ≡ Ok (Failed Exhausted)
+no_third_retry = refl
+
+-- another attempt, a cancelled slot, and no slot
+other_attempt : settle_answer (Some (InFlight 1)) Delivered 2 0 3 10 ≡ Err (NotInFlight (InFlight 1))
+other_attempt = refl
+
+cancelled_slot : settle_answer (Some (Failed Cancelled)) Delivered 1 0 3 10 ≡ Err (NotInFlight (Failed Cancelled))
+cancelled_slot = refl
+
+no_slot : settle_answer None Delivered 1 0 3 10 ≡ Err NoSlot
+no_slot = refl
+
+-- a message in flight at 1 that waits at 2 and 3
+abbrev at_three : Row (Addressed ℕ)
+at_three = record { number = 0; item = record { content = 70; slots = record { destination = 1; state = InFlight 1 } ∷ (record { destination = 2; state = Waiting 0 0 } ∷ (record { destination = 3; state = Waiting 0 0 } ∷ [])) }; mask = 14 }
+
+-- cancelled it stands in queue 1 alone
+cancelled_mask : (cancel at_three).mask ≡ 2
+unfolding waiting_at
+cancelled_mask = refl
+
+cancelled_at_2 : state_at 2 (cancel at_three).item.slots ≡ Some (Failed Cancelled)
+cancelled_at_2 = refl
+
+still_in_flight : state_at 1 (cancel at_three).item.slots ≡ Some (InFlight 1)
+still_in_flight = refl

@@ -1,0 +1,30 @@
+use Rattle.std.proofs.Common.{sym, ◌∙◌}
+use Rattle.dest_queue.specs.declared.slots.Slot.{Slot}
+use Rattle.dest_queue.specs.declared.SlotState.TheVariants.{Waiting}
+use Rattle.dest_queue.proofs.SlotLemmas.{map-step, rest-at, mask-more, mask-same, cancel-waiting, cancel-other}
+use Rattle.dest_queue.proofs.slots.cancel_in.Goals as goal
+use Rattle.dest_queue.proofs.slots.cancel_in.Goals.{then-is_waiting, else-is_waiting}
+
+abbrev default : Slot
+default = record { destination = 0; state = Waiting 0 0 }
+
+pub overflow_shl-mask : goal.overflow_shl-mask
+overflow_shl-mask c =
+    let here = rest-at _ c.args.slots.now c.loop-slot.slot-items c.loop-slot.slot-index default c.loop-slot-test.true c.loop-slot.invariant.slots in
+    let low = c.requires c.loop-slot.slot-index default c.loop-slot-test.true in
+    rw here low
+
+pub loop-slot-preserved : goal.loop-slot-preserved
+loop-slot-preserved c =
+    let here = rest-at _ c.args.slots.now c.loop-slot.slot-items c.loop-slot.slot-index default c.loop-slot-test.true c.loop-slot.invariant.slots in
+    let low = c.requires c.loop-slot.slot-index default c.loop-slot-test.true in
+    elim c.if-is_waiting.branch [
+      | then-is_waiting w ↦ record {
+        slots = map-step _ c.args.slots.now c.loop-slot.slot-items c.if-is_waiting.slot-items c.loop-slot.slot-index _ _ c.loop-slot-test.true c.loop-slot.invariant.slots (cancel-waiting _ (sym c.is_waiting.ensures ∙ w.if-is_waiting.true)) w.slot-items-is;
+        mask = λ d. rw w.mask-is (mask-more c.loop-slot.mask c.args.slots.now c.loop-slot.slot-index default _ c.loop-slot-test.true here (rw here low) (sym c.is_waiting.ensures ∙ w.if-is_waiting.true) c.loop-slot.invariant.mask d);
+      }
+      | else-is_waiting w ↦ record {
+        slots = map-step _ c.args.slots.now c.loop-slot.slot-items c.if-is_waiting.slot-items c.loop-slot.slot-index _ _ c.loop-slot-test.true c.loop-slot.invariant.slots (cancel-other _ (sym c.is_waiting.ensures ∙ w.if-is_waiting.false)) w.slot-items-is;
+        mask = λ d. rw w.mask-is (mask-same c.loop-slot.mask c.args.slots.now c.loop-slot.slot-index default _ c.loop-slot-test.true here (sym c.is_waiting.ensures ∙ w.if-is_waiting.false) c.loop-slot.invariant.mask d);
+      }
+    ]

@@ -1,0 +1,81 @@
+//! The queues of destinations: the slots of a message, one for each destination that it names, and the calls that
+//! take, settle and cancel them in a store of rows.
+#![tactic(auto)]
+
+ghost use Rattle.std.specs.Prelude.{◌≡◌};
+ghost use Rattle.dest_queue.specs.States.{is_live, is_waiting};
+
+use thiserror::Error;
+
+mod queues;
+mod slots;
+#[cfg(test)]
+mod tests;
+
+pub use queues::{cancel_waiting, front_state, settle_slot, slot_of, take_front};
+pub use slots::{Addressed, Slot, Slots, slot_rules};
+
+/// The most attempts that a message may have at a destination.
+pub const ATTEMPTS_MAX: u32 = 100;
+
+/// Why a message failed at a destination.
+#[derive(Clone, Copy, Debug, PartialEq, Eq)]
+pub enum FailCause {
+    /// The destination refused it.
+    Rejected,
+    /// No attempt that was allowed delivered it.
+    Exhausted,
+    /// It was cancelled while it waited.
+    Cancelled,
+}
+
+/// The state of a message at one of its destinations.
+#[derive(Clone, Copy, Debug, PartialEq, Eq)]
+pub enum SlotState {
+    /// It waits for its next attempt, after so many, and not before the moment `due`, in seconds since 1970.
+    Waiting { attempts: u32, due: u64 },
+    /// It was taken, and this attempt is under way. Attempts count from 1.
+    InFlight { attempt: u32 },
+    /// The destination has it.
+    Delivered,
+    /// It won't be sent any more.
+    Failed(FailCause),
+}
+
+impl SlotState {
+    /// Whether it waits.
+    pub fn is_waiting(self) -> bool
+        ensures { result ≡ is_waiting self }
+    {
+        matches!(self, SlotState::Waiting { .. })
+    }
+
+    /// Whether it stands in the destination's queue: it waits or is in flight.
+    pub fn is_live(self) -> bool
+        ensures { result ≡ is_live self }
+    {
+        matches!(self, SlotState::Waiting { .. } | SlotState::InFlight { .. })
+    }
+}
+
+/// What an attempt came to.
+#[derive(Clone, Copy, Debug, PartialEq, Eq)]
+pub enum Outcome {
+    /// The destination has the message.
+    Delivered,
+    /// It has to be sent again.
+    Again,
+    /// The destination refused it for good.
+    Rejected,
+}
+
+/// Why an attempt was not settled.
+#[derive(Clone, Copy, Debug, PartialEq, Eq, Error)]
+pub enum SettleRefusal {
+    /// The slot is not in flight with that attempt, but in this state.
+    #[error("that attempt is not in flight")]
+    NotInFlight(SlotState),
+    /// There is no such message, or it doesn't name the destination.
+    #[error("the message has no slot there")]
+    NoSlot,
+}

@@ -1,0 +1,90 @@
+//! The keys by which a repeated message is known, each with the place at which it was booked.
+#![tactic(auto)]
+
+ghost use Rattle.std.specs.Prelude.{◌≡◌, ◌+◌, ◌<◌, ◌≤◌, ℕ, List, [], ◌∷◌, ◌++◌, Some, None, IsOk, OnOk, nat_le, option_and_then, if◌then◌else◌};
+ghost use Rattle.std.specs.Str.{bytes_eq};
+ghost use Rattle.dup_index.specs.Known.{Known, place_of, from_place};
+
+use indexmap::IndexMap;
+use std::alloc::{AllocError, Global};
+use std::hash::RandomState;
+use std::marker::Model;
+
+#[cfg(test)]
+mod tests;
+
+/// The known keys. They are hashed under a random seed, so that nobody can choose keys that collide.
+#[derive(Drop)]
+pub struct Keys {
+    places: IndexMap<Vec<u8>, usize, RandomState>,
+}
+
+impl Model for Keys {
+    ghost use Rattle.std.specs.Prelude.{map};
+    ghost use Rattle.indexmap.specs.IndexMap.{spare};
+    ghost use Rattle.dup_index.specs.Known.{Index, EachOnce};
+
+    ghost Value = { Index };
+
+    ghost view = { λ s. record { known = map (λ e. record { key = e.0.items; place = e.1 }) s.places.entries; room = spare s.places } };
+
+    ghost invariant = { λ s. EachOnce (map (λ e. record { key = e.0.items; place = e.1 }) s.places.entries) };
+}
+
+impl Keys {
+    /// No key yet.
+    pub fn new(alloc: Global, hasher: RandomState) -> Keys
+        ensures { result.known ≡ [] }
+    {
+        Keys {
+            places: IndexMap::with_hasher(alloc, hasher),
+        }
+    }
+
+    /// The place of a key, if it is known.
+    pub fn find(&self, key: &[u8]) -> Option<usize>
+        ensures { result ≡ place_of key.now self.now.known }
+    {
+        self.places.get(key).copied()
+    }
+
+    /// Makes room for that many more keys. The keys stay, also where memory is refused.
+    pub fn reserve(&mut self, additional: usize) -> Result<(), AllocError>
+        ensures known { self.new.known ≡ self.old.known }
+        ensures room { self.old.room ≤ self.new.room }
+        ensures ok { OnOk result (additional ≤ self.new.room) }
+        ensures succeeds { additional ≤ self.old.room → IsOk result }
+    {
+        self.places.reserve(additional)
+    }
+
+    /// Adds a key that is not known yet. There has to be room for it, so no memory is asked for.
+    pub fn add(&mut self, key: Vec<u8>, place: usize)
+        requires unknown { place_of key.items self.old.known ≡ None }
+        requires room { 0 < self.old.room }
+        ensures known { self.new.known ≡ self.old.known ++ record { key = key.items; place = place } ∷ [] }
+        ensures room { self.old.room ≤ self.new.room + 1 }
+    {
+        let _first = self.places.insert(key, place).unwrap();
+    }
+
+    /// Forgets the keys whose place is before that one.
+    pub fn drop_before(&mut self, place: usize)
+        ensures known { self.new.known ≡ from_place place self.old.known }
+        ensures found { (key : List ℕ) → place_of key self.new.known
+            ≡ option_and_then (λ added. if nat_le place added then Some added else None) (place_of key self.old.known) }
+        ensures room { self.old.room ≤ self.new.room }
+    {
+        self.places.retain(
+            |_key: &Vec<u8>, added: &mut usize| -> bool
+                ensures { (result ≡ nat_le place added.old) × (added.new ≡ added.old) }
+            { place <= *added },
+        );
+    }
+}
+
+/// The law of keys: one that is added is found at its place, and every other as before.
+pub fn key_rules()
+    ensures { (known : List Known) (added key : List ℕ) (place : ℕ) → place_of added known ≡ None →
+        place_of key (known ++ record { key = added; place = place } ∷ []) ≡ (if bytes_eq key added then Some place else place_of key known) }
+{}

@@ -1,0 +1,271 @@
+//! The statistics of a book: what became of the messages of each channel, and how it stands with the messages of
+//! each destination.
+#![tactic(auto)]
+
+ghost use Rattle.std.specs.Prelude.{◌≡◌, ◌≢◌, ◌+◌, ◌<◌, ◌≤◌, ℕ, length};
+ghost use Rattle.stat_count.specs.declared.ChannelCounts.{ChannelCounts};
+ghost use Rattle.stat_count.specs.declared.DestinationCounts.{DestinationCounts};
+ghost use Rattle.stat_count.specs.Sums.{arrivals, takes, settlements};
+ghost use Rattle.stat_count.specs.Tally.{Tally, empty, channel_at, destination_at, on_channel, on_destination, slots_of};
+ghost use Rattle.stat_count.specs.Tally.{filtered_one, accepted_one, refused_one, repeated_one};
+ghost use Rattle.stat_count.specs.Tally.{waits_one, taken_one, delivered_one, failed_one, again_one, cancelled_one};
+
+use std::marker::Model;
+
+#[cfg(test)]
+mod tests;
+
+/// How many channels are counted: a channel's place is below this.
+pub const CHANNELS: u32 = 64;
+
+/// How many destinations are counted: a destination's place is below this.
+pub const DESTINATIONS: u32 = 32;
+
+/// What became of the messages of a channel.
+#[derive(Clone, Copy, Debug, PartialEq, Eq)]
+pub struct ChannelCounts {
+    /// The messages that came for the first time under their control id: those filtered, accepted and refused.
+    pub received: u64,
+    /// Those that go to no destination.
+    pub filtered: u64,
+    /// Those that go to a destination.
+    pub accepted: u64,
+    /// Those that were refused.
+    pub refused: u64,
+    /// The messages that came again, and were answered as before.
+    pub repeats: u64,
+}
+
+impl ChannelCounts {
+    /// The counters of a channel of which nothing was received.
+    const NONE: ChannelCounts = ChannelCounts {
+        received: 0,
+        filtered: 0,
+        accepted: 0,
+        refused: 0,
+        repeats: 0,
+    };
+}
+
+/// How it stands with the messages of a destination.
+#[derive(Clone, Copy, Debug, PartialEq, Eq)]
+pub struct DestinationCounts {
+    /// The messages that wait for an attempt.
+    pub waiting: u64,
+    /// Those whose attempt is under way.
+    pub inflight: u64,
+    /// Those that the destination has.
+    pub delivered: u64,
+    /// Those that won't be sent any more.
+    pub failed: u64,
+    /// The attempts that were begun.
+    pub attempts: u64,
+}
+
+impl DestinationCounts {
+    /// The counters of a destination that no message named.
+    const NONE: DestinationCounts = DestinationCounts {
+        waiting: 0,
+        inflight: 0,
+        delivered: 0,
+        failed: 0,
+        attempts: 0,
+    };
+}
+
+/// The counters of each channel and each destination. Every message received is counted as filtered, accepted or
+/// refused too, and every message of a destination as waiting, in flight, delivered or failed.
+#[derive(Clone, Copy, Debug, PartialEq, Eq)]
+pub struct Counts {
+    channels: [ChannelCounts; CHANNELS as usize],
+    destinations: [DestinationCounts; DESTINATIONS as usize],
+}
+
+impl Model for Counts {
+    ghost use Rattle.stat_count.specs.Tally.{Tally, IsTally};
+
+    ghost Value = { Tally };
+
+    ghost view = { λ c. record { channels = c.channels; destinations = c.destinations } };
+
+    ghost invariant = { λ c. IsTally (record { channels = c.channels; destinations = c.destinations }) };
+
+    ghost inverse = { λ t. record { channels = t.channels; destinations = t.destinations } };
+}
+
+impl Counts {
+    /// All counters at 0.
+    pub fn new() -> Counts
+        ensures { result ≡ empty }
+    {
+        Counts {
+            channels: [ChannelCounts::NONE; CHANNELS as usize],
+            destinations: [DestinationCounts::NONE; DESTINATIONS as usize],
+        }
+    }
+
+    /// The counters of a channel.
+    pub fn channel(&self, channel: u32) -> ChannelCounts
+        requires { channel < CHANNELS }
+        ensures value { result ≡ channel_at channel self.now }
+        ensures received_is_sum { result.received ≡ result.filtered + result.accepted + result.refused }
+    {
+        self.channels[channel as usize]
+    }
+
+    /// The counters of a destination.
+    pub fn destination(&self, d: u32) -> DestinationCounts
+        requires { d < DESTINATIONS }
+        ensures value { result ≡ destination_at d self.now }
+        ensures were_taken { result.inflight + result.delivered ≤ result.attempts }
+    {
+        self.destinations[d as usize]
+    }
+
+    /// A message of a channel was received, and goes to no destination.
+    pub fn count_filtered(&mut self, channel: u32)
+        requires place { channel < CHANNELS }
+        requires room { (channel_at channel self.old).received < u64.MAX }
+        ensures { self.new ≡ on_channel channel filtered_one self.old }
+    {
+        let counts = &mut self.channels[channel as usize];
+        counts.received += 1;
+        counts.filtered += 1;
+    }
+
+    /// A message of a channel was received, and goes to a destination.
+    pub fn count_accepted(&mut self, channel: u32)
+        requires place { channel < CHANNELS }
+        requires room { (channel_at channel self.old).received < u64.MAX }
+        ensures { self.new ≡ on_channel channel accepted_one self.old }
+    {
+        let counts = &mut self.channels[channel as usize];
+        counts.received += 1;
+        counts.accepted += 1;
+    }
+
+    /// A message of a channel was received, and refused.
+    pub fn count_refused(&mut self, channel: u32)
+        requires place { channel < CHANNELS }
+        requires room { (channel_at channel self.old).received < u64.MAX }
+        ensures { self.new ≡ on_channel channel refused_one self.old }
+    {
+        let counts = &mut self.channels[channel as usize];
+        counts.received += 1;
+        counts.refused += 1;
+    }
+
+    /// A message of a channel came again.
+    pub fn count_repeat(&mut self, channel: u32)
+        requires place { channel < CHANNELS }
+        requires room { (channel_at channel self.old).repeats < u64.MAX }
+        ensures { self.new ≡ on_channel channel repeated_one self.old }
+    {
+        self.channels[channel as usize].repeats += 1;
+    }
+
+    /// A message begins to wait at a destination.
+    pub fn count_waiting(&mut self, d: u32)
+        requires place { d < DESTINATIONS }
+        requires room { slots_of (destination_at d self.old) < u64.MAX }
+        ensures { self.new ≡ on_destination d waits_one self.old }
+    {
+        self.destinations[d as usize].waiting += 1;
+    }
+
+    /// A message that waits at a destination is taken.
+    pub fn count_taken(&mut self, d: u32)
+        requires place { d < DESTINATIONS }
+        requires waits { 0 < (destination_at d self.old).waiting }
+        requires room { (destination_at d self.old).attempts < u64.MAX }
+        ensures { self.new ≡ on_destination d taken_one self.old }
+    {
+        let counts = &mut self.destinations[d as usize];
+        counts.waiting -= 1;
+        counts.inflight += 1;
+        counts.attempts += 1;
+    }
+
+    /// A message in flight is delivered.
+    pub fn count_delivered(&mut self, d: u32)
+        requires place { d < DESTINATIONS }
+        requires inflight { 0 < (destination_at d self.old).inflight }
+        ensures { self.new ≡ on_destination d delivered_one self.old }
+    {
+        let counts = &mut self.destinations[d as usize];
+        counts.inflight -= 1;
+        counts.delivered += 1;
+    }
+
+    /// A message in flight fails: it was rejected, or its attempts are spent.
+    pub fn count_failed(&mut self, d: u32)
+        requires place { d < DESTINATIONS }
+        requires inflight { 0 < (destination_at d self.old).inflight }
+        ensures { self.new ≡ on_destination d failed_one self.old }
+    {
+        let counts = &mut self.destinations[d as usize];
+        counts.inflight -= 1;
+        counts.failed += 1;
+    }
+
+    /// A message in flight has to be sent again, and waits.
+    pub fn count_again(&mut self, d: u32)
+        requires place { d < DESTINATIONS }
+        requires inflight { 0 < (destination_at d self.old).inflight }
+        ensures { self.new ≡ on_destination d again_one self.old }
+    {
+        let counts = &mut self.destinations[d as usize];
+        counts.inflight -= 1;
+        counts.waiting += 1;
+    }
+
+    /// A message that waits is cancelled.
+    pub fn count_cancelled(&mut self, d: u32)
+        requires place { d < DESTINATIONS }
+        requires waits { 0 < (destination_at d self.old).waiting }
+        ensures { self.new ≡ on_destination d cancelled_one self.old }
+    {
+        let counts = &mut self.destinations[d as usize];
+        counts.waiting -= 1;
+        counts.failed += 1;
+    }
+}
+
+/// The laws of the tally: a change to one channel or destination changes its counters and no others.
+pub fn tally_rules()
+    ensures channel { (tally : Tally) (channel : ℕ) (change : ChannelCounts → ChannelCounts) → channel < length tally.channels →
+        channel_at channel (on_channel channel change tally) ≡ change (channel_at channel tally) }
+    ensures other_channels { (tally : Tally) (channel other : ℕ) (change : ChannelCounts → ChannelCounts) → other ≢ channel →
+        channel_at other (on_channel channel change tally) ≡ channel_at other tally }
+    ensures destination { (tally : Tally) (d : ℕ) (change : DestinationCounts → DestinationCounts) → d < length tally.destinations →
+        destination_at d (on_destination d change tally) ≡ change (destination_at d tally) }
+    ensures other_destinations { (tally : Tally) (d other : ℕ) (change : DestinationCounts → DestinationCounts) → other ≢ d →
+        destination_at other (on_destination d change tally) ≡ destination_at other tally }
+{}
+
+/// The laws of the sums: an arrival adds one to the arrivals, a take to the takes, and a settlement to the settlements.
+/// To begin to wait and to be cancelled add to none.
+pub fn sum_rules()
+    ensures arrivals { (tally : Tally) (channel : ℕ) → channel < length tally.channels →
+        (arrivals (on_channel channel filtered_one tally) ≡ arrivals tally + 1)
+        × (arrivals (on_channel channel accepted_one tally) ≡ arrivals tally + 1)
+        × (arrivals (on_channel channel refused_one tally) ≡ arrivals tally + 1)
+        × (arrivals (on_channel channel repeated_one tally) ≡ arrivals tally + 1) }
+    ensures takes { (tally : Tally) (d : ℕ) → d < length tally.destinations →
+        (takes (on_destination d taken_one tally) ≡ takes tally + 1)
+        × (settlements (on_destination d taken_one tally) ≡ settlements tally) }
+    ensures settlements { (tally : Tally) (d : ℕ) → d < length tally.destinations →
+        0 < (destination_at d tally).inflight → (destination_at d tally).inflight ≤ (destination_at d tally).attempts →
+        (settlements (on_destination d delivered_one tally) ≡ settlements tally + 1)
+        × (settlements (on_destination d failed_one tally) ≡ settlements tally + 1)
+        × (settlements (on_destination d again_one tally) ≡ settlements tally + 1) }
+    ensures settled_takes { (tally : Tally) (d : ℕ) → d < length tally.destinations →
+        (takes (on_destination d delivered_one tally) ≡ takes tally)
+        × (takes (on_destination d failed_one tally) ≡ takes tally)
+        × (takes (on_destination d again_one tally) ≡ takes tally) }
+    ensures neither { (tally : Tally) (d : ℕ) → d < length tally.destinations →
+        (takes (on_destination d waits_one tally) ≡ takes tally)
+        × (takes (on_destination d cancelled_one tally) ≡ takes tally)
+        × (settlements (on_destination d waits_one tally) ≡ settlements tally)
+        × (settlements (on_destination d cancelled_one tally) ≡ settlements tally) }
+{}
