@@ -10,6 +10,7 @@ acknowledged with that library too, in this process, and the ratio is printed.
 The exit status is 0 where every bound is met, else 1.
 """
 import os
+import subprocess
 import sys
 import tempfile
 import time
@@ -19,6 +20,7 @@ PROGRAM = os.path.join(HERE, '..', 'crates', 'hl7_engine', 'out', 'hl7_engine')
 FEW, MANY = 2_000, 200_000
 ENDLESS = 64 * 1024 * 1024
 MIB = 1024 * 1024
+RUN_ONCE = '--run-once'
 
 
 def admission(n):
@@ -42,15 +44,22 @@ def framed(text):
     return b'\x0b' + text + b'\x1c\r'
 
 
-def run(program, source, sink):
-    """Runs the program on a file; gives seconds, peak memory in bytes, and the status."""
+def run_once(program, source, sink):
+    """Runs the program on a file; prints seconds, peak memory in bytes, and the status."""
     with open(source, 'rb') as fed, open(sink, 'wb') as got:
         began = time.perf_counter()
         child = os.posix_spawn(program, [program], {}, file_actions=[
             (os.POSIX_SPAWN_DUP2, fed.fileno(), 0), (os.POSIX_SPAWN_DUP2, got.fileno(), 1)])
         _, status, usage = os.wait4(child, 0)
         took = time.perf_counter() - began
-    return took, usage.ru_maxrss * 1024, os.waitstatus_to_exitcode(status)
+    print(took, usage.ru_maxrss * 1024, os.waitstatus_to_exitcode(status))
+
+
+def run(program, source, sink):
+    """The same from a small process: a child's peak memory counts what its parent held when it was made."""
+    told = subprocess.run([sys.executable, os.path.abspath(__file__), RUN_ONCE, program, source, sink],
+                          check=True, capture_output=True, text=True).stdout.split()
+    return float(told[0]), int(told[1]), int(told[2])
 
 
 def best(program, source, sink, times):
@@ -122,4 +131,7 @@ def main():
 
 
 if __name__ == '__main__':
-    sys.exit(main())
+    if sys.argv[1:2] == [RUN_ONCE]:
+        run_once(*sys.argv[2:])
+    else:
+        sys.exit(main())

@@ -1,0 +1,57 @@
+//! What a booked arrival is told.
+
+use event_log::Told;
+use judge_core::Text;
+use std::alloc::{AllocError, AllocFailed};
+use thiserror::Error;
+
+/// What stands in the history of an arrival, and where.
+#[derive(Debug, Drop)]
+pub struct Receipt {
+    /// The place of its entry, counted from 0.
+    pub entry: usize,
+    /// The connection by which it came.
+    pub conn: u32,
+    /// The channel on which it came, by its place in the plan.
+    pub channel: u32,
+    /// Its bytes, which the entry shares.
+    pub raw: Text,
+    /// What its sender is told.
+    pub told: Told,
+}
+
+/// Why an arrival was not booked.
+#[derive(Clone, Copy, Debug, PartialEq, Eq, Error)]
+pub enum NotBooked {
+    /// A growth was refused.
+    #[error("out of memory")]
+    NoMemory,
+    /// The book holds as many entries as it may.
+    #[error("the book is full")]
+    Full,
+    /// It was judged by another plan than the one in force.
+    #[error("the plan has changed")]
+    PlanChanged,
+}
+
+impl From<AllocError> for NotBooked {
+    ghost use Rattle.std.specs.Prelude.{◌≡◌};
+    ghost use Rattle.book_core.specs.declared.receipt.NotBooked.TheVariants.{NoMemory};
+
+    ghost from_gives = { λ _ e. e ≡ NoMemory };
+
+    fn from(_: AllocError) -> NotBooked {
+        NotBooked::NoMemory
+    }
+}
+
+impl<T: Drop> From<AllocFailed<T>> for NotBooked {
+    ghost use Rattle.std.specs.Prelude.{◌≡◌};
+    ghost use Rattle.book_core.specs.declared.receipt.NotBooked.TheVariants.{NoMemory};
+
+    ghost from_gives = { λ _ e. e ≡ NoMemory };
+
+    fn from(_: AllocFailed<T>) -> NotBooked {
+        NotBooked::NoMemory
+    }
+}

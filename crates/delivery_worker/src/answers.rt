@@ -1,0 +1,48 @@
+ghost use Rattle.std.specs.Prelude.{◌≡◌, find};
+ghost use Rattle.std.specs.List.{flat_map};
+ghost use Rattle.std.specs.Option.{option_copied, option_to_list};
+ghost use Rattle.delivery_worker.specs.Answers.{answers_to, code_outcome, outcome_of};
+
+use dest_queue::Outcome;
+use hl7_head::Msa;
+
+/// How many answers are read after a message was sent.
+pub const MAX_ANSWERS: usize = 9;
+
+/// What an acknowledgment code, MSA-1, comes to (table 0008).
+fn code_outcome(code: &[u8]) -> Outcome
+    ensures { result ≡ code_outcome code.now }
+{
+    match code {
+        b"AA" | b"CA" => Outcome::Delivered,
+        b"AR" | b"CR" => Outcome::Rejected,
+        _ => Outcome::Again,
+    }
+}
+
+/// The first acknowledgment of the message with this control id.
+fn acknowledgment<'a>(control_id: &[u8], answers: &'a [Option<Msa>]) -> Option<&'a Msa>
+    ensures { option_copied result ≡ find (answers_to control_id.now) (flat_map option_to_list answers.now) }
+{
+    for answer in answers {
+        if let Some(msa) = answer
+            && msa.control_id.as_slice() == control_id
+        {
+            return Some(msa);
+        }
+    }
+    None
+}
+
+/// What the answers after a send come to for the message with this raw control id, MSH-10: the first acknowledgment whose
+/// MSA-2 is that id decides, and without one the message is sent again. Only the first [`MAX_ANSWERS`] answers are looked
+/// at; `None` stands for one that can't be read or has no MSA.
+pub fn outcome_of(control_id: &[u8], answers: &[Option<Msa>]) -> Outcome
+    ensures { result ≡ outcome_of control_id.now answers.now }
+{
+    let read = &answers[..MAX_ANSWERS.min(answers.len())];
+    match acknowledgment(control_id, read) {
+        Some(msa) => code_outcome(&msa.code),
+        None => Outcome::Again,
+    }
+}

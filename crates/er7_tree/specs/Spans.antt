@@ -1,0 +1,29 @@
+-- Ranges of a text that cover its segments.
+use Rattle.std.specs.Prelude.{ℕ, ◌≤◌, List, [], ◌∷◌, length, map, slice_range}
+use Rattle.er7_tree.specs.declared.delims.Delims.{Delims}
+use Rattle.er7_tree.specs.declared.segments.Span.{Span}
+use Rattle.er7_tree.specs.Tree.{Tree, IsMessage}
+
+-- the bytes that a span covers
+abbrev pub covered : List ℕ → Span → List ℕ
+covered text span = slice_range text span.start span.end
+
+-- the message of these delimiters whose segments the spans cover
+abbrev pub spanned : Delims → List ℕ → List Span → Tree
+spanned d text spans = record { delims = d; segments = map (covered text) spans }
+
+-- the span stands between two places
+pub record IsBetween (from to : ℕ) (span : Span) : Type 0 where
+  pub behind : from ≤ span.start
+  pub ordered : span.start ≤ span.end
+  pub within : span.end ≤ to
+
+-- the spans follow one another between two places
+abbrev pub InOrder : ℕ → ℕ → List Span → Type 0
+InOrder from to [] = from ≤ to
+InOrder from to (span ∷ spans) = IsBetween from to span × InOrder span.end to spans
+
+-- the spans of a message in the text that is kept for it
+pub record AreSpans (d : Delims) (text : List ℕ) (spans : List Span) : Type 0 where
+  pub in_order : InOrder 0 (length text) spans
+  pub message : IsMessage (spanned d text spans)

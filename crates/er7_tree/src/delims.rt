@@ -1,0 +1,102 @@
+ghost use Rattle.std.specs.Prelude.{◌≡◌, ◌≤◌, ◌∷◌, IfSome, length};
+ghost use Rattle.std.specs.List.{list_all};
+ghost use Rattle.er7_tree.specs.Delims.{is_delimiter, has_other_use, all_distinct, are_delimiters, lacks};
+
+use crate::pieces::cut;
+
+/// The most encoding characters that a header may declare.
+const ENCODING_CHARACTERS_MAX: usize = 5;
+
+/// The delimiters that a message declares (HL7 v2.5.1, 2.5.4).
+#[derive(Clone, Copy, Debug, PartialEq, Eq)]
+pub struct Delims {
+    /// The field separator, MSH-1, recommended as `|`.
+    pub field: u8,
+    /// The component separator, the first encoding character of MSH-2, recommended as `^`.
+    pub component: u8,
+    /// The repetition separator, recommended as `~`.
+    pub repetition: u8,
+    /// The escape character, recommended as `\`.
+    pub escape: u8,
+    /// The subcomponent separator, recommended as `&`.
+    pub subcomponent: u8,
+}
+
+/// Whether the character belongs to the null value, a time zone or a decimal number.
+fn has_other_use(byte: u8) -> bool
+    ensures { result ≡ has_other_use byte }
+{
+    matches!(byte, b'"' | b'+' | b'.')
+}
+
+/// Whether a delimiter may be this character.
+fn is_delimiter(byte: u8) -> bool
+    ensures { result ≡ is_delimiter byte }
+{
+    byte.is_ascii_graphic() && !(byte.is_ascii_alphanumeric() || has_other_use(byte))
+}
+
+/// Whether the byte stands nowhere in these.
+pub(crate) fn lacks(bytes: &[u8], byte: u8) -> bool
+    ensures { result ≡ lacks byte bytes.now }
+{
+    bytes.iter().all(|other| *other != byte)
+}
+
+/// Whether no two of a few bytes are equal.
+fn all_distinct(bytes: &[u8]) -> bool
+    requires { length bytes.now ≤ ENCODING_CHARACTERS_MAX }
+    ensures { result ≡ all_distinct bytes.now }
+{
+    match bytes {
+        [] => true,
+        [first, rest @ ..] => lacks(rest, *first) && all_distinct(rest),
+    }
+}
+
+fn all_delimiters(bytes: &[u8]) -> bool
+    ensures { result ≡ list_all is_delimiter bytes.now }
+{
+    bytes.iter().all(|byte| is_delimiter(*byte))
+}
+
+/// Whether a field separator and encoding characters may be declared together.
+fn may_be_declared(field: u8, characters: &[u8]) -> bool
+    requires { length characters.now ≤ ENCODING_CHARACTERS_MAX }
+    ensures { result ≡ are_delimiters (field ∷ characters.now) }
+{
+    is_delimiter(field)
+        && all_delimiters(characters)
+        && lacks(characters, field)
+        && all_distinct(characters)
+}
+
+impl Delims {
+    ghost use Rattle.er7_tree.specs.Delims.{delims_of, AreDelims};
+
+    /// What a header segment declares: MSH-1 is its fourth byte, and MSH-2 reaches to the next field separator or to the
+    /// segment's end (HL7 v2.5.1, 2.15.9.1 and 2.15.9.2). None where it declares too few or too many characters, one that
+    /// may be no delimiter, or one twice.
+    pub fn of_header(header: &[u8]) -> Option<Delims>
+        ensures value { result ≡ delims_of header.now }
+        ensures declared { IfSome result AreDelims }
+    {
+        let [_, _, _, field, rest @ ..] = header else {
+            return None;
+        };
+        let (characters, _) = cut(rest, *field);
+        let [component, repetition, escape, subcomponent, extra @ ..] = characters else {
+            return None;
+        };
+        if extra.len() > 1 || !may_be_declared(*field, characters) {
+            return None;
+        }
+        Some(Delims {
+            field: *field,
+            component: *component,
+            repetition: *repetition,
+            escape: *escape,
+            subcomponent: *subcomponent,
+        })
+    }
+}

@@ -1,0 +1,147 @@
+ghost use Rattle.std.specs.Prelude.{◌≡◌, Err, IfErr, IfOk, Ok, OnErr, OnOk, true};
+ghost use Rattle.er7_tree.specs.Edit.{clear, copy, field_levels, has_in, put_field, remove_segments, set, with_piece};
+ghost use Rattle.er7_tree.specs.Path.{field_place, is_path};
+ghost use Rattle.er7_tree.specs.Tree.{Gives, IsMessage, IsOccurrence};
+
+use crate::delims::Delims;
+use crate::escapes::escape;
+use crate::message::Message;
+use crate::path::Path;
+use crate::pieces::{has_part, has_piece, piece, put, put_part};
+use crate::refusal::Refusal;
+use crate::segments::is_name;
+use std::alloc::{AllocError, Global};
+
+/// Where a field stands among the pieces of its segment, counted from 1. The name is the first piece, and MSH counts the
+/// field separator behind its name as a field.
+fn field_place(segment: &[u8], field: u32) -> usize
+    ensures { result ≡ field_place segment.now field }
+{
+    if segment.starts_with(b"MSH") {
+        field as usize
+    } else {
+        field as usize + 1
+    }
+}
+
+/// The segment with another raw piece at a path of it; missing pieces before it are added empty.
+fn put_field(
+    alloc: Global,
+    delims: Delims,
+    path: &Path,
+    new: &[u8],
+    segment: &[u8],
+) -> Result<Vec<u8>, AllocError>
+    ensures { IfOk result (λ changed. changed.items ≡ put_field delims path.now new.now segment.now) }
+{
+    let place = field_place(segment, path.field());
+    let field = piece(segment, delims.field, place);
+    let field = put_part(alloc, delims, path.part(), new, field)?;
+    put(alloc, segment, delims.field, place, &field)
+}
+
+/// Whether the piece at a path of the segment is there.
+fn has_field(delims: Delims, path: &Path, segment: &[u8]) -> bool
+    ensures { result ≡ has_in (field_levels delims path.now segment.now) segment.now }
+{
+    let place = field_place(segment, path.field());
+    has_piece(segment, delims.field, place)
+        && has_part(delims, path.part(), piece(segment, delims.field, place))
+}
+
+impl Message {
+    /// Puts a raw piece at a path whose segment stands at a place.
+    fn put_piece(&mut self, place: usize, path: &Path, new: &[u8]) -> Result<(), AllocError>
+        requires path { is_path path.now ≡ true }
+        requires there { IsOccurrence path.now.segment path.now.occurrence self.old.segments place }
+        requires kept { IsMessage (with_piece self.old path.now new.now) }
+        ensures made { OnOk result (self.new ≡ with_piece self.old path.now new.now) }
+        ensures unchanged { OnErr result (self.new ≡ self.old) }
+    {
+        let segment = self.at(place);
+        let changed = put_field(self.allocator(), self.delims(), path, new, segment)?;
+        self.replace_segment(place, &changed)
+    }
+
+    /// Gives the piece at a path this meaning: the value is escaped, and missing pieces before it are added empty.
+    ///
+    /// Refused are MSH-1 and MSH-2 (`BadPath`), and then a path whose segment isn't there (`NoSuchSegment`).
+    pub fn set(&mut self, path: &Path, value: &[u8]) -> Result<(), Refusal>
+        ensures made { OnOk result (set self.old path.now value.now ≡ Ok self.new) }
+        ensures refused { IfErr result (λ e. Gives (Err e) (set self.old path.now value.now)) }
+        ensures unchanged { OnErr result (self.new ≡ self.old) }
+    {
+        if path.is_fixed() {
+            return Err(Refusal::BadPath);
+        }
+        let place = self
+            .place_of(path.segment(), path.occurrence())
+            .ok_or(Refusal::NoSuchSegment)?;
+        let escaped = escape(self.allocator(), &self.delims(), value)?;
+        self.put_piece(place, path, &escaped)?;
+        Ok(())
+    }
+
+    /// Copies the raw piece at one path to another of the same level, as from component to component; missing pieces before
+    /// it are added empty.
+    ///
+    /// Refused are two levels, MSH-1 and MSH-2 (`BadPath`), and then a second path whose segment isn't there (`NoSuchSegment`).
+    /// A piece to copy that isn't there is empty.
+    pub fn copy(&mut self, from: &Path, to: &Path) -> Result<(), Refusal>
+        ensures made { OnOk result (copy self.old from.now to.now ≡ Ok self.new) }
+        ensures refused { IfErr result (λ e. Gives (Err e) (copy self.old from.now to.now)) }
+        ensures unchanged { OnErr result (self.new ≡ self.old) }
+    {
+        if from.is_fixed() || to.is_fixed() || !from.is_level_with(to) {
+            return Err(Refusal::BadPath);
+        }
+        let place = self
+            .place_of(to.segment(), to.occurrence())
+            .ok_or(Refusal::NoSuchSegment)?;
+        let copied = Vec::from_slice(self.allocator(), self.get_raw(from))?;
+        self.put_piece(place, to, &copied)?;
+        Ok(())
+    }
+
+    /// Empties the piece at a path, where it is there; the pieces behind it keep their places.
+    ///
+    /// Refused are MSH-1 and MSH-2 (`BadPath`).
+    pub fn clear(&mut self, path: &Path) -> Result<(), Refusal>
+        ensures made { OnOk result (clear self.old path.now ≡ Ok self.new) }
+        ensures refused { IfErr result (λ e. Gives (Err e) (clear self.old path.now)) }
+        ensures unchanged { OnErr result (self.new ≡ self.old) }
+    {
+        if path.is_fixed() {
+            return Err(Refusal::BadPath);
+        }
+        let Some(place) = self.place_of(path.segment(), path.occurrence()) else {
+            return Ok(());
+        };
+        if !has_field(self.delims(), path, self.at(place)) {
+            return Ok(());
+        }
+        self.put_piece(place, path, &[])?;
+        Ok(())
+    }
+
+    /// Removes all segments of a name; it is no fault where there are none. Takes no memory.
+    ///
+    /// Refused are MSH and what is no segment's name (`BadPath`).
+    pub fn remove_segments(&mut self, name: &[u8]) -> Result<(), Refusal>
+        ensures made { OnOk result (remove_segments self.old name.now ≡ Ok self.new) }
+        ensures refused { IfErr result (λ e. remove_segments self.old name.now ≡ Err e) }
+        ensures unchanged { OnErr result (self.new ≡ self.old) }
+    {
+        let [first, second, third] = name else {
+            return Err(Refusal::BadPath);
+        };
+        if !is_name([*first, *second, *third]) || name.starts_with(b"MSH") {
+            return Err(Refusal::BadPath);
+        }
+        self.remove_named(name);
+        Ok(())
+    }
+}
+
+#[cfg(test)]
+mod tests;

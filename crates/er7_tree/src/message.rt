@@ -1,0 +1,286 @@
+ghost use Rattle.std.specs.Prelude.{◌≡◌, ◌<◌, ◌≤◌, ◌-◌, IfOk, IfSome, IfNone, OnOk, OnErr, Some, filter, length, map, not, slice_get, slice_set, true, false};
+ghost use Rattle.std.specs.List.{find, flat_map};
+ghost use Rattle.std.specs.Option.{option_copied};
+ghost use Rattle.er7_tree.specs.Delims.{AreDelims};
+ghost use Rattle.er7_tree.specs.Path.{header_place, raw, segment_at, value};
+ghost use Rattle.er7_tree.specs.Spans.{covered, InOrder};
+ghost use Rattle.er7_tree.specs.Tree.{Gives, IsMessage, IsOccurrence, ended, has_name, is_header, is_name, text_of, tree};
+
+use crate::delims::Delims;
+use crate::escapes::unescape;
+use crate::path::{Part, Path};
+use crate::pieces::{part_of, piece};
+use crate::reading::{read_header, read_spans};
+use crate::refusal::Refusal;
+use crate::segments::{CARRIAGE_RETURN, Span};
+use std::alloc::{AllocError, Global};
+use std::marker::Model;
+use std::slice;
+
+/// A message (HL7 v2.5.1, 2.5): the delimiters that it declares, and its segments, of which the header is the first.
+///
+/// It has at most [`MAX_SEGMENTS`](crate::MAX_SEGMENTS) segments, no second header, and no segment holds a carriage return. It
+/// keeps one text and the spans of its segments in that text.
+#[derive(Debug, Drop)]
+pub struct Message {
+    delims: Delims,
+    text: Vec<u8>,
+    spans: Vec<Span>,
+}
+
+impl Model for Message {
+    ghost use Rattle.er7_tree.specs.Spans.{AreSpans, spanned};
+    ghost use Rattle.er7_tree.specs.Tree.{Tree};
+
+    ghost Value = { Tree };
+
+    ghost view = { λ m. spanned m.delims m.text.items m.spans.items };
+
+    ghost invariant = { λ m. AreSpans m.delims m.text.items m.spans.items };
+}
+
+/// The place of the `n`th segment of that name, counted from 1.
+fn find_place(text: &[u8], spans: &[Span], name: &[u8], n: u32) -> Option<usize>
+    requires { InOrder 0 (length text.now) spans.now }
+    ensures found { IfSome result (IsOccurrence name.now n (map (covered text.now) spans.now)) }
+    ensures missing { IfNone result (length (filter (has_name name.now) (map (covered text.now) spans.now)) ≤ n - 1) }
+{
+    let mut before = 0;
+    for (place, span) in spans.iter().enumerate() {
+        if span.of(text).starts_with(name) {
+            if before + 1 >= n {
+                return Some(place);
+            }
+            before += 1;
+        }
+    }
+    None
+}
+
+/// Drops the spans of segments of that name.
+fn drop_named(text: &[u8], spans: &mut Vec<Span>, name: &[u8])
+    requires { InOrder 0 (length text.now) spans.old.items }
+    ensures { spans.new.items ≡ filter (λ span. not (has_name name.now (covered text.now span))) spans.old.items }
+{
+    let mut kept = 0;
+    for place in 0..spans.len() {
+        let span = spans[place];
+        if !span.of(text).starts_with(name) {
+            spans[kept] = span;
+            kept += 1;
+        }
+    }
+    spans.truncate(kept);
+}
+
+/// The segments that the spans cover, each with the carriage return that ends it.
+fn print_spans(alloc: Global, text: &[u8], spans: &[Span]) -> Result<Vec<u8>, AllocError>
+    requires { InOrder 0 (length text.now) spans.now }
+    ensures { IfOk result (λ printed. printed.items ≡ flat_map ended (map (covered text.now) spans.now)) }
+{
+    let mut printed = Vec::with_capacity(alloc, text.len() + spans.len())?;
+    for span in spans {
+        printed.extend_from_slice(span.of(text))?;
+        printed.push(CARRIAGE_RETURN)?;
+    }
+    Ok(printed)
+}
+
+/// The segments that the spans cover, with another one at a place: a text that holds them one after another, and their spans.
+fn with_segment(
+    alloc: Global,
+    text: &[u8],
+    spans: &[Span],
+    place: usize,
+    new: &[u8],
+) -> Result<(Vec<u8>, Vec<Span>), AllocError>
+    requires { InOrder 0 (length text.now) spans.now }
+    ensures covered { IfOk result (λ made. map (covered made.0.items) made.1.items ≡ slice_set (map (covered text.now) spans.now) place new.now) }
+    ensures in_order { IfOk result (λ made. InOrder 0 (length made.0.items) made.1.items) }
+{
+    let mut changed = Vec::with_capacity(alloc, text.len() + new.len())?;
+    let mut moved = Vec::with_capacity(alloc, spans.len())?;
+    for (index, span) in spans.iter().enumerate() {
+        let segment = if index == place { new } else { span.of(text) };
+        let start = changed.len();
+        changed.extend_from_slice(segment)?;
+        let end = changed.len();
+        moved.push(Span { start, end })?;
+    }
+    Ok((changed, moved))
+}
+
+impl Message {
+    /// The message that a text says (HL7 v2.5.1, 2.5.2 and 2.5.4).
+    ///
+    /// Segments end with a carriage return, which the last may lack; one line feed behind it and empty segments are dropped.
+    /// The first refusal in this order is told: NoHeader, BadDelimiters, TooManySegments, BadSegmentName of the first bad
+    /// name or second header. NoMemory is told only of a text that could be read.
+    pub fn parse(alloc: Global, text: &[u8]) -> Result<Message, Refusal>
+        ensures value { Gives result (tree text.now) }
+        ensures message { IfOk result IsMessage }
+    {
+        let (header, delims) = read_header(text)?;
+        let spans = read_spans(alloc, text, header, delims)?;
+        let text = Vec::from_slice(alloc, text)?;
+        Ok(Message {
+            delims,
+            text,
+            spans,
+        })
+    }
+
+    /// The delimiters that the message declares.
+    pub fn delims(&self) -> Delims
+        ensures value { result ≡ self.now.delims }
+        ensures declared { AreDelims result }
+    {
+        self.delims
+    }
+
+    /// The header segment, MSH, which stands first.
+    pub fn header(&self) -> &[u8]
+        ensures first { slice_get self.now.segments 0 ≡ Some result.now }
+        ensures named { is_header result.now ≡ true }
+        ensures message { IsMessage self.now }
+    {
+        self.spans[0].of(&self.text)
+    }
+
+    /// The first segment that begins with that name, where there is one.
+    pub fn segment(&self, name: &[u8]) -> Option<&[u8]>
+        ensures { option_copied result ≡ find (has_name name.now) self.now.segments }
+    {
+        let place = self.place_of(name, 1)?;
+        Some(self.at(place))
+    }
+
+    /// The place of the `n`th segment of that name, where `n` counts from 1 and the place from 0.
+    pub(crate) fn place_of(&self, name: &[u8], n: u32) -> Option<usize>
+        ensures found { IfSome result (IsOccurrence name.now n self.now.segments) }
+        ensures missing { IfNone result (length (filter (has_name name.now) self.now.segments) ≤ n - 1) }
+        ensures message { IsMessage self.now }
+    {
+        find_place(&self.text, &self.spans, name, n)
+    }
+
+    /// The segment at a place, counted from 0.
+    pub(crate) fn at(&self, place: usize) -> &[u8]
+        requires { place < length self.now.segments }
+        ensures { slice_get self.now.segments place ≡ Some result.now }
+    {
+        self.spans[place].of(&self.text)
+    }
+
+    /// Puts another segment at a place.
+    pub(crate) fn replace_segment(&mut self, place: usize, new: &[u8]) -> Result<(), AllocError>
+        requires { IsMessage (record self.old { segments = slice_set self.old.segments place new.now }) }
+        ensures ok { OnOk result (self.new ≡ record self.old { segments = slice_set self.old.segments place new.now }) }
+        ensures err { OnErr result (self.new ≡ self.old) }
+    {
+        let (text, spans) = with_segment(
+            *self.text.allocator(),
+            &self.text,
+            &self.spans,
+            place,
+            new,
+        )?;
+        self.text = text;
+        self.spans = spans;
+        Ok(())
+    }
+
+    /// Drops all segments of a name that isn't the header's.
+    pub(crate) fn remove_named(&mut self, name: &[u8])
+        requires named { is_name name.now ≡ true }
+        requires no_header { is_header name.now ≡ false }
+        ensures { self.new ≡ record self.old { segments = filter (λ segment. not (has_name name.now segment)) self.old.segments } }
+    {
+        drop_named(&self.text, &mut self.spans, name);
+    }
+
+    /// The allocator of the message.
+    pub(crate) fn allocator(&self) -> Global {
+        *self.text.allocator()
+    }
+
+    /// The `n`th segment of that name, counted from 1, empty where there is none.
+    fn nth_segment(&self, name: &[u8], n: u32) -> &[u8]
+        ensures { result.now ≡ segment_at name.now n self.now.segments }
+    {
+        match self.place_of(name, n) {
+            Some(place) => self.at(place),
+            None => &[],
+        }
+    }
+
+    /// The raw part of a field of the segment that is the `occurrence`th of its name, empty where there is none.
+    fn raw(&self, name: &[u8], occurrence: u32, field: u32, part: Part) -> &[u8]
+        ensures { result.now ≡ raw self.now (record { segment = name.now; occurrence = occurrence; field = field; part = part }) }
+    {
+        let segment = self.nth_segment(name, occurrence);
+        let field = if segment.starts_with(b"MSH") {
+            if field == 1 {
+                slice::from_ref(&self.delims.field)
+            } else {
+                piece(segment, self.delims.field, field as usize)
+            }
+        } else {
+            piece(segment, self.delims.field, field as usize + 1)
+        };
+        part_of(self.delims, part, field)
+    }
+
+    /// The raw piece at a path, as it stands in the message, empty where there is none. `MSH-1` is the field separator.
+    pub fn get_raw(&self, path: &Path) -> &[u8]
+        ensures { result.now ≡ raw self.now path.now }
+    {
+        self.raw(path.segment(), path.occurrence(), path.field(), path.part())
+    }
+
+    /// The raw field of the header, or a component of the field's first repetition; both count from 1.
+    pub fn msh(&self, field: u32, component: Option<u32>) -> &[u8]
+        ensures { result.now ≡ raw self.now (header_place field component) }
+    {
+        let part = match component {
+            None => Part::Whole,
+            Some(component) => Part::Component(1, component),
+        };
+        self.raw(b"MSH", 1, field, part)
+    }
+
+    /// The bytes that the piece at a path means, its escape sequences read (HL7 v2.5.1, 2.7).
+    pub fn get(&self, path: &Path) -> Result<Vec<u8>, AllocError>
+        ensures { IfOk result (λ plain. plain.items ≡ value self.now path.now) }
+    {
+        unescape(*self.text.allocator(), &self.delims(), self.get_raw(path))
+    }
+
+    /// The message as a text, each segment with the carriage return that ends it.
+    pub fn print(&self) -> Result<Vec<u8>, AllocError>
+        ensures { IfOk result (λ text. text.items ≡ text_of self.now) }
+    {
+        print_spans(*self.text.allocator(), &self.text, &self.spans)
+    }
+}
+
+impl Clone for Message {
+    ghost use Rattle.std.specs.Prelude.{◌≡◌};
+
+    ghost is_clone = { λ message copied. copied ≡ message };
+
+    /// The same message, with a text and spans of its own.
+    fn clone(&self) -> Result<Message, AllocError> {
+        let alloc = *self.text.allocator();
+        let text = Vec::from_slice(alloc, &self.text)?;
+        let spans = Vec::from_slice(alloc, &self.spans)?;
+        Ok(Message {
+            delims: self.delims,
+            text,
+            spans,
+        })
+    }
+}
+
+#[cfg(test)]
+mod tests;

@@ -1,0 +1,69 @@
+ghost use Rattle.std.specs.Prelude.{◌≡◌, ◌∷◌, ◌≤◌, drop, length, true, Ok, IfOk, MatchResult};
+ghost use Rattle.er7_tree.specs.Spans.{covered, spanned, IsBetween, InOrder};
+ghost use Rattle.er7_tree.specs.Tree.{Gives, checked, segments_of, tree};
+
+use crate::delims::Delims;
+use crate::refusal::Refusal;
+use crate::segments::{Span, is_body, next_span};
+use std::alloc::Global;
+
+/// The most segments that a message may have.
+pub const MAX_SEGMENTS: usize = 4096;
+
+/// Room for the spans of a usual message, made at once.
+const USUAL_SEGMENTS: usize = 16;
+
+/// The header of a text, and the delimiters that it declares.
+pub fn read_header(text: &[u8]) -> Result<(Span, Delims), Refusal>
+    ensures value { MatchResult result
+        (λ read. tree text.now ≡ checked (record { delims = read.1; segments = segments_of text.now }))
+        (λ refusal. Gives (Err refusal) (tree text.now)) }
+    ensures first { IfOk result (λ read. segments_of text.now ≡ covered text.now read.0 ∷ segments_of (drop read.0.end text.now)) }
+    ensures between { IfOk result (λ read. IsBetween 0 (length text.now) read.0) }
+{
+    let header = next_span(text, 0).ok_or(Refusal::NoHeader)?;
+    let segment = header.of(text);
+    if !segment.starts_with(b"MSH") {
+        return Err(Refusal::NoHeader);
+    }
+    let delims = Delims::of_header(segment).ok_or(Refusal::BadDelimiters)?;
+    Ok((header, delims))
+}
+
+/// The spans of a text's segments, of which the header is the first. One walk finds them, counts them and tests their names;
+/// where a growth is refused it goes on without keeping them, since a refusal of the text itself comes before want of memory.
+pub fn read_spans(
+    alloc: Global,
+    text: &[u8],
+    header: Span,
+    delims: Delims,
+) -> Result<Vec<Span>, Refusal>
+    requires first { segments_of text.now ≡ covered text.now header ∷ segments_of (drop header.end text.now) }
+    requires between { IsBetween 0 (length text.now) header }
+    ensures value { MatchResult result
+        (λ spans. checked (record { delims = delims; segments = segments_of text.now }) ≡ Ok (spanned delims text.now spans.items))
+        (λ refusal. Gives (Err refusal) (checked (record { delims = delims; segments = segments_of text.now }))) }
+    ensures in_order { IfOk result (λ spans. InOrder 0 (length text.now) spans.items) }
+{
+    let mut spans = Vec::new(alloc);
+    let mut kept = spans.reserve(USUAL_SEGMENTS).is_ok() && spans.push(header).is_ok();
+    let mut bad = None;
+    let mut place = 1;
+    let mut at = header.end;
+    while let Some(span) = next_span(text, at) {
+        if place == MAX_SEGMENTS {
+            return Err(Refusal::TooManySegments);
+        }
+        place += 1;
+        if bad.is_none() && !is_body(delims, span.of(text)) {
+            bad = Some(place);
+        }
+        kept = kept && spans.push(span).is_ok();
+        at = span.end;
+    }
+    match bad {
+        Some(place) => Err(Refusal::BadSegmentName(place)),
+        None if kept => Ok(spans),
+        None => Err(Refusal::NoMemory),
+    }
+}

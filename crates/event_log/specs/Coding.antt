@@ -1,0 +1,15 @@
+-- How histories are told apart.
+use Rattle.std.specs.Prelude.{ℕ, List, refl}
+use Rattle.std.specs.Coded.{Coded, code_by, coded×, coded_ℕ, coded_list}
+use Rattle.plan_text.specs.Coding.{plan_code}
+use Rattle.plan_text.specs.Entries.{PlanEntry}
+use Rattle.event_log.specs.contracts.entry.Entry as entry
+use Rattle.event_log.specs.declared.entry.Entry.{Entry}
+use Rattle.event_log.specs.History.{History}
+
+-- a history is stored as its plan, its bound and its entries
+abbrev pub history_code : Coded History
+history_code =
+    code_by (PlanEntry × (ℕ × List Entry)) (coded× plan_code (coded× coded_ℕ (coded_list entry.the_row.coded)))
+    (λ h. (h.opening.plan, (h.opening.events_max, h.entries)))
+    (λ p. record { opening = record { plan = p.0; events_max = p.1.0 }; entries = p.1.1 }) (λ _. refl)

@@ -1,0 +1,58 @@
+//! Events with their replies.
+
+use dest_queue::{Outcome, SlotState};
+use hl7_head::{Cause, Moment};
+use judge_core::Text;
+
+/// What the sender of a message is told of it.
+#[derive(Clone, Copy, Debug, PartialEq, Eq)]
+pub enum Told {
+    /// It was accepted, as the message of this number. Messages are numbered from 0.
+    Accepted(u32),
+    /// It was taken, and goes nowhere.
+    Filtered,
+    /// It was refused.
+    Refused(Cause),
+    /// It came before: the place of the entry of its first arrival.
+    Repeat(usize),
+}
+
+/// The right to settle one attempt to deliver a message.
+#[derive(Clone, Copy, Debug, PartialEq, Eq)]
+pub struct Ticket {
+    /// The number of the message.
+    pub number: u32,
+    /// The place of the destination in the plan.
+    pub destination: u32,
+    /// The attempt, counted from 1.
+    pub attempt: u32,
+}
+
+/// An event with its reply.
+#[derive(Debug, Drop)]
+pub enum Entry {
+    /// A text came by a connection, on a channel.
+    Arrival {
+        conn: u32,
+        channel: u32,
+        raw: Text,
+        told: Told,
+    },
+    /// The front of a queue was taken.
+    Take {
+        ticket: Ticket,
+        now: Moment,
+    },
+    /// An attempt was settled, which left its slot in this state.
+    Settle {
+        ticket: Ticket,
+        outcome: Outcome,
+        now: Moment,
+        state: SlotState,
+    },
+    /// A message was cancelled where it waited: bit d of the mask is set for each such destination d.
+    Cancel {
+        number: u32,
+        mask: u32,
+    },
+}

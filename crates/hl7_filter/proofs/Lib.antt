@@ -1,0 +1,5 @@
+mod Rows
+pub mod Standing
+pub mod Unescaped
+pub mod Alike
+pub mod Views

@@ -1,0 +1,51 @@
+-- What a `Cond` stands for.
+use Rattle.std.specs.Prelude.{◌≡◌, refl, Bool, List, [], ◌∷◌, map}
+use Rattle.std.proofs.Common.{sym, ◌∙◌}
+use Rattle.std.specs.Bool.{Decides}
+use Rattle.std.specs.Cmp.{IsPartialEquivalence, IsEquivalence, both_ways, equiv}
+use Rattle.hl7_filter.specs.Condition.{Condition, equals, one_of, exists, starts, contains, all, any, negated, Conditions, no_conditions, condition}
+use Rattle.hl7_filter.specs.Same.{same_condition, same_condition-Decides}
+use Rattle.hl7_filter.specs.declared.condition.Cond.{Cond, fold-Cond}
+use Rattle.hl7_filter.specs.declared.condition.Cond.TheOpen.{Cond-F}
+
+-- a list of conditions
+abbrev pub conditions_of : List Condition → Conditions
+conditions_of [] = no_conditions
+conditions_of (c ∷ cs) = condition c (conditions_of cs)
+
+-- one level, with each condition inside already seen
+abbrev pub view_step : Cond-F Condition → Condition
+view_step (Cond-F.Equals path text) = equals path text
+view_step (Cond-F.OneOf path texts) = one_of path texts.items
+view_step (Cond-F.Exists path) = exists path
+view_step (Cond-F.Starts path text) = starts path text
+view_step (Cond-F.Contains path text) = contains path text
+view_step (Cond-F.All conds) = all (conditions_of conds.items)
+view_step (Cond-F.Any conds) = any (conditions_of conds.items)
+view_step (Cond-F.Not cond) = negated cond.value
+
+-- the condition that a `Cond` says
+abbrev pub view : Cond → Condition
+view = fold-Cond Condition view_step
+
+-- the conditions that a list of them says
+abbrev pub conditions_view : List Cond → Conditions
+conditions_view conds = conditions_of (map view conds)
+
+-- two conditions say the same
+abbrev pub same : Cond → Cond → Bool
+same c d = same_condition (view c) (view d)
+
+-- which is so exactly where what they say is one
+pub same-Decides : (c d : Cond) → Decides (same c d) (view c ≡ view d)
+same-Decides c d = same_condition-Decides (view c) (view d)
+
+-- the laws of `==`
+pub same_laws : IsPartialEquivalence same
+same_laws = record {
+  symm = λ c d. both_ways (same c d) (same d c) (λ h. (same-Decides d c).1 (sym ((same-Decides c d).0 h))) (λ h. (same-Decides c d).1 (sym ((same-Decides d c).0 h)));
+  trans = λ c d e h i. (same-Decides c e).1 ((same-Decides c d).0 h ∙ (same-Decides d e).0 i);
+}
+
+pub same_equiv : IsEquivalence same
+same_equiv = equiv same_laws (λ c. (same-Decides c c).1 refl)

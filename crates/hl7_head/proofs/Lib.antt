@@ -1,0 +1,8 @@
+mod Rows
+pub mod Counting
+pub mod Cutting
+pub mod HeaderSegment
+pub mod Assembling
+pub mod Bytes
+pub mod AckBytes
+pub mod ReadBack

@@ -1,0 +1,94 @@
+ghost use Rattle.std.specs.Prelude.{◌≡◌};
+ghost use Rattle.hl7_head.specs.Ack.{cause_text, code_text};
+
+/// An acknowledgment code, MSA-1 (table 0008).
+#[derive(Clone, Copy, Debug, PartialEq, Eq)]
+pub enum AckCode {
+    /// Application accept.
+    AA,
+    /// Application error.
+    AE,
+    /// Application reject.
+    AR,
+    /// Commit accept.
+    CA,
+    /// Commit error.
+    CE,
+    /// Commit reject.
+    CR,
+}
+
+impl AckCode {
+    /// The code as MSA-1 bears it.
+    pub fn text(self) -> &'static [u8]
+        ensures { result.now ≡ code_text self }
+    {
+        match self {
+            AckCode::AA => b"AA",
+            AckCode::AE => b"AE",
+            AckCode::AR => b"AR",
+            AckCode::CA => b"CA",
+            AckCode::CE => b"CE",
+            AckCode::CR => b"CR",
+        }
+    }
+}
+
+/// Why a message is refused. Its name is the text of MSA-3.
+#[derive(Clone, Copy, Debug, PartialEq, Eq)]
+pub enum Cause {
+    /// No channel takes messages of this type, MSH-9.
+    UnsupportedType = 1,
+    /// No message with this processing id, MSH-11, is taken (table 0103).
+    UnsupportedProcessing,
+    /// No message of this version, MSH-12, is taken.
+    UnsupportedVersion,
+    /// MSH-10 is empty or the null value.
+    MissingControlId,
+    /// MSH-10 is too long.
+    BadControlId,
+    /// A step that every message of the channel goes through can't be taken.
+    SourceTransform,
+    /// A step on the way to a destination can't be taken.
+    RouteTransform,
+    /// Another message came under the same control id before.
+    IdReused,
+    /// There was no memory for the message.
+    NoMemory,
+    /// There is no room for the message.
+    Full,
+    /// The rules changed while the message was being judged.
+    PlanChanged,
+}
+
+impl Cause {
+    /// The name of the cause, as MSA-3 bears it.
+    pub fn text(self) -> &'static [u8]
+        ensures { result.now ≡ cause_text self }
+    {
+        match self {
+            Cause::UnsupportedType => b"UnsupportedType",
+            Cause::UnsupportedProcessing => b"UnsupportedProcessing",
+            Cause::UnsupportedVersion => b"UnsupportedVersion",
+            Cause::MissingControlId => b"MissingControlId",
+            Cause::BadControlId => b"BadControlId",
+            Cause::SourceTransform => b"SourceTransform",
+            Cause::RouteTransform => b"RouteTransform",
+            Cause::IdReused => b"IdReused",
+            Cause::NoMemory => b"NoMemory",
+            Cause::Full => b"Full",
+            Cause::PlanChanged => b"PlanChanged",
+        }
+    }
+}
+
+/// One acknowledgment that a message is due.
+#[derive(Clone, Copy, Debug, PartialEq, Eq)]
+pub struct AckPart {
+    /// MSA-1.
+    pub code: AckCode,
+    /// Why the message is refused; none on success.
+    pub cause: Option<Cause>,
+    /// Whether the message asked for enhanced mode, so that the acknowledgment says that it is not to be acknowledged.
+    pub enhanced: bool,
+}

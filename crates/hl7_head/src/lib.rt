@@ -1,0 +1,23 @@
+//! The header of a message, and the text of its acknowledgment.
+#![tactic(auto)]
+
+mod ack;
+mod civil;
+mod header;
+mod laws;
+mod moment;
+mod msa;
+mod places;
+mod reply;
+mod stamping;
+
+pub use ack::{AckCode, AckPart, Cause};
+pub use header::Header;
+pub use laws::{ack_adds_no_control, ack_reads_back};
+pub use moment::{Moment, MomentRange};
+pub use msa::Msa;
+pub use reply::ack_text;
+pub use stamping::stamp;
+
+#[cfg(test)]
+mod tests;

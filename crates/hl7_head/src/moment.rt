@@ -1,0 +1,56 @@
+ghost use Rattle.std.specs.Prelude.{◌≡◌, ◌↔◌, ◌≤◌, pos, ◌≤ℤ◌, IsOk, IfOk};
+
+use std::marker::Model;
+use thiserror::Error;
+
+/// The last moment, the last second of the year 9998, in seconds since 1970 began.
+pub const LAST_MOMENT: u64 = 253_370_764_799;
+
+/// A moment: whole seconds since the year 1970 began, in UTC and without leap seconds, up to [`LAST_MOMENT`].
+#[derive(Clone, Copy, Debug, PartialEq, Eq)]
+pub struct Moment {
+    seconds: u64,
+}
+
+impl Model for Moment {
+    ghost use Rattle.std.specs.Prelude.{ℕ, ◌≤◌};
+    ghost use Rattle.hl7_head.specs.declared.moment.TheConstants.{LAST_MOMENT};
+
+    ghost Value = { ℕ };
+
+    ghost view = { λ m. m.seconds };
+
+    ghost invariant = { λ m. m.seconds ≤ LAST_MOMENT };
+
+    ghost inverse = { λ n. record { seconds = n } };
+}
+
+/// The seconds lie before the first moment or after the last.
+#[derive(Clone, Copy, Debug, PartialEq, Eq, Error)]
+#[error("a moment lies in the years 1970 to 9998")]
+pub struct MomentRange;
+
+impl Moment {
+    /// The moment that many seconds after the year 1970 began.
+    ///
+    /// # Errors
+    ///
+    /// Seconds below 0 and above [`LAST_MOMENT`] are no moment.
+    pub fn of_unix(seconds: i64) -> Result<Moment, MomentRange>
+        ensures range { IsOk result ↔ ((pos 0 ≤ℤ seconds) × (seconds ≤ℤ pos LAST_MOMENT)) }
+        ensures value { IfOk result (λ moment. pos moment ≡ seconds) }
+    {
+        match u64::try_from(seconds) {
+            Ok(seconds) if seconds <= LAST_MOMENT => Ok(Moment { seconds }),
+            _ => Err(MomentRange),
+        }
+    }
+
+    /// The seconds since the year 1970 began.
+    pub fn secs(self) -> u64
+        ensures value { result ≡ self }
+        ensures bound { result ≤ LAST_MOMENT }
+    {
+        self.seconds
+    }
+}

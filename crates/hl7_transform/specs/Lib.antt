@@ -1,0 +1,6 @@
+pub mod Check
+pub mod Outcome
+pub mod Rules
+pub mod Same
+pub mod Step
+pub mod View

@@ -1,0 +1,44 @@
+-- What a `Step` does.
+use Rattle.std.specs.Prelude.{◌≡◌, refl, ℕ, Bool, List, map}
+use Rattle.std.proofs.Common.{sym, ◌∙◌}
+use Rattle.std.specs.Bool.{Decides}
+use Rattle.std.specs.Cmp.{IsPartialEquivalence, IsEquivalence, both_ways, equiv}
+use Rattle.hl7_transform.specs.declared.step.Pair.{Pair}
+use Rattle.hl7_transform.specs.declared.step.Step.{Step}
+use Rattle.hl7_transform.specs.declared.step.Step.TheVariants.{Set, Copy, Clear, Lookup, RemoveSegments}
+use Rattle.hl7_transform.specs.Same.{same_edit, same_edit-Decides}
+use Rattle.hl7_transform.specs.Step.{Edit, set, copy, clear, lookup, remove}
+
+-- the pairs that a lookup table says
+abbrev pub table_view : List Pair → List (List ℕ × List ℕ)
+table_view table = map (λ pair. (pair.from, pair.to)) table
+
+-- what a step does
+abbrev pub view : Step → Edit
+view (Set path text) = set path text
+view (Copy from to) = copy from to
+view (Clear path) = clear path
+view (Lookup path table default) = lookup path (table_view table.items) default
+view (RemoveSegments name) = remove name
+
+-- what steps do
+abbrev pub steps_view : List Step → List Edit
+steps_view steps = map view steps
+
+-- two steps are the same
+abbrev pub same : Step → Step → Bool
+same x y = same_edit (view x) (view y)
+
+-- which is so exactly where what they do is one
+pub same-Decides : (x y : Step) → Decides (same x y) (view x ≡ view y)
+same-Decides x y = same_edit-Decides (view x) (view y)
+
+-- the laws of `==`
+pub same_laws : IsPartialEquivalence same
+same_laws = record {
+  symm = λ x y. both_ways (same x y) (same y x) (λ h. (same-Decides y x).1 (sym ((same-Decides x y).0 h))) (λ h. (same-Decides x y).1 (sym ((same-Decides y x).0 h)));
+  trans = λ x y z h i. (same-Decides x z).1 ((same-Decides x y).0 h ∙ (same-Decides y z).0 i);
+}
+
+pub same_equiv : IsEquivalence same
+same_equiv = equiv same_laws (λ x. (same-Decides x x).1 refl)

@@ -1,0 +1,67 @@
+ghost use Rattle.std.specs.Prelude.{◌≡◌, IsTrue};
+ghost use Rattle.std.specs.Option.{option_copied};
+ghost use Rattle.std.specs.List.{list_all};
+ghost use Rattle.hl7_transform.specs.Check.{may_stand};
+ghost use Rattle.hl7_transform.specs.Outcome.{Gives, Takes};
+ghost use Rattle.hl7_transform.specs.Step.{partner, change, after};
+ghost use Rattle.hl7_transform.specs.View.{view, steps_view, table_view};
+
+use crate::fault::{StepFault, StopCause};
+use crate::step::{Pair, Step};
+use crate::stop::Stop;
+use er7_tree::Message;
+use hl7_filter::Bytes;
+
+/// The partner of a value, that of the first pair that has it, else the default.
+fn partner<'t>(table: &'t [Pair], default: Option<&'t Bytes>, value: &[u8]) -> Option<&'t Bytes>
+    ensures { option_copied result ≡ partner (table_view table.now) (option_copied default.entry) value.now }
+{
+    for pair in table {
+        if pair.from.as_slice() == value {
+            return Some(&pair.to);
+        }
+    }
+    default
+}
+
+/// Takes one step.
+fn take(step: &Step, message: &mut Message) -> Result<(), Stop>
+    ensures { Takes (view step.now) result message.new (change (view step.now) message.old) }
+{
+    match step {
+        Step::Set(path, text) => message.set(path, text.as_slice())?,
+        Step::Copy { from, to } => message.copy(from, to)?,
+        Step::Clear(path) => message.clear(path)?,
+        Step::Lookup {
+            path,
+            table,
+            default,
+        } => {
+            let value = message.get(path)?;
+            let Some(text) = partner(table, default.as_ref(), &value) else {
+                return Err(Stop::Cause(StopCause::NotInTable));
+            };
+            message.set(path, text.as_slice())?;
+        }
+        Step::RemoveSegments(name) => message.remove_segments(name.as_slice())?,
+    }
+    Ok(())
+}
+
+/// The message after the steps, each of which sees the result of the one before.
+///
+/// `Stopped` tells the first step that can't be taken; on a fault the message is dropped.
+pub fn apply(steps: &[Step], mut message: Message) -> Result<Message, StepFault>
+    requires { IsTrue (list_all may_stand (steps_view steps.now)) }
+    ensures { Gives (steps_view steps.now) result (after (steps_view steps.now) message) }
+{
+    for (place, step) in steps.iter().enumerate() {
+        if let Err(stop) = take(step, &mut message) {
+            return Err(match stop {
+                Stop::Cause(cause) => StepFault::Stopped { place, cause },
+                Stop::NoMemory => StepFault::NoMemory,
+            });
+        }
+    }
+    Ok(message)
+}

@@ -1,0 +1,5 @@
+pub mod Judgements
+pub mod Laws
+pub mod Printing
+pub mod Routing
+pub mod Sending

@@ -1,0 +1,8 @@
+use Rattle.std.proofs.Common.{◌∙◌, ap}
+use Rattle.judge_core.specs.Judging.{is_booked, is_bookable}
+use Rattle.judge_core.proofs.Judgements.{booked-verdict}
+use Rattle.judge_core.proofs.judged.Judged.bookable.Goals as goal
+
+pub returns : goal.returns
+returns c =
+    c.is_booked.ensures ∙ (ap is_booked c.self.invariant.verdict_is ∙ (booked-verdict _ _ _ ∙ ap (λ j. is_bookable j.raw) c.self.view_is))

@@ -1,0 +1,29 @@
+use Rattle.std.proofs.Common.{◌≡◌, ◌∙◌, ◌<◌, false, true, None, Some, List, ℕ, length, sym, ap, arith, rules}
+use Rattle.std.specs.Prelude.{option_map}
+use Rattle.std.specs.Result.{result_ok}
+use Rattle.std.proofs.lemmas.Bool.Decides.{nat_tests}
+use Rattle.hl7_transform.specs.Step.{after}
+use Rattle.judge_core.specs.declared.judged.Verdict.TheVariants.{Accept}
+use Rattle.judge_core.specs.Judging.{header_fault, is_acknowledgment, passes}
+use Rattle.judge_core.proofs.Judgements.{verdict-routed, verdict-stopped, routed-sent}
+use Rattle.judge_core.proofs.judged.decide.Goals as goal
+
+pub returns-in_default-2 : goal.returns-in_default-2
+returns-in_default-2 c =
+    let new : is_acknowledgment c.args.header.now ≡ false = rw (← c.message_code.ensures, ← c.as_slice.ensures) (sym c.eq.ensures ∙ c.if-eq.false) in
+    let good : header_fault c.args.channel.now c.args.header.now ≡ None = sym c.header_fault.ensures ∙ c.in_default.is in
+    let lets : passes c.args.message c.args.channel.now.filter ≡ true = rw (← c.filter.ensures) (sym c.in_ok-passes.ensures ∙ c.if-not-branch.false) in
+    let made : None ≡ result_ok (after c.args.channel.now.steps c.args.message) = rw (← c.steps.ensures) (sym c.in_default-2.is ∙ c.in_ok-message.ensures) in
+    sym (verdict-stopped c.args.channel.now c.args.header.now c.args.message new good lets made)
+
+pub returns : goal.returns
+returns c =
+    let new : is_acknowledgment c.args.header.now ≡ false = rw (← c.message_code.ensures, ← c.as_slice.ensures) (sym c.eq.ensures ∙ c.if-eq.false) in
+    let good : header_fault c.args.channel.now c.args.header.now ≡ None = sym c.header_fault.ensures ∙ c.in_default.is in
+    let lets : passes c.args.message c.args.channel.now.filter ≡ true = rw (← c.filter.ensures) (sym c.in_ok-passes.ensures ∙ c.if-not-branch.false) in
+    let made : Some c.in-Some-2.message ≡ result_ok (after c.args.channel.now.steps c.args.message) = rw (← c.steps.ensures) (sym c.in-Some-2.is ∙ c.in_ok-message.ensures) in
+    let went = rw c.in-Some-3.is at c.in_ok-deliveries.ensures in
+    let some : 0 < length c.in-Some-3.deliveries.items = grind (arith, nat_tests, c.is_empty.ensures, c.if-is_empty.false, c.in-Some-3.deliveries.ok) in
+    ap Accept c.in_ok-new.ensures ∙ sym (
+    verdict-routed c.args.channel.now c.args.header.now c.args.message c.in-Some-2.message new good lets made
+    ∙ rw (← c.routes.ensures) (routed-sent c.routes.result.now c.in-Some-2.message c.in-Some-3.deliveries.items went.0 went.1 some))

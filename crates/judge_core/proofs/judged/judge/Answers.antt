@@ -1,0 +1,72 @@
+use Rattle.std.proofs.Common.{◌≡◌, ◌<◌, ◌≤◌, ◌∙◌, Ok, Err, None, Some, length, sym, ap, arith, refl, rules}
+use Rattle.std.specs.Result.{result_ok}
+use Rattle.std.specs.Prelude.{slice_get, option_copied}
+use Rattle.std.specs.Arc.{arc_value}
+use Rattle.er7_tree.specs.Tree.{tree}
+use Rattle.hl7_head.specs.Header.{header}
+use Rattle.judge_core.specs.Judging.{verdict_of}
+use Rattle.plan_text.specs.Entries.{IsPlan}
+use Rattle.judge_core.proofs.Judgements.{says-nothing, says}
+use Rattle.judge_core.proofs.Routing.{some-borrowed, allowed-channel, goes-after}
+use Rattle.judge_core.proofs.judged.judge.Goals as goal
+
+pub invariant_of-result : goal.invariant_of-result
+invariant_of-result c =
+    let read = sym c.in_default.is ∙ (c.in_ok-message.ensures ∙ ap (λ s. result_ok (tree s)) c.as_slice.ensures) in
+    let nothing = says-nothing (arc_value c.in_ok-plan.plan) c.args.channel c.in_ok-raw.raw read in
+    record {
+      known = rw c.in_ok-plan.ensures c.requires.known;
+      fits = rw c.in_ok-raw.ensures c.requires.fits;
+      header_is = nothing.header_is;
+      key_is = c.new-in_default.ensures.items ∙ nothing.key_is;
+      verdict_is = nothing.verdict_is;
+    }
+
+pub overflow_cast-channel : goal.overflow_cast-channel
+overflow_cast-channel c =
+    let few : length (arc_value c.args.plan.now).channels ≤ 64 = rw c.deref.ensures at c.rules.ensures.few_channels in
+    let below : c.args.channel < 256 = omega (arith, c.requires.known) in
+    search rules
+
+pub unwrap-rules-requires : goal.unwrap-rules-requires
+unwrap-rules-requires c =
+    some-borrowed c.channel.result (arc_value c.args.plan.now).channels c.args.channel
+    (rw (c.deref-2.ensures, c.in_ok-plan.ensures) at c.channel.ensures) c.requires.known
+
+-- the plan's rules, and the channel that was found
+rules-of : (c : goal.After-raw-3-1) → IsPlan (arc_value c.args.plan.now)
+rules-of c = rw c.deref.ensures at c.rules.ensures
+
+found-of : (c : goal.After-raw-3-1) → slice_get (arc_value c.args.plan.now).channels c.args.channel ≡ Some c.unwrap-rules.result.now
+found-of c = sym (rw (c.deref-2.ensures, c.in_ok-plan.ensures) at c.channel.ensures) ∙ ap option_copied c.unwrap-rules.ensures
+
+pub decide-requires-clause-stand : goal.decide-requires-clause-stand
+decide-requires-clause-stand c =
+    (allowed-channel (arc_value c.args.plan.now) c.args.channel c.unwrap-rules.result.now (rules-of c) (found-of c)).stand
+
+pub decide-requires-clause-routes_stand : goal.decide-requires-clause-routes_stand
+decide-requires-clause-routes_stand c =
+    (allowed-channel (arc_value c.args.plan.now) c.args.channel c.unwrap-rules.result.now (rules-of c) (found-of c)).routes_stand
+
+pub decide-requires-clause-goes : goal.decide-requires-clause-goes
+decide-requires-clause-goes c =
+    let read = sym c.in-Some.is ∙ (c.in_ok-message.ensures ∙ ap (λ s. result_ok (tree s)) c.as_slice.ensures) in
+    let message = says (arc_value c.in_ok-plan.plan) c.args.channel c.in_ok-raw.raw c.in-Some.message read in
+    goes-after (arc_value c.args.plan.now) c.args.channel c.unwrap-rules.result.now c.in_ok-raw.raw c.in-Some.message (rules-of c) (found-of c) message.read
+    (rw c.in_ok-raw.ensures c.requires.fits.plain)
+
+pub invariant_of-result-2 : goal.invariant_of-result-2
+invariant_of-result-2 c =
+    let read = sym c.in-Some.is ∙ (c.in_ok-message.ensures ∙ ap (λ s. result_ok (tree s)) c.as_slice.ensures) in
+    let message = says (arc_value c.in_ok-plan.plan) c.args.channel c.in_ok-raw.raw c.in-Some.message read in
+    let found : slice_get (arc_value c.in_ok-plan.plan).channels c.args.channel ≡ Some c.unwrap-rules.result.now =
+    sym (rw c.deref-2.ensures at c.channel.ensures) ∙ ap option_copied c.unwrap-rules.ensures in
+    record {
+      known = rw c.in_ok-plan.ensures c.requires.known;
+      fits = rw c.in_ok-raw.ensures c.requires.fits;
+      header_is = ap Some c.in_ok-header.ensures ∙ message.header_is;
+      key_is = rw c.in_ok-header.ensures at c.in_ok-key.ensures ∙ message.key_is;
+      verdict_is = c.in_ok-verdict.ensures
+          ∙ (ap (λ h. verdict_of (Some c.unwrap-rules.result.now) h c.in-Some.message) c.in_ok-header.ensures
+          ∙ (ap (λ o. verdict_of o (header c.in-Some.message) c.in-Some.message) (sym found) ∙ message.verdict_is));
+    }

@@ -1,0 +1,4 @@
+pub mod Coding
+pub mod Delivering
+pub mod Judging
+pub mod Rows

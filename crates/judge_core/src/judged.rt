@@ -1,0 +1,294 @@
+//! A text with what was decided of it.
+
+ghost use Rattle.std.specs.Prelude.{◌≡◌, ◌<◌, ◌↔◌, ℕ, List, IfOk, IsTrue, Some, All, length, slice_get, option_copied};
+ghost use Rattle.mllp_frame.specs.Framing.{IsData};
+ghost use Rattle.hl7_transform.specs.Step.{after};
+ghost use Rattle.plan_text.specs.Entries.{PlanEntry, AllStand, IsPlan};
+ghost use Rattle.std.specs.Arc.{arc_value};
+ghost use Rattle.std.specs.Result.{result_ok};
+ghost use Rattle.er7_tree.specs.Tree.{tree, text_of};
+ghost use Rattle.hl7_head.specs.Header.{header_of};
+ghost use Rattle.judge_core.specs.Delivering.{FitsBlock, AreDeliveries};
+ghost use Rattle.judge_core.specs.Judging.{header_fault, key_by, deliveries_by, deliveries_of, verdict, verdict_of, named, is_booked, is_bookable, is_stray, is_unreadable};
+
+use crate::delivery::{Deliveries, by_routes, passes, transformed};
+use crate::text::Text;
+use er7_tree::{Message, Refusal, is_vacant};
+use hl7_head::{Cause, Header};
+use plan_text::{Channel, Plan};
+use std::alloc::{AllocError, Global};
+use std::marker::Model;
+use std::sync::Arc;
+
+/// The most bytes that a control id (MSH-10) may have.
+pub const CONTROL_ID_MAX: usize = 199;
+
+/// What is decided of a text.
+#[derive(Debug, Drop)]
+pub enum Verdict {
+    /// It is no message: there is no answer.
+    Unreadable,
+    /// It is an acknowledgment, which isn't answered.
+    Stray,
+    /// It is refused, and its sender is told why.
+    Refuse(Cause),
+    /// It is taken, and goes nowhere.
+    Filtered,
+    /// It is taken, and goes to these destinations, at least one.
+    Accept(Deliveries),
+}
+
+impl Verdict {
+    ghost use Rattle.judge_core.specs.Judging.{is_booked};
+
+    /// Whether the arrival is booked, since its sender is told something.
+    pub fn is_booked(&self) -> bool
+        ensures { result ≡ is_booked self.now }
+    {
+        match self {
+            Verdict::Unreadable | Verdict::Stray => false,
+            Verdict::Refuse(_) | Verdict::Filtered | Verdict::Accept(_) => true,
+        }
+    }
+}
+
+/// A text that arrived on a channel, with what a plan decides of it.
+#[derive(Drop)]
+pub struct Judged {
+    plan: Arc<Plan>,
+    channel: u32,
+    raw: Text,
+    header: Option<Header>,
+    key: Vec<u8>,
+    verdict: Verdict,
+}
+
+impl Model for Judged {
+    ghost use Rattle.std.specs.Prelude.{◌≡◌, ◌<◌, length};
+    ghost use Rattle.std.specs.Arc.{arc_value};
+    ghost use Rattle.hl7_head.specs.Header.{header_of};
+    ghost use Rattle.judge_core.specs.Delivering.{FitsBlock};
+    ghost use Rattle.judge_core.specs.Judging.{Judgement, verdict as decided, key_of};
+
+    ghost Value = { Judgement };
+
+    ghost use Rattle.judge_core.specs.Coding.{judgement_code};
+
+    ghost coded = { judgement_code };
+
+    ghost view = { λ j. record { plan = arc_value j.plan; channel = j.channel; raw = j.raw } };
+
+    ghost invariant = { λ j. record {
+      known : j.channel < length (arc_value j.plan).channels;
+      fits : FitsBlock j.raw;
+      header_is : j.header ≡ header_of j.raw;
+      key_is : j.key.items ≡ key_of j.channel j.raw;
+      verdict_is : j.verdict ≡ decided (arc_value j.plan) j.channel j.raw;
+    } };
+}
+
+/// The message that a text says, if it says one.
+fn read(alloc: Global, text: &[u8]) -> Result<Option<Message>, AllocError>
+    ensures { IfOk result (λ message. message ≡ result_ok (tree text.now)) }
+{
+    match Message::parse(alloc, text) {
+        Ok(message) => Ok(Some(message)),
+        Err(Refusal::NoMemory) => Err(AllocError),
+        Err(_) => Ok(None),
+    }
+}
+
+/// The first fault of a message's header, if it has one: what the channel doesn't take, or a bad control id.
+#[tactic(auto, unfolding(crate::specs::Judging::header_fault))]
+fn header_fault(channel: &Channel, header: &Header) -> Option<Cause>
+    ensures { result ≡ header_fault channel.now header.now }
+{
+    let control_id = header.control_id();
+    if !channel.takes_type(header.message_code(), header.trigger_event()) {
+        Some(Cause::UnsupportedType)
+    } else if !channel.takes_processing(header.processing_code()) {
+        Some(Cause::UnsupportedProcessing)
+    } else if !channel.takes_version(header.version_code()) {
+        Some(Cause::UnsupportedVersion)
+    } else if is_vacant(control_id) {
+        Some(Cause::MissingControlId)
+    } else if control_id.len() > CONTROL_ID_MAX {
+        Some(Cause::BadControlId)
+    } else {
+        None
+    }
+}
+
+/// The message as it is printed, which shares the bytes that came where they are the same.
+fn payload_of(alloc: Global, message: &Message, raw: &Text) -> Result<Text, AllocError>
+    ensures { IfOk result (λ text. text ≡ text_of message.now) }
+{
+    let printed = message.print()?;
+    if printed.as_slice() == raw.as_slice() {
+        raw.share()
+    } else {
+        Text::new(alloc, printed)
+    }
+}
+
+/// The key of a message, by which its repeats are known.
+fn key_bytes(alloc: Global, channel: u8, header: &Header) -> Result<Vec<u8>, AllocError>
+    ensures { IfOk result (λ key. key.items ≡ key_by channel header.now) }
+{
+    let mut key = Vec::new(alloc);
+    key.push(channel)?;
+    key.extend_from_slice(header.sending_application())?;
+    key.push(b'\r')?;
+    key.extend_from_slice(header.sending_facility())?;
+    key.push(b'\r')?;
+    key.extend_from_slice(header.control_id())?;
+    Ok(key)
+}
+
+/// What a channel decides of a message.
+fn decide(
+    alloc: Global,
+    channel: &Channel,
+    message: Message,
+    header: &Header,
+    raw: &Text,
+) -> Result<Verdict, AllocError>
+    requires stand { AllStand channel.now.steps }
+    requires routes_stand { All (λ r. AllStand r.steps) channel.now.routes }
+    requires goes { IfOk (after channel.now.steps message) (λ t. AreDeliveries (deliveries_by channel.now.routes t)) }
+    ensures { IfOk result (λ verdict. verdict ≡ verdict_of (Some channel.now) header.now message) }
+{
+    if header.message_code() == b"ACK".as_slice() {
+        return Ok(Verdict::Stray);
+    }
+    if let Some(cause) = header_fault(channel, header) {
+        return Ok(Verdict::Refuse(cause));
+    }
+    if !passes(channel.filter(), &message)? {
+        return Ok(Verdict::Filtered);
+    }
+    let Some(message) = transformed(channel.steps(), message)? else {
+        return Ok(Verdict::Refuse(Cause::SourceTransform));
+    };
+    let payload = payload_of(alloc, &message, raw)?;
+    let Some(deliveries) = by_routes(alloc, channel.routes(), &message, &payload)? else {
+        return Ok(Verdict::Refuse(Cause::RouteTransform));
+    };
+    if deliveries.is_empty() {
+        return Ok(Verdict::Filtered);
+    }
+    Ok(Verdict::Accept(Deliveries::new(alloc, deliveries)?))
+}
+
+/// Judges a text that arrived on a channel of the plan.
+///
+/// Want of memory is the one refusal; it drops the text.
+pub fn judge(
+    alloc: Global,
+    plan: &Arc<Plan>,
+    channel: u32,
+    raw: Vec<u8>,
+) -> Result<Judged, AllocError>
+    requires known { channel < length (arc_value plan.now).channels }
+    requires fits { FitsBlock raw.items }
+    ensures { IfOk result (λ judged. judged ≡ record { plan = arc_value plan.now; channel = channel; raw = raw.items }) }
+{
+    plan.rules();
+    let raw = Text::new(alloc, raw)?;
+    let plan = Arc::try_clone(plan)?;
+    let Some(message) = read(alloc, raw.as_slice())? else {
+        return Ok(Judged {
+            plan,
+            channel,
+            raw,
+            header: None,
+            key: Vec::new(alloc),
+            verdict: Verdict::Unreadable,
+        });
+    };
+    let header = Header::read(alloc, &message)?;
+    let key = key_bytes(alloc, channel as u8, &header)?;
+    let rules = plan.channel(channel).unwrap();
+    let verdict = decide(alloc, rules, message, &header, &raw)?;
+    Ok(Judged {
+        plan,
+        channel,
+        raw,
+        header: Some(header),
+        key,
+        verdict,
+    })
+}
+
+impl Judged {
+    ghost use Rattle.judge_core.specs.Judging.{verdict, key_of, is_bookable, is_booked};
+
+    /// The plan by which it was judged.
+    pub fn plan(&self) -> &Plan
+        ensures { result.now ≡ self.now.plan }
+    {
+        &self.plan
+    }
+
+    /// The channel's place in the plan.
+    pub fn channel(&self) -> u32
+        ensures value { result ≡ self.now.channel }
+        ensures known { result < length self.now.plan.channels }
+    {
+        self.channel
+    }
+
+    /// The text as it came.
+    pub fn raw(&self) -> &Text
+        ensures value { result.now ≡ self.now.raw }
+        ensures fits { FitsBlock result.now }
+    {
+        &self.raw
+    }
+
+    /// The header, if the text is a message.
+    pub fn header(&self) -> Option<&Header>
+        ensures { option_copied result ≡ header_of self.now.raw }
+    {
+        self.header.as_ref()
+    }
+
+    /// The key: the channel as one byte, MSH-3, 0x0D, MSH-4, 0x0D and MSH-10; empty where the text is no message.
+    pub fn key(&self) -> &[u8]
+        ensures { result.now ≡ key_of self.now.channel self.now.raw }
+    {
+        &self.key
+    }
+
+    /// What was decided.
+    pub fn verdict(&self) -> &Verdict
+        ensures value { result.now ≡ verdict self.now.plan self.now.channel self.now.raw }
+        ensures booked { is_booked result.now ≡ is_bookable self.now.raw }
+    {
+        &self.verdict
+    }
+
+    /// Whether its arrival is booked: a message that is no acknowledgment.
+    pub fn bookable(&self) -> bool
+        ensures { result ≡ is_bookable self.now.raw }
+    {
+        self.verdict.is_booked()
+    }
+}
+
+/// The laws of verdicts, for every plan, channel and text.
+pub fn verdict_rules()
+    // Whether there is an answer depends on the text alone.
+    ensures unreadable { (plan : PlanEntry) (channel : ℕ) (text : List ℕ) →
+        (verdict plan channel text ≡ Verdict.Unreadable) ↔ IsTrue (is_unreadable text) }
+    ensures stray { (plan : PlanEntry) (channel : ℕ) (text : List ℕ) →
+        (verdict plan channel text ≡ Verdict.Stray) ↔ IsTrue (is_stray text) }
+    ensures booked { (plan : PlanEntry) (channel : ℕ) (text : List ℕ) →
+        is_booked (verdict plan channel text) ≡ is_bookable text }
+
+    // A message goes to destinations of the plan, to each once, with texts that can be framed.
+    ensures lead { (plan : PlanEntry) (channel : ℕ) (text : List ℕ) → IsPlan plan →
+        All (λ d. d < length plan.destinations) (named plan channel text) }
+    ensures deliveries { (plan : PlanEntry) (channel : ℕ) (text : List ℕ) → IsPlan plan → IsData text →
+        AreDeliveries (deliveries_of (verdict plan channel text)) }
+{}

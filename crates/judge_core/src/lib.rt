@@ -1,0 +1,13 @@
+//! What is decided of a message that arrives: whether it is answered, refused, filtered or accepted, and where it goes.
+#![tactic(auto)]
+
+mod delivery;
+mod judged;
+mod text;
+
+pub use delivery::{Deliveries, Delivery};
+pub use judged::{CONTROL_ID_MAX, Judged, Verdict, judge, verdict_rules};
+pub use text::{Text, fits_block};
+
+#[cfg(test)]
+mod tests;

@@ -1,0 +1,10 @@
+pub mod Items
+pub mod Pairs
+pub mod Rows
+pub mod Told
+pub mod Chosen
+pub mod Laws
+pub mod Deep
+pub mod ChannelLaws
+pub mod KeyByKey
+pub mod Unknown

@@ -1,0 +1,6 @@
+use Rattle.std.proofs.lemmas.Bool.Decides.{Decides-at}
+use Rattle.plan_text.specs.Same.{same_plan-Decides}
+use Rattle.plan_text.proofs.plan.Plan.same.Goals as goal
+
+pub returns : goal.returns
+returns c = Decides-at _ _ c.eq.ensures (same_plan-Decides c.args.self.now c.args.other.now)

@@ -1,0 +1,46 @@
+-- Reading a plan to its end or to its first fault.
+use Rattle.std.specs.Prelude.{◌≡◌, ℕ, List, [], ◌⊎◌, Result, Ok, Err}
+use Rattle.plan_text.specs.declared.fault.FaultName.{FaultName}
+use Rattle.plan_text.specs.declared.fault.FaultName.TheVariants as name
+use Rattle.plan_text.specs.declared.fault.PlanFault.{PlanFault}
+use Rattle.plan_text.specs.declared.fault.Stop.{Stop}
+use Rattle.plan_text.specs.declared.fault.Stop.TheVariants as stop
+
+-- what is read first may fault; what comes after it is read only if it doesn't
+infixl 10 ◌>>=◌
+abbrev pub ◌>>=◌ : {A B E : Type 0} → Result A E → (A → Result B E) → Result B E
+(Ok x) >>= f = f x
+(Err e) >>= f = Err e
+
+-- a fault at a path
+abbrev pub fault_at : FaultName → List ℕ → PlanFault
+fault_at name path = record { name = name; path = path }
+
+-- what is read at a path, with its fault told there
+abbrev pub told : {A : Type 0} → List ℕ → Result A FaultName → Result A PlanFault
+told path (Ok x) = Ok x
+told path (Err n) = Err (fault_at n path)
+
+-- reading stopped for want of memory, or at this fault
+abbrev pub IsStop : Stop → PlanFault → Type 0
+IsStop stop.NoMemory f = Unit {0}
+IsStop (stop.Fault e) f = e ≡ f
+
+-- reading stopped for want of memory, or at the fault that the definition gives
+abbrev pub Fails : {Y : Type 0} → Stop → Result Y PlanFault → Type 0
+Fails stop.NoMemory read = Unit {0}
+Fails (stop.Fault e) read = read ≡ Err e
+
+-- what a reader returned, seen by `view`, is what the definition gives, unless memory was refused
+abbrev pub Gives : {X Y : Type 0} → (X → Y) → Result X Stop → Result Y PlanFault → Type 0
+Gives view (Ok x) read = read ≡ Ok (view x)
+Gives view (Err e) read = Fails e read
+
+-- a fault by which memory was refused
+abbrev pub no_memory : PlanFault
+no_memory = fault_at name.NoMemory []
+
+-- a plan or a fault is what the definition gives, unless memory was refused
+abbrev pub Reads : {X : Type 0} → Result X PlanFault → Result X PlanFault → Type 0
+Reads (Ok p) read = read ≡ Ok p
+Reads (Err e) read = (e ≡ no_memory) ⊎ (read ≡ Err e)

@@ -1,0 +1,132 @@
+-- The steps of a plan.
+use Rattle.std.specs.Prelude.{ℕ, List, [], ◌∷◌, ◌++◌, codes, Bool, false, ◌||◌, is_some, Option, Some, None, Result, Ok, Err, if◌then◌else◌}
+use Rattle.std.specs.Option.{option_map_or}
+use Rattle.std.specs.Str.{bytes_eq}
+use Rattle.toml.specs.Data.{Data, Members, Items, no_items, item, get_member}
+use Rattle.hl7_transform.specs.declared.checking.StepCheck.{StepCheck}
+use Rattle.hl7_transform.specs.declared.checking.StepCheck.TheVariants as check
+use Rattle.hl7_transform.specs.Check.{check_step}
+use Rattle.hl7_transform.specs.Step.{Edit, set, copy, clear, lookup, remove}
+use Rattle.plan_text.specs.declared.fault.FaultName.{FaultName}
+use Rattle.plan_text.specs.declared.fault.FaultName.TheVariants as name
+use Rattle.plan_text.specs.declared.fault.PlanFault.{PlanFault}
+use Rattle.plan_text.specs.Fault.{◌>>=◌, told}
+use Rattle.plan_text.specs.Keys.{key, key_path, required, or_else, table_at, only_keys, one_key, list_within, each}
+use Rattle.plan_text.specs.Kinds.{in_range, text_as}
+use Rattle.plan_text.specs.Conditions.{path, path_in, path_and_text, text_pair}
+
+-- the fault of a step that may not stand
+abbrev pub checked : Result (Unit {0}) StepCheck → Result (Unit {0}) FaultName
+checked (Ok _) = Ok tt
+checked (Err check.BadPath) = Err name.BadPath
+checked (Err check.ForbiddenWrite) = Err name.ForbiddenWrite
+
+-- a step that may stand, told at a path
+abbrev pub stands_at : List ℕ → Edit → Result (Unit {0}) PlanFault
+stands_at at step = told at (checked (check_step step))
+
+-- set = [path, text]
+unfoldable pub set_at : List ℕ → Members → Result Edit PlanFault
+set_at at t = do
+  p ← key at t (codes "set") (required path_and_text)
+  stands ← stands_at (key_path at (codes "set")) (set p.0 p.1)
+  Ok (set p.0 p.1)
+
+abbrev pub two_texts : Data → Result (List ℕ × List ℕ) FaultName
+two_texts d = in_range (text_pair d)
+
+-- copy = [from, to]
+unfoldable pub copy_at : List ℕ → Members → Result Edit PlanFault
+copy_at at t = do
+  p ← key at t (codes "copy") (required two_texts)
+  from ← told (key_path at (codes "copy")) (path_in p.0)
+  to ← told (key_path at (codes "copy")) (path_in p.1)
+  stands ← stands_at (key_path at (codes "copy")) (copy from to)
+  Ok (copy from to)
+
+-- clear = path
+unfoldable pub clear_at : List ℕ → Members → Result Edit PlanFault
+clear_at at t = do
+  place ← key at t (codes "clear") (required path)
+  stands ← stands_at (key_path at (codes "clear")) (clear place)
+  Ok (clear place)
+
+-- the lookup text of the pair is this
+abbrev pub looks_up : List ℕ → Data → Bool
+looks_up text d = option_map_or (λ p. bytes_eq p.0 text) (text_pair d) false
+
+abbrev pub any_looks_up : List ℕ → Items → Bool
+any_looks_up text no_items = false
+any_looks_up text (item d ds) = looks_up text d || any_looks_up text ds
+
+-- a lookup text stands twice
+abbrev pub has_double : Items → Bool
+has_double no_items = false
+has_double (item d ds) = option_map_or (λ p. any_looks_up p.0 ds) (text_pair d) false || has_double ds
+
+-- [[from, to], ..] of at most 1,000 pairs, whose members are still to be read
+abbrev pub pairs : Data → Result Items FaultName
+pairs d = do
+  ds ← list_within 1000 d
+  if has_double ds then Err name.DoubleName else Ok ds
+
+abbrev pub pair_at : List ℕ → Data → Result (List ℕ × List ℕ) PlanFault
+pair_at at d = told at (two_texts d)
+
+-- a text, of any length
+abbrev pub any_text : Data → Result (List ℕ) FaultName
+any_text = text_as Some
+
+abbrev pub default_text : Data → Result (Option (List ℕ)) FaultName
+default_text = text_as (λ s. Some (Some s))
+
+-- lookup = path, table = [[from, to], ..], default = text
+unfoldable pub lookup_at : List ℕ → Members → Result Edit PlanFault
+lookup_at at t = do
+  place ← key at t (codes "lookup") (required path)
+  stands ← stands_at (key_path at (codes "lookup")) (clear place)
+  ds ← key at t (codes "table") (required pairs)
+  table ← each pair_at (key_path at (codes "table")) ds
+  default ← key at t (codes "default") (or_else None default_text)
+  Ok (lookup place table default)
+
+-- remove = name
+unfoldable pub remove_at : List ℕ → Members → Result Edit PlanFault
+remove_at at t = do
+  name ← key at t (codes "remove") (required any_text)
+  stands ← stands_at (key_path at (codes "remove")) (remove name)
+  Ok (remove name)
+
+abbrev pub step_keys : List (List ℕ)
+step_keys = codes "set" ∷ codes "copy" ∷ codes "clear" ∷ codes "lookup" ∷ codes "remove" ∷ []
+
+-- `table` and `default` stand beside `lookup` alone
+abbrev pub known_keys : Members → List (List ℕ)
+known_keys t = if is_some (get_member (codes "lookup") t) then step_keys ++ codes "table" ∷ codes "default" ∷ [] else step_keys
+
+-- the one first key of a step
+unfoldable pub step_key : List ℕ → Members → Result (List ℕ) PlanFault
+step_key at t = do
+  known ← only_keys (known_keys t) at t
+  one_key step_keys at t
+
+-- a step by its first key
+unfoldable pub step_by : List ℕ → List ℕ → Members → Result Edit PlanFault
+step_by k at t =
+    if bytes_eq k (codes "set") then set_at at t
+    else if bytes_eq k (codes "copy") then copy_at at t
+    else if bytes_eq k (codes "clear") then clear_at at t
+    else if bytes_eq k (codes "lookup") then lookup_at at t
+    else remove_at at t
+
+-- a step
+unfoldable pub step : List ℕ → Data → Result Edit PlanFault
+step at d = do
+  t ← table_at at d
+  k ← step_key at t
+  step_by k at t
+
+-- at most 256 steps, none where they are left out
+unfoldable pub steps_at : List ℕ → Option Data → Result (List Edit) PlanFault
+steps_at at None = Ok []
+steps_at at (Some d) = told at (list_within 256 d) >>= each step at

@@ -1,0 +1,19 @@
+//! The plan of the engine: the destinations that messages go to, and the channels that they come in on.
+#![tactic(auto)]
+
+mod built_in;
+mod channel;
+mod destination;
+mod fault;
+mod literal;
+mod plan;
+mod reading;
+
+pub use channel::{Channel, MessageType, ProcessingId, Route, VersionId};
+pub use destination::{Await, Destination};
+pub use fault::{FaultName, PlanFault};
+pub use literal::Literal;
+pub use plan::Plan;
+
+#[cfg(test)]
+mod tests;

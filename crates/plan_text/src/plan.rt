@@ -1,0 +1,95 @@
+//! The plan.
+
+ghost use Rattle.std.specs.Prelude.{◌≡◌, length, slice_get, option_map};
+ghost use Rattle.std.specs.Bool.{Decides};
+ghost use Rattle.std.specs.Option.{option_copied};
+ghost use Rattle.plan_text.specs.Entries.{IsPlan};
+
+use crate::channel::Channel;
+use crate::destination::Destination;
+use std::marker::Model;
+
+/// The destinations that messages go to, and the channels that they come in on. A place counts from 0.
+///
+/// Two plans are equal where they say the same, wherever they lie in memory.
+#[derive(Debug, Drop)]
+pub struct Plan {
+    pub(crate) destinations: Vec<Destination>,
+    pub(crate) channels: Vec<Channel>,
+}
+
+impl Model for Plan {
+    ghost use Rattle.plan_text.specs.Entries.{PlanEntry, IsPlan};
+    ghost use Rattle.plan_text.specs.Coding.{plan_code};
+
+    ghost Value = { PlanEntry };
+
+    ghost coded = { plan_code };
+
+    ghost view = { λ p. record {
+      destinations = p.destinations.items;
+      channels = p.channels.items;
+    } };
+
+    ghost invariant = { λ p. IsPlan (record {
+      destinations = p.destinations.items;
+      channels = p.channels.items;
+    }) };
+}
+
+impl Plan {
+    /// The channel at this place.
+    pub fn channel(&self, place: u32) -> Option<&Channel>
+        ensures { option_copied result ≡ slice_get self.now.channels place }
+    {
+        self.channels.as_slice().get(place as usize)
+    }
+
+    /// The destination at this place.
+    pub fn destination(&self, place: u32) -> Option<&Destination>
+        ensures { option_copied result ≡ slice_get self.now.destinations place }
+    {
+        self.destinations.as_slice().get(place as usize)
+    }
+
+    /// The number of channels, at most 64.
+    pub fn channels(&self) -> u32
+        ensures { result ≡ length self.now.channels }
+    {
+        self.channels.len() as u32
+    }
+
+    /// The number of destinations, at most 32.
+    pub fn destinations(&self) -> u32
+        ensures { result ≡ length self.now.destinations }
+    {
+        self.destinations.len() as u32
+    }
+
+    /// What holds of every plan.
+    pub fn rules(&self)
+        ensures { IsPlan self.now }
+    {
+        let _ = &self.destinations;
+    }
+
+    /// Whether two plans say the same.
+    pub fn same(&self, other: &Plan) -> bool
+        ensures { Decides result (self.now ≡ other.now) }
+    {
+        self == other
+    }
+}
+
+impl PartialEq for Plan {
+    ghost use Rattle.plan_text.specs.Same.{same_plan, plan_laws};
+
+    ghost eq = { same_plan };
+
+    ghost laws = { plan_laws };
+
+    fn eq(&self, other: &Plan) -> bool {
+        self.destinations.as_slice() == other.destinations.as_slice()
+            && self.channels.as_slice() == other.channels.as_slice()
+    }
+}

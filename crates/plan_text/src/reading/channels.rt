@@ -1,0 +1,251 @@
+//! The channels of a plan.
+
+ghost use Rattle.std.specs.Prelude.{◌≡◌, ◌≤◌, [], codes, length};
+ghost use Rattle.toml.specs.View.{view, array_view};
+ghost use Rattle.plan_text.specs.AtKey.{at_key, key_at, value_at};
+ghost use Rattle.plan_text.specs.Fault.{Gives};
+ghost use Rattle.plan_text.specs.Keys.{member_path, required, each, each_after};
+ghost use Rattle.plan_text.specs.Kinds.{new_name};
+ghost use Rattle.plan_text.specs.Channels.{place_of, leads_to, route_to, route, routes_at, entry_at, entries_at, channel_has_name, channel};
+
+use crate::channel::{Channel, Route};
+use crate::destination::Destination;
+use crate::fault::{FaultName, Stop};
+use crate::literal::Literal;
+use crate::reading::conditions::filter_of;
+use crate::reading::keys::{Key, Keys, member_fault, member_path};
+use crate::reading::kinds::{FromText, is_name};
+use crate::reading::steps::steps_of;
+use std::alloc::Global;
+use toml::Value;
+use toml::value::Array;
+
+fn place_of(destinations: &[Destination], name: &str) -> Option<usize>
+    ensures { result ≡ place_of destinations.now name.now }
+{
+    destinations.iter().position(|d| d.name() == name)
+}
+
+fn leads_to(routes: &[Route], place: u32) -> bool
+    ensures { result ≡ leads_to routes.now place }
+{
+    routes.iter().any(|route| route.to() == place)
+}
+
+/// The place of the destination that a route leads to.
+fn route_to(destinations: &[Destination], before: &[Route], key: &Key<'_>) -> Result<u32, Stop>
+    requires { length destinations.now ≤ 32 }
+    ensures { Gives (λ n. n) result (at_key key.now (required (route_to destinations.now before.now))) }
+{
+    let Some(value) = key.value else {
+        return Err(key.fault(FaultName::Missing));
+    };
+    let Some(name) = value.as_str() else {
+        return Err(key.fault(FaultName::BadRange));
+    };
+    let Some(place) = place_of(destinations, name) else {
+        return Err(key.fault(FaultName::UnknownName));
+    };
+    let place = place as u32;
+    if leads_to(before, place) {
+        return Err(key.fault(FaultName::DoubleName));
+    }
+    Ok(place)
+}
+
+#[tactic(auto, unfolding(crate::specs::Channels::route))]
+fn route_of(
+    alloc: Global,
+    destinations: &[Destination],
+    before: &[Route],
+    at: &str,
+    value: &Value,
+) -> Result<Route, Stop>
+    requires { length destinations.now ≤ 32 }
+    ensures { Gives (λ r. r) result (route destinations.now before.now at.now (view value.now)) }
+{
+    let keys = Keys::of(alloc, at, value)?;
+    keys.only(&["to", "filter", "steps"])?;
+    let to = route_to(destinations, before, &keys.key("to"))?;
+    let filter = filter_of(&keys.key("filter"))?;
+    let steps = steps_of(&keys.key("steps"))?;
+    Ok(Route { to, filter, steps })
+}
+
+/// The route that stands behind these in the list at `at`.
+fn next_route(
+    alloc: Global,
+    destinations: &[Destination],
+    before: &[Route],
+    at: &str,
+    value: &Value,
+) -> Result<Route, Stop>
+    requires { length destinations.now ≤ 32 }
+    ensures { Gives (λ r. r) result (route destinations.now before.now (member_path at.now (length before.now)) (view value.now)) }
+{
+    let at = member_path(alloc, at, before.len())?;
+    route_of(alloc, destinations, before, at.as_str(), value)
+}
+
+fn each_route(
+    alloc: Global,
+    destinations: &[Destination],
+    at: &str,
+    values: &Array,
+) -> Result<Vec<Route>, Stop>
+    requires { length destinations.now ≤ 32 }
+    ensures { Gives (λ v. v.items) result (each_after (route destinations.now) at.now [] (array_view values.now)) }
+{
+    let mut routes = Vec::new(alloc);
+    for value in values {
+        let route = next_route(alloc, destinations, routes.as_slice(), at, value)?;
+        routes.push(route)?;
+    }
+    Ok(routes)
+}
+
+/// The routes of a channel, none where the key is left out.
+#[tactic(auto, unfolding(crate::specs::Channels::routes_at))]
+fn routes_of(key: &Key<'_>, destinations: &[Destination]) -> Result<Vec<Route>, Stop>
+    requires { length destinations.now ≤ 32 }
+    ensures { Gives (λ v. v.items) result (routes_at destinations.now (key_at key.now) (value_at key.now)) }
+{
+    let Some(value) = key.value else {
+        return Ok(Vec::new(key.alloc));
+    };
+    let Some(values) = value.as_array() else {
+        return Err(key.fault(FaultName::BadRange));
+    };
+    let at = key.path()?;
+    each_route(key.alloc, destinations, at.as_str(), values)
+}
+
+/// The entry at a place of the list at `at`.
+fn next_entry<E: FromText>(alloc: Global, at: &str, place: usize, value: &Value) -> Result<E, Stop>
+    ensures { Gives (λ e. e) result (entry_at E.form (member_path at.now place) (view value.now)) }
+{
+    let Some(text) = value.as_str() else {
+        return Err(member_fault(alloc, FaultName::BadRange, at, place));
+    };
+    match E::from_text(alloc, text)? {
+        Some(entry) => Ok(entry),
+        None => Err(member_fault(alloc, FaultName::BadRange, at, place)),
+    }
+}
+
+fn each_entry<E: FromText>(alloc: Global, at: &str, values: &Array) -> Result<Vec<E>, Stop>
+    ensures { Gives (λ v. v.items) result (each (entry_at E.form) at.now (array_view values.now)) }
+{
+    let mut entries = Vec::new(alloc);
+    for value in values {
+        let entry = next_entry(alloc, at, entries.len(), value)?;
+        entries.push(entry)?;
+    }
+    Ok(entries)
+}
+
+/// The entries of a list of texts, at most 256.
+#[tactic(auto, unfolding(crate::specs::Channels::entries_at))]
+fn entries_of<E: FromText>(key: &Key<'_>) -> Result<Vec<E>, Stop>
+    ensures { Gives (λ v. v.items) result (entries_at E.form (key_at key.now) (value_at key.now)) }
+{
+    let values = key.list(256)?;
+    let at = key.path()?;
+    each_entry(key.alloc, at.as_str(), values)
+}
+
+fn has_name(channels: &[Channel], name: &str) -> bool
+    ensures { result ≡ channel_has_name channels.now name.now }
+{
+    channels.iter().any(|channel| channel.name() == name)
+}
+
+fn new_name<'a>(key: &Key<'a>, before: &[Channel]) -> Result<&'a str, Stop>
+    ensures { Gives (λ s. s.now) result (at_key key.now (required (new_name (channel_has_name before.now)))) }
+{
+    let Some(value) = key.value else {
+        return Err(key.fault(FaultName::Missing));
+    };
+    match value.as_str() {
+        Some(name) if is_name(name) => {
+            if has_name(before, name) {
+                Err(key.fault(FaultName::DoubleName))
+            } else {
+                Ok(name)
+            }
+        }
+        _ => Err(key.fault(FaultName::BadRange)),
+    }
+}
+
+#[tactic(auto, unfolding(crate::specs::Channels::channel))]
+fn channel_of(
+    alloc: Global,
+    destinations: &[Destination],
+    before: &[Channel],
+    at: &str,
+    value: &Value,
+) -> Result<Channel, Stop>
+    requires { length destinations.now ≤ 32 }
+    ensures { Gives (λ c. c) result (channel destinations.now before.now at.now (view value.now)) }
+{
+    let keys = Keys::of(alloc, at, value)?;
+    keys.only(&[
+        "name",
+        "listen",
+        "types",
+        "processing",
+        "versions",
+        "filter",
+        "steps",
+        "route",
+    ])?;
+    let name = new_name(&keys.key("name"), before)?;
+    let listen = keys.key("listen").text(1, 255)?;
+    let types = entries_of(&keys.key("types"))?;
+    let processing = entries_of(&keys.key("processing"))?;
+    let versions = entries_of(&keys.key("versions"))?;
+    let filter = filter_of(&keys.key("filter"))?;
+    let steps = steps_of(&keys.key("steps"))?;
+    let routes = routes_of(&keys.key("route"), destinations)?;
+    Ok(Channel {
+        name: Literal::new(alloc, name)?,
+        listen: Literal::new(alloc, listen)?,
+        types,
+        processing,
+        versions,
+        filter,
+        steps,
+        routes,
+    })
+}
+
+/// The channel that stands behind these in the list.
+fn next_channel(
+    alloc: Global,
+    destinations: &[Destination],
+    before: &[Channel],
+    value: &Value,
+) -> Result<Channel, Stop>
+    requires { length destinations.now ≤ 32 }
+    ensures { Gives (λ c. c) result (channel destinations.now before.now (member_path (codes "channel") (length before.now)) (view value.now)) }
+{
+    let at = member_path(alloc, "channel", before.len())?;
+    channel_of(alloc, destinations, before, at.as_str(), value)
+}
+
+pub(crate) fn each_channel(
+    alloc: Global,
+    destinations: &[Destination],
+    values: &Array,
+) -> Result<Vec<Channel>, Stop>
+    requires { length destinations.now ≤ 32 }
+    ensures { Gives (λ v. v.items) result (each_after (channel destinations.now) (codes "channel") [] (array_view values.now)) }
+{
+    let mut channels = Vec::new(alloc);
+    for value in values {
+        let channel = next_channel(alloc, destinations, channels.as_slice(), value)?;
+        channels.push(channel)?;
+    }
+    Ok(channels)
+}

@@ -1,0 +1,119 @@
+//! The destinations of a plan.
+
+ghost use Rattle.std.specs.Prelude.{◌≡◌, [], codes, length};
+ghost use Rattle.toml.specs.View.{view, array_view, table_view};
+ghost use Rattle.plan_text.specs.AtKey.{at_key};
+ghost use Rattle.plan_text.specs.Fault.{Gives};
+ghost use Rattle.plan_text.specs.Keys.{member_path, required, or_else, each_after};
+ghost use Rattle.plan_text.specs.Kinds.{new_name, text_as, await_word};
+ghost use Rattle.plan_text.specs.Destinations.{destination, destinations, has_name};
+ghost use Rattle.plan_text.specs.declared.destination.Await.TheVariants as await;
+
+use crate::destination::{Await, Destination};
+use crate::fault::{FaultName, Stop};
+use crate::literal::Literal;
+use crate::reading::keys::{Key, Keys, member_path};
+use crate::reading::kinds::{await_word, is_name};
+use std::alloc::Global;
+use toml::Value;
+use toml::value::Array;
+
+fn has_name(destinations: &[Destination], name: &str) -> bool
+    ensures { result ≡ has_name destinations.now name.now }
+{
+    destinations.iter().any(|d| d.name() == name)
+}
+
+fn new_name<'a>(key: &Key<'a>, before: &[Destination]) -> Result<&'a str, Stop>
+    ensures { Gives (λ s. s.now) result (at_key key.now (required (new_name (has_name before.now)))) }
+{
+    let Some(value) = key.value else {
+        return Err(key.fault(FaultName::Missing));
+    };
+    match value.as_str() {
+        Some(name) if is_name(name) => {
+            if has_name(before, name) {
+                Err(key.fault(FaultName::DoubleName))
+            } else {
+                Ok(name)
+            }
+        }
+        _ => Err(key.fault(FaultName::BadRange)),
+    }
+}
+
+fn await_of(key: &Key<'_>) -> Result<Await, Stop>
+    ensures { Gives (λ w. w) result (at_key key.now (or_else await.Ack (text_as await_word))) }
+{
+    let Some(value) = key.value else {
+        return Ok(Await::Ack);
+    };
+    let Some(text) = value.as_str() else {
+        return Err(key.fault(FaultName::BadRange));
+    };
+    match await_word(text) {
+        Some(wait) => Ok(wait),
+        None => Err(key.fault(FaultName::BadRange)),
+    }
+}
+
+#[tactic(auto, unfolding(crate::specs::Destinations::destination))]
+fn destination_of(
+    alloc: Global,
+    before: &[Destination],
+    at: &str,
+    value: &Value,
+) -> Result<Destination, Stop>
+    ensures { Gives (λ d. d) result (destination before.now at.now (view value.now)) }
+{
+    let keys = Keys::of(alloc, at, value)?;
+    keys.only(&[
+        "name", "address", "attempts", "interval", "timeout", "await",
+    ])?;
+    let name = new_name(&keys.key("name"), before)?;
+    let address = keys.key("address").text(1, 255)?;
+    let attempts = keys.key("attempts").number_or(3, 1, 100)?;
+    let interval = keys.key("interval").number_or(10, 0, 86_400)?;
+    let timeout = keys.key("timeout").number_or(30, 1, 3_600)?;
+    let wait = await_of(&keys.key("await"))?;
+    Ok(Destination {
+        name: Literal::new(alloc, name)?,
+        address: Literal::new(alloc, address)?,
+        attempts,
+        interval,
+        timeout,
+        wait,
+    })
+}
+
+/// The destination that stands behind these in the list.
+fn next_destination(
+    alloc: Global,
+    before: &[Destination],
+    value: &Value,
+) -> Result<Destination, Stop>
+    ensures { Gives (λ d. d) result (destination before.now (member_path (codes "destination") (length before.now)) (view value.now)) }
+{
+    let at = member_path(alloc, "destination", before.len())?;
+    destination_of(alloc, before, at.as_str(), value)
+}
+
+fn each_destination(alloc: Global, values: &Array) -> Result<Vec<Destination>, Stop>
+    ensures { Gives (λ v. v.items) result (each_after destination (codes "destination") [] (array_view values.now)) }
+{
+    let mut destinations = Vec::new(alloc);
+    for value in values {
+        let destination = next_destination(alloc, destinations.as_slice(), value)?;
+        destinations.push(destination)?;
+    }
+    Ok(destinations)
+}
+
+/// The destinations of a document.
+#[tactic(auto, unfolding(crate::specs::Destinations::destinations))]
+pub(crate) fn destinations_of(alloc: Global, document: &Keys<'_>) -> Result<Vec<Destination>, Stop>
+    requires { document.now.at.now ≡ [] }
+    ensures { Gives (λ v. v.items) result (destinations (table_view document.now.table.now)) }
+{
+    each_destination(alloc, document.key("destination").list(32)?)
+}
