@@ -1,11 +1,24 @@
-use super::*;
-use crate::reports::ServeReport;
-use crate::serving::{CONNECTION, answer_within};
+mod asking;
+mod plans;
+
+use crate::clock::Still;
+use crate::counted::Counted;
+use crate::reports::{Clock, ServeEnd, ServeReport};
+use crate::serving::{CONNECTION, answer_stream, answer_within};
+use book_core::{Book, EVENTS_MAX};
 use dest_queue::SlotState;
 use event_log::Told;
+use hl7_head::Moment;
+use plan_text::Plan;
+use std::alloc::Global;
 use std::io;
+use std::io::{ErrorKind, Read, Write};
 use std::process::Abort;
+use std::sync::Arc;
 use std::test::Fail;
+
+/// The moment of the acknowledgments: 14 November 2023, 22:13:20 UTC.
+const ANSWERED_AT: i64 = 1_700_000_000;
 
 /// Where a stream is cut into pieces.
 #[derive(Clone, Copy, Debug, PartialEq, Eq)]

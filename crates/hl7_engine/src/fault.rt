@@ -1,0 +1,78 @@
+//! Why the program ends without success.
+
+ghost use Rattle.std.specs.Prelude.{◌≤◌};
+
+use clap::error::ErrorKind;
+use plan_text::{FaultName, PlanFault};
+use std::alloc::AllocError;
+use thiserror::Error;
+
+/// Why the program ends without success. Its text is the line on standard error.
+#[derive(Debug, Drop, Error)]
+pub enum Fault<'a> {
+    /// The words are none that the program takes. The text has lines of its own.
+    #[error("{0}")]
+    Words(clap::Error),
+    /// A word of the command line is no text.
+    #[error("the command line is not UTF-8")]
+    NoText,
+    /// The file of the plan can't be read.
+    #[error("file: {0}")]
+    File(&'a str),
+    /// The plan has a fault.
+    #[error("plan: {0}")]
+    Plan(PlanFault),
+    /// Standard input failed, or brought more than one connection may.
+    #[error("device: read")]
+    Read,
+    /// Standard output failed.
+    #[error("device: write")]
+    Write,
+    /// Memory was refused.
+    #[error("memory")]
+    Memory,
+}
+
+impl Fault<'_> {
+    /// The exit status: 1 of a faulty plan, 2 of words that aren't taken, 3 of a file, a device or memory.
+    pub fn status(&self) -> u8
+        ensures failure { 1 ≤ result }
+    {
+        match self {
+            Fault::Plan(_) => 1,
+            Fault::Words(_) | Fault::NoText => 2,
+            Fault::File(_) | Fault::Read | Fault::Write | Fault::Memory => 3,
+        }
+    }
+}
+
+impl From<clap::Error> for Fault<'_> {
+    fn from(error: clap::Error) -> Self {
+        if error.kind() == ErrorKind::OutOfMemory {
+            Fault::Memory
+        } else {
+            Fault::Words(error)
+        }
+    }
+}
+
+impl From<PlanFault> for Fault<'_> {
+    fn from(fault: PlanFault) -> Self {
+        if fault.name == FaultName::NoMemory {
+            Fault::Memory
+        } else {
+            Fault::Plan(fault)
+        }
+    }
+}
+
+impl From<AllocError> for Fault<'_> {
+    ghost use Rattle.std.specs.Prelude.{◌≡◌};
+    ghost use Rattle.hl7_engine.specs.declared.fault.Fault.TheVariants.{Memory};
+
+    ghost from_gives = { λ _ fault. fault ≡ Memory };
+
+    fn from(_: AllocError) -> Self {
+        Fault::Memory
+    }
+}
