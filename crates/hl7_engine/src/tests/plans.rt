@@ -122,9 +122,6 @@ steps = [{ clear = "PID-13" }]
 to = "ARCHIVE"
 "#;
 
-/// Where the tests write a plan.
-const FILE: &str = "plan.toml";
-
 /// The plan that a text says.
 fn plan_of(alloc: Global, text: &str) -> Result<Plan, Fail> {
     match Plan::read(alloc, text.as_bytes()) {
@@ -141,10 +138,12 @@ fn told_of_file(rt: &HostRuntime, path: &str) -> Result<(String, u8), Fail> {
     }
 }
 
-/// What is told of a file with these bytes.
-fn told_of(rt: &HostRuntime, bytes: &[u8]) -> Result<(String, u8), Fail> {
-    fs::write(rt, FILE, bytes)?;
-    told_of_file(rt, FILE)
+/// What is told of a file with these bytes. The file is gone afterwards.
+fn told_of(rt: &HostRuntime, file: &str, bytes: &[u8]) -> Result<(String, u8), Fail> {
+    fs::write(rt, file, bytes)?;
+    let told = told_of_file(rt, file)?;
+    fs::remove_file(rt, file)?;
+    Ok(told)
 }
 
 #[test]
@@ -162,7 +161,7 @@ fn tells_the_size_of_a_plan(rt: HostRuntime) -> Result<(), Fail> {
         (FOUR_DESTINATIONS, "plan ok: 1 channels, 4 destinations"),
         (EVERY_KEY, "plan ok: 1 channels, 2 destinations"),
     ] {
-        let (line, status) = told_of(&rt, text.as_bytes())?;
+        let (line, status) = told_of(&rt, "sizes.toml", text.as_bytes())?;
         assert_eq!(rt; line.as_str(), wanted);
         assert_eq!(rt; status, 0);
     }
@@ -192,11 +191,11 @@ fn tells_the_fault_of_a_plan(rt: HostRuntime) -> Result<(), Fail> {
     ] {
         let (before, after) = ONE_DESTINATION.split_once(old).ok_or("a place")?;
         let text = format!(in alloc; "{before}{new}{after}")?;
-        let (line, status) = told_of(&rt, text.as_bytes())?;
+        let (line, status) = told_of(&rt, "faults.toml", text.as_bytes())?;
         assert_eq!(rt; line.as_str(), wanted);
         assert_eq!(rt; status, 1);
     }
-    let (line, status) = told_of(&rt, b"name = \"\xff\"")?;
+    let (line, status) = told_of(&rt, "faults.toml", b"name = \"\xff\"")?;
     assert_eq!(rt; line.as_str(), "plan: NotToml");
     assert_eq!(rt; status, 1);
     Ok(())
