@@ -17,7 +17,7 @@ import time
 
 HERE = os.path.dirname(os.path.abspath(__file__))
 PROGRAM = os.path.join(HERE, '..', 'crates', 'hl7_engine', 'out', 'hl7_engine')
-FEW, MANY = 2_000, 200_000
+FEW, MANY, ROUTED = 2_000, 200_000, 5_000
 ENDLESS = 64 * 1024 * 1024
 MIB = 1024 * 1024
 RUN_ONCE = '--run-once'
@@ -44,26 +44,59 @@ def framed(text):
     return b'\x0b' + text + b'\x1c\r'
 
 
-def run_once(program, source, sink):
+FOUR_ROUTES = ''.join(f'''
+[[destination]]
+name = "{name}"
+address = "127.0.0.1:{6671 + place}"
+''' for place, name in enumerate('ABCD')) + '''
+[[channel]]
+name = "ADT"
+listen = "127.0.0.1:6670"
+types = ["ADT"]
+processing = ["P"]
+versions = ["2.5.1"]
+''' + ''.join(f'''
+[[channel.route]]
+to = "{name}"
+filter = {{ all = [{{ exists = "PID-3.1" }}, {{ equals = ["PV1-2", "I"] }}] }}
+steps = [
+  {{ set = ["PV1-3.1", "WARD {name}"] }},
+  {{ copy = ["PID-3.1", "PID-2.1"] }},
+  {{ lookup = "PID-8", table = [["M", "1"], ["F", "2"]], default = "9" }},
+]
+''' for name in 'ABCD')
+
+
+def large_plan():
+    """64 channels and 32 destinations, each channel with 256 steps."""
+    destinations = ''.join(f'[[destination]]\nname = "D{d}"\naddress = "127.0.0.1:{7000 + d}"\n' for d in range(32))
+    steps = ',\n'.join(f'  {{ set = ["PV1-{1 + n % 50}.{1 + n // 50}", "{n}"] }}' for n in range(256))
+    return destinations + ''.join(
+        f'[[channel]]\nname = "C{c}"\nlisten = "127.0.0.1:{8000 + c}"\ntypes = ["*"]\nprocessing = ["P"]\n'
+        f'versions = ["*"]\nsteps = [\n{steps}\n]\n'
+        + ''.join(f'[[channel.route]]\nto = "D{d}"\n' for d in range(32)) for c in range(64))
+
+
+def run_once(program, source, sink, *words):
     """Runs the program on a file; prints seconds, peak memory in bytes, and the status."""
     with open(source, 'rb') as fed, open(sink, 'wb') as got:
         began = time.perf_counter()
-        child = os.posix_spawn(program, [program], {}, file_actions=[
+        child = os.posix_spawn(program, [program, *words], {}, file_actions=[
             (os.POSIX_SPAWN_DUP2, fed.fileno(), 0), (os.POSIX_SPAWN_DUP2, got.fileno(), 1)])
         _, status, usage = os.wait4(child, 0)
         took = time.perf_counter() - began
     print(took, usage.ru_maxrss * 1024, os.waitstatus_to_exitcode(status))
 
 
-def run(program, source, sink):
+def run(program, source, sink, *words):
     """The same from a small process: a child's peak memory counts what its parent held when it was made."""
-    told = subprocess.run([sys.executable, os.path.abspath(__file__), RUN_ONCE, program, source, sink],
+    told = subprocess.run([sys.executable, os.path.abspath(__file__), RUN_ONCE, program, source, sink, *words],
                           check=True, capture_output=True, text=True).stdout.split()
     return float(told[0]), int(told[1]), int(told[2])
 
 
-def best(program, source, sink, times):
-    runs = [run(program, source, sink) for _ in range(times)]
+def best(program, source, sink, times, *words):
+    runs = [run(program, source, sink, *words) for _ in range(times)]
     assert all(status == 0 for _, _, status in runs), 'the program did not end with status 0'
     return min(took for took, _, _ in runs), max(peak for _, peak, _ in runs)
 
@@ -118,6 +151,29 @@ def main():
         tell(f'a block of {ENDLESS // MIB} MiB that never ends: {ENDLESS / took / MIB:,.0f} MiB/s '
              f'(at least a tenth of {good / MIB:,.0f})', ENDLESS / took >= good / 10)
         tell(f'        peak memory {peak / MIB:.1f} MiB (bounded: at most 16)', peak <= 16 * MIB)
+
+        plan = os.path.join(folder, 'plan.toml')
+        with open(plan, 'w') as f:
+            f.write(FOUR_ROUTES)
+        cost = {}
+        for copies in (1, 8):
+            extra = b''.join(b'OBX|%d|NM|2345-7^GLUCOSE^LN||97|mg/dL|70-105|N|||F|||20231114220000|||||||\r' % n
+                             for n in range(10 * copies))
+            with open(source, 'wb') as f:
+                for n in range(ROUTED):
+                    f.write(framed(admission(n) + extra))
+            size = os.path.getsize(source)
+            took, _ = best(program, source, sink, 5, 'answer', plan, '--now', '1700000000')
+            cost[copies] = took / size
+            tell(f'{ROUTED:>7} messages of {size // ROUTED} bytes by four routes, each with a filter and three steps: '
+                 f'{1e6 * took / ROUTED:.2f} microseconds a message, {1e9 * took / size:.2f} nanoseconds a byte')
+        tell(f'        a byte of the longer over one of the shorter: {cost[8] / cost[1]:.2f} (at most 1.3)',
+             cost[8] <= 1.3 * cost[1])
+        with open(plan, 'w') as f:
+            f.write(large_plan())
+        took, _ = best(program, os.devnull, sink, 3, 'check', plan)
+        tell(f'reading a plan of 64 channels and 32 destinations with 256 steps each '
+             f'({os.path.getsize(plan) // 1024} KiB): {took:.2f} s (under 1)', took < 1)
 
     library = library_seconds([admission(n) for n in range(FEW)])
     if library is None:
