@@ -1,32 +1,41 @@
 -- What a book keeps beside its history, and how it agrees with it.
-use Rattle.std.specs.Prelude.{◌≡◌, ◌≤◌, List, [], ◌∷◌, length, map}
+use Rattle.std.specs.Prelude.{◌≡◌, ◌<◌, ◌≤◌, ℕ, List}
 use Rattle.std.specs.List.{AllByRecursion}
-use Rattle.judge_core.specs.declared.delivery.Delivery.{Delivery}
-use Rattle.judge_core.specs.declared.judged.Verdict.{Verdict}
-use Rattle.judge_core.specs.declared.judged.Verdict.TheVariants.{Unreadable, Stray, Refuse, Filtered, Accept}
-use Rattle.event_log.specs.declared.entry.Entry.{Entry}
-use Rattle.event_log.specs.declared.entry.Entry.TheVariants.{Arrival, Take, Settle, Cancel}
-use Rattle.event_log.specs.History.{History, accepted, IsLegal}
+use Rattle.row_store.specs.declared.Row.{Row}
+use Rattle.row_store.specs.Rows.{numbers as numbers_of, stands_in}
+use Rattle.dest_queue.specs.declared.slots.Addressed.{Addressed}
+use Rattle.dest_queue.specs.SlotsBy.{slots_by}
+use Rattle.dup_index.specs.Known.{Known, place_of}
+use Rattle.stat_count.specs.Tally.{Tally}
+use Rattle.event_log.specs.History.{History, control_id, deliveries, is_queued, named, numbers, state}
+use Rattle.event_log.specs.Answers.{known}
+use Rattle.event_log.specs.Room.{in_flight}
+use Rattle.event_log.specs.Legal.{IsSound}
+use Rattle.book_core.specs.declared.letter.Letter.{Letter}
+use Rattle.book_core.specs.Counting.{AreCounted}
 
--- whether an entry is an arrival
-abbrev pub IsArrival : Entry → Type 0
-IsArrival (Arrival conn channel raw told) = Unit {0}
-IsArrival (Take ticket now) = ⊥
-IsArrival (Settle ticket outcome now state) = ⊥
-IsArrival (Cancel number mask) = ⊥
+-- the row of a message is what the history says of it: its slots, the queues that it stands in, and what is sent
+pub record IsAsTold (h : History) (row : Row (Addressed Letter)) : Type 0 where
+  pub slots : row.item.slots ≡ slots_by (state h row.number) (named h row.number)
+  pub queues : (d : ℕ) → d < 32 → stands_in d row ≡ is_queued h d row.number
+  pub control_id : row.item.content.control_id ≡ control_id h row.number
+  pub deliveries : row.item.content.deliveries ≡ deliveries h row.number
 
--- the message that a verdict brings, by where it goes
-abbrev pub brought_by : Verdict → List (List Delivery)
-brought_by Unreadable = []
-brought_by Stray = []
-brought_by (Refuse cause) = []
-brought_by Filtered = []
-brought_by (Accept deliveries) = deliveries ∷ []
+-- the rows are the accepted messages, each once and in order of acceptance
+pub record RowsAgree (h : History) (rows : List (Row (Addressed Letter))) : Type 0 where
+  pub each_once : numbers_of rows ≡ numbers h
+  pub as_told : AllByRecursion (IsAsTold h) rows
+
+-- the index finds each key where the history has it
+abbrev pub KeysAgree : History → List Known → Type 0
+KeysAgree h index = (key : List ℕ) → place_of key index ≡ known h key
 
 -- each part of a book agrees with the history
-pub record IsKept (h : History) (messages : List (List Delivery)) : Type 0 where
-  pub legal : IsLegal h
-  pub arrivals : AllByRecursion IsArrival h.entries
-  pub messages_are : messages ≡ map (λ m. m.deliveries) (accepted h)
-  pub few : length h.entries ≤ h.opening.events_max
+pub record IsKept (h : History) (rows : List (Row (Addressed Letter))) (index : List Known) (tally : Tally) (flights room : ℕ) : Type 0 where
+  pub sound : IsSound h
+  pub rows_agree : RowsAgree h rows
+  pub keys_agree : KeysAgree h index
+  pub are_counted : AreCounted h tally
+  pub flights_are : flights ≡ in_flight h
+  pub reserved : in_flight h ≤ room
   pub bound : h.opening.events_max ≤ 1000000

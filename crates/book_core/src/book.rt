@@ -1,127 +1,90 @@
 //! The book itself.
 
-ghost use Rattle.std.specs.Prelude.{◌≡◌, ◌≢◌, ◌≤◌, ◌++◌, ◌↔◌, Some, true, if◌then◌else◌, Err, None, ◌==◌, ◌<◌, length, IsTrue, IfOk, OnErr, IsErrOf, slice_get, option_copied};
+ghost use Rattle.std.specs.Prelude.{◌≡◌, ◌≢◌, ◌≤◌, ◌<◌, ◌==◌, ◌⊎◌, ◌↔◌, Ok, Err, IsOk, IfOk, IfErr, OnErr, IsErrOf, IsTrue, Some, true, length, slice_get, option_copied};
 ghost use Rattle.std.specs.Arc.{arc_value};
-ghost use Rattle.judge_core.specs.Judging.{is_bookable, is_booked};
-ghost use Rattle.dest_queue.specs.declared.SlotState.{SlotState};
-ghost use Rattle.event_log.specs.History.{IsLegal, opened_by, followed_by, plan_in_force, next_place, is_full, answer, names, slot, told_by};
-ghost use Rattle.book_core.specs.Parts.{brought_by};
+ghost use Rattle.judge_core.specs.Judging.{is_bookable};
+ghost use Rattle.event_log.specs.History.{control_id, deliveries, followed_by, names, next_place, opened_by, payload, plan_in_force, queue, slot};
+ghost use Rattle.event_log.specs.Answers.{answer, cancel_answer, settle_answer, take_answer};
+ghost use Rattle.event_log.specs.Room.{is_full};
+ghost use Rattle.book_core.specs.Counting.{counted};
+ghost use Rattle.book_core.specs.Headline.{KeepsItsPromise};
+ghost use Rattle.book_core.specs.Sending.{awaits_ack};
 
+use crate::arriving::{
+    add_message, attempts_max, deliveries_if, interval, keep_key, key_to_keep, own_of, told,
+};
+use crate::counting::{count_arrival, count_cancelled, count_settled};
+use crate::letter::{Job, Letter};
 use crate::receipt::{NotBooked, Receipt};
-use dest_queue::SlotState;
-use event_log::{Entry, Log, Told};
-use judge_core::{Deliveries, Delivery, Judged, Verdict};
+use crate::sending::{awaits_ack, payload, ticket_for, where_waiting};
+use dest_queue::{
+    Addressed, Outcome, SettleRefusal, SlotState, cancel_waiting, front_state, settle_slot,
+    slot_of, take_front,
+};
+use dup_index::Keys;
+use event_log::{CancelRefusal, EVENTS_MAX, Entry, Log, TakeRefusal, Ticket, slot_owed};
+use hl7_head::Moment;
+use judge_core::{Judged, Text};
 use plan_text::Plan;
+use row_store::{QUEUES, RowStore};
+use stat_count::Counts;
 use std::alloc::{AllocError, Global};
+use std::hash::RandomState;
 use std::marker::Model;
 use std::sync::Arc;
 
-/// The most entries that any book may hold.
-pub const EVENTS_MAX: u32 = 1_000_000;
-
-/// All that was booked, and where each accepted message goes, by its number.
+/// All that was booked, and what is kept beside it so that the next answer is found without reading it again: a row for
+/// each accepted message, the keys by which repeats are known, the statistics, and how many attempts are under way.
 #[derive(Drop)]
-pub struct Book {
-    plan: Arc<Plan>,
-    events_max: u32,
-    messages: Vec<Deliveries>,
+pub struct Book<S: RowStore<Addressed<Letter>>> {
+    alloc: Global,
     log: Log,
+    rows: S,
+    keys: Keys,
+    counts: Counts,
+    flights: u32,
 }
 
-impl Model for Book {
-    ghost use Rattle.std.specs.Arc.{arc_value};
-    ghost use Rattle.event_log.specs.History.{History, history_of};
+impl<S: RowStore<Addressed<Letter>>> Model for Book<S> {
+    ghost use Rattle.event_log.specs.History.{History};
+    ghost use Rattle.event_log.specs.Coding.{history_code};
     ghost use Rattle.book_core.specs.Parts.{IsKept};
 
     ghost Value = { History };
 
-    ghost use Rattle.event_log.specs.Coding.{history_code};
-
     ghost coded = { history_code };
 
-    ghost view = { λ b. history_of (arc_value b.plan) b.events_max b.log.entries };
+    ghost view = { λ b. b.log.history };
 
-    ghost invariant = { λ b. IsKept (history_of (arc_value b.plan) b.events_max b.log.entries) b.messages.items };
+    ghost invariant = { λ b. IsKept b.log.history (S.rows b.rows) b.keys.known b.counts b.flights b.log.room };
 }
 
-/// Whether a message goes to destination `d`.
-fn names(deliveries: &[Delivery], d: u32) -> bool
-    ensures { result ≡ names d deliveries.now }
-{
-    deliveries.iter().any(|x| x.destination == d)
-}
-
-/// Where the message of this number goes, if there is one.
-fn message(messages: &[Deliveries], number: u32) -> Option<&Deliveries>
-    ensures { option_copied result ≡ slice_get messages.now number }
-{
-    messages.get(number as usize)
-}
-
-/// The slot of a message that nothing has touched yet.
-fn start_slot(deliveries: &[Delivery], d: u32) -> Option<SlotState>
-    ensures { result ≡ (if names d deliveries.now then Some (SlotState.Waiting 0 0) else None) }
-{
-    if names(deliveries, d) {
-        Some(SlotState::Waiting {
-            attempts: 0,
-            due: 0,
-        })
-    } else {
-        None
-    }
-}
-
-/// What a sender is told of a verdict. An accepted message is kept, under the next number.
-fn tell(messages: &mut Vec<Deliveries>, verdict: &Verdict) -> Result<Told, AllocError>
-    requires booked { is_booked verdict.now ≡ true }
-    requires few { length messages.old.items < EVENTS_MAX }
-    ensures told { IfOk result (λ told. told_by (length messages.old.items) verdict.now ≡ Some told) }
-    ensures kept { IfOk result (λ told. messages.new.items ≡ messages.old.items ++ brought_by verdict.now) }
-    ensures err { OnErr result (messages.new.items ≡ messages.old.items) }
-{
-    match verdict {
-        Verdict::Refuse(cause) => Ok(Told::Refused(*cause)),
-        Verdict::Filtered => Ok(Told::Filtered),
-        Verdict::Accept(deliveries) => {
-            let number = messages.len() as u32;
-            messages.push(deliveries.share()?)?;
-            Ok(Told::Accepted(number))
-        }
-        Verdict::Unreadable | Verdict::Stray => unreachable!(),
-    }
-}
-
-impl Book {
-    /// An empty book that may hold so many entries.
-    pub fn new(alloc: Global, plan: Arc<Plan>, events_max: u32) -> Book
+impl<S: RowStore<Addressed<Letter>>> Book<S> {
+    /// An empty book that may hold so many entries. Its keys are hashed by `hasher`.
+    pub fn new(alloc: Global, plan: Arc<Plan>, events_max: u32, hasher: RandomState) -> Book<S>
         requires some { 1 ≤ events_max }
         requires few { events_max ≤ EVENTS_MAX }
         ensures { result ≡ opened_by (arc_value plan) events_max }
     {
+        plan.rules();
         Book {
-            plan,
-            events_max,
-            messages: Vec::new(alloc),
-            log: Log::new(alloc),
+            alloc,
+            log: Log::new(alloc, plan, events_max),
+            rows: S::make(alloc),
+            keys: Keys::new(alloc, hasher),
+            counts: Counts::new(),
+            flights: 0,
         }
-    }
-
-    /// What holds of every book: each entry's reply is the sequential engine's answer to the entries before it.
-    pub fn rules(&self)
-        ensures { IsLegal self.now }
-    {
-        let _ = &self.log;
     }
 
     /// The plan in force.
     pub fn plan(&self) -> &Arc<Plan>
         ensures { arc_value result.now ≡ plan_in_force self.now }
     {
-        &self.plan
+        self.log.plan()
     }
 
-    /// How many entries the book holds.
+    /// How many entries the book holds: the place of the next.
     pub fn len(&self) -> usize
         ensures { result ≡ next_place self.now }
     {
@@ -146,15 +109,42 @@ impl Book {
     pub fn status(&self, number: u32, d: u32) -> Option<SlotState>
         ensures { result ≡ slot self.now number d }
     {
-        match message(&self.messages, number) {
-            Some(deliveries) => start_slot(deliveries.as_slice(), d),
-            None => None,
+        slot_of(&self.rows, number, d)
+    }
+
+    /// The statistics.
+    pub fn counts(&self) -> &Counts
+        ensures { result.now ≡ counted self.now }
+    {
+        &self.counts
+    }
+
+    /// The rows of the accepted messages, and the statistics. As long as they are lent the book is free of any event, and
+    /// so it keeps its promise: it agrees with its history, and the history with the sequential engine.
+    pub fn promise(&self) -> (&S, &Counts)
+        ensures { KeepsItsPromise self.now (S.rows result.0.now) result.1.now }
+    {
+        (&self.rows, &self.counts)
+    }
+
+    /// How many messages are still to be delivered to destination `d`.
+    pub fn queue_len(&self, d: u32) -> u64
+        ensures { result ≡ length (queue self.now d) }
+    {
+        let counts = &self.counts;
+        if d >= QUEUES {
+            return 0;
         }
+        let here = counts.destination(d);
+        here.waiting + here.inflight
     }
 
     /// Books a message that came by connection `conn`, with what its sender is told.
     ///
-    /// A refusal leaves the book as it was.
+    /// # Errors
+    ///
+    /// `Full` where there is no room for it and its deliveries, and `NoMemory` where a growth was refused. A refusal
+    /// leaves the book as it was.
     pub fn arrive(&mut self, conn: u32, judged: &Judged) -> Result<Receipt, NotBooked>
         requires bookable { IsTrue (is_bookable judged.now.raw) }
         requires same_plan { judged.now.plan ≡ plan_in_force self.old }
@@ -167,25 +157,36 @@ impl Book {
         ensures told { IfOk result (λ receipt. answer self.old judged.now.channel judged.now.raw ≡ Some receipt.told) }
         ensures booked { IfOk result (λ receipt. self.new ≡ followed_by self.old (Entry.Arrival conn judged.now.channel judged.now.raw receipt.told)) }
 
-        ensures full { IsErrOf result NotBooked.Full ↔ IsTrue (is_full self.old) }
+        ensures full { IsErrOf result NotBooked.Full ↔ IsTrue (is_full self.old judged.now.channel judged.now.raw) }
         ensures plan { result ≢ Err NotBooked.PlanChanged }
         ensures err { OnErr result (self.new ≡ self.old) }
     {
-        let entry = self.log.len();
-        if entry >= self.events_max as usize {
+        let told = told(&self.log, &self.keys, self.rows.len() as u32, judged);
+        let own = own_of(&self.log, told, judged);
+        if !self.log.room(own) {
             return Err(NotBooked::Full);
         }
+        let entry = self.log.len();
         let channel = judged.channel();
-        let kept = judged.raw().share()?;
         let raw = judged.raw().share()?;
-        self.log.reserve(1)?;
-        let told = tell(&mut self.messages, judged.verdict())?;
-        self.log.push(Entry::Arrival {
-            conn,
-            channel,
-            raw: kept,
-            told,
-        });
+        let kept = judged.raw().share()?;
+        self.log.reserve(self.flights as usize + 1)?;
+        let key = key_to_keep(self.alloc, &mut self.keys, judged.key(), told)?;
+        add_message(self.alloc, &mut self.rows, told, judged)?;
+        // All growths are made: nothing below is refused.
+        keep_key(&mut self.keys, key, entry);
+        let deliveries = deliveries_if(told, judged.verdict());
+        count_arrival(&mut self.counts, channel, told, deliveries);
+        let owed = self.log.owed() + own;
+        self.log.push(
+            Entry::Arrival {
+                conn,
+                channel,
+                raw: kept,
+                told,
+            },
+            owed,
+        );
         Ok(Receipt {
             entry,
             conn,
@@ -193,5 +194,146 @@ impl Book {
             raw,
             told,
         })
+    }
+
+    /// Takes the message at the front of queue `d` to be sent: the attempt that begins has to be settled. The book keeps
+    /// room for that, so a take is never refused for room.
+    ///
+    /// # Errors
+    ///
+    /// `Idle` where the queue is empty, `InFlightNow` where the front is under way, `NotDue` where it waits for a later
+    /// moment, and `NoMemory` where a growth was refused. A refusal leaves the book as it was.
+    pub fn take(&mut self, d: u32, now: Moment) -> Result<Job, TakeRefusal>
+        ensures answer { IfOk result (λ job. take_answer self.old d now ≡ Ok job.ticket) }
+        ensures control_id { IfOk result (λ job. job.control_id ≡ control_id self.old job.ticket.number) }
+        ensures payload { IfOk result (λ job. job.payload ≡ payload self.old job.ticket.number d) }
+        ensures ack { IfOk result (λ job. job.ack ≡ awaits_ack (plan_in_force self.old) d) }
+        ensures booked { IfOk result (λ job. self.new ≡ followed_by self.old (Entry.Take job.ticket now)) }
+        ensures refused { IfErr result (λ e. (take_answer self.old d now ≡ Err e) ⊎ (e ≡ TakeRefusal.NoMemory) × IsOk (take_answer self.old d now)) }
+        ensures err { OnErr result (self.new ≡ self.old) }
+    {
+        let ticket = self.ticket(d, now)?;
+        let (control_id, payload) = self.letter(ticket.number, d)?;
+        let ack = awaits_ack(self.log.plan(), d);
+        self.log.reserve(self.flights as usize + 2)?;
+        // All growths are made: nothing below is refused.
+        let _front = take_front(&mut self.rows, d);
+        self.counts.count_taken(d);
+        self.flights += 1;
+        let owed = self.log.owed() - 1;
+        self.log.push(Entry::Take { ticket, now }, owed);
+        Ok(Job {
+            ticket,
+            control_id,
+            payload,
+            ack,
+        })
+    }
+
+    /// The answer to a take, before memory is asked for.
+    fn ticket(&mut self, d: u32, now: Moment) -> Result<Ticket, TakeRefusal>
+        ensures answer { result ≡ take_answer self.old d now }
+        ensures unchanged { self.new ≡ self.old }
+    {
+        let front = front_state(&mut self.rows, d);
+        if d >= QUEUES {
+            return Err(TakeRefusal::Idle);
+        }
+        match front {
+            Some((number, state)) => ticket_for(number, d, state, now.secs()),
+            None => Err(TakeRefusal::Idle),
+        }
+    }
+
+    /// The control id of message `number`, and the text that it has for `d`, which it names.
+    fn letter(&self, number: u32, d: u32) -> Result<(Text, Text), AllocError>
+        requires { names d (deliveries self.now number) ≡ true }
+        ensures { IfOk result (λ letter. letter ≡ (control_id self.now number, payload self.now number d)) }
+    {
+        let Some(message) = self.rows.get(number) else {
+            unreachable!()
+        };
+        let Some(text) = payload(message.content.deliveries.as_slice(), d) else {
+            unreachable!()
+        };
+        Ok((message.content.control_id.share()?, text.share()?))
+    }
+
+    /// Settles an attempt with its outcome, and answers the state of the slot afterwards. It asks for no memory, and is
+    /// never refused for room.
+    ///
+    /// # Errors
+    ///
+    /// `NoSlot` where there is no such message or it doesn't name the destination, and `NotInFlight` where that very
+    /// attempt is not under way. A refusal leaves the book as it was.
+    pub fn settle(
+        &mut self,
+        ticket: &Ticket,
+        outcome: Outcome,
+        now: Moment,
+    ) -> Result<SlotState, SettleRefusal>
+        ensures answer { result ≡ settle_answer self.old ticket.now outcome now }
+        ensures booked { IfOk result (λ state. self.new ≡ followed_by self.old (Entry.Settle ticket.now outcome now state)) }
+        ensures err { OnErr result (self.new ≡ self.old) }
+    {
+        let ticket = *ticket;
+        let max = attempts_max(self.log.plan(), ticket.destination);
+        let interval = interval(self.log.plan(), ticket.destination);
+        let state = settle_slot(
+            &mut self.rows,
+            ticket.number,
+            ticket.destination,
+            ticket.attempt,
+            outcome,
+            now.secs(),
+            max,
+            interval,
+        )?;
+        count_settled(&mut self.counts, ticket.destination, state);
+        self.flights -= 1;
+        let before = SlotState::InFlight {
+            attempt: ticket.attempt,
+        };
+        let owed = self.log.owed() + slot_owed(max, state) - slot_owed(max, before);
+        self.log.push(
+            Entry::Settle {
+                ticket,
+                outcome,
+                now,
+                state,
+            },
+            owed,
+        );
+        Ok(state)
+    }
+
+    /// Cancels a message wherever it waits, and answers these destinations as a mask: bit d is set for destination d.
+    /// Attempts under way stay as they are. It is never refused for room.
+    ///
+    /// # Errors
+    ///
+    /// `NoSuchMessage`, `NothingWaiting` where the message waits nowhere, and `NoMemory` where a growth was refused. A
+    /// refusal leaves the book as it was.
+    pub fn cancel(&mut self, number: u32) -> Result<u32, CancelRefusal>
+        ensures answer { IfOk result (λ mask. cancel_answer self.old number ≡ Ok mask) }
+        ensures booked { IfOk result (λ mask. self.new ≡ followed_by self.old (Entry.Cancel number mask)) }
+        ensures refused { IfErr result (λ e. (cancel_answer self.old number ≡ Err e) ⊎ (e ≡ CancelRefusal.NoMemory) × IsOk (cancel_answer self.old number)) }
+        ensures err { OnErr result (self.new ≡ self.old) }
+    {
+        let Some(message) = self.rows.get(number) else {
+            return Err(CancelRefusal::NoSuchMessage);
+        };
+        let waiting = where_waiting(self.log.plan(), &message.slots);
+        let mask = waiting.mask;
+        if mask == 0 {
+            return Err(CancelRefusal::NothingWaiting);
+        }
+        self.log.reserve(self.flights as usize + 1)?;
+        // All growths are made: nothing below is refused.
+        let _mask = cancel_waiting(&mut self.rows, number);
+        count_cancelled(&mut self.counts, mask);
+        let owed = self.log.owed() - waiting.owed;
+        self.log.push(Entry::Cancel { number, mask }, owed);
+        Ok(mask)
     }
 }

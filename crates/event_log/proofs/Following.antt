@@ -1,25 +1,45 @@
 -- What one more entry changes.
-use Rattle.std.proofs.Common.{◌≡◌, ℕ, ◌<◌, ◌≤◌, ◌⊎◌, inl, inr, List, [], ◌∷◌, ◌++◌, length, take, Some, refl, sym, ◌∙◌, ap, subst, arith, suc, zero, length-append}
-use Rattle.std.specs.Prelude.{slice_get}
+use Rattle.std.proofs.Common.{◌≡◌, ℕ, ◌+◌, ◌<◌, ◌≤◌, ◌⊎◌, inl, inr, Bool, true, false, cond, not, ◌==◌, nat_lt, List, [], ◌∷◌, ◌++◌, length, take, Option, None, Some, refl, sym, ◌∙◌, ap, subst, arith, suc, zero, length-append}
+use Rattle.std.specs.Prelude.{slice_get, option_to_list}
+use Rattle.std.specs.List.{filter_map, cons_option, position_or_len, range_with_len}
+use Rattle.std.specs.Option.{option_map_or}
+use Rattle.std.proofs.lemmas.Bool.Decides.{eqb_tells, nat_tests}
+use Rattle.std.proofs.lemmas.List.{append-nil}
+use Rattle.std.proofs.lemmas.List.Elements.{filter_map-append}
+use Rattle.std.proofs.lemmas.List.Folds.{position_or_len_push}
+use Rattle.std.proofs.lemmas.List.Sums.{prefix_len-le-length}
 use Rattle.std.proofs.lemmas.Option.{slice_get_past, same_Some}
+use Rattle.judge_core.specs.Delivering.{destinations_of}
+use Rattle.dest_queue.specs.declared.SlotState.{SlotState}
+use Rattle.dest_queue.specs.declared.SlotState.TheVariants.{Waiting}
 use Rattle.event_log.specs.declared.entry.Entry.{Entry}
-use Rattle.event_log.specs.History.{History, followed_by, MayFollow, IsLegal}
+use Rattle.event_log.specs.History.{History, accepted, accepted_by, deliveries, followed_by, last_from, message_count, named, names, numbers, plan_in_force, slot, state, state_by}
+use Rattle.event_log.specs.Answers.{keeps, known}
+use Rattle.event_log.specs.Legal.{IsLegal, MayFollow}
 
+-- functions that agree everywhere are equal
+pub funext : {A B : Type 0} (f g : A → B) → ((x : A) → f x ≡ g x) → f ≡ g
+funext f g same = λ i x. same x i
+
+-- an item before the new one
 pub get-below : {A : Type 0} (xs ys : List A) (k : ℕ) → k < length xs → slice_get (xs ++ ys) k ≡ slice_get xs k
 get-below [] ys k below = absurd (omega arith)
 get-below (x ∷ xs) ys zero below = refl
 get-below (x ∷ xs) ys (suc k) below = get-below xs ys k (omega arith)
 
+-- the new item
 pub get-last : {A : Type 0} (xs : List A) (x : A) → slice_get (xs ++ x ∷ []) (length xs) ≡ Some x
 get-last [] x = refl
 get-last (y ∷ xs) x = get-last xs x
 
-take-below : {A : Type 0} (xs ys : List A) (k : ℕ) → k ≤ length xs → take k (xs ++ ys) ≡ take k xs
+-- the items before the new ones
+pub take-below : {A : Type 0} (xs ys : List A) (k : ℕ) → k ≤ length xs → take k (xs ++ ys) ≡ take k xs
 take-below xs ys zero below = refl
 take-below [] ys (suc k) below = absurd (omega arith)
 take-below (x ∷ xs) ys (suc k) below = ap (λ zs. x ∷ zs) (take-below xs ys k (omega arith))
 
-take-whole : {A : Type 0} (xs : List A) → take (length xs) xs ≡ xs
+-- all the items
+pub take-whole : {A : Type 0} (xs : List A) → take (length xs) xs ≡ xs
 take-whole [] = refl
 take-whole (x ∷ xs) = ap (λ zs. x ∷ zs) (take-whole xs)
 
@@ -52,3 +72,81 @@ legal-followed_by h e legal may = record {
     ]
   ];
 }
+
+-- the one item of an option
+cons-none : {A : Type 0} (o : Option A) → cons_option o [] ≡ option_to_list o
+cons-none None = refl
+cons-none (Some x) = refl
+
+-- the messages are those before, and that which the entry brings
+pub accepted-followed_by : (h : History) (e : Entry) → accepted (followed_by h e) ≡ accepted h ++ option_to_list (accepted_by (plan_in_force h) e)
+accepted-followed_by h e =
+    filter_map-append (accepted_by h.opening.plan) h.entries (e ∷ []) ∙ ap (λ ms. accepted h ++ ms) (cons-none (accepted_by h.opening.plan e))
+
+-- an entry that brings no message leaves the messages as they are
+pub accepted-kept : (h : History) (e : Entry) → accepted_by (plan_in_force h) e ≡ None → accepted (followed_by h e) ≡ accepted h
+accepted-kept h e none = accepted-followed_by h e ∙ (ap (λ o. accepted h ++ option_to_list o) none ∙ append-nil (accepted h))
+
+-- the last of some states and one more
+last-push : (s : SlotState) (states : List SlotState) (o : Option SlotState) → last_from s (states ++ option_to_list o) ≡ option_map_or (λ s. s) o (last_from s states)
+last-push s [] None = refl
+last-push s [] (Some t) = refl
+last-push s (x ∷ states) o = last-push x states o
+
+-- a slot's state is as the entry leaves it, or as it was
+pub state-followed_by : (h : History) (e : Entry) (n d : ℕ) → state (followed_by h e) n d ≡ option_map_or (λ s. s) (state_by n d e) (state h n d)
+state-followed_by h e n d =
+    ap (last_from (Waiting 0 0)) (filter_map-append (state_by n d) h.entries (e ∷ []) ∙ ap (λ ss. filter_map (state_by n d) h.entries ++ ss) (cons-none (state_by n d e)))
+    ∙ last-push (Waiting 0 0) (filter_map (state_by n d) h.entries) (state_by n d e)
+
+-- the place found in a longer list
+place-push : (q n : ℕ) (b : Bool) → q ≤ n → cond (nat_lt (cond (q == n) (n + cond b 0 1) q) (n + 1)) (Some (cond (q == n) (n + cond b 0 1) q)) None ≡ option_map_or (λ place. Some place) (cond (nat_lt q n) (Some q) None) (cond b (Some n) None)
+place-push q n b within = elim (eqb_tells q n) [
+  | inl w ↦ let past : nat_lt q n ≡ false = grind (arith, nat_tests) in rw (w.0, past) (last b)
+  | inr w ↦
+      let before : nat_lt q n ≡ true = let apart = w.1 in grind (arith, nat_tests) in
+      let inside : nat_lt q (n + 1) ≡ true = grind (arith, nat_tests) in rw (w.0, before, inside) refl
+]
+  where
+    last : (b : Bool) → cond (nat_lt (n + cond b 0 1) (n + 1)) (Some (n + cond b 0 1)) None ≡ cond b (Some n) None
+    last true = let inside : nat_lt (n + 0) (n + 1) ≡ true = grind (arith, nat_tests) in let same : n + 0 ≡ n = omega arith in rw (inside, same) refl
+    last false = let past : nat_lt (n + 1) (n + 1) ≡ false = grind (arith, nat_tests) in rw past refl
+
+-- a key is known where it was, and else by the entry
+pub known-followed_by : (h : History) (e : Entry) (key : List ℕ) → known (followed_by h e) key ≡ option_map_or (λ place. Some place) (known h key) (cond (keeps key e) (Some (length h.entries)) None)
+known-followed_by h e key =
+    let longer : length (h.entries ++ e ∷ []) ≡ length h.entries + 1 = omega (arith, length-append h.entries (e ∷ [])) in
+    ap (λ q. cond (nat_lt q (length (h.entries ++ e ∷ []))) (Some q) None) (position_or_len_push (keeps key) h.entries e)
+    ∙ (ap (λ m. cond (nat_lt (cond (position_or_len (keeps key) h.entries == length h.entries) (length h.entries + cond (keeps key e) 0 1) (position_or_len (keeps key) h.entries)) m)
+    (Some (cond (position_or_len (keeps key) h.entries == length h.entries) (length h.entries + cond (keeps key e) 0 1) (position_or_len (keeps key) h.entries))) None) longer
+    ∙ place-push (position_or_len (keeps key) h.entries) (length h.entries) (keeps key e) (prefix_len-le-length (λ x. not (keeps key x)) h.entries))
+
+-- an entry that keeps no key leaves what is known
+pub known-kept : (h : History) (e : Entry) (key : List ℕ) → keeps key e ≡ false → known (followed_by h e) key ≡ known h key
+known-kept h e key none = known-followed_by h e key ∙ (ap (λ b. option_map_or (λ place. Some place) (known h key) (cond b (Some (length h.entries)) None)) none ∙ same-place (known h key))
+  where
+    same-place : (o : Option ℕ) → option_map_or (λ place. Some place) o None ≡ o
+    same-place None = refl
+    same-place (Some place) = refl
+
+-- histories with the same messages have the same numbers, and their messages go the same ways
+module _ (h h' : History) (same : accepted h' ≡ accepted h) where
+  -- as many
+  pub message_count-same : message_count h' ≡ message_count h
+  message_count-same = ap length same
+
+  -- their numbers
+  pub numbers-same : numbers h' ≡ numbers h
+  numbers-same = ap (λ ms. range_with_len 0 (length ms)) same
+
+  -- where each goes
+  pub deliveries-same : (n : ℕ) → deliveries h' n ≡ deliveries h n
+  deliveries-same n = ap (λ ms. option_map_or (λ m. m.deliveries) (slice_get ms n) []) same
+
+  -- the destinations that each names
+  pub named-same : (n : ℕ) → named h' n ≡ named h n
+  named-same n = ap destinations_of (deliveries-same n)
+
+  -- the slots, each in its new state
+  pub slot-same : (n d : ℕ) → slot h' n d ≡ cond (names d (deliveries h n)) (Some (state h' n d)) None
+  slot-same n d = ap (λ ds. cond (names d ds) (Some (state h' n d)) None) (deliveries-same n)

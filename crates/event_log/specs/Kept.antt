@@ -1,8 +1,8 @@
--- A list of entries with room for more.
-use Rattle.std.specs.Prelude.{ℕ, List}
-use Rattle.event_log.specs.declared.entry.Entry.{Entry}
+-- A history with room for more entries.
+use Rattle.std.specs.Prelude.{ℕ}
+use Rattle.event_log.specs.History.{History}
 
--- the entries, and how many more can be pushed without memory
+-- the history, and how many more entries can be pushed without memory
 pub record Kept : Type 0 where
-  pub entries : List Entry
+  pub history : History
   pub room : ℕ

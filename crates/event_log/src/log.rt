@@ -1,60 +1,124 @@
-//! The list of entries.
+//! The history, with room for more of it.
 
-ghost use Rattle.std.specs.Prelude.{◌≡◌, ◌<◌, ◌≤◌, ◌+◌, [], ◌∷◌, ◌++◌, ◌==◌, OnOk, OnErr, length, slice_get, option_copied};
+ghost use Rattle.std.specs.Prelude.{◌≡◌, ◌<◌, ◌≤◌, ◌+◌, ◌*◌, ◌==◌, OnOk, OnErr, length, not, slice_get, option_copied};
+ghost use Rattle.std.specs.Arc.{arc_value};
+ghost use Rattle.event_log.specs.History.{opened_by, followed_by, next_place, plan_in_force};
+ghost use Rattle.event_log.specs.Room.{exceeds, owed, slot_owed};
 
 use crate::entry::Entry;
+use dest_queue::{ATTEMPTS_MAX, SlotState};
+use plan_text::Plan;
 use std::alloc::{AllocError, Global};
 use std::marker::Model;
+use std::sync::Arc;
 
-/// The entries in their order, and the room for more of them.
+/// The most entries that any history may hold.
+pub const EVENTS_MAX: u32 = 1_000_000;
+
+/// The history: the plan, the entries in their order, how many more are owed to the slots of its messages, and the room
+/// that was made for more. The entries and those owed are together never more than the history may hold.
 #[derive(Drop)]
 pub struct Log {
+    plan: Arc<Plan>,
+    events_max: u32,
     entries: Vec<Entry>,
+    owed: u32,
 }
 
 impl Model for Log {
-    ghost use Rattle.std.specs.Prelude.{◌-◌, vec_len, vec_capacity};
+    ghost use Rattle.std.specs.Prelude.{◌≡◌, ◌≤◌, ◌+◌, ◌-◌, length, vec_len, vec_capacity};
+    ghost use Rattle.std.specs.Arc.{arc_value};
     ghost use Rattle.event_log.specs.Kept.{Kept};
+    ghost use Rattle.event_log.specs.Coding.{kept_code};
+    ghost use Rattle.event_log.specs.History.{history_of};
+    ghost use Rattle.event_log.specs.Room.{owed as owed_by};
 
     ghost Value = { Kept };
 
-    ghost view = { λ l. record { entries = l.entries.items; room = vec_capacity l.entries - vec_len l.entries } };
+    ghost coded = { kept_code };
+
+    ghost view = { λ l. record { history = history_of (arc_value l.plan) l.events_max l.entries.items; room = vec_capacity l.entries - vec_len l.entries } };
+
+    ghost invariant = { λ l. record {
+      owed_is : l.owed ≡ owed_by (history_of (arc_value l.plan) l.events_max l.entries.items);
+      within : length l.entries.items + l.owed ≤ l.events_max;
+      few : l.events_max ≤ 1000000;
+    } };
+}
+
+/// The entries that may still come of a slot, if it may have `max` attempts.
+pub fn slot_owed(max: u32, state: SlotState) -> u32
+    requires { max ≤ ATTEMPTS_MAX }
+    ensures { result ≡ slot_owed max state }
+{
+    match state {
+        SlotState::Waiting { attempts, .. } => 2 * max.saturating_sub(attempts) + 1,
+        SlotState::InFlight { attempt } => 2 * max.saturating_sub(attempt) + 2,
+        SlotState::Delivered | SlotState::Failed(_) => 0,
+    }
 }
 
 impl Log {
-    /// A log with no entry.
-    pub fn new(alloc: Global) -> Log
-        ensures { result.entries ≡ [] }
+    /// The history of a book of this plan that may hold so many entries, none of which is booked yet.
+    pub fn new(alloc: Global, plan: Arc<Plan>, events_max: u32) -> Log
+        requires { events_max ≤ EVENTS_MAX }
+        ensures { result.history ≡ opened_by (arc_value plan) events_max }
     {
         Log {
+            plan,
+            events_max,
             entries: Vec::new(alloc),
+            owed: 0,
         }
+    }
+
+    /// The plan in force.
+    pub fn plan(&self) -> &Arc<Plan>
+        ensures { arc_value result.now ≡ plan_in_force self.now.history }
+    {
+        &self.plan
     }
 
     /// How many entries there are: the place of the next.
     pub fn len(&self) -> usize
-        ensures { result ≡ length self.now.entries }
+        ensures { result ≡ next_place self.now.history }
     {
         self.entries.len()
     }
 
     /// Whether there is no entry.
     pub fn is_empty(&self) -> bool
-        ensures { result ≡ (length self.now.entries == 0) }
+        ensures { result ≡ (next_place self.now.history == 0) }
     {
         self.entries.is_empty()
     }
 
     /// The entry at this place, counted from 0.
     pub fn entry(&self, place: usize) -> Option<&Entry>
-        ensures { option_copied result ≡ slice_get self.now.entries place }
+        ensures { option_copied result ≡ slice_get self.now.history.entries place }
     {
         self.entries.get(place)
     }
 
+    /// The entries that may still come of the slots of all messages.
+    pub fn owed(&self) -> u32
+        ensures value { result ≡ owed self.now.history }
+        ensures within { length self.now.history.entries + result ≤ self.now.history.opening.events_max }
+    {
+        self.owed
+    }
+
+    /// Whether there is room for one more entry, whose own slots owe so many.
+    pub fn room(&self, own: u32) -> bool
+        ensures { result ≡ not (exceeds self.now.history own) }
+    {
+        let entries = self.entries.len() as u64;
+        entries + u64::from(self.owed) + 1 + u64::from(own) <= u64::from(self.events_max)
+    }
+
     /// Makes room for this many more entries, so that so many pushes need no memory.
     pub fn reserve(&mut self, additional: usize) -> Result<(), AllocError>
-        ensures entries { self.new.entries ≡ self.old.entries }
+        ensures history { self.new.history ≡ self.old.history }
         ensures ok { OnOk result (additional ≤ self.new.room) }
         ensures kept { self.old.room ≤ self.new.room }
         ensures missing { OnErr result (self.old.room < additional) }
@@ -62,12 +126,15 @@ impl Log {
         self.entries.reserve(additional)
     }
 
-    /// Appends an entry into the room that was made for it.
-    pub fn push(&mut self, entry: Entry)
-        requires { 0 < self.old.room }
-        ensures entries { self.new.entries ≡ self.old.entries ++ entry ∷ [] }
+    /// Appends an entry into the room that was made for it. `still_owed` is what the longer history owes.
+    pub fn push(&mut self, entry: Entry, still_owed: u32)
+        requires reserved { 0 < self.old.room }
+        requires owed { still_owed ≡ owed (followed_by self.old.history entry) }
+        requires within { next_place self.old.history + 1 + still_owed ≤ self.old.history.opening.events_max }
+        ensures history { self.new.history ≡ followed_by self.old.history entry }
         ensures room { self.old.room ≤ self.new.room + 1 }
     {
         self.entries.push(entry).unwrap();
+        self.owed = still_owed;
     }
 }

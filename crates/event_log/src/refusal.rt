@@ -1,5 +1,6 @@
 //! Why an event was not booked.
 
+use std::alloc::AllocError;
 use thiserror::Error;
 
 /// Why no front was taken.
@@ -31,4 +32,26 @@ pub enum CancelRefusal {
     /// A growth was refused.
     #[error("out of memory")]
     NoMemory,
+}
+
+impl From<AllocError> for TakeRefusal {
+    ghost use Rattle.std.specs.Prelude.{◌≡◌};
+    ghost use Rattle.event_log.specs.declared.refusal.TakeRefusal.TheVariants.{NoMemory};
+
+    ghost from_gives = { λ _ e. e ≡ NoMemory };
+
+    fn from(_: AllocError) -> TakeRefusal {
+        TakeRefusal::NoMemory
+    }
+}
+
+impl From<AllocError> for CancelRefusal {
+    ghost use Rattle.std.specs.Prelude.{◌≡◌};
+    ghost use Rattle.event_log.specs.declared.refusal.CancelRefusal.TheVariants.{NoMemory};
+
+    ghost from_gives = { λ _ e. e ≡ NoMemory };
+
+    fn from(_: AllocError) -> CancelRefusal {
+        CancelRefusal::NoMemory
+    }
 }

@@ -5,3 +5,5 @@ pub mod Texts
 pub mod Standing
 pub mod Pieces
 pub mod Rows
+pub mod Asking
+mod AskingRows

@@ -1,7 +1,8 @@
 //! Answering the events of a connection.
 
-ghost use Rattle.std.specs.Prelude.{◌≡◌, ◌+◌, ◌<◌, ◌≤◌, ◌∷◌, [], Some, IfOk, IfErr, OnOk, OnErr, IsTrue};
+ghost use Rattle.std.specs.Prelude.{◌≡◌, ◌≢◌, ◌+◌, ◌<◌, ◌≤◌, ◌↔◌, ◌∷◌, [], Some, Err, IfOk, IfErr, OnOk, OnErr, IsErrOf, IsTrue};
 ghost use Rattle.event_log.specs.History.{plan_in_force};
+ghost use Rattle.event_log.specs.Room.{is_full};
 ghost use Rattle.hl7_head.specs.Header.{header_of};
 ghost use Rattle.judge_core.specs.Judging.{is_bookable};
 ghost use Rattle.mllp_frame.specs.Event.{block, event_of};
@@ -9,9 +10,9 @@ ghost use Rattle.mllp_frame.specs.Framing.{IsBlockData, HoldsData};
 ghost use Rattle.hl7_engine.specs.Handling.{BooksMore, CameInBlock, Fits, Handles, HandlesAll, HandlesFront, Keeps, StopsHandling};
 
 use crate::reports::{Clock, ServeEnd};
-use crate::serving::{CHANNEL, CONNECTION, TURNS_MAX};
+use crate::serving::{CHANNEL, CONNECTION, PlainBook, TURNS_MAX};
 use crate::tally::Tally;
-use book_core::{Book, NotBooked, Receipt};
+use book_core::{NotBooked, Receipt};
 use event_log::Told;
 use hl7_head::{Header, Moment};
 use judge_core::{Judged, judge};
@@ -20,7 +21,7 @@ use std::alloc::{AllocError, Global};
 
 /// Books a message, and keeps its receipt. Room for the receipt is made first.
 fn book_message(
-    book: &mut Book,
+    book: &mut PlainBook,
     judged: &Judged,
     receipts: &mut Vec<Receipt>,
 ) -> Result<Result<Told, NotBooked>, AllocError>
@@ -30,6 +31,8 @@ fn book_message(
     ensures ok { IfOk result (λ outcome. Keeps CONNECTION CHANNEL judged.now.raw outcome receipts.old.items receipts.new.items) }
     ensures err { OnErr result (receipts.new.items ≡ receipts.old.items) }
     ensures booked { BooksMore book.old book.new receipts.old.items receipts.new.items }
+    ensures full { IfOk result (λ outcome. IsErrOf outcome NotBooked.Full ↔ IsTrue (is_full book.old CHANNEL judged.now.raw)) }
+    ensures plan { IfOk result (λ outcome. outcome ≢ Err NotBooked.PlanChanged) }
 {
     receipts.reserve(1)?;
     match book.arrive(CONNECTION, judged) {
@@ -45,7 +48,7 @@ fn book_message(
 /// Books a message and makes its replies.
 fn answer_message(
     alloc: Global,
-    book: &mut Book,
+    book: &mut PlainBook,
     judged: &Judged,
     header: &Header,
     now: Moment,
@@ -76,7 +79,7 @@ fn answer_message(
 /// Answers a block, if it is one to be answered.
 fn answer_block<C: Clock>(
     alloc: Global,
-    book: &mut Book,
+    book: &mut PlainBook,
     raw: Vec<u8>,
     clock: &mut C,
     tally: &mut Tally,
@@ -110,7 +113,7 @@ fn answer_block<C: Clock>(
 /// Handles an event.
 fn answer_event<C: Clock>(
     alloc: Global,
-    book: &mut Book,
+    book: &mut PlainBook,
     event: FrameEvent,
     clock: &mut C,
     tally: &mut Tally,
@@ -137,7 +140,7 @@ fn answer_event<C: Clock>(
 /// Handles all events to come, up to so many over the whole connection.
 pub fn answer_events<C: Clock>(
     alloc: Global,
-    book: &mut Book,
+    book: &mut PlainBook,
     framer: &mut Framer,
     clock: &mut C,
     tally: &mut Tally,
@@ -152,6 +155,7 @@ pub fn answer_events<C: Clock>(
     ensures few { OnOk result (tally.new.events ≤ events_max) }
     ensures err { OnErr result (HandlesFront CONNECTION CHANNEL framer.old.to_come tally.old tally.new) }
     ensures stop { IfErr result (λ end. StopsHandling end) }
+    ensures bound { IfErr result (λ end. end ≡ ServeEnd.TurnBound → tally.new.events ≡ events_max) }
     ensures booked { BooksMore book.old book.new tally.old.report.receipts.items tally.new.report.receipts.items }
 {
     while let Some(event) = framer.next() {

@@ -1,6 +1,7 @@
 //! The clocks of the program.
 
-ghost use Rattle.std.specs.Prelude.{◌≡◌, min};
+ghost use Rattle.std.specs.Prelude.{◌≡◌, ◌/◌, min};
+ghost use Rattle.std.specs.Time.{system_time_nanos};
 
 use crate::reports::Clock;
 use hl7_head::Moment;
@@ -36,7 +37,9 @@ impl Clock for Still {
 pub struct Running<'a, C: time::Clock>(pub &'a C);
 
 /// The moment of a time of the system's clock.
-fn moment_of(time: SystemTime) -> Moment {
+fn moment_of(time: SystemTime) -> Moment
+    ensures { result ≡ min (system_time_nanos time / 1_000_000_000) LAST_MOMENT }
+{
     match time.duration_since(UNIX_EPOCH) {
         Ok(since) => nearest(since.as_secs()),
         Err(_) => nearest(0),

@@ -22,6 +22,9 @@ pub enum Fault<'a> {
     /// The plan has a fault.
     #[error("plan: {0}")]
     Plan(PlanFault),
+    /// The system gave no random bytes.
+    #[error("device: random")]
+    Random,
     /// Standard input failed, or brought more than one connection may.
     #[error("device: read")]
     Read,
@@ -41,7 +44,7 @@ impl Fault<'_> {
         match self {
             Fault::Plan(_) => 1,
             Fault::Words(_) | Fault::NoText => 2,
-            Fault::File(_) | Fault::Read | Fault::Write | Fault::Memory => 3,
+            Fault::File(_) | Fault::Random | Fault::Read | Fault::Write | Fault::Memory => 3,
         }
     }
 }

@@ -1,6 +1,6 @@
 //! Doing what the command line asks.
 
-ghost use Rattle.std.specs.Prelude.{◌≡◌, ◌≤◌, ◌↔◌, IsOk, length};
+ghost use Rattle.std.specs.Prelude.{◌≡◌, ◌≤◌, ◌↔◌, IsOk, IfErr, length};
 ghost use Rattle.hl7_engine.specs.Request.{IsWithinLimits};
 
 use crate::clock::{Running, Still};
@@ -8,12 +8,14 @@ use crate::command_line::Request;
 use crate::counted::Counted;
 use crate::fault::Fault;
 use crate::reports::{Clock, ServeEnd};
-use crate::serving::answer_stream;
-use book_core::{Book, EVENTS_MAX};
+use crate::serving::{PlainBook, answer_stream};
+use book_core::EVENTS_MAX;
 use hl7_head::Moment;
 use plan_text::Plan;
 use std::alloc::{AllocError, Global};
+use std::hash::RandomState;
 use std::io::{ErrorKind, Read, Write};
+use std::random::RandomSource;
 use std::sync::Arc;
 use std::{fmt, fs};
 
@@ -57,6 +59,13 @@ pub fn read_plan<'a>(rt: &HostRuntime, path: &'a str) -> Result<Plan, Fault<'a>>
     Ok(Plan::read(rt.alloc(), &text)?)
 }
 
+/// A hasher for the keys of the book, of the runtime's random bytes, so that no sender can choose keys that fall together.
+pub fn hasher<'a>(rt: &impl RandomSource) -> Result<RandomState, Fault<'a>>
+    ensures { IfErr result (λ fault. fault ≡ Fault.Random) }
+{
+    RandomState::new(rt).map_err(|_| Fault::Random)
+}
+
 /// What the end of a connection comes to.
 fn outcome<'a>(end: ServeEnd) -> Result<(), Fault<'a>>
     ensures { IsOk result ↔ end ≡ ServeEnd.End }
@@ -74,6 +83,7 @@ fn serve<'a, R: Read + Drop, W: Write + Drop, C: Clock>(
     alloc: Global,
     plan: Plan,
     events: u32,
+    hasher: RandomState,
     clock: &mut C,
     reader: R,
     writer: W,
@@ -82,7 +92,7 @@ fn serve<'a, R: Read + Drop, W: Write + Drop, C: Clock>(
     requires few { events ≤ EVENTS_MAX }
 {
     let plan = Arc::new(alloc, plan).map_err(AllocError::from)?;
-    let mut book = Book::new(alloc, plan, events);
+    let mut book = PlainBook::new(alloc, plan, events, hasher);
     let mut reader = Counted::new(reader);
     let mut writer = Counted::new(writer);
     let report = answer_stream(alloc, &mut book, &mut reader, &mut writer, clock);
@@ -105,10 +115,27 @@ fn answer<'a>(
         Some(path) => read_plan(rt, path)?,
         None => Plan::built_in(alloc)?,
     };
+    let hasher = hasher(rt)?;
     let (reader, writer) = (rt.stdin(), rt.stdout());
     match now {
-        Some(moment) => serve(alloc, plan, events, &mut Still(moment), reader, writer),
-        None => serve(alloc, plan, events, &mut Running(rt), reader, writer),
+        Some(moment) => serve(
+            alloc,
+            plan,
+            events,
+            hasher,
+            &mut Still(moment),
+            reader,
+            writer,
+        ),
+        None => serve(
+            alloc,
+            plan,
+            events,
+            hasher,
+            &mut Running(rt),
+            reader,
+            writer,
+        ),
     }
 }
 

@@ -1,6 +1,6 @@
 //! Serving a connection.
 
-ghost use Rattle.std.specs.Prelude.{◌≡◌, ◌<◌, ◌≤◌, [], IfErr, OnOk, List, ℕ, Option, length};
+ghost use Rattle.std.specs.Prelude.{◌≡◌, ◌<◌, ◌≤◌, ◌⊎◌, [], IfErr, OnOk, List, ℕ, Option, length};
 ghost use Rattle.mllp_frame.specs.Framed.{blank};
 ghost use Rattle.hl7_engine.specs.Faults.{Rose};
 ghost use Rattle.hl7_engine.specs.Serving.{Books, Serves};
@@ -11,10 +11,15 @@ use crate::counted::Counted;
 use crate::reports::{Clock, ServeEnd, ServeReport};
 use crate::streaming::{read_piece, write_out};
 use crate::tally::Tally;
-use book_core::Book;
+use book_core::{Book, Letter};
+use dest_queue::Addressed;
 use mllp_frame::{Framer, longer_streams};
+use row_store::PlainRows;
 use std::alloc::Global;
 use std::io::{Read, Write};
+
+/// The book, with its rows in a plain store.
+pub type PlainBook = Book<PlainRows<Addressed<Letter>>>;
 
 /// The connection that is served.
 pub const CONNECTION: u32 = 0;
@@ -31,7 +36,7 @@ const PIECE: usize = 65_536;
 /// Reads a piece, handles its events, and writes and flushes their replies.
 fn serve_piece<R: Read, W: Write, C: Clock>(
     alloc: Global,
-    book: &mut Book,
+    book: &mut PlainBook,
     framer: &mut Framer,
     reader: &mut Counted<R>,
     writer: &mut Counted<W>,
@@ -62,6 +67,7 @@ fn serve_piece<R: Read, W: Write, C: Clock>(
     ensures writer { writer.old.faults ≤ writer.new.faults }
     ensures read_fault { IfErr result (λ end. end ≡ ServeEnd.ReadFault → Rose reader.old.faults reader.new.faults) }
     ensures write_fault { IfErr result (λ end. end ≡ ServeEnd.WriteFault → Rose writer.old.faults writer.new.faults) }
+    ensures bound { IfErr result (λ end. end ≡ ServeEnd.TurnBound → (turns.new ≡ 0) ⊎ (tally.new.events ≡ events_max)) }
 {
     longer_streams();
     let len = match read_piece(reader, buffer, turns) {
@@ -83,7 +89,7 @@ fn serve_piece<R: Read, W: Write, C: Clock>(
 /// Serves piece after piece, and gives why it ended.
 fn serve_pieces<R: Read, W: Write, C: Clock>(
     alloc: Global,
-    book: &mut Book,
+    book: &mut PlainBook,
     reader: &mut Counted<R>,
     writer: &mut Counted<W>,
     clock: &mut C,
@@ -125,7 +131,7 @@ fn serve_pieces<R: Read, W: Write, C: Clock>(
 /// Answers a stream to its reader's end, or to a fault, or to so many reads or events.
 pub fn answer_within<R: Read, W: Write, C: Clock>(
     alloc: Global,
-    book: &mut Book,
+    book: &mut PlainBook,
     reader: &mut Counted<R>,
     writer: &mut Counted<W>,
     clock: &mut C,
@@ -162,7 +168,7 @@ pub fn answer_within<R: Read, W: Write, C: Clock>(
 /// or events. The moments of the replies are the clock's.
 pub fn answer_stream<R: Read, W: Write, C: Clock>(
     alloc: Global,
-    book: &mut Book,
+    book: &mut PlainBook,
     reader: &mut Counted<R>,
     writer: &mut Counted<W>,
     clock: &mut C,

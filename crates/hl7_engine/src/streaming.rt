@@ -8,10 +8,10 @@ use crate::counted::{Counted, is_interruption};
 use crate::reports::ServeEnd;
 use std::io::{Read, Write};
 
-/// Takes one of the turns that are left.
+/// Takes one of the turns that are left, if there is one.
 fn take_turn(turns: &mut u64) -> Result<(), ServeEnd>
     ensures ok { OnOk result (turns.new + 1 ≡ turns.old) }
-    ensures err { IfErr result (λ end. (end ≡ ServeEnd.TurnBound) × (turns.new ≡ turns.old)) }
+    ensures err { IfErr result (λ end. (end ≡ ServeEnd.TurnBound) × (turns.old ≡ 0) × (turns.new ≡ 0)) }
 {
     if *turns == 0 {
         return Err(ServeEnd::TurnBound);
@@ -34,6 +34,7 @@ pub fn read_piece<R: Read>(
     ensures stop { IfErr result (λ end. StopsReading end (R.remaining reader.new.inner) reader.old.faults reader.new.faults) }
     ensures faults { reader.old.faults ≤ reader.new.faults }
     ensures turns { turns.new ≤ turns.old }
+    ensures bound { IfErr result (λ end. end ≡ ServeEnd.TurnBound → turns.new ≡ 0) }
 {
     'again: loop {
         take_turn(turns)?;
@@ -60,6 +61,7 @@ fn write_all<W: Write>(
     ensures stop { IfErr result (λ end. StopsWriting end writer.old.faults writer.new.faults) }
     ensures faults { writer.old.faults ≤ writer.new.faults }
     ensures turns { turns.new ≤ turns.old }
+    ensures bound { IfErr result (λ end. end ≡ ServeEnd.TurnBound → turns.new ≡ 0) }
 {
     let mut rest = replies;
     'write: while !rest.is_empty() {
@@ -83,6 +85,7 @@ fn flush<W: Write>(writer: &mut Counted<W>, turns: &mut u64) -> Result<(), Serve
     ensures stop { IfErr result (λ end. StopsWriting end writer.old.faults writer.new.faults) }
     ensures faults { writer.old.faults ≤ writer.new.faults }
     ensures turns { turns.new ≤ turns.old }
+    ensures bound { IfErr result (λ end. end ≡ ServeEnd.TurnBound → turns.new ≡ 0) }
 {
     'again: loop {
         let Err(error) = writer.flush() else {
@@ -106,6 +109,7 @@ pub fn write_out<W: Write>(
     ensures stop { IfErr result (λ end. StopsWriting end writer.old.faults writer.new.faults) }
     ensures faults { writer.old.faults ≤ writer.new.faults }
     ensures turns { turns.new ≤ turns.old }
+    ensures bound { IfErr result (λ end. end ≡ ServeEnd.TurnBound → turns.new ≡ 0) }
 {
     if replies.is_empty() {
         return Ok(());

@@ -1,11 +1,10 @@
 -- What is decided of a text, by what it says.
-use Rattle.std.proofs.Common.{◌≡◌, ℕ, Bool, true, false, not, cond, List, [], ◌∷◌, Option, None, Some, Result, Ok, Err, refl, sym, ◌∙◌, ap, ◌<◌, length, arith}
+use Rattle.std.proofs.Common.{◌≡◌, ℕ, true, false, not, cond, List, [], ◌∷◌, Option, None, Some, Result, Ok, Err, refl, ◌<◌, length, arith}
 use Rattle.std.specs.Prelude.{slice_get}
 use Rattle.std.specs.Result.{result_ok}
 use Rattle.std.specs.Option.{option_map_or}
 use Rattle.er7_tree.specs.declared.refusal.Refusal.{Refusal}
 use Rattle.er7_tree.specs.Tree.{Tree, tree}
-use Rattle.hl7_head.specs.declared.ack.Cause.{Cause}
 use Rattle.hl7_head.specs.declared.ack.Cause.TheVariants.{UnsupportedType, SourceTransform, RouteTransform}
 use Rattle.hl7_head.specs.Header.{Msh, header, header_of, header_where}
 use Rattle.hl7_transform.specs.declared.fault.StepFault.{StepFault}
@@ -13,7 +12,6 @@ use Rattle.hl7_transform.specs.Step.{after}
 use Rattle.std.specs.List.{list_any}
 use Rattle.plan_text.specs.Entries.{PlanEntry, ChannelEntry, RouteEntry}
 use Rattle.judge_core.specs.declared.delivery.Delivery.{Delivery}
-use Rattle.judge_core.specs.declared.judged.Verdict.{Verdict}
 use Rattle.judge_core.specs.declared.judged.Verdict.TheVariants.{Unreadable, Stray, Refuse, Filtered, Accept}
 use Rattle.judge_core.specs.Judging.{verdict, verdict_where, verdict_of, decided_by, header_fault, sent_to, deliveries_by, filtered_by, is_stopped, open_routes, passes, routed, stepped, is_acknowledgment, is_bookable, is_booked, key_of, key_by}
 

@@ -1,5 +1,6 @@
 pub mod Judgements
-pub mod Laws
+pub mod Keys
 pub mod Printing
 pub mod Routing
 pub mod Sending
+pub mod Verdicts

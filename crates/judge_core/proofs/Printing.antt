@@ -1,15 +1,14 @@
 -- A text that can be framed says a message that can, whatever steps are taken.
-use Rattle.std.proofs.Common.{◌≡◌, ◌≢◌, ℕ, ◌+◌, ◌<◌, Bool, true, false, not, ◌&&◌, ◌||◌, ◌==◌, List, [], ◌∷◌, ◌++◌, length, Result, Ok, Err, refl, sym, subst, arith}
-use Rattle.std.specs.Prelude.{All, Contains}
+use Rattle.std.proofs.Common.{◌≡◌, ◌≢◌, ℕ, ◌+◌, Bool, true, false, not, ◌&&◌, ◌||◌, ◌==◌, List, [], ◌∷◌, ◌++◌, Ok, Err, refl, sym, subst, arith}
+use Rattle.std.specs.Prelude.{Contains}
 use Rattle.std.specs.List.{list_all}
 use Rattle.std.proofs.lemmas.List.Elements.{All-nil, All-cons, All-head, All-tail}
 use Rattle.std.proofs.lemmas.Result.{IfOk-at_ok}
 use Rattle.er7_tree.specs.Delims.{lacks}
 use Rattle.er7_tree.specs.Escape.{controls}
-use Rattle.er7_tree.specs.Tree.{Tree, IsMessage, tree, text_of}
+use Rattle.er7_tree.specs.Tree.{Tree, tree, text_of}
 use Rattle.er7_tree.proofs.Messages.{tree_is, tree_segments, segments_lack}
 use Rattle.er7_tree.proofs.Lacking.{written_lacks}
-use Rattle.hl7_transform.specs.declared.fault.StepFault.{StepFault}
 use Rattle.hl7_transform.specs.declared.fault.StepFault.TheVariants.{Stopped}
 use Rattle.hl7_transform.specs.Step.{Edit, after, after_from, change, ◌>>=◌}
 use Rattle.hl7_transform.proofs.Controls.{lacks-after}

@@ -1,13 +1,13 @@
 -- The routes of a channel make deliveries.
-use Rattle.std.proofs.Common.{◌≡◌, ◌≢◌, ℕ, ◌+◌, ◌<◌, ◌≤◌, Bool, List, [], ◌∷◌, length, Option, None, Some, Result, Ok, Err, arith, refl, sym, ◌∙◌, ap, suc, zero}
-use Rattle.std.specs.Prelude.{All, AllPairs, map, slice_get, IfOk, IsSome, is_some, option_copied, filter, option_map}
+use Rattle.std.proofs.Common.{◌≡◌, ◌≢◌, ℕ, ◌<◌, Bool, List, [], ◌∷◌, length, Option, None, Some, Ok, Err, arith, refl, sym, ◌∙◌, ap, suc, zero}
+use Rattle.std.specs.Prelude.{All, AllPairs, slice_get, IfOk, IsSome, is_some, option_copied, option_map}
 use Rattle.std.specs.List.{filter_map, cons_option}
 use Rattle.std.specs.Result.{result_ok}
 use Rattle.hl7_transform.specs.Step.{after}
 use Rattle.std.specs.Borrow.{Bor}
 use Rattle.std.proofs.lemmas.List.Elements.{All-nil, All-cons, All-head, All-tail, All-map, All-get_or, All-filter}
 use Rattle.std.proofs.lemmas.List.Kept.{AllPairs-cons, AllPairs-filter}
-use Rattle.std.proofs.lemmas.Option.{slice_get_within, get_or_from_slice_get, slice_get-get_or}
+use Rattle.std.proofs.lemmas.Option.{slice_get_within, get_or_from_slice_get}
 use Rattle.er7_tree.specs.Tree.{Tree, tree, text_of}
 use Rattle.mllp_frame.specs.Framing.{IsData}
 use Rattle.plan_text.specs.Entries.{PlanEntry, ChannelEntry, RouteEntry, IsPlan, IsChannel}

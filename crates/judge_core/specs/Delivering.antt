@@ -1,13 +1,7 @@
 -- Where a message goes, and the texts that go there.
-use Rattle.std.specs.Prelude.{ℕ, ◌≢◌, ◌<◌, ◌≤◌, List, length, map, All, AllPairs}
+use Rattle.std.specs.Prelude.{ℕ, ◌≢◌, ◌<◌, List, map, All, AllPairs}
 use Rattle.mllp_frame.specs.Framing.{IsData}
-use Rattle.mllp_frame.specs.declared.TheConstants.{DATA_MAX}
 use Rattle.judge_core.specs.declared.delivery.Delivery.{Delivery}
-
--- a text that a block can hold
-pub record FitsBlock (text : List ℕ) : Type 0 where
-  pub plain : IsData text
-  pub short : length text ≤ DATA_MAX
 
 -- the destinations of deliveries, in their order
 abbrev pub destinations_of : List Delivery → List ℕ

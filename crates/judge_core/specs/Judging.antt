@@ -1,5 +1,5 @@
 -- What is decided of a text that arrives on a channel, under a plan.
-use Rattle.std.specs.Prelude.{ℕ, Bool, true, false, not, ◌==◌, nat_lt, if◌then◌else◌, List, [], ◌∷◌, ◌++◌, length, slice_get, Option, None, Some, is_none, Result, Ok, Err, codes, filter, map, is_err, option_map}
+use Rattle.std.specs.Prelude.{ℕ, Bool, true, false, not, nat_lt, if◌then◌else◌, List, [], ◌∷◌, ◌++◌, length, slice_get, Option, None, Some, is_none, Result, Ok, Err, codes, filter, is_err, option_map}
 use Rattle.std.specs.List.{filter_map, list_any}
 use Rattle.std.specs.Result.{result_ok}
 use Rattle.std.specs.Option.{option_map_or}

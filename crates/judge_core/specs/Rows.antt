@@ -3,7 +3,6 @@ use Rattle.std.specs.Prelude.{◌≡◌, refl, ℕ, List, [], ◌∷◌, ◌++�
 use Rattle.std.specs.List.{flat_map}
 use Rattle.hl7_head.specs.declared.ack.Cause.TheVariants.{UnsupportedType, UnsupportedProcessing, UnsupportedVersion, MissingControlId, BadControlId}
 use Rattle.plan_text.specs.BuiltIn.{built_in}
-use Rattle.judge_core.specs.declared.judged.Verdict.{Verdict}
 use Rattle.judge_core.specs.declared.judged.Verdict.TheVariants.{Unreadable, Stray, Refuse, Accept}
 use Rattle.judge_core.specs.Judging.{verdict, header_fault, key_of, named}
 

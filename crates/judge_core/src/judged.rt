@@ -1,15 +1,15 @@
 //! A text with what was decided of it.
 
-ghost use Rattle.std.specs.Prelude.{◌≡◌, ◌<◌, ◌↔◌, ℕ, List, IfOk, IsTrue, Some, All, length, slice_get, option_copied};
-ghost use Rattle.mllp_frame.specs.Framing.{IsData};
+ghost use Rattle.std.specs.Prelude.{◌≡◌, ◌<◌, IfOk, Some, All, length, option_copied};
+ghost use Rattle.mllp_frame.specs.Framing.{IsBlockData};
 ghost use Rattle.hl7_transform.specs.Step.{after};
-ghost use Rattle.plan_text.specs.Entries.{PlanEntry, AllStand, IsPlan};
+ghost use Rattle.plan_text.specs.Entries.{AllStand};
 ghost use Rattle.std.specs.Arc.{arc_value};
 ghost use Rattle.std.specs.Result.{result_ok};
 ghost use Rattle.er7_tree.specs.Tree.{tree, text_of};
 ghost use Rattle.hl7_head.specs.Header.{header_of};
-ghost use Rattle.judge_core.specs.Delivering.{FitsBlock, AreDeliveries};
-ghost use Rattle.judge_core.specs.Judging.{header_fault, key_by, deliveries_by, deliveries_of, verdict, verdict_of, named, is_booked, is_bookable, is_stray, is_unreadable};
+ghost use Rattle.judge_core.specs.Delivering.{AreDeliveries};
+ghost use Rattle.judge_core.specs.Judging.{header_fault, key_by, deliveries_by, verdict_of};
 
 use crate::delivery::{Deliveries, by_routes, passes, transformed};
 use crate::text::Text;
@@ -67,7 +67,7 @@ impl Model for Judged {
     ghost use Rattle.std.specs.Prelude.{◌≡◌, ◌<◌, length};
     ghost use Rattle.std.specs.Arc.{arc_value};
     ghost use Rattle.hl7_head.specs.Header.{header_of};
-    ghost use Rattle.judge_core.specs.Delivering.{FitsBlock};
+    ghost use Rattle.mllp_frame.specs.Framing.{IsBlockData};
     ghost use Rattle.judge_core.specs.Judging.{Judgement, verdict as decided, key_of};
 
     ghost Value = { Judgement };
@@ -80,7 +80,7 @@ impl Model for Judged {
 
     ghost invariant = { λ j. record {
       known : j.channel < length (arc_value j.plan).channels;
-      fits : FitsBlock j.raw;
+      fits : IsBlockData j.raw;
       header_is : j.header ≡ header_of j.raw;
       key_is : j.key.items ≡ key_of j.channel j.raw;
       verdict_is : j.verdict ≡ decided (arc_value j.plan) j.channel j.raw;
@@ -190,7 +190,7 @@ pub fn judge(
     raw: Vec<u8>,
 ) -> Result<Judged, AllocError>
     requires known { channel < length (arc_value plan.now).channels }
-    requires fits { FitsBlock raw.items }
+    requires fits { IsBlockData raw.items }
     ensures { IfOk result (λ judged. judged ≡ record { plan = arc_value plan.now; channel = channel; raw = raw.items }) }
 {
     plan.rules();
@@ -241,7 +241,7 @@ impl Judged {
     /// The text as it came.
     pub fn raw(&self) -> &Text
         ensures value { result.now ≡ self.now.raw }
-        ensures fits { FitsBlock result.now }
+        ensures fits { IsBlockData result.now }
     {
         &self.raw
     }
@@ -275,20 +275,3 @@ impl Judged {
         self.verdict.is_booked()
     }
 }
-
-/// The laws of verdicts, for every plan, channel and text.
-pub fn verdict_rules()
-    // Whether there is an answer depends on the text alone.
-    ensures unreadable { (plan : PlanEntry) (channel : ℕ) (text : List ℕ) →
-        (verdict plan channel text ≡ Verdict.Unreadable) ↔ IsTrue (is_unreadable text) }
-    ensures stray { (plan : PlanEntry) (channel : ℕ) (text : List ℕ) →
-        (verdict plan channel text ≡ Verdict.Stray) ↔ IsTrue (is_stray text) }
-    ensures booked { (plan : PlanEntry) (channel : ℕ) (text : List ℕ) →
-        is_booked (verdict plan channel text) ≡ is_bookable text }
-
-    // A message goes to destinations of the plan, to each once, with texts that can be framed.
-    ensures lead { (plan : PlanEntry) (channel : ℕ) (text : List ℕ) → IsPlan plan →
-        All (λ d. d < length plan.destinations) (named plan channel text) }
-    ensures deliveries { (plan : PlanEntry) (channel : ℕ) (text : List ℕ) → IsPlan plan → IsData text →
-        AreDeliveries (deliveries_of (verdict plan channel text)) }
-{}

@@ -3,10 +3,12 @@
 
 mod delivery;
 mod judged;
+mod laws;
 mod text;
 
 pub use delivery::{Deliveries, Delivery};
-pub use judged::{CONTROL_ID_MAX, Judged, Verdict, judge, verdict_rules};
+pub use judged::{CONTROL_ID_MAX, Judged, Verdict, judge};
+pub use laws::{key_rules, verdict_rules};
 pub use text::{Text, fits_block};
 
 #[cfg(test)]

@@ -1,7 +1,7 @@
 //! Bytes that many owners share.
 
 ghost use Rattle.std.specs.Prelude.{◌≡◌, ◌↔◌, IfOk, IsTrue};
-ghost use Rattle.judge_core.specs.Delivering.{FitsBlock};
+ghost use Rattle.mllp_frame.specs.Framing.{IsBlockData};
 
 use mllp_frame::{DATA_MAX, END_BLOCK, START_BLOCK};
 use std::alloc::{AllocError, Global};
@@ -52,7 +52,7 @@ impl Text {
 
 /// Whether a block can hold this text (MLLP Release 1): it is short enough, and has neither 0x0B nor 0x1C.
 pub fn fits_block(text: &[u8]) -> bool
-    ensures { IsTrue result ↔ FitsBlock text.now }
+    ensures { IsTrue result ↔ IsBlockData text.now }
 {
     text.len() <= DATA_MAX && !text.iter().any(|b| *b == START_BLOCK || *b == END_BLOCK)
 }

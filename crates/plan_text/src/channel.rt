@@ -86,7 +86,7 @@ impl Route {
     pub fn steps(&self) -> &[Step]
         ensures { steps_view result.now ≡ self.now.steps }
     {
-        self.steps.as_slice()
+        &self.steps
     }
 }
 

@@ -3,8 +3,11 @@
 use crate::clock::nearest;
 use crate::command_line::{Request, ask};
 use crate::fault::Fault;
+use crate::running::hasher;
 use clap::error::ErrorKind;
 use std::alloc::Global;
+use std::io;
+use std::random::RandomSource;
 use std::test::Fail;
 
 /// These words behind the program's name.
@@ -126,6 +129,30 @@ fn gives_help(rt: HostRuntime) -> Result<(), Fail> {
                 let text = format!(in alloc; "{error}")?;
                 assert!(rt; text.as_str().contains("Usage: hl7_engine"), "{text}");
             }
+        }
+    }
+    Ok(())
+}
+
+/// A source that gives no random bytes.
+struct Dry;
+
+impl RandomSource for Dry {
+    fn fill_bytes(&self, _: &mut [u8]) -> io::Result<()> {
+        Err(io::Error::from(io::ErrorKind::Other))
+    }
+}
+
+#[test]
+fn has_no_random_bytes(rt: HostRuntime) -> Result<(), Fail> {
+    match hasher(&Dry) {
+        Ok(_) => assert!(rt; false),
+        Err(fault) => {
+            assert_eq!(rt;
+                format!(in rt.alloc(); "{fault}")?.as_str(),
+                "device: random"
+            );
+            assert_eq!(rt; fault.status(), 3);
         }
     }
     Ok(())

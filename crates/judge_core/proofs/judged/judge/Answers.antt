@@ -1,4 +1,4 @@
-use Rattle.std.proofs.Common.{◌≡◌, ◌<◌, ◌≤◌, ◌∙◌, Ok, Err, None, Some, length, sym, ap, arith, refl, rules}
+use Rattle.std.proofs.Common.{◌≡◌, ◌<◌, ◌≤◌, ◌∙◌, Some, length, sym, ap, arith, rules}
 use Rattle.std.specs.Result.{result_ok}
 use Rattle.std.specs.Prelude.{slice_get, option_copied}
 use Rattle.std.specs.Arc.{arc_value}

@@ -1,0 +1,115 @@
+-- What the rows of a book say of its history.
+use Rattle.std.proofs.Common.{◌≡◌, ◌≢◌, ℕ, ◌+◌, ◌<◌, ◌≤◌, Bool, true, false, cond, ◌==◌, ◌||◌, ◌⊎◌, inl, inr, List, [], ◌∷◌, None, Some, refl, sym, ◌∙◌, ap, arith, suc, zero}
+use Rattle.std.specs.List.{AllByRecursion, range_with_len}
+use Rattle.std.specs.Prelude.{filter, find, map, slice_get, option_and_then}
+use Rattle.std.specs.Option.{option_map}
+use Rattle.std.proofs.lemmas.Bool.Decides.{nat_tests}
+use Rattle.judge_core.specs.declared.delivery.Delivery.{Delivery}
+use Rattle.judge_core.specs.Delivering.{destinations_of}
+use Rattle.row_store.specs.declared.Row.{Row}
+use Rattle.row_store.specs.Rows.{changed_at, front_of, is_row, item_at, numbers as numbers_of, queue_of, stands_in}
+use Rattle.row_store.proofs.Places.{numbers-changed_at}
+use Rattle.row_store.proofs.QueueLaws.{front_of-queue_of}
+use Rattle.dest_queue.specs.declared.SlotState.{SlotState}
+use Rattle.dest_queue.specs.declared.slots.Addressed.{Addressed}
+use Rattle.dest_queue.specs.Queues.{front_state, slot_of}
+use Rattle.dest_queue.specs.Slots.{state_at}
+use Rattle.dest_queue.specs.SlotsBy.{is_among}
+use Rattle.dest_queue.proofs.SlotLaws.{state_at-slots_by}
+use Rattle.event_log.specs.History.{History, deliveries, is_queued, message_count, named, names, numbers, queue, slot, state}
+use Rattle.event_log.proofs.Reading.{slot-beyond}
+use Rattle.book_core.specs.declared.letter.Letter.{Letter}
+use Rattle.book_core.specs.Parts.{IsAsTold, RowsAgree}
+
+same_number : (a b : ℕ) → (a == b) ≡ true → a ≡ b
+same_number a b e = grind (arith, nat_tests)
+
+other_number : (a b : ℕ) → (a == b) ≡ false → a ≢ b
+other_number a b e = grind (arith, nat_tests)
+
+-- what holds of each holds of each, weaker
+pub all-weaker : {A : Type 0} (P Q : A → Type 0) → ((x : A) → P x → Q x) → (xs : List A) → AllByRecursion P xs → AllByRecursion Q xs
+all-weaker P Q w [] all = tt
+all-weaker P Q w (x ∷ xs) all = (w x all.0, all-weaker P Q w xs all.1)
+
+-- the row of a number
+abbrev pub Found : {T : Type 0} → (Row T → Type 0) → ℕ → List (Row T) → Type 0
+Found {T} P n rows = (row : Row T) × (row.number ≡ n) × P row × (item_at n rows ≡ Some row.item)
+
+-- rows whose numbers count up: a number among them has a row, and any other has none
+pub found-or-not : {T : Type 0} (P : Row T → Type 0) (n : ℕ) (rows : List (Row T)) (a k : ℕ) → numbers_of rows ≡ range_with_len a k → AllByRecursion P rows
+    → Found P n rows ⊎ ((item_at n rows ≡ None) × (a ≤ n → a + k ≤ n))
+found-or-not P n [] a zero e all = inr (refl, λ le. omega arith)
+found-or-not P n [] a (suc k) e all = absurd cc
+found-or-not P n (row ∷ rows) a zero e all = absurd cc
+found-or-not {T} P n (row ∷ rows) a (suc k) e all =
+    let here : row.number ≡ a = cc in
+    let rest : numbers_of rows ≡ range_with_len (a + 1) k = cc in
+    elim (row.number == n) as (λ b. (row.number == n) ≡ b → ((r : Row T) × (r.number ≡ n) × P r × (option_map (λ (r : Row T). r.item) (cond b (Some row) (find (is_row n) rows)) ≡ Some r.item)) ⊎ ((option_map (λ (r : Row T). r.item) (cond b (Some row) (find (is_row n) rows)) ≡ None) × (a ≤ n → a + suc k ≤ n))) [
+      | true ↦ λ t. inl (row, same_number row.number n t, all.0, refl)
+      | false ↦ λ t. elim (found-or-not P n rows (a + 1) k rest all.1) [
+        | inl w ↦ inl w
+        | inr w ↦ let differs = other_number row.number n t in inr (w.0, λ le. omega (arith, w.1))
+      ]
+    ] refl
+
+-- a queue by the numbers of its rows
+pub queue_of-numbers : {T : Type 0} (d : ℕ) (p : ℕ → Bool) (rows : List (Row T)) → AllByRecursion (λ row. stands_in d row ≡ p row.number) rows → queue_of d rows ≡ filter p (numbers_of rows)
+queue_of-numbers d p [] all = refl
+queue_of-numbers {T} d p (row ∷ rows) all = rw all.0 (elim (p row.number) as (λ b. map (λ (r : Row T). r.number) (cond b (row ∷ filter (stands_in d) rows) (filter (stands_in d) rows)) ≡ cond b (row.number ∷ filter p (map (λ r. r.number) rows)) (filter p (map (λ r. r.number) rows)))
+    [ true ↦ ap (λ xs. row.number ∷ xs) (queue_of-numbers d p rows all.1) | false ↦ queue_of-numbers d p rows all.1 ])
+
+-- the destinations that deliveries name
+pub among-named : (d : ℕ) (ds : List Delivery) → is_among d (destinations_of ds) ≡ names d ds
+among-named d [] = refl
+among-named d (x ∷ ds) = ap (λ b. (x.destination == d) || b) (among-named d ds)
+
+module _ (h : History) (rows : List (Row (Addressed Letter))) (agree : RowsAgree h rows) where
+  -- the row of a message, or none
+  pub row-of : (n : ℕ) → Found (IsAsTold h) n rows ⊎ ((item_at n rows ≡ None) × (message_count h ≤ n))
+  row-of n = elim (found-or-not (IsAsTold h) n rows 0 (message_count h) agree.each_once agree.as_told)
+      [ inl w ↦ inl w | inr w ↦ inr (w.0, omega (arith, w.1)) ]
+
+  -- the slots of a row are those of its message
+  slot-in : (d : ℕ) (row : Row (Addressed Letter)) → IsAsTold h row → state_at d row.item.slots ≡ slot h row.number d
+  slot-in d row told = rw told.slots (state_at-slots_by (state h row.number) (named h row.number) d ∙ ap (λ b. cond b (Some (state h row.number d)) None) (among-named d (deliveries h row.number)))
+
+  -- each slot is kept as the history has it
+  pub kept-slot : (n d : ℕ) → slot_of n d rows ≡ slot h n d
+  kept-slot n d = elim (row-of n) [
+    | inl w ↦ rw w.3 (slot-in d w.0 w.2 ∙ ap (λ m. slot h m d) w.1)
+    | inr w ↦ rw w.0 (sym (slot-beyond h n d w.1))
+  ]
+
+  -- each queue is linked as the history has it
+  pub kept-queue : (d : ℕ) → d < 32 → queue_of d rows ≡ queue h d
+  kept-queue d within =
+      queue_of-numbers d (is_queued h d) rows (all-weaker (IsAsTold h) (λ row. stands_in d row ≡ is_queued h d row.number) (λ row told. told.queues d within) rows agree.as_told)
+      ∙ ap (filter (is_queued h d)) agree.each_once
+
+  pub kept-front : (d : ℕ) → d < 32 → front_of d rows ≡ slice_get (queue h d) 0
+  kept-front d within = front_of-queue_of rows d ∙ ap (λ (q : List ℕ). slice_get q 0) (kept-queue d within)
+
+  pub kept-front_state : (d : ℕ) → d < 32 → front_state d rows ≡ option_and_then (λ n. option_map (λ state. (n, state)) (slot h n d)) (slice_get (queue h d) 0)
+  kept-front_state d within = rw (kept-front d within)
+      (elim (slice_get (queue h d) 0) as (λ o. option_and_then {U = ℕ × SlotState} (λ n. option_map {U = ℕ × SlotState} (λ state. (n, state)) (slot_of n d rows)) o ≡ option_and_then {U = ℕ × SlotState} (λ n. option_map {U = ℕ × SlotState} (λ state. (n, state)) (slot h n d)) o)
+      [ None ↦ refl | Some n ↦ ap (λ o. option_map {U = ℕ × SlotState} (λ state. (n, state)) o) (kept-slot n d) ])
+
+-- the rows that follow a change of one of them
+module _ (h g : History) (n : ℕ) (change : Row (Addressed Letter) → Row (Addressed Letter)) (same : (row : Row (Addressed Letter)) → (change row).number ≡ row.number)
+    (others : (row : Row (Addressed Letter)) → row.number ≢ n → IsAsTold h row → IsAsTold g row) (changed : (row : Row (Addressed Letter)) → row.number ≡ n → IsAsTold h row → IsAsTold g (change row)) where
+  all-changed : (rows : List (Row (Addressed Letter))) → AllByRecursion (IsAsTold h) rows → AllByRecursion (IsAsTold g) (changed_at n change rows)
+  all-changed [] all = tt
+  all-changed (row ∷ rows) all = (
+    elim (row.number == n) as (λ b. (row.number == n) ≡ b → IsAsTold g (cond b (change row) row)) [
+      | true ↦ λ e. changed row (same_number row.number n e) all.0
+      | false ↦ λ e. others row (other_number row.number n e) all.0
+    ] refl,
+    all-changed rows all.1,
+  )
+
+  pub rows-changed : (rows : List (Row (Addressed Letter))) → numbers g ≡ numbers h → RowsAgree h rows → RowsAgree g (changed_at n change rows)
+  rows-changed rows counted agree = record {
+    each_once = numbers-changed_at n change same rows ∙ (agree.each_once ∙ sym counted);
+    as_told = all-changed rows agree.as_told;
+  }

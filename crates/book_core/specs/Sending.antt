@@ -1,0 +1,74 @@
+-- What is sent of a message, and what is kept of it to send it.
+use Rattle.std.specs.Prelude.{◌≡◌, ◌<◌, ◌==◌, ℕ, Bool, true, false, if◌then◌else◌, List, [], ◌∷◌, ◌++◌, slice_get, All, Option}
+use Rattle.std.specs.Option.{option_map_or}
+use Rattle.std.specs.Int.{bit_at}
+use Rattle.plan_text.specs.Entries.{PlanEntry}
+use Rattle.plan_text.specs.declared.destination.Await.{Await}
+use Rattle.plan_text.specs.declared.destination.Await.TheVariants as await
+use Rattle.judge_core.specs.declared.delivery.Delivery.{Delivery}
+use Rattle.judge_core.specs.declared.judged.Verdict.{Verdict}
+use Rattle.judge_core.specs.declared.judged.Verdict.TheVariants as verdict
+use Rattle.judge_core.specs.Delivering.{destinations_of}
+use Rattle.judge_core.specs.Judging.{deliveries_of}
+use Rattle.row_store.specs.declared.Row.{Row}
+use Rattle.dest_queue.specs.declared.SlotState.{SlotState}
+use Rattle.dest_queue.specs.declared.SlotState.TheVariants.{Waiting}
+use Rattle.dest_queue.specs.declared.slots.Addressed.{Addressed}
+use Rattle.dest_queue.specs.States.{is_waiting}
+use Rattle.dest_queue.specs.SlotsBy.{slots_by}
+use Rattle.event_log.specs.History.{names}
+use Rattle.event_log.specs.Answers.{attempts_max}
+use Rattle.event_log.specs.Room.{message_total, slot_owed}
+use Rattle.event_log.specs.declared.entry.Told.{Told}
+use Rattle.event_log.specs.declared.entry.Told.TheVariants as told
+use Rattle.book_core.specs.declared.letter.Letter.{Letter}
+
+abbrev pub is_ack : Await → Bool
+is_ack await.Ack = true
+is_ack await.None = false
+
+-- whether destination d answers with an acknowledgment
+abbrev pub awaits_ack : PlanEntry → ℕ → Bool
+awaits_ack plan d = option_map_or (λ x. is_ack x.wait) (slice_get plan.destinations d) false
+
+-- whether a verdict is fit for what the sender is told: an accepted message goes somewhere
+abbrev pub IsAccepting : Told → Verdict → Type 0
+IsAccepting (told.Accepted number) v = (deliveries : List Delivery) × (v ≡ verdict.Accept deliveries)
+IsAccepting told.Filtered v = Unit {0}
+IsAccepting (told.Refused cause) v = Unit {0}
+IsAccepting (told.Repeat place) v = Unit {0}
+
+-- where a message goes that is told so; nowhere where it isn't accepted
+abbrev pub deliveries_if : Told → Verdict → List Delivery
+deliveries_if (told.Accepted number) v = deliveries_of v
+deliveries_if told.Filtered v = []
+deliveries_if (told.Refused cause) v = []
+deliveries_if (told.Repeat place) v = []
+
+-- a row was added for a message of this number, which waits wherever it goes
+pub record AddsRow (number : ℕ) (control_id : List ℕ) (deliveries : List Delivery) (old new : List (Row (Addressed Letter))) : Type 0 where
+  pub mask : ℕ
+  pub stands : (d : ℕ) → d < 32 → (bit_at mask d == 1) ≡ names d deliveries
+  pub added : new ≡ old ++ record {
+    number = number;
+    item = record { content = record { control_id = control_id; deliveries = deliveries }; slots = slots_by (λ _. Waiting 0 0) (destinations_of deliveries) };
+    mask = mask;
+  } ∷ []
+
+-- a row was added where a message is told Accepted, and none otherwise
+abbrev pub AddsMessage : Told → List ℕ → Verdict → List (Row (Addressed Letter)) → List (Row (Addressed Letter)) → Type 0
+AddsMessage (told.Accepted number) control_id v old new = AddsRow number control_id (deliveries_of v) old new
+AddsMessage told.Filtered control_id v old new = new ≡ old
+AddsMessage (told.Refused cause) control_id v old new = new ≡ old
+AddsMessage (told.Repeat place) control_id v old new = new ≡ old
+
+-- the rows have room for the number that a message is told
+abbrev pub IsNextRow : Told → List (Row (Addressed Letter)) → Type 0
+IsNextRow (told.Accepted number) rows = All (λ row. row.number < number) rows
+IsNextRow told.Filtered rows = Unit {0}
+IsNextRow (told.Refused cause) rows = Unit {0}
+IsNextRow (told.Repeat place) rows = Unit {0}
+
+-- what slots owe where they wait
+abbrev pub owed_waiting : PlanEntry → (ℕ → Option SlotState) → ℕ
+owed_waiting plan slots = message_total (λ d state. if is_waiting state then slot_owed (attempts_max plan d) state else 0) slots

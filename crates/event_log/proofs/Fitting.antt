@@ -1,0 +1,80 @@
+-- What an entry that may be booked next leaves sound, and the room that it needs.
+use Rattle.std.proofs.Common.{◌≡◌, ℕ, ◌+◌, ◌≤◌, List, [], ◌∷◌, ◌++◌, length, take, None, Some, Ok, refl, sym, ap, subst, arith, suc, zero, length-append}
+use Rattle.std.specs.Prelude.{slice_get}
+use Rattle.std.proofs.lemmas.Option.{same_Some}
+use Rattle.plan_text.specs.Entries.{IsPlan}
+use Rattle.dest_queue.specs.declared.SlotState.{SlotState}
+use Rattle.dest_queue.specs.declared.Outcome.{Outcome}
+use Rattle.event_log.specs.declared.entry.Ticket.{Ticket}
+use Rattle.event_log.specs.declared.entry.Entry.{Entry}
+use Rattle.event_log.specs.declared.entry.Entry.TheVariants.{Arrival, Take, Settle, Cancel}
+use Rattle.event_log.specs.History.{History, before, followed_by, next_place, plan_in_force}
+use Rattle.event_log.specs.Answers.{cancel_answer, settle_answer, take_answer}
+use Rattle.event_log.specs.Legal.{IsLegal, IsSound, MayFollow}
+use Rattle.event_log.specs.Room.{owed}
+use Rattle.event_log.proofs.Arriving.{arrival-step}
+use Rattle.event_log.proofs.Cancelling.{cancel-owes, cancel-step}
+use Rattle.event_log.proofs.Following.{take-whole}
+use Rattle.event_log.proofs.Reading.{opened-sound}
+use Rattle.event_log.proofs.Settling.{settle-less, settle-step}
+use Rattle.event_log.proofs.Taking.{take-step}
+
+-- a sound history stays sound with an entry that may follow
+pub sound-followed_by : (h : History) (e : Entry) → IsSound h → MayFollow h e → IsSound (followed_by h e)
+sound-followed_by h (Arrival conn channel raw reply) sound may = (arrival-step h sound conn channel raw reply may).sound
+sound-followed_by h (Take ticket now) sound may = (take-step h sound ticket.destination now ticket may).1.sound
+sound-followed_by h (Settle ticket outcome now state) sound may = (settle-step h sound ticket outcome now state may).sound
+sound-followed_by h (Cancel number mask) sound may = (cancel-step h sound number mask may).sound
+
+-- the first items and one more
+take-more : {A : Type 0} (xs : List A) (k : ℕ) (x : A) → slice_get xs k ≡ Some x → take (suc k) xs ≡ take k xs ++ x ∷ []
+take-more [] k x got = absurd cc
+take-more (y ∷ xs) zero x got = ap (λ z. z ∷ []) (same_Some y x got)
+take-more (y ∷ xs) (suc k) x got = ap (λ zs. y ∷ zs) (take-more xs k x got)
+
+-- the first items, where there is no other
+take-past : {A : Type 0} (xs : List A) (k : ℕ) → slice_get xs k ≡ None → take (suc k) xs ≡ take k xs
+take-past [] zero none = refl
+take-past [] (suc k) none = refl
+take-past (y ∷ xs) zero none = absurd cc
+take-past (y ∷ xs) (suc k) none = ap (λ zs. y ∷ zs) (take-past xs k none)
+
+-- a legal history is sound as far as it was booked
+sound-before : (h : History) → IsPlan (plan_in_force h) → IsLegal h → (k : ℕ) → IsSound (before h k)
+sound-before h good legal zero = opened-sound (plan_in_force h) h.opening.events_max good
+sound-before h good legal (suc k) =
+    let earlier = sound-before h good legal k in
+    elim (slice_get h.entries k) as (λ o. slice_get h.entries k ≡ o → IsSound (before h (suc k))) [
+      | None ↦ λ none. subst (λ es. IsSound (record { opening = h.opening; entries = es })) (sym (take-past h.entries k none)) earlier
+      | Some e ↦ λ got. subst (λ es. IsSound (record { opening = h.opening; entries = es })) (sym (take-more h.entries k e got)) (sound-followed_by (before h k) e earlier (legal.follows k e got))
+    ] refl
+
+-- a legal history is sound
+pub sound-legal : (h : History) → IsPlan (plan_in_force h) → IsLegal h → IsSound h
+sound-legal h good legal = subst (λ es. IsSound (record { opening = h.opening; entries = es })) (take-whole h.entries) (sound-before h good legal (length h.entries))
+
+-- one more entry, of which at least one was owed
+fits : (count more before after : ℕ) → more ≡ count + 1 → after + 1 ≤ before → more + after ≤ count + before
+fits count more before after longer less = omega arith
+
+-- a take uses one entry that was owed
+pub take-fits : (h : History) (d now : ℕ) (ticket : Ticket) → IsSound h → take_answer h d now ≡ Ok ticket → next_place (followed_by h (Take ticket now)) + owed (followed_by h (Take ticket now)) ≤ next_place h + owed h
+take-fits h d now ticket sound is =
+    let step = (take-step h sound d now ticket is).1 in
+    fits (length h.entries) (next_place (followed_by h (Take ticket now))) (owed h) (owed (followed_by h (Take ticket now))) (length-append h.entries (Take ticket now ∷ [])) (omega (arith, step.owed))
+
+-- so does a settlement
+pub settle-fits : (h : History) (ticket : Ticket) (outcome : Outcome) (now : ℕ) (state : SlotState) → IsSound h → settle_answer h ticket outcome now ≡ Ok state
+    → next_place (followed_by h (Settle ticket outcome now state)) + owed (followed_by h (Settle ticket outcome now state)) ≤ next_place h + owed h
+settle-fits h ticket outcome now state sound is =
+    let step = settle-step h sound ticket outcome now state is in
+    let less = settle-less h ticket outcome now state sound is in
+    fits (length h.entries) (next_place (followed_by h (Settle ticket outcome now state))) (owed h) (owed (followed_by h (Settle ticket outcome now state)))
+    (length-append h.entries (Settle ticket outcome now state ∷ [])) (omega (arith, step.owed, less))
+
+-- and a cancellation
+pub cancel-fits : (h : History) (number mask : ℕ) → IsSound h → cancel_answer h number ≡ Ok mask → next_place (followed_by h (Cancel number mask)) + owed (followed_by h (Cancel number mask)) ≤ next_place h + owed h
+cancel-fits h number mask sound is =
+    let step = cancel-step h sound number mask is in
+    let some = cancel-owes h sound number mask is in
+    fits (length h.entries) (next_place (followed_by h (Cancel number mask))) (owed h) (owed (followed_by h (Cancel number mask))) (length-append h.entries (Cancel number mask ∷ [])) (omega (arith, step.owed, some))

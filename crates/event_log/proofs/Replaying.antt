@@ -1,0 +1,153 @@
+-- What the arrivals of a legal history say.
+use Rattle.std.proofs.Common.{◌≡◌, ℕ, ◌<◌, ◌≤◌, Bool, true, false, cond, ◌&&◌, List, [], ◌∷◌, length, take, get_or, Option, None, Some, refl, sym, ◌∙◌, ap, subst, arith, suc, zero}
+use Rattle.std.specs.Prelude.{nat_lt, slice_get, if◌then◌else◌}
+use Rattle.std.specs.List.{filter_map, cons_option, position_or_len}
+use Rattle.std.specs.Option.{option_map_or}
+use Rattle.std.proofs.lemmas.Bool.Decides.{nat_tests}
+use Rattle.std.proofs.lemmas.List.Sums.{fails_before_first, passes_at_first}
+use Rattle.std.proofs.lemmas.Option.{cond_some, get_or_from_slice_get, same_Some}
+use Rattle.hl7_head.specs.declared.ack.Cause.TheVariants.{IdReused}
+use Rattle.plan_text.specs.Entries.{PlanEntry}
+use Rattle.judge_core.specs.declared.judged.Verdict.{Verdict}
+use Rattle.judge_core.specs.declared.judged.Verdict.TheVariants as verdict
+use Rattle.judge_core.specs.Judging.{verdict as decided, deliveries_of, is_bookable, key_of}
+use Rattle.event_log.specs.declared.entry.Told.TheVariants as told
+use Rattle.event_log.specs.declared.entry.Entry.{Entry}
+use Rattle.event_log.specs.declared.entry.Entry.TheVariants.{Arrival, Take, Settle, Cancel}
+use Rattle.event_log.specs.History.{Accepted, History, accepted, accepted_by, accepted_under, before, message_count, plan_in_force}
+use Rattle.event_log.specs.Answers.{answer, brings, keeps, known, told_by}
+use Rattle.event_log.specs.Legal.{IsLegal}
+use Rattle.event_log.proofs.Arriving.{accepted-number}
+
+-- ---- lists
+
+-- an item among the first is among all
+get-taken : {A : Type 0} (xs : List A) (k i : ℕ) (x : A) → slice_get (take k xs) i ≡ Some x → slice_get xs i ≡ Some x
+get-taken xs zero i x is = absurd cc
+get-taken [] (suc k) i x is = absurd cc
+get-taken (y ∷ xs) (suc k) zero x is = is
+get-taken (y ∷ xs) (suc k) (suc i) x is = get-taken xs k i x is
+
+-- the first k items are no more than k
+length-taken : {A : Type 0} (xs : List A) (k : ℕ) → length (take k xs) ≤ k
+length-taken xs zero = omega arith
+length-taken [] (suc k) = omega arith
+length-taken (x ∷ xs) (suc k) = let rest = length-taken xs k in omega arith
+
+-- what an item gives stands after what those before it gave
+get-given : {A B : Type 0} (f : A → Option B) (xs : List A) (k : ℕ) (x : A) (y : B) → slice_get xs k ≡ Some x → f x ≡ Some y → slice_get (filter_map f xs) (length (filter_map f (take k xs))) ≡ Some y
+get-given f [] k x y got gives = absurd cc
+get-given f (z ∷ xs) zero x y got gives = let here : f z ≡ Some y = ap f (same_Some z x got) ∙ gives in rw here refl
+get-given f (z ∷ xs) (suc k) x y got gives = elim (f z) as (λ o. slice_get (cons_option o (filter_map f xs)) (length (cons_option o (filter_map f (take k xs)))) ≡ Some y)
+    [ None ↦ get-given f xs k x y got gives | Some w ↦ get-given f xs k x y got gives ]
+
+-- what was given comes of an item
+given-by : {A B : Type 0} (f : A → Option B) (xs : List A) (n : ℕ) (y : B) → slice_get (filter_map f xs) n ≡ Some y → (x : A) × (f x ≡ Some y)
+given-by f [] n y got = absurd cc
+given-by {A} {B} f (x ∷ xs) n y got = elim (f x) as (λ o. f x ≡ o → slice_get (cons_option o (filter_map f xs)) n ≡ Some y → (x : A) × (f x ≡ Some y)) [
+  | None ↦ λ e rest. given-by f xs n y rest
+  | Some w ↦ λ e rest. first n w e (λ k later. given-by f xs k y later) rest
+] refl got
+  where
+    first : (n : ℕ) (w : B) → f x ≡ Some w → ((k : ℕ) → slice_get (filter_map f xs) k ≡ Some y → (x : A) × (f x ≡ Some y)) → slice_get (w ∷ filter_map f xs) n ≡ Some y → (x : A) × (f x ≡ Some y)
+    first zero w e later is = (x, e ∙ is)
+    first (suc n) w e later is = later n is
+
+-- ---- keys
+
+-- a key is known at the first entry that keeps it
+pub known-at : (h : History) (key : List ℕ) (place : ℕ) → known h key ≡ Some place → (place < length h.entries) × (place ≡ position_or_len (keeps key) h.entries)
+known-at h key place is =
+    let parts = cond_some (nat_lt (position_or_len (keeps key) h.entries) (length h.entries)) (position_or_len (keeps key) h.entries) place is in
+    let inside = parts.0 in let same = parts.1 in (grind (arith, nat_tests), sym same)
+
+-- that entry keeps it
+pub known-keeps : (h : History) (key : List ℕ) (place : ℕ) (e : Entry) → known h key ≡ Some place → keeps key (get_or h.entries place e) ≡ true
+known-keeps h key place e is =
+    let at = known-at h key place is in
+    let inside : position_or_len (keeps key) h.entries < length h.entries = subst (λ k. k < length h.entries) at.1 at.0 in
+    subst (λ k. keeps key (get_or h.entries k e) ≡ true) (sym at.1) (passes_at_first (keeps key) h.entries e inside)
+
+-- and none before it does
+pub known-first : (h : History) (key : List ℕ) (place k : ℕ) (e : Entry) → known h key ≡ Some place → k < place → keeps key (get_or h.entries k e) ≡ false
+known-first h key place k e is before =
+    let at = known-at h key place is in fails_before_first (keeps key) h.entries k e (subst (λ p. k < p) at.1 before)
+
+-- a key that is not known is kept by no entry
+pub unknown-none : (h : History) (key : List ℕ) (k : ℕ) (e : Entry) → known h key ≡ None → k < length h.entries → keeps key (get_or h.entries k e) ≡ false
+unknown-none h key k e none inside = by (nat_lt (position_or_len (keeps key) h.entries) (length h.entries)) refl none
+  where
+    by : (b : Bool) → nat_lt (position_or_len (keeps key) h.entries) (length h.entries) ≡ b → cond b (Some (position_or_len (keeps key) h.entries)) None ≡ None → keeps key (get_or h.entries k e) ≡ false
+    by true at is = absurd cc
+    by false at is = let past : length h.entries ≤ position_or_len (keeps key) h.entries = grind (arith, nat_tests) in fails_before_first (keeps key) h.entries k e (omega arith)
+
+-- ---- what arrivals were told
+
+-- an entry that brings a message brings it with the deliveries that its channel decides
+brought-goes : (plan : PlanEntry) (e : Entry) (m : Accepted) → accepted_by plan e ≡ Some m → m.deliveries ≡ deliveries_of (decided plan m.channel m.raw)
+brought-goes plan (Arrival conn channel raw (told.Accepted number)) m is =
+    subst (λ (m : Accepted). m.deliveries ≡ deliveries_of (decided plan m.channel m.raw)) (same_Some (accepted_under plan channel raw) m is) refl
+brought-goes plan (Arrival conn channel raw told.Filtered) m is = absurd cc
+brought-goes plan (Arrival conn channel raw (told.Refused cause)) m is = absurd cc
+brought-goes plan (Arrival conn channel raw (told.Repeat place)) m is = absurd cc
+brought-goes plan (Take ticket now) m is = absurd cc
+brought-goes plan (Settle ticket outcome now state) m is = absurd cc
+brought-goes plan (Cancel number mask) m is = absurd cc
+
+-- an accepted message goes where its channel decides
+pub message-goes : (h : History) (n : ℕ) (m : Accepted) → slice_get (accepted h) n ≡ Some m → m.deliveries ≡ deliveries_of (decided (plan_in_force h) m.channel m.raw)
+message-goes h n m got = let by = given-by (accepted_by h.opening.plan) h.entries n m got in brought-goes h.opening.plan by.0 m by.1
+
+-- an arrival told Accepted n is message n
+pub accepted-is : (h : History) → IsLegal h → (place conn channel n : ℕ) (raw : List ℕ) → slice_get h.entries place ≡ Some (Arrival conn channel raw (told.Accepted n))
+    → slice_get (accepted h) n ≡ Some (accepted_under (plan_in_force h) channel raw)
+accepted-is h legal place conn channel n raw got =
+    let may = legal.follows place (Arrival conn channel raw (told.Accepted n)) got in
+    let number : n ≡ message_count (before h place) = accepted-number (before h place) channel raw n may.answered in
+    subst (λ k. slice_get (accepted h) k ≡ Some (accepted_under (plan_in_force h) channel raw)) (sym number)
+    (get-given (accepted_by h.opening.plan) h.entries place (Arrival conn channel raw (told.Accepted n)) (accepted_under (plan_in_force h) channel raw) got refl)
+
+-- only a message whose key is known is told that it came before
+judged-first : (v : Verdict) (count place : ℕ) → told_by count v ≡ Some (told.Repeat place) → ⊥
+judged-first verdict.Unreadable count place is = absurd cc
+judged-first verdict.Stray count place is = absurd cc
+judged-first (verdict.Refuse cause) count place is = absurd cc
+judged-first verdict.Filtered count place is = absurd cc
+judged-first (verdict.Accept deliveries) count place is = absurd cc
+
+-- and only where the bytes are the same
+again-same : (same : Bool) (seen place : ℕ) → Some (if same then told.Repeat seen else told.Refused IdReused) ≡ Some (told.Repeat place) → (seen ≡ place) × (same ≡ true)
+again-same true seen place is = (cc, refl)
+again-same false seen place is = absurd cc
+
+-- so an answer that a message came before says where
+told-before : (bookable : Bool) (seen : Option ℕ) (same : ℕ → Bool) (v : Verdict) (count place : ℕ)
+    → (if bookable then option_map_or (λ place. Some (if same place then told.Repeat place else told.Refused IdReused)) seen (told_by count v) else None) ≡ Some (told.Repeat place)
+    → (seen ≡ Some place) × (same place ≡ true)
+told-before false seen same v count place is = absurd cc
+told-before true None same v count place is = absurd (judged-first v count place is)
+told-before true (Some k) same v count place is = let parts = again-same (same k) k place is in (ap (λ k. Some k) parts.0, ap same (sym parts.0) ∙ parts.1)
+
+-- a message that is told that it came before has its key and its bytes at that place
+repeat-found : (h : History) (channel : ℕ) (raw : List ℕ) (place : ℕ) → answer h channel raw ≡ Some (told.Repeat place)
+    → (known h (key_of channel raw) ≡ Some place) × (option_map_or (brings raw) (slice_get h.entries place) false ≡ true)
+unfolding answer
+repeat-found h channel raw place is =
+    told-before (is_bookable raw) (known h (key_of channel raw)) (λ place. option_map_or (brings raw) (slice_get h.entries place) false) (decided (plan_in_force h) channel raw) (message_count h) place is
+
+-- an arrival told Repeat repeats one before it, with its key and its bytes, that was told Accepted or Filtered
+pub repeat-is : (h : History) → IsLegal h → (place conn channel first : ℕ) (raw : List ℕ) → slice_get h.entries place ≡ Some (Arrival conn channel raw (told.Repeat first))
+    → (first < place) × (option_map_or (λ e. keeps (key_of channel raw) e && brings raw e) (slice_get h.entries first) false ≡ true)
+repeat-is h legal place conn channel first raw got =
+    let may = legal.follows place (Arrival conn channel raw (told.Repeat first)) got in
+    let found = repeat-found (before h place) channel raw first may.answered in
+    let inside = (known-at (before h place) (key_of channel raw) first found.0).0 in
+    let few = length-taken h.entries place in
+    (omega arith, by (slice_get (take place h.entries) first) refl found.0 found.1)
+  where
+    by : (o : Option Entry) → slice_get (take place h.entries) first ≡ o → known (before h place) (key_of channel raw) ≡ Some first → option_map_or (brings raw) o false ≡ true
+        → option_map_or (λ e. keeps (key_of channel raw) e && brings raw e) (slice_get h.entries first) false ≡ true
+    by None is seen brought = absurd cc
+    by (Some e) is seen brought =
+        let kept : keeps (key_of channel raw) e ≡ true = subst (λ x. keeps (key_of channel raw) x ≡ true) (get_or_from_slice_get (take place h.entries) first e e is) (known-keeps (before h place) (key_of channel raw) first e seen) in
+        rw (get-taken h.entries place first e is, kept) brought

@@ -1,0 +1,109 @@
+-- The sequential engine: its answer to each event, from what was booked before.
+use Rattle.std.specs.Prelude.{ℕ, ◌+◌, ◌^◌, Bool, true, false, ◌&&◌, ◌==◌, nat_lt, if◌then◌else◌, List, sum_by, slice_get, Option, None, Some, Result, Ok, Err}
+use Rattle.std.specs.List.{position, range_with_len}
+use Rattle.std.specs.Option.{option_map_or}
+use Rattle.std.specs.Str.{bytes_eq}
+use Rattle.hl7_head.specs.declared.ack.Cause.TheVariants.{IdReused}
+use Rattle.plan_text.specs.Entries.{PlanEntry}
+use Rattle.judge_core.specs.declared.judged.Verdict.{Verdict}
+use Rattle.judge_core.specs.declared.judged.Verdict.TheVariants as verdict
+use Rattle.judge_core.specs.Judging.{verdict as decided, is_bookable, key_of}
+use Rattle.dest_queue.specs.declared.SlotState.{SlotState}
+use Rattle.dest_queue.specs.declared.SlotState.TheVariants.{Waiting, InFlight, Delivered, Failed}
+use Rattle.dest_queue.specs.declared.Outcome.{Outcome}
+use Rattle.dest_queue.specs.declared.SettleRefusal.{SettleRefusal}
+use Rattle.dest_queue.specs.States.{is_waiting, settle_answer as slot_answer}
+use Rattle.event_log.specs.declared.entry.Ticket.{Ticket}
+use Rattle.event_log.specs.declared.entry.Told.{Told}
+use Rattle.event_log.specs.declared.entry.Told.TheVariants as told
+use Rattle.event_log.specs.declared.entry.Entry.{Entry}
+use Rattle.event_log.specs.declared.entry.Entry.TheVariants.{Arrival, Take, Settle, Cancel}
+use Rattle.event_log.specs.declared.refusal.TakeRefusal.{TakeRefusal}
+use Rattle.event_log.specs.declared.refusal.TakeRefusal.TheVariants.{Idle, InFlightNow, NotDue}
+use Rattle.event_log.specs.declared.refusal.CancelRefusal.{CancelRefusal}
+use Rattle.event_log.specs.declared.refusal.CancelRefusal.TheVariants.{NoSuchMessage, NothingWaiting}
+use Rattle.event_log.specs.History.{History, message_count, plan_in_force, queue, slot}
+
+-- whether a message is kept by its key: it was accepted or filtered
+abbrev pub is_kept : Told → Bool
+is_kept (told.Accepted number) = true
+is_kept told.Filtered = true
+is_kept (told.Refused cause) = false
+is_kept (told.Repeat place) = false
+
+-- whether an entry is the arrival of a message with this key, told Accepted or Filtered
+abbrev pub keeps : List ℕ → Entry → Bool
+keeps key (Arrival conn channel raw told) = is_kept told && bytes_eq key (key_of channel raw)
+keeps key (Take ticket now) = false
+keeps key (Settle ticket outcome now state) = false
+keeps key (Cancel number mask) = false
+
+-- the place of the message with this key, if one was accepted or filtered
+abbrev pub known : History → List ℕ → Option ℕ
+known h key = position (keeps key) h.entries
+
+-- whether an entry is the arrival of these bytes
+abbrev pub brings : List ℕ → Entry → Bool
+brings raw (Arrival conn channel came told) = bytes_eq raw came
+brings raw (Take ticket now) = false
+brings raw (Settle ticket outcome now state) = false
+brings raw (Cancel number mask) = false
+
+-- what the sender is told of a message whose key is known: the same bytes are a repeat, others a control id used again
+abbrev pub told_again : History → List ℕ → ℕ → Told
+told_again h raw place = if option_map_or (brings raw) (slice_get h.entries place) false then told.Repeat place else told.Refused IdReused
+
+-- what the sender is told of a text with this verdict, where the next message gets this number;
+-- nothing of a text that is no message, or an acknowledgment
+abbrev pub told_by : ℕ → Verdict → Option Told
+told_by number verdict.Unreadable = None
+told_by number verdict.Stray = None
+told_by number (verdict.Refuse cause) = Some (told.Refused cause)
+told_by number verdict.Filtered = Some told.Filtered
+told_by number (verdict.Accept deliveries) = Some (told.Accepted number)
+
+-- the answer to a text that arrives on a channel; its key is looked up before it is judged
+unfoldable pub answer : History → ℕ → List ℕ → Option Told
+answer h channel raw =
+    if is_bookable raw then option_map_or (λ place. Some (told_again h raw place)) (known h (key_of channel raw)) (told_by (message_count h) (decided (plan_in_force h) channel raw))
+    else None
+
+-- the answer to a take at d, by the front's slot; a settled slot has left the queue
+abbrev pub taken : ℕ → ℕ → ℕ → Option SlotState → Result Ticket TakeRefusal
+taken d now n (Some (Waiting attempts due)) = if nat_lt now due then Err (NotDue due) else Ok (record { number = n; destination = d; attempt = attempts + 1 })
+taken d now n (Some (InFlight attempt)) = Err (InFlightNow n)
+taken d now n (Some Delivered) = Err Idle
+taken d now n (Some (Failed cause)) = Err Idle
+taken d now n None = Err Idle
+
+-- the answer to a take at d
+abbrev pub take_answer : History → ℕ → ℕ → Result Ticket TakeRefusal
+take_answer h d now = option_map_or (λ n. taken d now n (slot h n d)) (slice_get (queue h d) 0) (Err Idle)
+
+-- how often a message is sent to d at most; a message goes to destinations of the plan alone
+abbrev pub attempts_max : PlanEntry → ℕ → ℕ
+attempts_max plan d = option_map_or (λ x. x.attempts) (slice_get plan.destinations d) 0
+
+-- how long a retry at d waits
+abbrev pub interval : PlanEntry → ℕ → ℕ
+interval plan d = option_map_or (λ x. x.interval) (slice_get plan.destinations d) 0
+
+-- the answer to a settlement
+abbrev pub settle_answer : History → Ticket → Outcome → ℕ → Result SlotState SettleRefusal
+settle_answer h ticket outcome now =
+    slot_answer (slot h ticket.number ticket.destination) outcome ticket.attempt now
+    (attempts_max (plan_in_force h) ticket.destination) (interval (plan_in_force h) ticket.destination)
+
+-- whether message n waits at d
+abbrev pub waits : History → ℕ → ℕ → Bool
+waits h n d = option_map_or is_waiting (slot h n d) false
+
+-- the destinations that a test names, as a mask: bit d is set where it names d
+unfoldable pub mask_where : (ℕ → Bool) → ℕ
+mask_where test = sum_by (λ d. if test d then 2 ^ d else 0) (range_with_len 0 32)
+
+-- the answer to a cancellation
+abbrev pub cancel_answer : History → ℕ → Result ℕ CancelRefusal
+cancel_answer h n =
+    if nat_lt n (message_count h) then (if mask_where (waits h n) == 0 then Err NothingWaiting else Ok (mask_where (waits h n)))
+    else Err NoSuchMessage

@@ -1,0 +1,66 @@
+-- The room that a history keeps for the deliveries of its messages.
+use Rattle.std.specs.Prelude.{ℕ, ◌+◌, ◌-◌, ◌*◌, Bool, true, false, nat_lt, if◌then◌else◌, List, [], length, sum_by, Option}
+use Rattle.std.specs.List.{range_with_len}
+use Rattle.std.specs.Option.{option_map_or}
+use Rattle.plan_text.specs.Entries.{PlanEntry}
+use Rattle.judge_core.specs.Judging.{named as named_by}
+use Rattle.dest_queue.specs.declared.SlotState.{SlotState}
+use Rattle.dest_queue.specs.declared.SlotState.TheVariants.{Waiting, InFlight, Delivered, Failed}
+use Rattle.event_log.specs.declared.entry.Told.{Told}
+use Rattle.event_log.specs.declared.entry.Told.TheVariants as told
+use Rattle.event_log.specs.History.{History, numbers, plan_in_force, slot}
+use Rattle.event_log.specs.Answers.{answer, attempts_max}
+
+-- the sum of a weight over the slots of one message
+abbrev pub message_total : (ℕ → SlotState → ℕ) → (ℕ → Option SlotState) → ℕ
+message_total weight slots = sum_by (λ d. option_map_or (weight d) (slots d) 0) (range_with_len 0 32)
+
+-- the sum of a weight over the slots of all messages
+unfoldable pub total : (ℕ → SlotState → ℕ) → History → ℕ
+total weight h = sum_by (λ n. message_total weight (slot h n)) (numbers h)
+
+-- the entries that may still come of a slot, if it may have so many attempts: a take and a settlement for each attempt
+-- to come, a cancellation, and the settlement of the attempt under way
+abbrev pub slot_owed : ℕ → SlotState → ℕ
+slot_owed max (Waiting attempts due) = 2 * (max - attempts) + 1
+slot_owed max (InFlight attempt) = 2 * (max - attempt) + 2
+slot_owed max Delivered = 0
+slot_owed max (Failed cause) = 0
+
+-- the entries that may still come of all slots
+abbrev pub owed : History → ℕ
+owed h = total (λ d. slot_owed (attempts_max (plan_in_force h) d)) h
+
+-- whether an attempt is under way
+abbrev pub is_in_flight : SlotState → Bool
+is_in_flight (Waiting attempts due) = false
+is_in_flight (InFlight attempt) = true
+is_in_flight Delivered = false
+is_in_flight (Failed cause) = false
+
+-- how many attempts are under way
+abbrev pub in_flight : History → ℕ
+in_flight h = total (λ d state. if is_in_flight state then 1 else 0) h
+
+-- what a new message owes
+abbrev pub own_owed : PlanEntry → List ℕ → ℕ
+own_owed plan named = sum_by (λ d. 2 * attempts_max plan d + 1) named
+
+-- the destinations that an arrival adds slots at: those that it names, if it is accepted
+abbrev pub slots_added : PlanEntry → ℕ → List ℕ → Told → List ℕ
+slots_added plan channel raw (told.Accepted number) = named_by plan channel raw
+slots_added plan channel raw told.Filtered = []
+slots_added plan channel raw (told.Refused cause) = []
+slots_added plan channel raw (told.Repeat place) = []
+
+-- what the slots of an arrival would owe
+abbrev pub own : History → ℕ → List ℕ → ℕ
+own h channel raw = option_map_or (λ told. own_owed (plan_in_force h) (slots_added (plan_in_force h) channel raw told)) (answer h channel raw) 0
+
+-- one more entry, with so many owed by its own slots, goes past what the history may hold
+abbrev pub exceeds : History → ℕ → Bool
+exceeds h own = nat_lt h.opening.events_max (length h.entries + owed h + 1 + own)
+
+-- there is no room for an arrival
+unfoldable pub is_full : History → ℕ → List ℕ → Bool
+is_full h channel raw = exceeds h (own h channel raw)

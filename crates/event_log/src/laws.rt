@@ -1,0 +1,40 @@
+//! What holds of every history.
+
+ghost use Rattle.std.specs.Prelude.{◌≡◌, ◌<◌, ◌≤◌, ◌+◌, ℕ, List, Ok, None, Some, All, IsTrue, IsFalse};
+ghost use Rattle.std.specs.List.{AllWithin, HoldsAt};
+ghost use Rattle.plan_text.specs.Entries.{PlanEntry, IsPlan};
+ghost use Rattle.dest_queue.specs.declared.SlotState.{SlotState};
+ghost use Rattle.dest_queue.specs.declared.Outcome.{Outcome};
+ghost use Rattle.event_log.specs.declared.entry.Ticket.{Ticket};
+ghost use Rattle.event_log.specs.declared.entry.Entry.{Entry};
+ghost use Rattle.event_log.specs.declared.entry.Entry.TheVariants.{Take, Settle, Cancel};
+ghost use Rattle.event_log.specs.History.{History, followed_by, next_place, opened_by, plan_in_force};
+ghost use Rattle.event_log.specs.Answers.{cancel_answer, keeps, known, settle_answer, take_answer};
+ghost use Rattle.event_log.specs.Legal.{IsLegal, IsSound, MayFollow};
+ghost use Rattle.event_log.specs.Replay.{replay};
+ghost use Rattle.event_log.specs.Room.{owed};
+
+/// The laws of histories, for every plan, bound, entry and key.
+pub fn history_rules()
+    // A legal history is what the sequential engine gives of its events alone, reply for reply.
+    ensures replayed { (h : History) → IsLegal h → replay h ≡ h }
+
+    // What a sequential engine gives under a plan is sound; so it is at first, and with each entry that may follow.
+    ensures sound { (h : History) → IsPlan (plan_in_force h) → IsLegal h → IsSound h }
+    ensures opened { (plan : PlanEntry) (events_max : ℕ) → IsPlan plan → IsSound (opened_by plan events_max) }
+    ensures followed { (h : History) (e : Entry) → IsSound h → MayFollow h e → IsSound (followed_by h e) }
+
+    // A take, a settlement and a cancellation need no room beyond what is owed: none is ever refused for it.
+    ensures take_fits { (h : History) (d now : ℕ) (ticket : Ticket) → IsSound h → take_answer h d now ≡ Ok ticket →
+        let after = followed_by h (Take ticket now) in next_place after + owed after ≤ next_place h + owed h }
+    ensures settle_fits { (h : History) (ticket : Ticket) (outcome : Outcome) (now : ℕ) (state : SlotState) → IsSound h → settle_answer h ticket outcome now ≡ Ok state →
+        let after = followed_by h (Settle ticket outcome now state) in next_place after + owed after ≤ next_place h + owed h }
+    ensures cancel_fits { (h : History) (number mask : ℕ) → IsSound h → cancel_answer h number ≡ Ok mask →
+        let after = followed_by h (Cancel number mask) in next_place after + owed after ≤ next_place h + owed h }
+
+    // A key is known at the first entry that keeps it, and unknown where none does.
+    ensures known_inside { (h : History) (key : List ℕ) (place : ℕ) → known h key ≡ Some place → place < next_place h }
+    ensures known_there { (h : History) (key : List ℕ) (place : ℕ) → known h key ≡ Some place → HoldsAt (λ e. IsTrue (keeps key e)) h.entries place }
+    ensures known_first { (h : History) (key : List ℕ) (place : ℕ) → known h key ≡ Some place → AllWithin (λ e. IsFalse (keeps key e)) h.entries 0 place }
+    ensures unknown { (h : History) (key : List ℕ) → known h key ≡ None → All (λ e. IsFalse (keeps key e)) h.entries }
+{}

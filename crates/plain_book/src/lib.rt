@@ -1,0 +1,14 @@
+//! The sequential engine, plain and slow: a list of entries and nothing else. Each answer is found by reading the list
+//! from its start, as the definition says it, so that a faster engine can be compared with it.
+#![tactic(auto)]
+
+mod answering;
+mod engine;
+mod reading;
+mod refusal;
+
+pub use engine::PlainBook;
+pub use refusal::{NotBooked, NotSettled};
+
+#[cfg(test)]
+mod tests;
