@@ -10,7 +10,7 @@ ghost use Rattle.mllp_frame.specs.Framing.{IsBlockData, HoldsData};
 ghost use Rattle.hl7_engine.specs.Handling.{BooksMore, CameInBlock, Fits, Handles, HandlesAll, HandlesFront, Keeps, StopsHandling};
 
 use crate::reports::{Clock, ServeEnd};
-use crate::serving::{CHANNEL, CONNECTION, PlainBook, TURNS_MAX};
+use crate::serving::{CHANNEL, CONNECTION, EngineBook, TURNS_MAX};
 use crate::tally::Tally;
 use book_core::{NotBooked, Receipt};
 use event_log::Told;
@@ -21,7 +21,7 @@ use std::alloc::{AllocError, Global};
 
 /// Books a message, and keeps its receipt. Room for the receipt is made first.
 fn book_message(
-    book: &mut PlainBook,
+    book: &mut EngineBook,
     judged: &Judged,
     receipts: &mut Vec<Receipt>,
 ) -> Result<Result<Told, NotBooked>, AllocError>
@@ -48,7 +48,7 @@ fn book_message(
 /// Books a message and makes its replies.
 fn answer_message(
     alloc: Global,
-    book: &mut PlainBook,
+    book: &mut EngineBook,
     judged: &Judged,
     header: &Header,
     now: Moment,
@@ -79,7 +79,7 @@ fn answer_message(
 /// Answers a block, if it is one to be answered.
 fn answer_block<C: Clock>(
     alloc: Global,
-    book: &mut PlainBook,
+    book: &mut EngineBook,
     raw: Vec<u8>,
     clock: &mut C,
     tally: &mut Tally,
@@ -113,7 +113,7 @@ fn answer_block<C: Clock>(
 /// Handles an event.
 fn answer_event<C: Clock>(
     alloc: Global,
-    book: &mut PlainBook,
+    book: &mut EngineBook,
     event: FrameEvent,
     clock: &mut C,
     tally: &mut Tally,
@@ -140,7 +140,7 @@ fn answer_event<C: Clock>(
 /// Handles all events to come, up to so many over the whole connection.
 pub fn answer_events<C: Clock>(
     alloc: Global,
-    book: &mut PlainBook,
+    book: &mut EngineBook,
     framer: &mut Framer,
     clock: &mut C,
     tally: &mut Tally,

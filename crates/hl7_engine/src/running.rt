@@ -8,7 +8,7 @@ use crate::command_line::Request;
 use crate::counted::Counted;
 use crate::fault::Fault;
 use crate::reports::{Clock, ServeEnd};
-use crate::serving::{PlainBook, answer_stream};
+use crate::serving::{EngineBook, answer_stream};
 use book_core::EVENTS_MAX;
 use hl7_head::Moment;
 use plan_text::Plan;
@@ -92,7 +92,7 @@ fn serve<'a, R: Read + Drop, W: Write + Drop, C: Clock>(
     requires few { events ≤ EVENTS_MAX }
 {
     let plan = Arc::new(alloc, plan).map_err(AllocError::from)?;
-    let mut book = PlainBook::new(alloc, plan, events, hasher);
+    let mut book = EngineBook::new(alloc, plan, events, hasher);
     let mut reader = Counted::new(reader);
     let mut writer = Counted::new(writer);
     let report = answer_stream(alloc, &mut book, &mut reader, &mut writer, clock);

@@ -19,7 +19,7 @@ use std::alloc::Global;
 use std::io::{Read, Write};
 
 /// The book, with its rows in a plain store.
-pub type PlainBook = Book<PlainRows<Addressed<Letter>>>;
+pub type EngineBook = Book<PlainRows<Addressed<Letter>>>;
 
 /// The connection that is served.
 pub const CONNECTION: u32 = 0;
@@ -36,7 +36,7 @@ const PIECE: usize = 65_536;
 /// Reads a piece, handles its events, and writes and flushes their replies.
 fn serve_piece<R: Read, W: Write, C: Clock>(
     alloc: Global,
-    book: &mut PlainBook,
+    book: &mut EngineBook,
     framer: &mut Framer,
     reader: &mut Counted<R>,
     writer: &mut Counted<W>,
@@ -89,7 +89,7 @@ fn serve_piece<R: Read, W: Write, C: Clock>(
 /// Serves piece after piece, and gives why it ended.
 fn serve_pieces<R: Read, W: Write, C: Clock>(
     alloc: Global,
-    book: &mut PlainBook,
+    book: &mut EngineBook,
     reader: &mut Counted<R>,
     writer: &mut Counted<W>,
     clock: &mut C,
@@ -131,7 +131,7 @@ fn serve_pieces<R: Read, W: Write, C: Clock>(
 /// Answers a stream to its reader's end, or to a fault, or to so many reads or events.
 pub fn answer_within<R: Read, W: Write, C: Clock>(
     alloc: Global,
-    book: &mut PlainBook,
+    book: &mut EngineBook,
     reader: &mut Counted<R>,
     writer: &mut Counted<W>,
     clock: &mut C,
@@ -168,7 +168,7 @@ pub fn answer_within<R: Read, W: Write, C: Clock>(
 /// or events. The moments of the replies are the clock's.
 pub fn answer_stream<R: Read, W: Write, C: Clock>(
     alloc: Global,
-    book: &mut PlainBook,
+    book: &mut EngineBook,
     reader: &mut Counted<R>,
     writer: &mut Counted<W>,
     clock: &mut C,

@@ -16,7 +16,7 @@ ghost use Rattle.std.specs.Prelude.{◌≤◌};
 use crate::clock::{Still, nearest};
 use crate::counted::Counted;
 use crate::reports::{ServeEnd, ServeReport};
-use crate::serving::{PlainBook, answer_stream};
+use crate::serving::{EngineBook, answer_stream};
 use book_core::EVENTS_MAX;
 use devices::{CUTS, Devices, SMOOTH, Sink, Source};
 use messages::blocks;
@@ -46,17 +46,17 @@ fn book_of(
     alloc: Global,
     plan: Plan,
     events_max: u32,
-) -> Result<PlainBook, Fail>
+) -> Result<EngineBook, Fail>
     requires some { 1 ≤ events_max }
     requires few { events_max ≤ EVENTS_MAX }
 {
     let plan = Arc::new(alloc, plan)?;
     let hasher = RandomState::new(rt)?;
-    Ok(PlainBook::new(alloc, plan, events_max, hasher))
+    Ok(EngineBook::new(alloc, plan, events_max, hasher))
 }
 
 /// An empty book of the built-in plan.
-fn new_book(rt: &HostRuntime) -> Result<PlainBook, Fail> {
+fn new_book(rt: &HostRuntime) -> Result<EngineBook, Fail> {
     book_of(rt, rt.alloc(), Plan::built_in(rt.alloc())?, EVENTS_MAX)
 }
 
@@ -64,7 +64,7 @@ fn new_book(rt: &HostRuntime) -> Result<PlainBook, Fail> {
 #[derive(Drop)]
 struct Served {
     report: ServeReport,
-    book: PlainBook,
+    book: EngineBook,
     written: Vec<u8>,
     flushed: usize,
     read_faults: u64,
@@ -74,7 +74,7 @@ struct Served {
 /// Serves a stream with this book.
 fn serve_with(
     alloc: Global,
-    book: PlainBook,
+    book: EngineBook,
     stream: &[u8],
     devices: Devices,
 ) -> Result<Served, Fail> {

@@ -1,5 +1,6 @@
 //! The book and the sequential engine give the same answers to calls made at random.
 
+ghost use Rattle.std.specs.Arc.{arc_value};
 ghost use Rattle.std.specs.Prelude.{◌≡◌, ◌<◌, ◌≤◌, IfOk, IsTrue};
 ghost use Rattle.judge_core.specs.Judging.{is_bookable};
 ghost use Rattle.event_log.specs.History.{plan_in_force};
@@ -85,7 +86,7 @@ fn engines(rt: &HostRuntime) -> Result<Pair, Fail> {
 
 /// A text, judged by a plan.
 fn judged(alloc: Global, plan: &Arc<Plan>, channel: u32, text: &str) -> Result<Judged, Fail>
-    ensures { IfOk result (λ judged. (judged.plan ≡ Rattle.std.specs.Arc.arc_value plan.now) × IsTrue (is_bookable judged.raw)) }
+    ensures { IfOk result (λ judged. (judged.plan ≡ arc_value plan.now) × IsTrue (is_bookable judged.raw)) }
 {
     let raw = Vec::from_slice(alloc, text.as_bytes())?;
     if channel >= plan.channels() || !fits_block(&raw) {
