@@ -6,9 +6,10 @@ Usage: bench/book.py [PROGRAM]
 PROGRAM is the built crate bench_book, crates/bench_book/out/bench_book where left out ('rt run' in
 crates/bench_book builds it). It books messages and tells how long the calls of the last 1,000 took,
 first in a history of about 1,000 entries and then in one of 999,000. An arrival and a settlement may
-cost at most three times as much in the longer: a cost that grows with the history would pass that by
-far. A take is printed alone: with the plain form of the rows it looks for the front from the first
-row on. The exit status is 0 where the bounds are met, else 1.
+cost at most twelve times as much in the longer, whose memory no processor's cache holds: a cost that
+grows with the history would be near a thousand times. A take is printed alone: with the plain form of
+the rows it looks for the front from the first row on. The exit status is 0 where the bounds are met,
+else 1.
 """
 import os
 import subprocess
@@ -18,7 +19,7 @@ HERE = os.path.dirname(os.path.abspath(__file__))
 PROGRAM = os.path.join(HERE, '..', 'crates', 'bench_book', 'out', 'bench_book')
 MEASURED = 1_000
 FEW, MANY = 334, 499_000
-CALLS = {'arrive': 3, 'take': None, 'settle': 3}
+CALLS = {'arrive': 12, 'take': None, 'settle': 12}
 
 
 def entries(messages):
