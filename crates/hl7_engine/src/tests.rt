@@ -1,4 +1,4 @@
-//! Runs of the program's parts.
+//! Runs of the program's parts: tables of what comes, each with what has to come of it.
 
 mod acknowledging;
 mod asking;
@@ -16,21 +16,29 @@ ghost use Rattle.std.specs.Prelude.{◌≤◌};
 use crate::clock::{Still, nearest};
 use crate::counted::Counted;
 use crate::reports::{ServeEnd, ServeReport};
-use crate::serving::{EngineBook, answer_stream};
+use crate::serving::{CHANNEL, CONNECTION, EngineBook, answer_stream};
 use book_core::EVENTS_MAX;
+use dest_queue::SlotState;
 use devices::{CUTS, Devices, SMOOTH, Sink, Source};
-use messages::blocks;
+use event_log::Told;
+use messages::{Text, blocks};
 use plan_text::Plan;
+use stat_count::DESTINATIONS;
 use std::alloc::Global;
 use std::hash::RandomState;
 use std::process::Abort;
 use std::random::RandomSource;
 use std::sync::Arc;
 use std::test::Fail;
-use texts::ONE_DESTINATION;
 
 /// The moment of the acknowledgments: 14 November 2023, 22:13:20 UTC.
 const ANSWERED_AT: u64 = 1_700_000_000;
+
+/// A message that waits from the moment it is accepted.
+const FIRST_WAIT: SlotState = SlotState::Waiting {
+    attempts: 0,
+    due: 0,
+};
 
 /// The plan that a text says.
 fn plan_of(alloc: Global, text: &str) -> Result<Plan, Fail> {
@@ -112,19 +120,80 @@ fn serve_with(
     })
 }
 
-/// Serves these messages by the plan that a text says, however the stream is cut, and checks what was written.
-fn check_replies(
-    rt: &(impl Abort + RandomSource),
-    alloc: Global,
-    plan: &str,
-    messages: &[String],
-    replies: &[String],
-) -> Result<Served, Fail> {
-    let stream = blocks(alloc, messages)?;
-    let wanted = blocks(alloc, replies)?;
+/// Messages that come by a connection, and what has to come of them.
+#[derive(Clone, Copy, Debug)]
+struct Exchange<'a> {
+    /// The plan as text.
+    plan: &'a str,
+    messages: &'a [Text<'a>],
+    replies: &'a [Text<'a>],
+    /// What the receipts tell.
+    told: &'a [Told],
+    /// What the channel has counted: received, filtered, accepted, refused and repeats.
+    counts: [u64; 5],
+    /// The destinations at which the first accepted message waits.
+    waits: &'a [u32],
+    /// How many blocks are no message, and how many are acknowledgments.
+    unanswered: (u64, u64),
+}
+
+/// Whether the receipts tell so, and are those of the connection and the channel served, one for each entry of the book.
+fn receipts_tell(served: &Served, told: &[Told]) -> bool {
+    let receipts = &served.report.receipts;
+    receipts.len() == told.len()
+        && served.book.len() == told.len()
+        && receipts.iter().zip(told).enumerate().all(|(place, (receipt, told))| {
+            receipt.entry == place
+                && receipt.conn == CONNECTION
+                && receipt.channel == CHANNEL
+                && receipt.told == *told
+        })
+}
+
+/// Whether the channel has counted so.
+fn channel_counts(book: &EngineBook, counts: [u64; 5]) -> bool {
+    let counted = book.counts().channel(CHANNEL);
+    counts
+        == [
+            counted.received,
+            counted.filtered,
+            counted.accepted,
+            counted.refused,
+            counted.repeats,
+        ]
+}
+
+/// Whether message 0 waits at these destinations and at no other.
+fn waits_at(book: &EngineBook, waits: &[u32]) -> bool {
+    (0..DESTINATIONS).all(|d| {
+        let wanted = if waits.contains(&d) {
+            Some(FIRST_WAIT)
+        } else {
+            None
+        };
+        book.status(0, d) == wanted
+    })
+}
+
+/// Whether serving the messages came to what it had to, with no fault.
+fn comes_to(served: &Served, replies: &[u8], exchange: &Exchange) -> bool {
+    served.written.as_slice() == replies
+        && served.flushed == replies.len()
+        && served.report.end == ServeEnd::End
+        && (served.read_faults, served.write_faults) == (0, 0)
+        && (served.report.unreadable, served.report.strays) == exchange.unanswered
+        && receipts_tell(served, exchange.told)
+        && channel_counts(&served.book, exchange.counts)
+        && waits_at(&served.book, exchange.waits)
+}
+
+/// Serves the messages of an exchange, however the stream is cut and the replies are taken.
+fn check(rt: &(impl Abort + RandomSource), alloc: Global, exchange: &Exchange) -> Result<(), Fail> {
+    let stream = blocks(alloc, exchange.messages)?;
+    let replies = blocks(alloc, exchange.replies)?;
     for cut in CUTS {
         for most in [1, 65_536] {
-            let book = book_of(rt, alloc, plan_of(alloc, plan)?, EVENTS_MAX)?;
+            let book = book_of(rt, alloc, plan_of(alloc, exchange.plan)?, EVENTS_MAX)?;
             let devices = Devices {
                 cut,
                 most,
@@ -132,15 +201,10 @@ fn check_replies(
             };
             let served = serve_with(alloc, book, &stream, devices)?;
             assert!(rt;
-                served.written == wanted,
-                "cut {cut:?}, {most} bytes at most"
+                comes_to(&served, &replies, exchange),
+                "cut {cut:?}, {most} bytes at most: {exchange:?}"
             );
-            assert_eq!(rt; served.flushed, wanted.len());
-            assert_eq!(rt; served.report.end, ServeEnd::End);
-            assert_eq!(rt; served.read_faults, 0);
-            assert_eq!(rt; served.write_faults, 0);
         }
     }
-    let book = book_of(rt, alloc, plan_of(alloc, plan)?, EVENTS_MAX)?;
-    serve_with(alloc, book, &stream, SMOOTH)
+    Ok(())
 }

@@ -4,7 +4,6 @@ use crate::clock::nearest;
 use crate::command_line::{Request, ask};
 use crate::fault::Fault;
 use crate::running::hasher;
-use clap::error::ErrorKind;
 use std::alloc::Global;
 use std::io;
 use std::random::RandomSource;
@@ -21,71 +20,48 @@ fn words(alloc: Global, given: &[&str]) -> Result<Vec<String>, Fail> {
 }
 
 #[test]
-fn takes_no_words(rt: HostRuntime) -> Result<(), Fail> {
+fn takes_what_is_asked(rt: HostRuntime) -> Result<(), Fail> {
     let alloc = rt.alloc();
-    let words = words(alloc, &[])?;
-    let asked = ask(alloc, &words)?;
-    assert!(rt;
-        matches!(asked, Request::Answer { plan: None, now: Some(moment), events: 1_000_000 } if moment == nearest(1_700_000_000))
-    );
+    let answer = |plan, seconds: Option<u64>, events| Request::Answer {
+        plan,
+        now: seconds.map(nearest),
+        events,
+    };
+    let asked: [(&[&str], Request); 5] = [
+        (&[], answer(None, Some(1_700_000_000), 1_000_000)),
+        (&["answer"], answer(None, None, 1_000_000)),
+        (
+            &["answer", "a.toml", "--now", "253370764799", "--events", "1"],
+            answer(Some("a.toml"), Some(253_370_764_799), 1),
+        ),
+        (
+            &["answer", "--events=1000000", "--now=0"],
+            answer(None, Some(0), 1_000_000),
+        ),
+        (&["check", "b.toml"], Request::Check { plan: "b.toml" }),
+    ];
+    for (given, wanted) in asked {
+        let words = words(alloc, given)?;
+        assert!(rt; ask(alloc, &words)? == wanted, "{given:?}");
+    }
     Ok(())
 }
 
-#[test]
-fn answers_by_the_clock(rt: HostRuntime) -> Result<(), Fail> {
-    let alloc = rt.alloc();
-    let words = words(alloc, &["answer"])?;
-    let asked = ask(alloc, &words)?;
-    assert!(rt;
-        matches!(
-            asked,
-            Request::Answer {
-                plan: None,
-                now: None,
-                events: 1_000_000
-            }
-        )
-    );
-    Ok(())
-}
-
-#[test]
-fn takes_all_options(rt: HostRuntime) -> Result<(), Fail> {
-    let alloc = rt.alloc();
-    let words = words(
-        alloc,
-        &["answer", "a.toml", "--now", "253370764799", "--events", "1"],
-    )?;
-    let asked = ask(alloc, &words)?;
-    assert!(rt;
-        matches!(asked, Request::Answer { plan: Some("a.toml"), now: Some(moment), events: 1 } if moment == nearest(253_370_764_799))
-    );
-    Ok(())
-}
-
-#[test]
-fn takes_the_other_bounds(rt: HostRuntime) -> Result<(), Fail> {
-    let alloc = rt.alloc();
-    let words = words(alloc, &["answer", "--events=1000000", "--now=0"])?;
-    let asked = ask(alloc, &words)?;
-    assert!(rt;
-        matches!(asked, Request::Answer { plan: None, now: Some(moment), events: 1_000_000 } if moment == nearest(0))
-    );
-    Ok(())
-}
-
-#[test]
-fn checks_a_plan(rt: HostRuntime) -> Result<(), Fail> {
-    let alloc = rt.alloc();
-    let words = words(alloc, &["check", "b.toml"])?;
-    let asked = ask(alloc, &words)?;
-    assert!(rt; matches!(asked, Request::Check { plan: "b.toml" }));
-    Ok(())
+/// The status and the text of what is told of these words, and whether it goes to standard error.
+fn told_of(alloc: Global, given: &[&str]) -> Result<(u8, bool, String), Fail> {
+    let words = words(alloc, given)?;
+    match ask(alloc, &words) {
+        Ok(_) => Err(Fail::from("the words are taken")),
+        Err(error) => {
+            let is_error = error.use_stderr();
+            let fault = Fault::from(error);
+            Ok((fault.status(), is_error, format!(in alloc; "{fault}")?))
+        }
+    }
 }
 
 #[test]
 fn refuses_other_words(rt: HostRuntime) -> Result<(), Fail> {
-    let alloc = rt.alloc();
     let refused: [&[&str]; 12] = [
         &["reply"],
         &["--now", "5"],
@@ -101,35 +77,20 @@ fn refuses_other_words(rt: HostRuntime) -> Result<(), Fail> {
         &["answer", "--events=many"],
     ];
     for given in refused {
-        let words = words(alloc, given)?;
-        match ask(alloc, &words) {
-            Ok(request) => assert!(rt; false, "{request:?}"),
-            Err(error) => {
-                assert!(rt; error.use_stderr(), "{given:?}");
-                let fault = Fault::from(error);
-                let line = format!(in alloc; "{fault}")?;
-                assert!(rt; line.as_str().starts_with("error: "), "{line}");
-                assert_eq!(rt; fault.status(), 2);
-            }
-        }
+        let (status, is_error, line) = told_of(rt.alloc(), given)?;
+        assert!(rt; is_error && status == 2, "{given:?}");
+        assert!(rt; line.as_str().starts_with("error: "), "{line}");
     }
     Ok(())
 }
 
 #[test]
 fn gives_help(rt: HostRuntime) -> Result<(), Fail> {
-    let alloc = rt.alloc();
     let asks_for_help: [&[&str]; 3] = [&["--help"], &["answer", "--help"], &["help", "check"]];
     for given in asks_for_help {
-        let words = words(alloc, given)?;
-        match ask(alloc, &words) {
-            Ok(request) => assert!(rt; false, "{request:?}"),
-            Err(error) => {
-                assert!(rt; error.kind() == ErrorKind::DisplayHelp);
-                let text = format!(in alloc; "{error}")?;
-                assert!(rt; text.as_str().contains("Usage: hl7_engine"), "{text}");
-            }
-        }
+        let (_, is_error, text) = told_of(rt.alloc(), given)?;
+        assert!(rt; !is_error, "{given:?}");
+        assert!(rt; text.as_str().contains("Usage: hl7_engine"), "{text}");
     }
     Ok(())
 }

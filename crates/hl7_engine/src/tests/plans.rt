@@ -1,20 +1,16 @@
 //! Plans in files, and the plans of the folder examples.
 
-use crate::reports::ServeEnd;
 use crate::running::{PlanSize, read_plan};
-use crate::tests::devices::SMOOTH;
-use crate::tests::messages::{admission_with, blocks, enhanced};
+use crate::tests::messages::Text::{AdmissionWith, Enhanced};
 use crate::tests::texts::{EVERY_KEY, FOUR_DESTINATIONS, ONE_DESTINATION};
-use crate::tests::{Served, book_of, plan_of, serve_with};
-use book_core::EVENTS_MAX;
-use dest_queue::SlotState;
+use crate::tests::{Exchange, check, plan_of};
 use event_log::Told;
 use hl7_head::Cause;
 use plan_text::Plan;
 use std::fs;
 use std::test::Fail;
 
-/// What reading a plan from a file tells: its size and 0, or the fault's line and status.
+/// What reading a plan from a file tells, its size or its fault, and the status.
 fn told_of_file(rt: &HostRuntime, path: &str) -> Result<(String, u8), Fail> {
     match read_plan(rt, path) {
         Ok(plan) => Ok((format!(in rt.alloc(); "{}", PlanSize::of(&plan))?, 0)),
@@ -22,12 +18,12 @@ fn told_of_file(rt: &HostRuntime, path: &str) -> Result<(String, u8), Fail> {
     }
 }
 
-/// What is told of a file with these bytes. The file is gone afterwards.
-fn told_of(rt: &HostRuntime, file: &str, bytes: &[u8]) -> Result<(String, u8), Fail> {
-    fs::write(rt, file, bytes)?;
-    let told = told_of_file(rt, file)?;
-    fs::remove_file(rt, file)?;
-    Ok(told)
+/// Whether this line and this status are told of a file with these bytes. The file is gone afterwards.
+fn tells(rt: &HostRuntime, bytes: &[u8], wanted: &str, status: u8) -> Result<bool, Fail> {
+    fs::write(rt, "plan.toml", bytes)?;
+    let (line, told) = told_of_file(rt, "plan.toml")?;
+    fs::remove_file(rt, "plan.toml")?;
+    Ok(line.as_str() == wanted && told == status)
 }
 
 #[test]
@@ -45,9 +41,7 @@ fn tells_the_size_of_a_plan(rt: HostRuntime) -> Result<(), Fail> {
         (FOUR_DESTINATIONS, "plan ok: 1 channels, 4 destinations"),
         (EVERY_KEY, "plan ok: 1 channels, 2 destinations"),
     ] {
-        let (line, status) = told_of(&rt, "sizes.toml", text.as_bytes())?;
-        assert_eq!(rt; line.as_str(), wanted);
-        assert_eq!(rt; status, 0);
+        assert!(rt; tells(&rt, text.as_bytes(), wanted, 0)?, "{wanted}");
     }
     Ok(())
 }
@@ -73,80 +67,65 @@ fn tells_the_fault_of_a_plan(rt: HostRuntime) -> Result<(), Fail> {
         ),
         ("[[channel]]", "[[channel]", "plan: NotToml"),
     ] {
-        let (before, after) = ONE_DESTINATION.split_once(old).ok_or("a place")?;
-        let text = format!(in alloc; "{before}{new}{after}")?;
-        let (line, status) = told_of(&rt, "faults.toml", text.as_bytes())?;
-        assert_eq!(rt; line.as_str(), wanted);
-        assert_eq!(rt; status, 1);
+        let text = ONE_DESTINATION.replacen(alloc, old, new, 1)?;
+        assert!(rt; tells(&rt, text.as_bytes(), wanted, 1)?, "{wanted}");
     }
-    let (line, status) = told_of(&rt, "faults.toml", b"name = \"\xff\"")?;
-    assert_eq!(rt; line.as_str(), "plan: NotToml");
-    assert_eq!(rt; status, 1);
+    assert!(rt; tells(&rt, b"name = \"\xff\"", "plan: NotToml", 1)?);
     Ok(())
 }
 
 #[test]
 fn tells_of_a_file_that_cannot_be_read(rt: HostRuntime) -> Result<(), Fail> {
     let (line, status) = told_of_file(&rt, "no/such.toml")?;
-    assert_eq!(rt; line.as_str(), "file: no/such.toml");
-    assert_eq!(rt; status, 3);
+    assert!(rt; line.as_str() == "file: no/such.toml" && status == 3);
     Ok(())
 }
 
-/// What came of an admission with this control id, the PID segment and all that follows it, by the plan that a text says.
-fn answered(rt: &HostRuntime, plan: &str, id: &str, segments: &str) -> Result<Served, Fail> {
-    let alloc = rt.alloc();
-    let stream = blocks(alloc, &[admission_with(alloc, id, segments)?])?;
-    let book = book_of(rt, alloc, plan_of(alloc, plan)?, EVENTS_MAX)?;
-    serve_with(alloc, book, &stream, SMOOTH)
-}
+/// A message by the plan of four destinations that is accepted.
+const BY_FILTERS: Exchange = Exchange {
+    plan: FOUR_DESTINATIONS,
+    messages: &[AdmissionWith("M13", "PID|1||77\rPV1|1|I\r")],
+    replies: &[Enhanced(1, "CA|M13")],
+    told: &[Told::Accepted(0)],
+    counts: [1, 0, 1, 0, 0],
+    waits: &[0, 2],
+    unanswered: (0, 0),
+};
 
 #[test]
 fn filters_choose_the_destinations(rt: HostRuntime) -> Result<(), Fail> {
-    let alloc = rt.alloc();
-    let served = answered(&rt, FOUR_DESTINATIONS, "M13", "PID|1||77\rPV1|1|I\r")?;
-    assert_eq!(rt; served.report.end, ServeEnd::End);
-    assert_eq!(rt; served.report.receipts.len(), 1);
-    assert_eq!(rt; served.report.receipts[0].told, Told::Accepted(0));
-    let waiting = SlotState::Waiting {
-        attempts: 0,
-        due: 0,
-    };
-    for (destination, wanted) in [(0, Some(waiting)), (1, None), (2, Some(waiting)), (3, None)] {
-        assert!(rt;
-            served.book.status(0, destination) == wanted,
-            "{destination}"
-        );
-    }
-    assert!(rt; served.written == blocks(alloc, &[enhanced(alloc, 1, "CA|M13")?])?);
-    Ok(())
+    check(&rt, rt.alloc(), &BY_FILTERS)
 }
 
 #[test]
 fn no_destination_is_left(rt: HostRuntime) -> Result<(), Fail> {
-    let alloc = rt.alloc();
-    let served = answered(&rt, FOUR_DESTINATIONS, "M13B", "PID|1\rPV1|1|X\r")?;
-    assert_eq!(rt; served.report.end, ServeEnd::End);
-    assert_eq!(rt; served.report.receipts.len(), 1);
-    assert_eq!(rt; served.report.receipts[0].told, Told::Filtered);
-    assert!(rt; served.written == blocks(alloc, &[enhanced(alloc, 1, "CA|M13B")?])?);
-    Ok(())
+    const FILTERED: Exchange = Exchange {
+        messages: &[AdmissionWith("M13B", "PID|1\rPV1|1|X\r")],
+        replies: &[Enhanced(1, "CA|M13B")],
+        told: &[Told::Filtered],
+        counts: [1, 1, 0, 0, 0],
+        waits: &[],
+        ..BY_FILTERS
+    };
+    check(&rt, rt.alloc(), &FILTERED)
 }
 
 #[test]
 fn a_step_of_a_route_that_cannot_be_taken(rt: HostRuntime) -> Result<(), Fail> {
-    let alloc = rt.alloc();
-    let text = format!(in alloc;
+    let plan = format!(in rt.alloc();
         "{ONE_DESTINATION}steps = [{{ lookup = \"PV1-2\", table = [[\"I\", \"IN\"]] }}]\n"
     )?;
-    let served = answered(&rt, text.as_str(), "M24", "PID|1||77\rPV1|1|O\r")?;
-    assert_eq!(rt; served.report.end, ServeEnd::End);
-    assert_eq!(rt; served.report.receipts.len(), 1);
-    assert_eq!(rt;
-        served.report.receipts[0].told,
-        Told::Refused(Cause::RouteTransform)
-    );
-    assert!(rt; served.book.status(0, 0) == None);
-    assert!(rt; served.written == blocks(alloc, &[enhanced(alloc, 1, "CE|M24|RouteTransform")?])?);
-    Ok(())
+    check(
+        &rt,
+        rt.alloc(),
+        &Exchange {
+            plan: &plan,
+            messages: &[AdmissionWith("M24", "PID|1||77\rPV1|1|O\r")],
+            replies: &[Enhanced(1, "CE|M24|RouteTransform")],
+            told: &[Told::Refused(Cause::RouteTransform)],
+            counts: [1, 0, 0, 1, 0],
+            waits: &[],
+            ..BY_FILTERS
+        },
+    )
 }
