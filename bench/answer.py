@@ -6,8 +6,8 @@ Usage: bench/answer.py [PROGRAM]
 PROGRAM is the built program, crates/hl7_engine/out/hl7_engine where left out ('rt run' in
 crates/hl7_engine builds it). All figures come from this one run, and every figure that has a
 bound is printed with it. Where python3-hl7 is installed, the same blocks are parsed and
-acknowledged with that library too, in this process, and the ratio is printed.
-The exit status is 0 where every bound is met, else 1.
+acknowledged with that library too, in this process, and the ratio is printed: neither side counts the
+start of its process. The exit status is 0 where every bound is met, else 1.
 """
 import os
 import subprocess
@@ -119,17 +119,20 @@ def best(program, source, sink, times, *words):
     return min(took for took, _, _ in runs), max(peak for _, peak, _ in runs)
 
 
-def library_seconds(texts):
+def library_seconds(texts, times):
     """Seconds a message of parsing and acknowledging with python-hl7, None where it isn't installed."""
     try:
         import hl7
     except ImportError:
         return None
     texts = [text.decode() for text in texts]
-    began = time.perf_counter()
-    for text in texts:
-        str(hl7.parse(text).create_ack('CA'))
-    return (time.perf_counter() - began) / len(texts)
+    runs = []
+    for _ in range(times):
+        began = time.perf_counter()
+        for text in texts:
+            str(hl7.parse(text).create_ack('CA'))
+        runs.append(time.perf_counter() - began)
+    return min(runs) / len(texts)
 
 
 def main():
@@ -146,6 +149,8 @@ def main():
         plan = os.path.join(folder, 'plan.toml')
         with open(plan, 'w') as f:
             f.write(ONE_ATTEMPT)
+        start, _ = best(program, os.devnull, sink, 15, 'answer', plan, '--now', '1700000000')
+        tell(f'start of the program, with nothing to answer: {1e3 * start:.2f} milliseconds')
         seconds = {}
         for count, times in ((FEW, 15), (MANY, 3)):
             with open(source, 'wb') as f:
@@ -195,13 +200,13 @@ def main():
         tell(f'reading a plan of 64 channels and 32 destinations with 256 steps each '
              f'({os.path.getsize(plan) // 1024} KiB): {took:.2f} s (under 1)', took < 1)
 
-    library = library_seconds([admission(n) for n in range(FEW)])
+    library = library_seconds([admission(n) for n in range(FEW)], 3)
     if library is None:
         print('python3-hl7 is not installed: no ratio to it')
     else:
-        ratio = library / seconds[FEW]
+        ratio = library / (seconds[FEW] - start / FEW)
         tell(f'python-hl7, parsing and acknowledging the same {FEW}: {1e6 * library:.0f} microseconds a message, '
-             f'{ratio:.0f} times as many (at least 200)', ratio >= 200)
+             f'{ratio:.0f} times the program without its start (at least 200)', ratio >= 200)
     print(f'cores: {os.cpu_count()}')
     return 1 if failed else 0
 

@@ -18,7 +18,7 @@ import sys
 HERE = os.path.dirname(os.path.abspath(__file__))
 PROGRAM = os.path.join(HERE, '..', 'crates', 'bench_book', 'out', 'bench_book')
 FEW, MANY = 500, 495_000
-BOUND = 3
+BOUND = 2
 CALLS = {'arrive': 'arrive', 'take': 'take', 'settle': 'settle', 'behind': 'take, behind all'}
 
 
