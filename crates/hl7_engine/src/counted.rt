@@ -1,21 +1,22 @@
 //! A reader or a writer whose faults are counted.
 
-ghost use Rattle.std.specs.Prelude.{◌≡◌, ◌≤◌};
+ghost use Rattle.std.specs.Prelude.{◌≡◌, ◌≤◌, true, false};
 ghost use Rattle.std.specs.Io.{ReadsAtMost, WritesAtMost};
 ghost use Rattle.std.specs.Io.KnownBytes.{ReadConsumes, WriteAppends, Keeps};
 ghost use Rattle.std.specs.IoError.{error_kind};
-ghost use Rattle.hl7_engine.specs.Faults.{is_interruption, is_failure, is_write_fault, with_fault};
+ghost use Rattle.hl7_engine.specs.Faults.{is_interruption, is_failure, is_write_fault, after_flush, with_fault};
 
 use std::io;
 use std::io::{ErrorKind, Read, Write};
 use std::marker::Model;
 
 /// A reader or a writer with the number of its faults: its errors, interruptions aside, and its writes of no byte. The
-/// number stays at its greatest value.
+/// number stays at its greatest value. A writer tells too whether it was written to since it was last flushed.
 #[derive(Drop)]
 pub struct Counted<T> {
     inner: T,
     faults: u64,
+    unflushed: bool,
 }
 
 impl<T> Model for Counted<T> {
@@ -23,15 +24,19 @@ impl<T> Model for Counted<T> {
 
     ghost Value = { Counting T };
 
-    ghost view = { λ c. record { inner = c.inner; faults = c.faults } };
+    ghost view = { λ c. record { inner = c.inner; faults = c.faults; unflushed = c.unflushed } };
 }
 
 impl<T> Counted<T> {
-    /// With no fault counted yet.
+    /// With no fault counted yet, and nothing to be flushed.
     pub fn new(inner: T) -> Counted<T>
-        ensures { result ≡ record { inner = inner; faults = 0 } }
+        ensures { result ≡ record { inner = inner; faults = 0; unflushed = false } }
     {
-        Counted { inner, faults: 0 }
+        Counted {
+            inner,
+            faults: 0,
+            unflushed: false,
+        }
     }
 
     /// The number of faults so far.
@@ -41,11 +46,22 @@ impl<T> Counted<T> {
         self.faults
     }
 
+    /// Whether something was written since the last flush that succeeded.
+    pub fn unflushed(&self) -> bool
+        ensures { result ≡ self.now.unflushed }
+    {
+        self.unflushed
+    }
+
     /// The reader or writer itself.
     pub fn into_inner(self) -> T
         ensures { result ≡ self.inner }
     {
-        let Counted { inner, faults: _ } = self;
+        let Counted {
+            inner,
+            faults: _,
+            unflushed: _,
+        } = self;
         inner
     }
 
@@ -105,9 +121,11 @@ impl<W: Write> Write for Counted<W> {
     fn write(&mut self, buf: &[u8]) -> io::Result<usize>
         ensures bound { WritesAtMost result buf.now }
         ensures bytes { WriteAppends (W.contents self.old.inner) (W.contents self.new.inner) result buf.now }
+        ensures unflushed { self.new.unflushed ≡ true }
         ensures faults { self.new.faults ≡ with_fault (is_write_fault result) self.old.faults }
         ensures rising { self.old.faults ≤ self.new.faults }
     {
+        self.unflushed = true;
         let answer = self.inner.write(buf);
         self.count(is_write_fault(&answer));
         answer
@@ -115,10 +133,12 @@ impl<W: Write> Write for Counted<W> {
 
     fn flush(&mut self) -> io::Result<()>
         ensures bytes { Keeps (W.contents self.old.inner) (W.contents self.new.inner) }
+        ensures flushed { self.new.unflushed ≡ after_flush result self.old.unflushed }
         ensures faults { self.new.faults ≡ with_fault (is_failure result) self.old.faults }
         ensures rising { self.old.faults ≤ self.new.faults }
     {
         let answer = self.inner.flush();
+        self.unflushed = self.unflushed && answer.is_err();
         self.count(is_failure(&answer));
         answer
     }

@@ -1,6 +1,7 @@
 //! Doing what the command line asks.
 
 ghost use Rattle.std.specs.Prelude.{◌≡◌, ◌≤◌, ◌↔◌, IsOk, IfErr, length};
+ghost use Rattle.hl7_engine.specs.Ending.{fault_at};
 ghost use Rattle.hl7_engine.specs.Request.{IsWithinLimits};
 
 use crate::clock::{Running, Still};
@@ -68,7 +69,8 @@ pub fn hasher<'a>(rt: &impl RandomSource) -> Result<RandomState, Fault<'a>>
 
 /// What the end of a connection comes to.
 fn outcome<'a>(end: ServeEnd) -> Result<(), Fault<'a>>
-    ensures { IsOk result ↔ end ≡ ServeEnd.End }
+    ensures success { IsOk result ↔ end ≡ ServeEnd.End }
+    ensures fault { IfErr result (λ fault. fault ≡ fault_at end) }
 {
     match end {
         ServeEnd::End => Ok(()),

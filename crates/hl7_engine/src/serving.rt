@@ -1,6 +1,6 @@
 //! Serving a connection.
 
-ghost use Rattle.std.specs.Prelude.{◌≡◌, ◌<◌, ◌≤◌, ◌⊎◌, [], IfErr, OnOk, List, ℕ, Option, length};
+ghost use Rattle.std.specs.Prelude.{◌≡◌, ◌<◌, ◌≤◌, ◌⊎◌, [], false, IfErr, OnOk, List, ℕ, Option, length};
 ghost use Rattle.mllp_frame.specs.Framed.{blank};
 ghost use Rattle.hl7_engine.specs.Faults.{Rose};
 ghost use Rattle.hl7_engine.specs.Serving.{Books, Serves};
@@ -67,6 +67,8 @@ fn serve_piece<R: Read, W: Write, C: Clock>(
     ensures writer { writer.old.faults ≤ writer.new.faults }
     ensures read_fault { IfErr result (λ end. end ≡ ServeEnd.ReadFault → Rose reader.old.faults reader.new.faults) }
     ensures write_fault { IfErr result (λ end. end ≡ ServeEnd.WriteFault → Rose writer.old.faults writer.new.faults) }
+    ensures flushed { OnOk result (writer.old.unflushed ≡ false → writer.new.unflushed ≡ false) }
+    ensures flushed_end { IfErr result (λ end. end ≡ ServeEnd.End → writer.old.unflushed ≡ false → writer.new.unflushed ≡ false) }
     ensures bound { IfErr result (λ end. end ≡ ServeEnd.TurnBound → (turns.new ≡ 0) ⊎ (tally.new.events ≡ events_max)) }
 {
     longer_streams();
@@ -106,6 +108,7 @@ fn serve_pieces<R: Read, W: Write, C: Clock>(
     ensures booked { BooksMore book.old book.new tally.old.report.receipts.items tally.new.report.receipts.items }
     ensures read_fault { result ≡ ServeEnd.ReadFault → Rose reader.old.faults reader.new.faults }
     ensures write_fault { result ≡ ServeEnd.WriteFault → Rose writer.old.faults writer.new.faults }
+    ensures flushed { result ≡ ServeEnd.End → writer.old.unflushed ≡ false → writer.new.unflushed ≡ false }
 {
     let mut framer = Framer::new(alloc);
     let mut turns = turns_max;
@@ -142,6 +145,7 @@ pub fn answer_within<R: Read, W: Write, C: Clock>(
     ensures booked { Books book.old book.new result.receipts.items }
     ensures read_fault { result.end ≡ ServeEnd.ReadFault → Rose reader.old.faults reader.new.faults }
     ensures write_fault { result.end ≡ ServeEnd.WriteFault → Rose writer.old.faults writer.new.faults }
+    ensures flushed { result.end ≡ ServeEnd.End → writer.old.unflushed ≡ false → writer.new.unflushed ≡ false }
 {
     let mut tally = Tally::new(alloc);
     let Ok(mut buffer) = vec![in alloc; 0; PIECE] else {
@@ -182,6 +186,9 @@ pub fn answer_stream<R: Read, W: Write, C: Clock>(
     // A fault is told where the device failed.
     ensures read_fault { result.end ≡ ServeEnd.ReadFault → Rose reader.old.faults reader.new.faults }
     ensures write_fault { result.end ≡ ServeEnd.WriteFault → Rose writer.old.faults writer.new.faults }
+
+    // At the reader's end all that was written is flushed.
+    ensures flushed { result.end ≡ ServeEnd.End → writer.old.unflushed ≡ false → writer.new.unflushed ≡ false }
 {
     answer_within(alloc, book, reader, writer, clock, TURNS_MAX)
 }

@@ -1,6 +1,6 @@
 //! Reading a piece of a stream, and writing replies out.
 
-ghost use Rattle.std.specs.Prelude.{◌≡◌, ◌+◌, ◌<◌, ◌≤◌, [], IfOk, IfErr, OnOk, OnErr, length, take};
+ghost use Rattle.std.specs.Prelude.{◌≡◌, ◌+◌, ◌<◌, ◌≤◌, [], false, IfOk, IfErr, OnOk, OnErr, length, take};
 ghost use Rattle.std.specs.Io.KnownBytes.{Consumes, Appends, Keeps};
 ghost use Rattle.hl7_engine.specs.Streaming.{StopsReading, StopsWriting, WritesFront};
 
@@ -82,6 +82,7 @@ fn write_all<W: Write>(
 /// Flushes the writer. A flush that is interrupted is made again, and takes a turn.
 fn flush<W: Write>(writer: &mut Counted<W>, turns: &mut u64) -> Result<(), ServeEnd>
     ensures bytes { Keeps (W.contents writer.old.inner) (W.contents writer.new.inner) }
+    ensures flushed { OnOk result (writer.new.unflushed ≡ false) }
     ensures stop { IfErr result (λ end. StopsWriting end writer.old.faults writer.new.faults) }
     ensures faults { writer.old.faults ≤ writer.new.faults }
     ensures turns { turns.new ≤ turns.old }
@@ -104,6 +105,7 @@ pub fn write_out<W: Write>(
     replies: &[u8],
     turns: &mut u64,
 ) -> Result<(), ServeEnd>
+    ensures flushed { OnOk result (writer.old.unflushed ≡ false → writer.new.unflushed ≡ false) }
     ensures ok { OnOk result (Appends (W.contents writer.old.inner) (W.contents writer.new.inner) replies.now) }
     ensures front { OnErr result (WritesFront (W.contents writer.old.inner) (W.contents writer.new.inner) replies.now) }
     ensures stop { IfErr result (λ end. StopsWriting end writer.old.faults writer.new.faults) }

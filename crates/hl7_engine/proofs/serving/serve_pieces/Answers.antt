@@ -13,6 +13,7 @@ pieces-preserved g c =
       room = omega (arith, c.serve_piece.ensures.room, c.pieces.invariant.room);
       reader = omega (arith, c.serve_piece.ensures.reader, c.pieces.invariant.reader);
       writer = omega (arith, c.serve_piece.ensures.writer, c.pieces.invariant.writer);
+      flushed = λ fresh. c.in-Ok.ensures.flushed (c.pieces.invariant.flushed fresh);
     }
 
 pub returns-in-Err-clause-booked : goal.returns-in-Err-clause-booked

@@ -1,4 +1,4 @@
-use Rattle.std.proofs.Common.{◌≡◌, ◌≤◌, ◌<◌, [], length}
+use Rattle.std.proofs.Common.{◌≡◌, ◌≤◌, ◌<◌, [], false, length}
 use Rattle.hl7_engine.specs.declared.serving.TheConstants.{CONNECTION, CHANNEL}
 use Rattle.hl7_engine.specs.Handling.{BooksMore, SoFar, Fits}
 use Rattle.hl7_engine.proofs.serving.serve_pieces.Given as goal
@@ -15,6 +15,7 @@ invariant-pieces g l =
       room : 0 < length l.buffer;
       reader : l.fn.reader.faults ≤ l.reader.faults;
       writer : l.fn.writer.faults ≤ l.writer.faults;
+      flushed : l.fn.writer.unflushed ≡ false → l.writer.unflushed ≡ false;
     }
 
 abbrev pub decreases-pieces : goal.decreases-pieces

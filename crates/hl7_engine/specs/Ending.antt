@@ -1,0 +1,19 @@
+-- How the program ends.
+use Rattle.std.specs.Prelude.{ℕ}
+use Rattle.hl7_engine.specs.declared.fault.Fault.{Fault}
+use Rattle.hl7_engine.specs.declared.fault.Fault.TheVariants as fault
+use Rattle.hl7_engine.specs.declared.reports.ServeEnd.{ServeEnd}
+use Rattle.hl7_engine.specs.declared.reports.ServeEnd.TheVariants as end
+
+-- the exit status: 1 of a faulty plan, 2 of words that aren't taken, 3 of a file, a device or memory
+abbrev pub status_of : Fault → ℕ
+status_of (fault.Plan _) = 1
+status_of (fault.Words _) = 2
+status_of fault.NoText = 2
+status_of _ = 3
+
+-- the fault that is told where serving ends otherwise than at the reader's end
+abbrev pub fault_at : ServeEnd → Fault
+fault_at end.WriteFault = fault.Write
+fault_at end.NoMemory = fault.Memory
+fault_at _ = fault.Read
