@@ -75,6 +75,7 @@ struct Served {
     book: EngineBook,
     written: Vec<u8>,
     flushed: usize,
+    unflushed: bool,
     read_faults: u64,
     write_faults: u64,
 }
@@ -103,6 +104,7 @@ fn serve_with(
     });
     let report = answer_stream(alloc, &mut book, &mut reader, &mut writer, &mut clock);
     let (read_faults, write_faults) = (reader.faults(), writer.faults());
+    let unflushed = writer.unflushed();
     let Sink {
         bytes,
         most: _,
@@ -115,6 +117,7 @@ fn serve_with(
         book,
         written: bytes,
         flushed,
+        unflushed,
         read_faults,
         write_faults,
     })
@@ -179,6 +182,7 @@ fn waits_at(book: &EngineBook, waits: &[u32]) -> bool {
 fn comes_to(served: &Served, replies: &[u8], exchange: &Exchange) -> bool {
     served.written.as_slice() == replies
         && served.flushed == replies.len()
+        && !served.unflushed
         && served.report.end == ServeEnd::End
         && (served.read_faults, served.write_faults) == (0, 0)
         && (served.report.unreadable, served.report.strays) == exchange.unanswered
