@@ -39,6 +39,7 @@ fn bytes_around_blocks(rt: HostRuntime) -> Result<(), Fail> {
     stream.extend_from_slice(&blocks(alloc, FIRST)?)?;
     stream.extend_from_slice(b"xyz")?;
     stream.extend_from_slice(&blocks(alloc, SECOND)?)?;
+    stream.extend_from_slice(b"xyz")?;
     const REPLIES: [Text; 3] = [
         Enhanced(1, "CA|M1"),
         Enhanced(2, "CA|M3"),
