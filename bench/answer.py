@@ -1,14 +1,21 @@
 #!/usr/bin/env python3
-"""Measures how fast the built program acknowledges messages. Plain Python 3, no packages.
+"""Measures how fast the built program acknowledges messages, and in how much memory. Plain Python 3, no packages.
 
-Usage: bench/answer.py [PROGRAM]
+Usage: bench/answer.py [PROGRAM] [--against FORMER]
 
 PROGRAM is the built program, crates/hl7_engine/out/hl7_engine where left out ('rt run' in
 crates/hl7_engine builds it). All figures come from this one run, and every figure that has a
 bound is printed with it. Where python3-hl7 is installed, the same blocks are parsed and
 acknowledged with that library too, in this process, and the ratio is printed: neither side counts the
-start of its process. The exit status is 0 where every bound is met, else 1.
+start of its process. Large messages (about 1 GB of them, in the folder for temporary files) show that
+a message's bytes are held once: each further byte that comes is to cost about one byte of memory.
+
+With --against the program and another build of it answer the same messages in turn: what they write
+has to be the same, and the time no longer, but for what two runs of one program differ by.
+
+The exit status is 0 where every bound is met, else 1.
 """
+import argparse
 import os
 import subprocess
 import sys
@@ -18,6 +25,9 @@ import time
 HERE = os.path.dirname(os.path.abspath(__file__))
 PROGRAM = os.path.join(HERE, '..', 'crates', 'hl7_engine', 'out', 'hl7_engine')
 FEW, MANY, ROUTED = 2_000, 200_000, 5_000
+LARGE, LARGE_SEGMENTS = (2_000, 20_000), 660
+HELD_ONCE = 1.5
+NO_SLOWER = 1.05
 ENDLESS = 64 * 1024 * 1024
 MIB = 1024 * 1024
 RUN_ONCE = '--run-once'
@@ -135,80 +145,169 @@ def library_seconds(texts, times):
     return min(runs) / len(texts)
 
 
-def main():
-    program = os.path.abspath(sys.argv[1] if len(sys.argv) > 1 else PROGRAM)
-    failed = []
+def observations(count):
+    """So many OBX segments."""
+    return b''.join(b'OBX|%d|NM|2345-7^GLUCOSE^LN||97|mg/dL|70-105|N|||F|||20231114220000|||||||\r' % n
+                    for n in range(count))
 
-    def tell(line, holds=None):
-        print(line + ('' if holds is None else '  ok' if holds else '  MISSED'))
+
+class Bench:
+    """The files of a run, and the bounds that were missed."""
+
+    def __init__(self, program, folder):
+        self.program = program
+        self.source, self.sink = os.path.join(folder, 'in'), os.path.join(folder, 'out')
+        self.plan = os.path.join(folder, 'plan.toml')
+        self.missed = []
+
+    def tell(self, line, holds=None):
+        print(line + ('' if holds is None else '  ok' if holds else '  MISSED'), flush=True)
         if holds is False:
-            failed.append(line)
+            self.missed.append(line)
 
-    with tempfile.TemporaryDirectory() as folder:
-        source, sink = os.path.join(folder, 'in'), os.path.join(folder, 'out')
-        plan = os.path.join(folder, 'plan.toml')
-        with open(plan, 'w') as f:
-            f.write(ONE_ATTEMPT)
-        start, _ = best(program, os.devnull, sink, 15, 'answer', plan, '--now', '1700000000')
-        tell(f'start of the program, with nothing to answer: {1e3 * start:.2f} milliseconds')
-        seconds = {}
-        for count, times in ((FEW, 15), (MANY, 3)):
-            with open(source, 'wb') as f:
-                for n in range(count):
-                    f.write(framed(admission(n)))
-            size = os.path.getsize(source)
-            took, peak = best(program, source, sink, times, 'answer', plan, '--now', '1700000000')
-            with open(sink, 'rb') as f:
-                accepted = f.read().count(b'\rMSA|CA|MSG')
-            assert accepted == count, f'{accepted} of {count} messages were accepted'
-            seconds[count] = took / count
-            tell(f'{count:>7} messages of {size // count} bytes: {count / took:,.0f} messages a second, '
-                 f'{1e6 * took / count:.2f} microseconds a message, {size / took / MIB:,.0f} MiB/s, '
-                 f'peak memory {peak / MIB:.0f} MiB')
-            bound = 2 * size + 50_000_000
-            tell(f'        peak memory at most twice the input and 50 MB ({bound / MIB:.0f} MiB)', peak <= bound)
-        good = size / took
-        ratio = seconds[MANY] / seconds[FEW]
-        tell(f'time a message at {MANY} over that at {FEW}: {ratio:.2f} (at most 1.3)', ratio <= 1.3)
+    def give_plan(self, text):
+        with open(self.plan, 'w') as f:
+            f.write(text)
 
-        with open(source, 'wb') as f:
-            f.write(b'\x0b' + b'A' * ENDLESS)
-        took, peak = best(program, source, sink, 3)
-        tell(f'a block of {ENDLESS // MIB} MiB that never ends: {ENDLESS / took / MIB:,.0f} MiB/s '
-             f'(at least a tenth of {good / MIB:,.0f})', ENDLESS / took >= good / 10)
-        tell(f'        peak memory {peak / MIB:.1f} MiB (bounded: at most 16)', peak <= 16 * MIB)
+    def give_messages(self, count, extra=b''):
+        """Writes so many admissions with further segments; gives how many bytes these are."""
+        with open(self.source, 'wb') as f:
+            for n in range(count):
+                f.write(framed(admission(n) + extra))
+        return os.path.getsize(self.source)
 
-        with open(plan, 'w') as f:
-            f.write(FOUR_ROUTES)
-        cost = {}
-        for copies in (1, 8):
-            extra = b''.join(b'OBX|%d|NM|2345-7^GLUCOSE^LN||97|mg/dL|70-105|N|||F|||20231114220000|||||||\r' % n
-                             for n in range(10 * copies))
-            with open(source, 'wb') as f:
-                for n in range(ROUTED):
-                    f.write(framed(admission(n) + extra))
-            size = os.path.getsize(source)
-            took, _ = best(program, source, sink, 5, 'answer', plan, '--now', '1700000000')
-            cost[copies] = took / size
-            tell(f'{ROUTED:>7} messages of {size // ROUTED} bytes by four routes, each with a filter and three steps: '
-                 f'{1e6 * took / ROUTED:.2f} microseconds a message, {1e9 * took / size:.2f} nanoseconds a byte')
-        tell(f'        a byte of the longer over one of the shorter: {cost[8] / cost[1]:.2f} (at most 1.3)',
-             cost[8] <= 1.3 * cost[1])
-        with open(plan, 'w') as f:
-            f.write(large_plan())
-        took, _ = best(program, os.devnull, sink, 3, 'check', plan)
-        tell(f'reading a plan of 64 channels and 32 destinations with 256 steps each '
-             f'({os.path.getsize(plan) // 1024} KiB): {took:.2f} s (under 1)', took < 1)
+    def answered(self, times, program=None):
+        """Seconds and peak memory of answering what was written, by the plan, at one moment."""
+        return best(program or self.program, self.source, self.sink, times, 'answer', self.plan, '--now', '1700000000')
 
+    def all_accepted(self, count):
+        with open(self.sink, 'rb') as f:
+            accepted = f.read().count(b'\rMSA|CA|MSG')
+        assert accepted == count, f'{accepted} of {count} messages were accepted'
+
+
+def measure_messages(bench):
+    """Messages of the usual size, few and many; gives seconds a message of the few, and bytes a second of the many."""
+    seconds = {}
+    for count, times in ((FEW, 15), (MANY, 3)):
+        size = bench.give_messages(count)
+        took, peak = bench.answered(times)
+        bench.all_accepted(count)
+        seconds[count] = took / count
+        bench.tell(f'{count:>7} messages of {size // count} bytes: {count / took:,.0f} messages a second, '
+                   f'{1e6 * took / count:.2f} microseconds a message, {size / took / MIB:,.0f} MiB/s, '
+                   f'peak memory {peak / MIB:.0f} MiB')
+        bound = 2 * size + 50_000_000
+        bench.tell(f'        peak memory at most twice the input and 50 MB ({bound / MIB:.0f} MiB)', peak <= bound)
+    ratio = seconds[MANY] / seconds[FEW]
+    bench.tell(f'time a message at {MANY} over that at {FEW}: {ratio:.2f} (at most 1.3)', ratio <= 1.3)
+    return seconds[FEW], size / took
+
+
+def measure_held_once(bench):
+    """Whether a message's bytes are held once: the peak memory of few and of many large messages."""
+    peaks, sizes = {}, {}
+    for count in LARGE:
+        sizes[count] = bench.give_messages(count, observations(LARGE_SEGMENTS))
+        took, peaks[count] = bench.answered(1)
+        bench.all_accepted(count)
+        bench.tell(f'{count:>7} messages of {sizes[count] // count} bytes: {sizes[count] / took / MIB:,.0f} MiB/s, '
+                   f'peak memory {peaks[count] / MIB:,.0f} MiB, {peaks[count] / sizes[count]:.3f} bytes for each byte, '
+                   f'{peaks[count] / count:,.0f} bytes a message')
+    few, many = LARGE
+    more, grown = peaks[many] - peaks[few], sizes[many] - sizes[few]
+    bench.tell(f'        each further message takes {more / (many - few):,.0f} bytes, {(more - grown) / (many - few):+,.0f} to '
+               f'those that came')
+    bench.tell(f'        memory for each further byte: {more / grown:.3f} bytes (held once: at most {HELD_ONCE})',
+               more <= HELD_ONCE * grown)
+
+
+def measure_endless(bench, good):
+    """A block that never ends."""
+    with open(bench.source, 'wb') as f:
+        f.write(b'\x0b' + b'A' * ENDLESS)
+    took, peak = best(bench.program, bench.source, bench.sink, 3)
+    bench.tell(f'a block of {ENDLESS // MIB} MiB that never ends: {ENDLESS / took / MIB:,.0f} MiB/s '
+               f'(at least a tenth of {good / MIB:,.0f})', ENDLESS / took >= good / 10)
+    bench.tell(f'        peak memory {peak / MIB:.1f} MiB (bounded: at most 16)', peak <= 16 * MIB)
+
+
+def measure_routes(bench):
+    """Messages that go by four routes with filters and steps, shorter and longer ones."""
+    bench.give_plan(FOUR_ROUTES)
+    cost = {}
+    for copies in (1, 8):
+        size = bench.give_messages(ROUTED, observations(10 * copies))
+        took, _ = bench.answered(5)
+        cost[copies] = took / size
+        bench.tell(f'{ROUTED:>7} messages of {size // ROUTED} bytes by four routes, each with a filter and three steps: '
+                   f'{1e6 * took / ROUTED:.2f} microseconds a message, {1e9 * took / size:.2f} nanoseconds a byte')
+    bench.tell(f'        a byte of the longer over one of the shorter: {cost[8] / cost[1]:.2f} (at most 1.3)',
+               cost[8] <= 1.3 * cost[1])
+
+
+def measure_plan(bench):
+    """Reading the largest plan."""
+    bench.give_plan(large_plan())
+    took, _ = best(bench.program, os.devnull, bench.sink, 3, 'check', bench.plan)
+    bench.tell(f'reading a plan of 64 channels and 32 destinations with 256 steps each '
+               f'({os.path.getsize(bench.plan) // 1024} KiB): {took:.2f} s (under 1)', took < 1)
+
+
+def compare_library(bench, seconds):
+    """The same messages by python-hl7; neither side counts the start of its process."""
     library = library_seconds([admission(n) for n in range(FEW)], 3)
     if library is None:
-        print('python3-hl7 is not installed: no ratio to it')
-    else:
-        ratio = library / (seconds[FEW] - start / FEW)
-        tell(f'python-hl7, parsing and acknowledging the same {FEW}: {1e6 * library:.0f} microseconds a message, '
-             f'{ratio:.0f} times the program without its start (at least 200)', ratio >= 200)
+        bench.tell('python3-hl7 is not installed: no ratio to it')
+        return
+    ratio = library / seconds
+    bench.tell(f'python-hl7, parsing and acknowledging the same {FEW}: {1e6 * library:.0f} microseconds a message, '
+               f'{ratio:.0f} times the program without its start (at least 200)', ratio >= 200)
+
+
+def compare_builds(bench, former):
+    """The same messages by another build of the program, the two in turn: the bytes written and the time."""
+    bench.give_plan(ONE_ATTEMPT)
+    for count, times in ((FEW, 15), (MANY, 5)):
+        bench.give_messages(count)
+        took, wrote = {}, {}
+        for _ in range(times):
+            for program in (former, bench.program):
+                once, _ = bench.answered(1, program)
+                took[program] = min(once, took.get(program, once))
+                with open(bench.sink, 'rb') as f:
+                    wrote[program] = f.read()
+        bench.tell(f'{count:>7} messages by both builds: the same bytes were written', wrote[former] == wrote[bench.program])
+        ratio = took[bench.program] / took[former]
+        bench.tell(f'        {took[bench.program]:.4f} s against {took[former]:.4f} s, {ratio:.2f} times the former '
+                   f'(at most {NO_SLOWER})', ratio <= NO_SLOWER)
+
+
+def measure(bench):
+    bench.give_plan(ONE_ATTEMPT)
+    start, _ = best(bench.program, os.devnull, bench.sink, 15, 'answer', bench.plan, '--now', '1700000000')
+    bench.tell(f'start of the program, with nothing to answer: {1e3 * start:.2f} milliseconds')
+    seconds, good = measure_messages(bench)
+    measure_held_once(bench)
+    measure_endless(bench, good)
+    measure_routes(bench)
+    measure_plan(bench)
+    compare_library(bench, seconds - start / FEW)
+
+
+def main():
+    parser = argparse.ArgumentParser(description='Measures how fast the built program acknowledges messages.')
+    parser.add_argument('program', metavar='PROGRAM', nargs='?', default=PROGRAM, help='the built program')
+    parser.add_argument('--against', metavar='FORMER', help='another build, to be compared with it')
+    given = parser.parse_args()
+    with tempfile.TemporaryDirectory() as folder:
+        bench = Bench(os.path.abspath(given.program), folder)
+        if given.against is None:
+            measure(bench)
+        else:
+            compare_builds(bench, os.path.abspath(given.against))
     print(f'cores: {os.cpu_count()}')
-    return 1 if failed else 0
+    return 1 if bench.missed else 0
 
 
 if __name__ == '__main__':
