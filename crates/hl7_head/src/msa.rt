@@ -1,4 +1,4 @@
-ghost use Rattle.std.specs.Prelude.{◌≡◌, IfOk};
+ghost use Rattle.std.specs.Prelude.{◌≡◌, IfOk, None, Ok};
 
 use crate::places::{Span, first_pieces};
 use er7_tree::Message;
@@ -32,7 +32,10 @@ impl Msa {
 
     /// The first MSA of a message, where it has one.
     pub fn read(alloc: Global, message: &Message) -> Result<Option<Msa>, AllocError>
-        ensures { IfOk result (λ found. found ≡ msa message.now) }
+        ensures value { IfOk result (λ found. found ≡ msa message.now) }
+
+        // A message without an MSA takes no memory.
+        ensures absent { msa message.now ≡ None → result ≡ Ok None }
     {
         let Some(segment) = message.segment(b"MSA") else {
             return Ok(None);

@@ -5,11 +5,9 @@ use crate::ack::AckPart;
 use crate::header::Header;
 use crate::moment::Moment;
 use crate::stamping::stamp;
-use er7_tree::is_vacant;
+use er7_tree::{CARRIAGE_RETURN, is_vacant};
 use itoa::Buffer;
 use std::alloc::{AllocError, Global};
-
-const CARRIAGE_RETURN: u8 = b'\r';
 
 /// What an acknowledgment holds beside pieces of the header that it answers: names, codes, separators, the stamp and the id.
 const OWN_BYTES: usize = 128;

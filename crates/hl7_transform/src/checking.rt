@@ -1,5 +1,5 @@
 ghost use Rattle.std.specs.Prelude.{◌≡◌};
-ghost use Rattle.hl7_transform.specs.Check.{is_protected, writable, removable, check_step, may_stand};
+ghost use Rattle.hl7_transform.specs.Check.{is_protected, writable, removable, check_step, check_code, may_stand};
 ghost use Rattle.std.specs.List.{list_all};
 ghost use Rattle.er7_tree.specs.Tree.{is_name};
 ghost use Rattle.hl7_transform.specs.View.{view, steps_view};
@@ -21,6 +21,23 @@ pub enum StepCheck {
     #[error("forbidden write")]
     ForbiddenWrite,
 }
+
+impl StepCheck {
+    /// The number of the answer, 1 or 2.
+    pub fn code(self) -> u32
+        ensures { result ≡ check_code self }
+    {
+        match self {
+            StepCheck::BadPath => 1,
+            StepCheck::ForbiddenWrite => 2,
+        }
+    }
+}
+
+/// The field that is protected is MSH-10, as the definitions write out.
+pub fn constants_are()
+    ensures { CONTROL_ID ≡ 10 }
+{}
 
 /// Whether this is MSH-1, MSH-2, MSH-10 or a part of MSH-10.
 fn is_protected(path: &Path) -> bool
