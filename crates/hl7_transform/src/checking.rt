@@ -24,7 +24,7 @@ pub enum StepCheck {
 
 impl StepCheck {
     /// The number of the answer, 1 or 2.
-    pub fn code(self) -> u32
+    pub fn code(self) -> u8
         ensures { result ≡ check_code self }
     {
         match self {
