@@ -4,9 +4,8 @@ use Rattle.std.specs.List.{onto_first, before_first, filter}
 use Rattle.std.proofs.lemmas.Bool.{cases_Bool, cases_lt}
 use Rattle.std.proofs.lemmas.List.{get_or_past}
 use Rattle.std.proofs.lemmas.List.Elements.{All-nil, All-cons, All-head, All-same, All-tail, All-take, All-filter, All-get_or}
-use Rattle.er7_tree.specs.declared.delims.Delims.{Delims}
 use Rattle.er7_tree.specs.declared.refusal.Refusal.{Refusal}
-use Rattle.er7_tree.specs.Delims.{delims_of, declared_by, are_delimiters}
+use Rattle.er7_tree.specs.Delims.{Delims, delims_of, declared_by, are_delimiters}
 use Rattle.er7_tree.specs.Path.{segment_at, field_at, field_place, part_of}
 use Rattle.er7_tree.specs.declared.path.Part.TheVariants.{Component}
 use Rattle.er7_tree.specs.Pieces.{split, piece_at, is_empty}

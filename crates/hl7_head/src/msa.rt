@@ -1,7 +1,7 @@
 ghost use Rattle.std.specs.Prelude.{◌≡◌, IfOk, None, Ok};
 
-use crate::places::{Span, first_pieces};
-use er7_tree::Message;
+use crate::places::first_pieces;
+use er7_tree::{Message, Span};
 use std::alloc::{AllocError, Global};
 use std::marker::Model;
 
@@ -42,13 +42,13 @@ impl Msa {
         };
         let [_name, code, control_id, text] = first_pieces::<PIECES_READ>(
             segment,
-            Span::of(segment),
-            message.delims().field,
+            Span::whole(segment),
+            message.delims().field(),
         );
         Ok(Some(Msa {
-            code: Vec::from_slice(alloc, code.bytes_of(segment))?,
-            control_id: Vec::from_slice(alloc, control_id.bytes_of(segment))?,
-            text: Vec::from_slice(alloc, text.bytes_of(segment))?,
+            code: Vec::from_slice(alloc, code.of(segment))?,
+            control_id: Vec::from_slice(alloc, control_id.of(segment))?,
+            text: Vec::from_slice(alloc, text.of(segment))?,
         }))
     }
 }
