@@ -49,7 +49,7 @@ change (remove name) t = made (edit.remove_segments t name)
 abbrev pub wants_memory : Edit → Tree → Bool
 wants_memory (set place text) t = is_ok (change (set place text) t)
 wants_memory (copy from to) t = is_ok (change (copy from to) t)
-wants_memory (clear place) t = is_ok (change (clear place) t)
+wants_memory (clear place) t = edit.has t place
 wants_memory (lookup place table default) t = true
 wants_memory (remove name) t = false
 
