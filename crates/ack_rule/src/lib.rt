@@ -8,6 +8,3 @@ mod verdictum;
 pub use mode::{AckMode, AckType};
 pub use rule::{enhanced_rules, parts};
 pub use verdictum::Verdictum;
-
-#[cfg(test)]
-mod tests;

@@ -3,8 +3,7 @@ use Rattle.std.proofs.Common.{◌≡◌, ℕ, Bool, true, false, not, List, [], 
 use Rattle.std.proofs.lemmas.Bool.{and_parts, and_right, cases_Bool, false≢true, ne_eqb, eq-eqb}
 use Rattle.std.specs.Char.{is_ascii_graphic, is_ascii_alphanumeric}
 use Rattle.std.specs.List.{list_all}
-use Rattle.er7_tree.specs.declared.delims.Delims.{Delims}
-use Rattle.er7_tree.specs.Delims.{AreDelims, is_delimiter, delimiters, all_distinct, lacks}
+use Rattle.er7_tree.specs.Delims.{Delims, AreDelims, is_delimiter, delimiters, all_distinct, lacks}
 
 pub not_true : (x : Bool) → not x ≡ true → x ≡ false
 not_true true is = absurd (false≢true is)

@@ -4,8 +4,7 @@ use Rattle.std.proofs.lemmas.Bool.{and_parts, and_right, cases_Bool, eqb-true, l
 use Rattle.std.proofs.lemmas.List.{get_or_past}
 use Rattle.std.specs.List.{list_all, filter}
 use Rattle.er7_tree.specs.declared.refusal.Refusal.TheVariants.{BadPath, NoSuchSegment}
-use Rattle.er7_tree.specs.declared.delims.Delims.{Delims}
-use Rattle.er7_tree.specs.Delims.{AreDelims, lacks}
+use Rattle.er7_tree.specs.Delims.{Delims, AreDelims, lacks}
 use Rattle.er7_tree.specs.Tree.{Tree, IsMessage, is_name, has_name, is_header}
 use Rattle.er7_tree.specs.Path.{Place, is_path, is_fixed, same_level, are_apart, raw, segment_at, levels, piece_in, part_of, field_at}
 use Rattle.er7_tree.specs.Pieces.{split, piece_at}

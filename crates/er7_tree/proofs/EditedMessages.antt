@@ -2,10 +2,9 @@
 use Rattle.std.proofs.Common.{◌≡◌, ◌≢◌, ℕ, zero, suc, ◌+◌, ◌-◌, ◌<◌, ◌≤◌, Bool, true, false, not, ◌&&◌, List, [], ◌∷◌, ◌++◌, length, Some, None, get_or, drop, refl, sym, ap, subst, ◌∙◌, arith, nat_eq, nat_le, inl, inr, cond, codes}
 use Rattle.std.proofs.lemmas.Bool.{and_parts, and_from, and_left, and_right, cases_Bool, false≢true, ne_eqb, eqb-true, eq-eqb, leb-true, leb-false}
 use Rattle.std.specs.List.{list_all, filter, starts_with}
-use Rattle.er7_tree.specs.declared.delims.Delims.{Delims}
 use Rattle.er7_tree.specs.declared.path.Part.{Part}
 use Rattle.er7_tree.specs.declared.path.Part.TheVariants.{Whole, Repetition, Component, Subcomponent}
-use Rattle.er7_tree.specs.Delims.{AreDelims, is_delimiter, delims_of, declared_by, are_delimiters, lacks, all_distinct}
+use Rattle.er7_tree.specs.Delims.{Delims, AreDelims, is_delimiter, delims_of, declared_by, are_delimiters, lacks, all_distinct}
 use Rattle.er7_tree.specs.Pieces.{split, join, piece_at}
 use Rattle.er7_tree.specs.Tree.{Tree, IsMessage, is_name, has_name, is_header, is_body, first_of}
 use Rattle.er7_tree.specs.Path.{Place, is_path, is_fixed, is_number, numbers, field_place, field_at, segment_at, levels, piece_in, part_of, raw, holds, are_apart}

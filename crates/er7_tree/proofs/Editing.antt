@@ -3,12 +3,11 @@ use Rattle.std.proofs.Common.{◌≡◌, ℕ, zero, suc, ◌+◌, ◌-◌, ◌�
 use Rattle.std.proofs.lemmas.Bool.{and_parts, and_from, le-leb, lt-leb, leb-false, cases_Bool}
 use Rattle.std.proofs.lemmas.Option.{get_or_from_slice_get}
 use Rattle.std.specs.List.{list_all, filter, slice_get}
-use Rattle.er7_tree.specs.declared.delims.Delims.{Delims}
 use Rattle.er7_tree.specs.declared.refusal.Refusal.{Refusal}
 use Rattle.er7_tree.specs.declared.refusal.Refusal.TheVariants.{NoSuchSegment}
 use Rattle.er7_tree.specs.declared.path.Part.{Part}
 use Rattle.er7_tree.specs.declared.path.Part.TheVariants.{Whole, Repetition, Component, Subcomponent}
-use Rattle.er7_tree.specs.Delims.{AreDelims, lacks}
+use Rattle.er7_tree.specs.Delims.{Delims, AreDelims, lacks}
 use Rattle.er7_tree.specs.Tree.{Tree, IsMessage, IsOccurrence, has_name}
 use Rattle.er7_tree.specs.Path.{Place, is_path, is_fixed, same_level, levels, segment_at, piece_in, raw}
 use Rattle.er7_tree.specs.Escape.{escape, controls, reserved}
@@ -169,3 +168,10 @@ clear_gives t p segment place path free at here present =
     let present_there : has_in (field_levels t.delims p (segment_at p.segment p.occurrence t.segments)) (segment_at p.segment p.occurrence t.segments) ≡ true =
     ap (λ segment. has_in (field_levels t.delims p segment) segment) (segment_is_at t p segment place at here) ∙ present in
     rw (free, there t p place path at, present_there) refl
+
+pub clear_there : (t : Tree) (p : Place) (segment : List ℕ) (place : ℕ) → is_path p ≡ true → IsOccurrence p.segment p.occurrence t.segments place
+    → slice_get t.segments place ≡ Some segment → has_in (field_levels t.delims p segment) segment ≡ true → Edit.has t p ≡ true
+clear_there t p segment place path at here present =
+    let present_there : has_in (field_levels t.delims p (segment_at p.segment p.occurrence t.segments)) (segment_at p.segment p.occurrence t.segments) ≡ true =
+    ap (λ segment. has_in (field_levels t.delims p segment) segment) (segment_is_at t p segment place at here) ∙ present in
+    rw (there t p place path at, present_there) refl

@@ -3,10 +3,9 @@ use Rattle.std.proofs.Common.{◌≡◌, ◌≢◌, ℕ, zero, suc, ◌-◌, tru
 use Rattle.std.proofs.lemmas.Bool.{cases_Bool, and_parts, and_from, ne_eqb}
 use Rattle.std.proofs.lemmas.List.Folds.{list_all-append}
 use Rattle.std.specs.List.{list_all, filter}
-use Rattle.er7_tree.specs.declared.delims.Delims.{Delims}
 use Rattle.er7_tree.specs.declared.path.Part.{Part}
 use Rattle.er7_tree.specs.declared.path.Part.TheVariants.{Whole, Repetition, Component, Subcomponent}
-use Rattle.er7_tree.specs.Delims.{lacks}
+use Rattle.er7_tree.specs.Delims.{Delims, lacks}
 use Rattle.er7_tree.specs.Path.{Place, raw, part_of, field_at, field_place, segment_at}
 use Rattle.er7_tree.specs.Pieces.{split, piece_at}
 use Rattle.er7_tree.specs.Tree.{Tree, IsMessage, is_header, has_name, first_of, written}

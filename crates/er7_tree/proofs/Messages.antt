@@ -3,9 +3,8 @@ use Rattle.std.proofs.Common.{◌≡◌, ℕ, ◌+◌, ◌<◌, get_or, ◌≤�
 use Rattle.std.proofs.lemmas.Bool.{cases_Bool, and_parts, and_from, leb-true}
 use Rattle.std.specs.List.{list_all, onto_first, filter}
 use Rattle.std.specs.Option.{ok_or}
-use Rattle.er7_tree.specs.declared.delims.Delims.{Delims}
 use Rattle.er7_tree.specs.declared.refusal.Refusal.TheVariants.{NoHeader, BadDelimiters, TooManySegments}
-use Rattle.er7_tree.specs.Delims.{delims_of, lacks, AreDelims}
+use Rattle.er7_tree.specs.Delims.{Delims, delims_of, lacks, AreDelims}
 use Rattle.er7_tree.specs.Pieces.{split, is_empty}
 use Rattle.er7_tree.proofs.Declaring.{declares_good}
 use Rattle.er7_tree.specs.Tree.{Tree, IsMessage, is_header, is_body, first_of, bad_name_place, unless_bad, checked, tree_of, tree, segments_of, without_line_feed, without_line_feeds, ◌>>=◌}

@@ -3,8 +3,7 @@ use Rattle.std.proofs.Common.{◌≡◌, ℕ, ◌+◌, Bool, true, false, not, �
 use Rattle.std.proofs.lemmas.Bool.{false≢true, and_parts, le-leb, ne_eqb}
 use Rattle.std.specs.Char.{is_ascii_uppercase, is_ascii_digit}
 use Rattle.std.specs.List.{list_all, filter}
-use Rattle.er7_tree.specs.declared.delims.Delims.{Delims}
-use Rattle.er7_tree.specs.Delims.{lacks}
+use Rattle.er7_tree.specs.Delims.{Delims, lacks}
 use Rattle.er7_tree.specs.Pieces.{split, is_empty}
 use Rattle.er7_tree.specs.Tree.{Tree, IsMessage, is_name, is_named, ends_by, is_header, is_body, first_of, bad_name_place, tree_of, tree, segments_of, without_line_feed, without_line_feeds, written, text_of}
 use Rattle.er7_tree.proofs.Segmenting.{segments_behind}

@@ -1,9 +1,8 @@
 -- Worked texts, read and printed.
 use Rattle.std.proofs.Common.{◌≡◌, ℕ, List, [], ◌∷◌, ◌++◌, Some, None, Ok, Err, refl, codes}
-use Rattle.er7_tree.specs.declared.delims.Delims.{Delims}
 use Rattle.er7_tree.specs.declared.refusal.Refusal.TheVariants.{NoHeader, BadDelimiters, BadSegmentName}
 use Rattle.er7_tree.specs.declared.path.Part.TheVariants.{Whole}
-use Rattle.er7_tree.specs.Delims.{delims_of}
+use Rattle.er7_tree.specs.Delims.{Delims, delims_of}
 use Rattle.er7_tree.specs.Tree.{Tree, tree, segments_of, text_of, ◌>>=◌}
 use Rattle.er7_tree.specs.Path.{Place, header_place, raw, value}
 

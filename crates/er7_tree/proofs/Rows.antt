@@ -1,6 +1,5 @@
 -- Worked texts.
 use Rattle.std.proofs.Common.{◌≡◌, ℕ, List, [], ◌∷◌, ◌++◌, Some, None, Ok, Err, refl, codes}
-use Rattle.er7_tree.specs.declared.delims.Delims.{Delims}
 use Rattle.er7_tree.specs.declared.refusal.Refusal.TheVariants.{NoHeader, BadDelimiters, BadSegmentName, NoSuchSegment}
 use Rattle.er7_tree.specs.declared.path.Part.TheVariants.{Whole, Repetition, Component, Subcomponent}
 use Rattle.er7_tree.specs.declared.path.Part.{Part}
@@ -8,6 +7,7 @@ use Rattle.er7_tree.specs.Tree.{Tree, tree, text_of, ◌>>=◌}
 use Rattle.er7_tree.specs.Path.{Place, path_of, raw}
 use Rattle.er7_tree.specs.Escape.{escape, plain}
 use Rattle.er7_tree.specs.Edit.{set}
+use Rattle.er7_tree.specs.Delims.{Delims}
 
 abbrev usual : Delims
 usual = record { field = 124; component = 94; repetition = 126; escape = 92; subcomponent = 38 }

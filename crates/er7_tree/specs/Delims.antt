@@ -2,7 +2,14 @@
 use Rattle.std.specs.Prelude.{◌≡◌, ℕ, Bool, true, not, ◌&&◌, ◌||◌, ◌==◌, List, [], ◌∷◌, length, nat_le, Option, None, Some, if◌then◌else◌, codes}
 use Rattle.std.specs.Char.{is_ascii_graphic, is_ascii_alphanumeric}
 use Rattle.std.specs.List.{list_all, list_any, before_first}
-use Rattle.er7_tree.specs.declared.delims.Delims.{Delims}
+
+-- the five delimiters that a message declares, each a byte
+pub record Delims : Type 0 where
+  pub field : ℕ
+  pub component : ℕ
+  pub repetition : ℕ
+  pub escape : ℕ
+  pub subcomponent : ℕ
 
 -- a character of the null value, of a time zone or of a decimal number
 abbrev pub has_other_use : ℕ → Bool

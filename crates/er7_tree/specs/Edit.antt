@@ -1,13 +1,13 @@
 -- Changes of a message.
 use Rattle.std.specs.Prelude.{ℕ, ◌-◌, Bool, true, not, ◌&&◌, ◌||◌, ◌==◌, nat_le, List, [], ◌∷◌, length, Result, Ok, Err, if◌then◌else◌}
 use Rattle.std.specs.List.{filter}
-use Rattle.er7_tree.specs.declared.delims.Delims.{Delims}
 use Rattle.er7_tree.specs.declared.refusal.Refusal.{Refusal}
 use Rattle.er7_tree.specs.declared.refusal.Refusal.TheVariants.{BadPath, NoSuchSegment}
 use Rattle.er7_tree.specs.Pieces.{split, piece_at, put}
 use Rattle.er7_tree.specs.Tree.{Tree, is_name, has_name, is_header}
 use Rattle.er7_tree.specs.Path.{Place, segment_at, field_place, levels, raw, is_fixed, same_level}
 use Rattle.er7_tree.specs.Escape.{escape}
+use Rattle.er7_tree.specs.Delims.{Delims}
 
 -- the text with another piece; missing pieces before it are added empty
 abbrev pub put_in : List (ℕ × ℕ) → List ℕ → List ℕ → List ℕ

@@ -3,9 +3,8 @@ use Rattle.std.specs.Prelude.{ℕ, ◌+◌, ◌-◌, ◌*◌, ◌/◌, ◌%◌, 
 use Rattle.std.specs.Char.{is_ascii_digit}
 use Rattle.std.specs.List.{find, flat_map, zip}
 use Rattle.std.specs.Option.{option_map_or}
-use Rattle.er7_tree.specs.declared.delims.Delims.{Delims}
 use Rattle.er7_tree.specs.declared.escapes.TheConstants.{HEXADECIMAL}
-use Rattle.er7_tree.specs.Delims.{lacks}
+use Rattle.er7_tree.specs.Delims.{Delims, lacks}
 use Rattle.er7_tree.specs.Pieces.{split}
 
 -- the value of a hexadecimal digit, upper or lower case

@@ -1,3 +1,4 @@
+pub mod Code
 pub mod Delims
 pub mod Edit
 pub mod Escape

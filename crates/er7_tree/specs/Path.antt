@@ -5,12 +5,12 @@ use Rattle.std.specs.List.{list_all, filter, starts_with, zip}
 use Rattle.std.specs.Option.{option_map_or}
 use Rattle.std.specs.Char.{is_ascii_digit}
 use Rattle.std.specs.Str.Parse.{digits_value}
-use Rattle.er7_tree.specs.declared.delims.Delims.{Delims}
 use Rattle.er7_tree.specs.declared.path.Part.{Part}
 use Rattle.er7_tree.specs.declared.path.Part.TheVariants.{Whole, Repetition, Component, Subcomponent}
 use Rattle.er7_tree.specs.Escape.{plain}
 use Rattle.er7_tree.specs.Pieces.{split, piece_at}
 use Rattle.er7_tree.specs.Tree.{Tree, is_name, has_name, is_header}
+use Rattle.er7_tree.specs.Delims.{Delims}
 
 -- a segment's name, which one of that name, the field, and the part of the field; all numbers count from 1
 pub record Place : Type 0 where

@@ -1,8 +1,8 @@
 -- Ranges of a text that cover its segments.
 use Rattle.std.specs.Prelude.{ℕ, ◌≤◌, List, [], ◌∷◌, length, map, slice_range}
-use Rattle.er7_tree.specs.declared.delims.Delims.{Delims}
 use Rattle.er7_tree.specs.declared.segments.Span.{Span}
 use Rattle.er7_tree.specs.Tree.{Tree, IsMessage}
+use Rattle.er7_tree.specs.Delims.{Delims}
 
 -- the bytes that a span covers
 abbrev pub covered : List ℕ → Span → List ℕ

@@ -3,13 +3,12 @@ use Rattle.std.specs.Prelude.{◌≡◌, ◌≤◌, ◌<◌, ℕ, ◌-◌, Bool,
 use Rattle.std.specs.Char.{is_ascii_uppercase, is_ascii_digit}
 use Rattle.std.specs.List.{filter, flat_map, starts_with, list_all, position_from}
 use Rattle.std.specs.Option.{ok_or}
-use Rattle.er7_tree.specs.declared.delims.Delims.{Delims}
 use Rattle.er7_tree.specs.declared.refusal.Refusal.{Refusal}
 use Rattle.er7_tree.specs.declared.refusal.Refusal.TheVariants.{NoHeader, BadDelimiters, BadSegmentName, TooManySegments, NoMemory}
 use Rattle.er7_tree.specs.declared.segments.TheConstants.{CARRIAGE_RETURN, LINE_FEED}
 use Rattle.er7_tree.specs.declared.reading.TheConstants.{MAX_SEGMENTS}
 use Rattle.er7_tree.specs.Pieces.{split, is_empty}
-use Rattle.er7_tree.specs.Delims.{delims_of, lacks}
+use Rattle.er7_tree.specs.Delims.{Delims, delims_of, lacks}
 
 -- A message: the delimiters that it declares, and its segments without the carriage return that ends each.
 pub record Tree : Type 0 where

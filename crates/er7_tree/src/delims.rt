@@ -3,23 +3,33 @@ ghost use Rattle.std.specs.List.{list_all};
 ghost use Rattle.er7_tree.specs.Delims.{is_delimiter, has_other_use, all_distinct, are_delimiters, lacks};
 
 use crate::pieces::cut;
+use std::marker::Model;
+use std::slice;
 
 /// The most encoding characters that a header may declare.
 const ENCODING_CHARACTERS_MAX: usize = 5;
 
-/// The delimiters that a message declares (HL7 v2.5.1, 2.5.4).
+/// The delimiters that a message declares (HL7 v2.5.1, 2.5.4). They are read from a header segment and made in no other way,
+/// so each is a character that may be a delimiter, and no two are the same.
 #[derive(Clone, Copy, Debug, PartialEq, Eq)]
 pub struct Delims {
-    /// The field separator, MSH-1, recommended as `|`.
-    pub field: u8,
-    /// The component separator, the first encoding character of MSH-2, recommended as `^`.
-    pub component: u8,
-    /// The repetition separator, recommended as `~`.
-    pub repetition: u8,
-    /// The escape character, recommended as `\`.
-    pub escape: u8,
-    /// The subcomponent separator, recommended as `&`.
-    pub subcomponent: u8,
+    field: u8,
+    component: u8,
+    repetition: u8,
+    escape: u8,
+    subcomponent: u8,
+}
+
+impl Model for Delims {
+    ghost use Rattle.er7_tree.specs.Delims.{Delims, AreDelims};
+
+    ghost Value = { Delims };
+
+    ghost view = { λ d. record { field = d.field; component = d.component; repetition = d.repetition; escape = d.escape; subcomponent = d.subcomponent } };
+
+    ghost invariant = { λ d. AreDelims (record { field = d.field; component = d.component; repetition = d.repetition; escape = d.escape; subcomponent = d.subcomponent }) };
+
+    ghost inverse = { λ d. record { field = d.field; component = d.component; repetition = d.repetition; escape = d.escape; subcomponent = d.subcomponent } };
 }
 
 /// Whether the character belongs to the null value, a time zone or a decimal number.
@@ -73,13 +83,13 @@ fn may_be_declared(field: u8, characters: &[u8]) -> bool
 
 impl Delims {
     ghost use Rattle.er7_tree.specs.Delims.{delims_of, AreDelims};
+    ghost use Rattle.std.specs.Prelude.{[]};
 
     /// What a header segment declares: MSH-1 is its fourth byte, and MSH-2 reaches to the next field separator or to the
     /// segment's end (HL7 v2.5.1, 2.15.9.1 and 2.15.9.2). None where it declares too few or too many characters, one that
     /// may be no delimiter, or one twice.
     pub fn of_header(header: &[u8]) -> Option<Delims>
-        ensures value { result ≡ delims_of header.now }
-        ensures declared { IfSome result AreDelims }
+        ensures { result ≡ delims_of header.now }
     {
         let [_, _, _, field, rest @ ..] = header else {
             return None;
@@ -98,5 +108,48 @@ impl Delims {
             escape: *escape,
             subcomponent: *subcomponent,
         })
+    }
+
+    /// The field separator, MSH-1, recommended as `|`.
+    pub fn field(self) -> u8
+        ensures { result ≡ self.field }
+    {
+        self.field
+    }
+
+    /// The field separator as a text of one byte, the raw MSH-1.
+    pub(crate) fn field_text(&self) -> &[u8]
+        ensures { result.now ≡ self.now.field ∷ [] }
+    {
+        slice::from_ref(&self.field)
+    }
+
+    /// The component separator, the first encoding character of MSH-2, recommended as `^`.
+    pub fn component(self) -> u8
+        ensures { result ≡ self.component }
+    {
+        self.component
+    }
+
+    /// The repetition separator, the second encoding character, recommended as `~`.
+    pub fn repetition(self) -> u8
+        ensures { result ≡ self.repetition }
+    {
+        self.repetition
+    }
+
+    /// The escape character, the third encoding character, recommended as `\`.
+    pub fn escape(self) -> u8
+        ensures value { result ≡ self.escape }
+        ensures declared { AreDelims self }
+    {
+        self.escape
+    }
+
+    /// The subcomponent separator, the fourth encoding character, recommended as `&`.
+    pub fn subcomponent(self) -> u8
+        ensures { result ≡ self.subcomponent }
+    {
+        self.subcomponent
     }
 }

@@ -1,6 +1,6 @@
-ghost use Rattle.std.specs.Prelude.{◌≡◌, Err, IfErr, IfOk, Ok, OnErr, OnOk, true};
-ghost use Rattle.er7_tree.specs.Edit.{clear, copy, field_levels, has_in, put_field, remove_segments, set, with_piece};
-ghost use Rattle.er7_tree.specs.Path.{field_place, is_path};
+ghost use Rattle.std.specs.Prelude.{◌≡◌, Err, IfErr, IfOk, IsErrOf, Ok, OnErr, OnOk, true};
+ghost use Rattle.er7_tree.specs.Edit.{clear, copy, field_levels, has, has_in, put_field, remove_segments, set, with_piece};
+ghost use Rattle.er7_tree.specs.Path.{is_path};
 ghost use Rattle.er7_tree.specs.Tree.{Gives, IsMessage, IsOccurrence};
 
 use crate::delims::Delims;
@@ -9,20 +9,8 @@ use crate::message::Message;
 use crate::path::Path;
 use crate::pieces::{has_part, has_piece, piece, put, put_part};
 use crate::refusal::Refusal;
-use crate::segments::is_name;
+use crate::segments::{field_place, is_header, is_name};
 use std::alloc::{AllocError, Global};
-
-/// Where a field stands among the pieces of its segment, counted from 1. The name is the first piece, and MSH counts the
-/// field separator behind its name as a field.
-fn field_place(segment: &[u8], field: u32) -> usize
-    ensures { result ≡ field_place segment.now field }
-{
-    if segment.starts_with(b"MSH") {
-        field as usize
-    } else {
-        field as usize + 1
-    }
-}
 
 /// The segment with another raw piece at a path of it; missing pieces before it are added empty.
 fn put_field(
@@ -35,9 +23,9 @@ fn put_field(
     ensures { IfOk result (λ changed. changed.items ≡ put_field delims path.now new.now segment.now) }
 {
     let place = field_place(segment, path.field());
-    let field = piece(segment, delims.field, place);
+    let field = piece(segment, delims.field(), place);
     let field = put_part(alloc, delims, path.part(), new, field)?;
-    put(alloc, segment, delims.field, place, &field)
+    put(alloc, segment, delims.field(), place, &field)
 }
 
 /// Whether the piece at a path of the segment is there.
@@ -45,8 +33,8 @@ fn has_field(delims: Delims, path: &Path, segment: &[u8]) -> bool
     ensures { result ≡ has_in (field_levels delims path.now segment.now) segment.now }
 {
     let place = field_place(segment, path.field());
-    has_piece(segment, delims.field, place)
-        && has_part(delims, path.part(), piece(segment, delims.field, place))
+    has_piece(segment, delims.field(), place)
+        && has_part(delims, path.part(), piece(segment, delims.field(), place))
 }
 
 impl Message {
@@ -103,12 +91,14 @@ impl Message {
         Ok(())
     }
 
-    /// Empties the piece at a path, where it is there; the pieces behind it keep their places.
+    /// Empties the piece at a path, where it is there; the pieces behind it keep their places. Where it isn't there, nothing
+    /// changes and no memory is asked for.
     ///
     /// Refused are MSH-1 and MSH-2 (`BadPath`).
     pub fn clear(&mut self, path: &Path) -> Result<(), Refusal>
         ensures made { OnOk result (clear self.old path.now ≡ Ok self.new) }
         ensures refused { IfErr result (λ e. Gives (Err e) (clear self.old path.now)) }
+        ensures memory { IsErrOf result Refusal.NoMemory → has self.old path.now ≡ true }
         ensures unchanged { OnErr result (self.new ≡ self.old) }
     {
         if path.is_fixed() {
@@ -132,10 +122,7 @@ impl Message {
         ensures refused { IfErr result (λ e. remove_segments self.old name.now ≡ Err e) }
         ensures unchanged { OnErr result (self.new ≡ self.old) }
     {
-        let [first, second, third] = name else {
-            return Err(Refusal::BadPath);
-        };
-        if !is_name([*first, *second, *third]) || name.starts_with(b"MSH") {
+        if !is_name(name) || is_header(name) {
             return Err(Refusal::BadPath);
         }
         self.remove_named(name);

@@ -57,11 +57,11 @@ fn letters(delims: &Delims) -> [(u8, u8); 5]
     ensures { result ≡ letters delims.now }
 {
     [
-        (b'F', delims.field),
-        (b'S', delims.component),
-        (b'T', delims.subcomponent),
-        (b'R', delims.repetition),
-        (b'E', delims.escape),
+        (b'F', delims.field()),
+        (b'S', delims.component()),
+        (b'T', delims.subcomponent()),
+        (b'R', delims.repetition()),
+        (b'E', delims.escape()),
     ]
 }
 
@@ -119,14 +119,15 @@ fn push_meaning(out: &mut Vec<u8>, delims: &Delims, inner: &[u8]) -> Result<(), 
 
 /// The bytes that are not written as they are.
 fn special(delims: &Delims) -> [u8; 9]
-    ensures { result ≡ special delims.now }
+    ensures value { result ≡ special delims.now }
+    ensures declared { AreDelims delims.now }
 {
     [
-        delims.field,
-        delims.component,
-        delims.subcomponent,
-        delims.repetition,
-        delims.escape,
+        delims.field(),
+        delims.component(),
+        delims.subcomponent(),
+        delims.repetition(),
+        delims.escape(),
         b'\r',
         0x0B,
         0x1C,
@@ -165,9 +166,9 @@ fn push_escaped(out: &mut Vec<u8>, delims: &Delims, byte: u8) -> Result<(), Allo
 fn push_sequence(out: &mut Vec<u8>, delims: &Delims, inner: &[u8]) -> Result<(), AllocError>
     ensures { OnOk result (out.new.items ≡ out.old.items ++ sequence delims.now inner.now) }
 {
-    out.push(delims.escape)?;
+    out.push(delims.escape())?;
     out.extend_from_slice(inner)?;
-    out.push(delims.escape)?;
+    out.push(delims.escape())?;
     Ok(())
 }
 
@@ -177,8 +178,8 @@ pub fn escape(alloc: Global, delims: &Delims, value: &[u8]) -> Result<Vec<u8>, A
     ensures value { IfOk result (λ text. text.items ≡ escape_of delims.now value.now) }
 
     // What was escaped is read back, and holds neither separators nor bytes that end a segment or a block.
-    ensures back { AreDelims delims.now → IfOk result (λ text. plain delims.now text.items ≡ value.now) }
-    ensures bare { AreDelims delims.now → IfOk result (λ text. list_all (λ b. lacks b text.items) (reserved delims.now) ≡ true) }
+    ensures back { IfOk result (λ text. plain delims.now text.items ≡ value.now) }
+    ensures bare { IfOk result (λ text. list_all (λ b. lacks b text.items) (reserved delims.now) ≡ true) }
 {
     let special = special(delims);
     let mut out = Vec::new(alloc);
@@ -201,14 +202,14 @@ pub fn unescape(alloc: Global, delims: &Delims, text: &[u8]) -> Result<Vec<u8>, 
     let mut out = Vec::new(alloc);
     let mut rest = text;
     loop {
-        let (before, after) = cut(rest, delims.escape);
+        let (before, after) = cut(rest, delims.escape());
         out.extend_from_slice(before)?;
         let Some(after) = after else {
             return Ok(out);
         };
-        let (inner, next) = cut(after, delims.escape);
+        let (inner, next) = cut(after, delims.escape());
         let Some(next) = next else {
-            out.push(delims.escape)?;
+            out.push(delims.escape())?;
             out.extend_from_slice(inner)?;
             return Ok(out);
         };

@@ -24,4 +24,4 @@ pub use path::{Part, Path};
 pub use pieces::is_vacant;
 pub use reading::MAX_SEGMENTS;
 pub use refusal::Refusal;
-pub use segments::CARRIAGE_RETURN;
+pub use segments::{CARRIAGE_RETURN, LINE_FEED, MSH, Span, is_header, is_name};

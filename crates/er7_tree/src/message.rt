@@ -1,7 +1,6 @@
 ghost use Rattle.std.specs.Prelude.{◌≡◌, ◌<◌, ◌≤◌, ◌-◌, IfOk, IfSome, IfNone, OnOk, OnErr, Some, filter, length, map, not, slice_get, slice_set, true, false};
 ghost use Rattle.std.specs.List.{find, flat_map};
 ghost use Rattle.std.specs.Option.{option_copied};
-ghost use Rattle.er7_tree.specs.Delims.{AreDelims};
 ghost use Rattle.er7_tree.specs.Path.{header_place, raw, segment_at, value};
 ghost use Rattle.er7_tree.specs.Spans.{covered, InOrder};
 ghost use Rattle.er7_tree.specs.Tree.{Gives, IsMessage, IsOccurrence, ended, has_name, is_header, is_name, text_of, tree};
@@ -12,10 +11,9 @@ use crate::path::{Part, Path};
 use crate::pieces::{part_of, piece};
 use crate::reading::{read_header, read_spans};
 use crate::refusal::Refusal;
-use crate::segments::{CARRIAGE_RETURN, Span};
+use crate::segments::{CARRIAGE_RETURN, MSH, Span, field_place, is_header};
 use std::alloc::{AllocError, Global};
 use std::marker::Model;
-use std::slice;
 
 /// A message (HL7 v2.5.1, 2.5): the delimiters that it declares, and its segments, of which the header is the first.
 ///
@@ -132,8 +130,7 @@ impl Message {
 
     /// The delimiters that the message declares.
     pub fn delims(&self) -> Delims
-        ensures value { result ≡ self.now.delims }
-        ensures declared { AreDelims result }
+        ensures { result ≡ self.now.delims }
     {
         self.delims
     }
@@ -147,8 +144,8 @@ impl Message {
         self.spans[0].of(&self.text)
     }
 
-    /// The first segment that begins with that name, where there is one.
-    pub fn segment(&self, name: &[u8]) -> Option<&[u8]>
+    /// The first segment of that name, where there is one.
+    pub fn segment(&self, name: &[u8; 3]) -> Option<&[u8]>
         ensures { option_copied result ≡ find (has_name name.now) self.now.segments }
     {
         let place = self.place_of(name, 1)?;
@@ -219,14 +216,10 @@ impl Message {
         ensures { result.now ≡ raw self.now (record { segment = name.now; occurrence = occurrence; field = field; part = part }) }
     {
         let segment = self.nth_segment(name, occurrence);
-        let field = if segment.starts_with(b"MSH") {
-            if field == 1 {
-                slice::from_ref(&self.delims.field)
-            } else {
-                piece(segment, self.delims.field, field as usize)
-            }
+        let field = if field == 1 && is_header(segment) {
+            self.delims.field_text()
         } else {
-            piece(segment, self.delims.field, field as usize + 1)
+            piece(segment, self.delims.field(), field_place(segment, field))
         };
         part_of(self.delims, part, field)
     }
@@ -238,7 +231,8 @@ impl Message {
         self.raw(path.segment(), path.occurrence(), path.field(), path.part())
     }
 
-    /// The raw field of the header, or a component of the field's first repetition; both count from 1.
+    /// The raw field of the header, or a component of the field's first repetition; both count from 1, and 0 is taken for
+    /// 1, but that field 0 is the name, `MSH`, where field 1 is the field separator.
     pub fn msh(&self, field: u32, component: Option<u32>) -> &[u8]
         ensures { result.now ≡ raw self.now (header_place field component) }
     {
@@ -246,7 +240,7 @@ impl Message {
             None => Part::Whole,
             Some(component) => Part::Component(1, component),
         };
-        self.raw(b"MSH", 1, field, part)
+        self.raw(&MSH, 1, field, part)
     }
 
     /// The bytes that the piece at a path means, its escape sequences read (HL7 v2.5.1, 2.7).

@@ -7,7 +7,7 @@ ghost use Rattle.er7_tree.specs.Pieces.{split, pieces_left};
 
 use crate::pieces::cut;
 use crate::refusal::Refusal;
-use crate::segments::is_name;
+use crate::segments::{is_header, is_name};
 use std::marker::Model;
 
 /// The greatest number that a path may name.
@@ -154,15 +154,14 @@ fn checked(name: &[u8], occurrence: u32, field: u32, part: Part) -> Option<Path>
     let [a, b, c] = name else {
         return None;
     };
-    let segment = [*a, *b, *c];
-    if !is_name(segment) {
+    if !is_name(name) {
         return None;
     }
-    if segment == *b"MSH" && (occurrence != 1 || (field <= 2 && part != Part::Whole)) {
+    if is_header(name) && (occurrence != 1 || (field <= 2 && part != Part::Whole)) {
         return None;
     }
     Some(Path {
-        segment,
+        segment: [*a, *b, *c],
         occurrence,
         field,
         part,
@@ -194,7 +193,7 @@ impl Path {
     }
 
     /// The segment's name, three characters.
-    pub fn segment(&self) -> &[u8]
+    pub fn segment(&self) -> &[u8; 3]
         ensures { result.now ≡ self.now.segment }
     {
         &self.segment
@@ -226,7 +225,7 @@ impl Path {
         ensures value { result ≡ is_fixed self.now }
         ensures path { is_path self.now ≡ true }
     {
-        self.segment == *b"MSH" && self.field <= 2
+        is_header(&self.segment) && self.field <= 2
     }
 
     /// Whether both paths name a whole field, or both a repetition, a component or a subcomponent.

@@ -56,15 +56,15 @@ pub fn part_of(delims: Delims, part: Part, field: &[u8]) -> &[u8]
 {
     match part {
         Part::Whole => field,
-        Part::Repetition(r) => piece(field, delims.repetition, r as usize),
+        Part::Repetition(r) => piece(field, delims.repetition(), r as usize),
         Part::Component(r, c) => {
-            let repetition = piece(field, delims.repetition, r as usize);
-            piece(repetition, delims.component, c as usize)
+            let repetition = piece(field, delims.repetition(), r as usize);
+            piece(repetition, delims.component(), c as usize)
         }
         Part::Subcomponent(r, c, s) => {
-            let repetition = piece(field, delims.repetition, r as usize);
-            let component = piece(repetition, delims.component, c as usize);
-            piece(component, delims.subcomponent, s as usize)
+            let repetition = piece(field, delims.repetition(), r as usize);
+            let component = piece(repetition, delims.component(), c as usize);
+            piece(component, delims.subcomponent(), s as usize)
         }
     }
 }
@@ -108,18 +108,18 @@ pub fn has_part(delims: Delims, part: Part, field: &[u8]) -> bool
 {
     match part {
         Part::Whole => true,
-        Part::Repetition(r) => has_piece(field, delims.repetition, r as usize),
+        Part::Repetition(r) => has_piece(field, delims.repetition(), r as usize),
         Part::Component(r, c) => {
-            let repetition = piece(field, delims.repetition, r as usize);
-            has_piece(field, delims.repetition, r as usize)
-                && has_piece(repetition, delims.component, c as usize)
+            let repetition = piece(field, delims.repetition(), r as usize);
+            has_piece(field, delims.repetition(), r as usize)
+                && has_piece(repetition, delims.component(), c as usize)
         }
         Part::Subcomponent(r, c, s) => {
-            let repetition = piece(field, delims.repetition, r as usize);
-            let component = piece(repetition, delims.component, c as usize);
-            has_piece(field, delims.repetition, r as usize)
-                && has_piece(repetition, delims.component, c as usize)
-                && has_piece(component, delims.subcomponent, s as usize)
+            let repetition = piece(field, delims.repetition(), r as usize);
+            let component = piece(repetition, delims.component(), c as usize);
+            has_piece(field, delims.repetition(), r as usize)
+                && has_piece(repetition, delims.component(), c as usize)
+                && has_piece(component, delims.subcomponent(), s as usize)
         }
     }
 }
@@ -136,18 +136,24 @@ pub fn put_part(
 {
     match part {
         Part::Whole => Vec::from_slice(alloc, new),
-        Part::Repetition(r) => put(alloc, field, delims.repetition, r as usize, new),
+        Part::Repetition(r) => put(alloc, field, delims.repetition(), r as usize, new),
         Part::Component(r, c) => {
-            let repetition = piece(field, delims.repetition, r as usize);
-            let repetition = put(alloc, repetition, delims.component, c as usize, new)?;
-            put(alloc, field, delims.repetition, r as usize, &repetition)
+            let repetition = piece(field, delims.repetition(), r as usize);
+            let repetition = put(alloc, repetition, delims.component(), c as usize, new)?;
+            put(alloc, field, delims.repetition(), r as usize, &repetition)
         }
         Part::Subcomponent(r, c, s) => {
-            let repetition = piece(field, delims.repetition, r as usize);
-            let component = piece(repetition, delims.component, c as usize);
-            let component = put(alloc, component, delims.subcomponent, s as usize, new)?;
-            let repetition = put(alloc, repetition, delims.component, c as usize, &component)?;
-            put(alloc, field, delims.repetition, r as usize, &repetition)
+            let repetition = piece(field, delims.repetition(), r as usize);
+            let component = piece(repetition, delims.component(), c as usize);
+            let component = put(alloc, component, delims.subcomponent(), s as usize, new)?;
+            let repetition = put(
+                alloc,
+                repetition,
+                delims.component(),
+                c as usize,
+                &component,
+            )?;
+            put(alloc, field, delims.repetition(), r as usize, &repetition)
         }
     }
 }

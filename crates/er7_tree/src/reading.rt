@@ -4,7 +4,7 @@ ghost use Rattle.er7_tree.specs.Tree.{Gives, checked, segments_of, tree};
 
 use crate::delims::Delims;
 use crate::refusal::Refusal;
-use crate::segments::{Span, is_body, next_span};
+use crate::segments::{Span, is_body, is_header, next_span};
 use std::alloc::Global;
 
 /// The most segments that a message may have.
@@ -23,7 +23,7 @@ pub fn read_header(text: &[u8]) -> Result<(Span, Delims), Refusal>
 {
     let header = next_span(text, 0).ok_or(Refusal::NoHeader)?;
     let segment = header.of(text);
-    if !segment.starts_with(b"MSH") {
+    if !is_header(segment) {
         return Err(Refusal::NoHeader);
     }
     let delims = Delims::of_header(segment).ok_or(Refusal::BadDelimiters)?;

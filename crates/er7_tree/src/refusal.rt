@@ -27,6 +27,26 @@ pub enum Refusal {
     NoMemory,
 }
 
+impl Refusal {
+    ghost use Rattle.std.specs.Prelude.{◌≡◌};
+    ghost use Rattle.er7_tree.specs.Code.{code_of};
+
+    /// The number of the refusal, 1 to 7, as it is told in place of its name.
+    pub fn code(&self) -> u8
+        ensures { result ≡ code_of self.now }
+    {
+        match self {
+            Refusal::NoHeader => 1,
+            Refusal::BadDelimiters => 2,
+            Refusal::BadSegmentName(_) => 3,
+            Refusal::TooManySegments => 4,
+            Refusal::BadPath => 5,
+            Refusal::NoSuchSegment => 6,
+            Refusal::NoMemory => 7,
+        }
+    }
+}
+
 impl From<AllocError> for Refusal {
     ghost use Rattle.std.specs.Prelude.{◌≡◌};
     ghost use Rattle.er7_tree.specs.declared.refusal.Refusal.TheVariants.{NoMemory};

@@ -1,9 +1,13 @@
 ghost use Rattle.std.specs.Prelude.{◌≡◌, ◌≢◌, ◌<◌, ◌≤◌, ◌∷◌, [], length, drop, slice_index, IfSome, MatchOption};
 ghost use Rattle.er7_tree.specs.Spans.{covered, IsBetween};
-ghost use Rattle.er7_tree.specs.Tree.{is_body, is_name, segments_of};
+ghost use Rattle.er7_tree.specs.Path.{field_place};
+ghost use Rattle.er7_tree.specs.Tree.{is_body, is_header, is_name, segments_of};
 
 use crate::delims::Delims;
 use memchr::memchr;
+
+/// The name of the message header segment (HL7 v2.5.1, 2.15.9).
+pub const MSH: [u8; 3] = *b"MSH";
 
 /// The carriage return, which ends a segment (HL7 v2.5.1, 2.5.4).
 pub const CARRIAGE_RETURN: u8 = b'\r';
@@ -11,7 +15,7 @@ pub const CARRIAGE_RETURN: u8 = b'\r';
 /// The line feed, of which one is dropped behind a carriage return.
 pub const LINE_FEED: u8 = b'\n';
 
-/// Where a segment stands in a text: from `start` up to `end`, without the byte there.
+/// A range of a text that covers a segment or a piece of one: from `start` up to `end`, without the byte there.
 #[derive(Clone, Copy, Debug)]
 pub struct Span {
     pub start: usize,
@@ -19,6 +23,20 @@ pub struct Span {
 }
 
 impl Span {
+    /// A span that covers nothing.
+    pub const EMPTY: Span = Span { start: 0, end: 0 };
+
+    /// The span that covers the whole of a text.
+    pub fn whole(text: &[u8]) -> Span
+        ensures between { IsBetween 0 (length text.now) result }
+        ensures all { covered text.now result ≡ text.now }
+    {
+        Span {
+            start: 0,
+            end: text.len(),
+        }
+    }
+
     /// The bytes that the span covers.
     pub fn of(self, text: &[u8]) -> &[u8]
         requires { IsBetween 0 (length text.now) self }
@@ -65,14 +83,35 @@ pub fn next_span(text: &[u8], from: usize) -> Option<Span>
     Some(Span { start, end })
 }
 
-/// Whether the three characters are a segment's name.
-pub fn is_name(name: [u8; 3]) -> bool
-    ensures { result ≡ is_name name }
+/// Whether this is a segment's name: a capital letter, and two capital letters or digits (HL7 v2.5.1, 2.5.2).
+pub fn is_name(name: &[u8]) -> bool
+    ensures { result ≡ is_name name.now }
 {
-    let [first, second, third] = name;
+    let [first, second, third] = name else {
+        return false;
+    };
     first.is_ascii_uppercase()
         && (second.is_ascii_uppercase() || second.is_ascii_digit())
         && (third.is_ascii_uppercase() || third.is_ascii_digit())
+}
+
+/// Whether a segment, or the name of one, is that of a message header: it begins with MSH.
+pub fn is_header(segment: &[u8]) -> bool
+    ensures { result ≡ is_header segment.now }
+{
+    segment.starts_with(&MSH)
+}
+
+/// Where a field stands among the pieces of its segment between field separators, counted from 1. The name is the first
+/// piece, and MSH counts the field separator behind its name as a field (HL7 v2.5.1, 2.15.9.1).
+pub fn field_place(segment: &[u8], field: u32) -> usize
+    ensures { result ≡ field_place segment.now field }
+{
+    if is_header(segment) {
+        field as usize
+    } else {
+        field as usize + 1
+    }
 }
 
 /// Whether a segment may follow the header.
@@ -84,7 +123,7 @@ pub fn is_body(delims: Delims, segment: &[u8]) -> bool
     };
     let ends = match rest {
         [] => true,
-        [next, ..] => *next == delims.field,
+        [next, ..] => *next == delims.field(),
     };
-    is_name([*a, *b, *c]) && ends && !segment.starts_with(b"MSH")
+    is_name(&[*a, *b, *c]) && ends && !is_header(segment)
 }

@@ -4,8 +4,7 @@ use Rattle.std.specs.Option.{is_some}
 use Rattle.std.proofs.lemmas.Bool.{and_parts, false_from_ne_true}
 use Rattle.std.proofs.lemmas.List.Folds.{list_all_at}
 use Rattle.memchr.specs.Find.{IsFirstByte, Nowhere, Passes, is_byte}
-use Rattle.er7_tree.specs.declared.delims.Delims.{Delims}
-use Rattle.er7_tree.specs.Delims.{lacks}
+use Rattle.er7_tree.specs.Delims.{Delims, lacks}
 use Rattle.er7_tree.specs.Escape.{plain, plain_pieces}
 use Rattle.er7_tree.specs.Pieces.{split}
 

@@ -48,7 +48,7 @@ fn value<'m>(message: &'m Message, path: &Path) -> Result<CowSlice<'m, u8>, Allo
     ensures unescaped { IsTrue (is_unescaped message.now path.now) → IsOk result }
 {
     let raw = message.get_raw(path);
-    if lacks(raw, message.delims().escape) {
+    if lacks(raw, message.delims().escape()) {
         return Ok(CowSlice::Borrowed(raw));
     }
     Ok(CowSlice::Owned(message.get(path)?))

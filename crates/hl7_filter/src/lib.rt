@@ -6,6 +6,3 @@ mod text;
 
 pub use condition::Cond;
 pub use text::Bytes;
-
-#[cfg(test)]
-mod tests;

@@ -1,16 +1,15 @@
 -- What holds of each byte of a text holds of each byte of its header.
-use Rattle.std.proofs.Common.{◌≡◌, ℕ, ◌-◌, not, ◌&&◌, codes, List, [], ◌∷◌, length, map, Some, None, Result, Ok, Err, refl, subst, nat_eq, nat_le, inl, inr, ⊎_elim, All}
+use Rattle.std.proofs.Common.{◌≡◌, ℕ, ◌-◌, true, not, ◌&&◌, codes, List, [], ◌∷◌, length, map, Some, None, Result, Ok, Err, refl, subst, nat_eq, nat_le, inl, inr, ⊎_elim, All}
 use Rattle.std.specs.List.{onto_first, before_first, filter}
 use Rattle.std.proofs.lemmas.Bool.{cases_Bool, cases_lt}
 use Rattle.std.proofs.lemmas.List.{get_or_past}
 use Rattle.std.proofs.lemmas.List.Elements.{All-nil, All-cons, All-head, All-same, All-tail, All-take, All-filter, All-get_or}
-use Rattle.er7_tree.specs.declared.delims.Delims.{Delims}
 use Rattle.er7_tree.specs.declared.refusal.Refusal.{Refusal}
-use Rattle.er7_tree.specs.Delims.{delims_of, declared_by, are_delimiters}
+use Rattle.er7_tree.specs.Delims.{Delims, delims_of, declared_by, are_delimiters}
 use Rattle.er7_tree.specs.Path.{segment_at, field_at, field_place, part_of}
 use Rattle.er7_tree.specs.declared.path.Part.TheVariants.{Component}
 use Rattle.er7_tree.specs.Pieces.{split, piece_at, is_empty}
-use Rattle.er7_tree.specs.Tree.{Tree, first_of, has_name, is_header, tree, segments_of, without_line_feed, without_line_feeds}
+use Rattle.er7_tree.specs.Tree.{Tree, IsMessage, first_of, has_name, is_header, tree, segments_of, without_line_feed, without_line_feeds}
 use Rattle.er7_tree.proofs.Messages.{tree_is, tree_segments}
 use Rattle.hl7_head.specs.Header.{Msh, header, header_of, header_where}
 
@@ -113,9 +112,13 @@ module _ (P : ℕ → Type 0) where
     pub processing_id : All P h.processing_id
     pub version_id : All P h.version_id
 
-  header_all : (t : Tree) → P t.delims.field → P t.delims.component → All (All P) t.segments → HeaderAll (header t)
-  header_all t field component all =
-      let segment = piece_all 1 (filter (has_name (codes "MSH")) t.segments) (All-filter (has_name (codes "MSH")) (All P) t.segments all) in
+  -- the header segment, found by its name, is the first
+  header_segment_all : (segments : List (List ℕ)) → is_header (first_of segments) ≡ true → All P (first_of segments) → All P (segment_at (codes "MSH") 1 segments)
+  header_segment_all [] is all = All-nil P
+  header_segment_all (first ∷ others) is all = rw is all
+
+  header_all : (t : Tree) → P t.delims.field → P t.delims.component → All P (segment_at (codes "MSH") 1 t.segments) → HeaderAll (header t)
+  header_all t field component segment =
       let field_of = λ (f : ℕ). field_all t.delims f (segment_at (codes "MSH") 1 t.segments) field segment in
       record {
         field = field;
@@ -131,11 +134,16 @@ module _ (P : ℕ → Type 0) where
         version_id = field_of 12;
       }
 
+  -- what holds of each byte of the header segment holds of each byte of the header
+  pub message_all : (t : Tree) → IsMessage t → All P (first_of t.segments) → HeaderAll (header t)
+  message_all t message all =
+      let delims = delims_all (first_of t.segments) t.delims all message.declared in
+      header_all t delims.0 delims.1 (header_segment_all t.segments message.header all)
+
   text_all : (text : List ℕ) (t : Tree) → tree text ≡ Ok t → All P text → HeaderAll (header t)
   text_all text t is all =
       let segments = All-same (All P) t.segments (segments_of text) (tree_segments text t is) (segments_all text all) in
-      let delims = delims_all (first_of t.segments) t.delims (first_all t.segments segments) (tree_is text t is).declared in
-      header_all t delims.0 delims.1 segments
+      message_all t (tree_is text t is) (first_all t.segments segments)
 
   header_of_all : (read : Result Tree Refusal) (text : List ℕ) (h : Msh) → tree text ≡ read → header_where read ≡ Some h → All P text → HeaderAll h
   header_of_all (Ok t) text h is where_read all = let same : header t ≡ h = cc in subst HeaderAll same (text_all text t is all)

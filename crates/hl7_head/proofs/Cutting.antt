@@ -7,8 +7,9 @@ use Rattle.std.proofs.lemmas.List.Splits.{slice_split_first}
 use Rattle.std.specs.List.{position_or_len}
 use Rattle.er7_tree.specs.Pieces.{split, piece_at}
 use Rattle.memchr.specs.Find.{Passes, is_byte, Nowhere}
-use Rattle.hl7_head.specs.declared.places.Span.{Span}
-use Rattle.hl7_head.specs.Places.{bytes_at, IsWithin, ReadsFirst}
+use Rattle.er7_tree.specs.declared.segments.Span.{Span}
+use Rattle.er7_tree.specs.Spans.{covered, IsBetween}
+use Rattle.hl7_head.specs.Places.{ReadsFirst}
 
 -- at a separator, a text is cut into the piece before it and the pieces after it
 split_at : (separator at : ℕ) (text : List ℕ) → at < length text → Passes (is_byte separator) text at → Nowhere (Passes (is_byte separator) text) 0 at
@@ -78,15 +79,15 @@ reads_nowhere text separator start end forth none =
 
 -- the span of this place holds the piece of this place
 pub record Holds (text : List ℕ) (pieces : List (List ℕ)) (k : ℕ) (span : Span) : Type 0 where
-  pub within : IsWithin (length text) span
-  pub read : bytes_at text span ≡ piece_at (k + 1) pieces
+  pub within : IsBetween 0 (length text) span
+  pub read : covered text span ≡ piece_at (k + 1) pieces
 
 -- the first n spans hold the first n pieces, and what is left of the part holds the others
 pub record ReadsOn (text : List ℕ) (separator : ℕ) (left : Span) (n size : ℕ) (pieces : List (List ℕ)) (spans : List Span) : Type 0 where
   pub sized : length spans ≡ size
-  pub inside : IsWithin (length text) left
+  pub inside : IsBetween 0 (length text) left
   pub done : (k : ℕ) (d : Span) → k < n → Holds text pieces k (get_or spans k d)
-  pub others : (k : ℕ) → piece_at (k + 1) (split separator (bytes_at text left)) ≡ piece_at (n + k + 1) pieces
+  pub others : (k : ℕ) → piece_at (k + 1) (split separator (covered text left)) ≡ piece_at (n + k + 1) pieces
 
 -- one more span
 one_more : (text : List ℕ) (pieces : List (List ℕ)) (spans : List Span) (n : ℕ) (span : Span) → n < length spans → Holds text pieces n span
@@ -101,13 +102,13 @@ pub reads_more : (text : List ℕ) (separator n size : ℕ) (left piece : Span) 
     → ReadsOn text separator (record { start = min left.end (piece.end + 1); end = left.end }) (n + 1) size pieces (set spans n piece)
 reads_more text separator n size left piece pieces spans short reads so_far =
     let first : n + 0 + 1 ≡ n + 1 = omega arith in
-    let there : left.end ≤ length text = so_far.inside.ends in
+    let there : left.end ≤ length text = so_far.inside.within in
     let shorter : n < length spans = omega (arith, so_far.sized) in
     record {
       sized = length-set spans n piece ∙ so_far.sized;
-      inside = record { ordered = omega arith; ends = so_far.inside.ends };
+      inside = record { behind = omega arith; ordered = omega arith; within = so_far.inside.within };
       done = one_more text pieces spans n piece shorter
-          (record { within = record { ordered = reads.ordered; ends = omega (arith, reads.ends) }; read = reads.first ∙ so_far.others 0 ∙ ap (λ k. piece_at k pieces) first }) so_far.done;
+          (record { within = record { behind = omega arith; ordered = reads.ordered; within = omega (arith, reads.ends) }; read = reads.first ∙ so_far.others 0 ∙ ap (λ k. piece_at k pieces) first }) so_far.done;
       others = λ k. let count : n + (k + 1) + 1 ≡ n + 1 + k + 1 = omega arith in let two : k + 1 + 1 ≡ k + 2 = omega arith in
-          reads.others k ∙ ap (λ m. piece_at m (split separator (bytes_at text left))) (sym two) ∙ so_far.others (k + 1) ∙ ap (λ m. piece_at m pieces) count;
+          reads.others k ∙ ap (λ m. piece_at m (split separator (covered text left))) (sym two) ∙ so_far.others (k + 1) ∙ ap (λ m. piece_at m pieces) count;
     }

@@ -1,27 +1,28 @@
 -- The header of a message is that of its header segment.
 use Rattle.std.proofs.Common.{◌≡◌, ℕ, ◌+◌, ◌<◌, ◌≤◌, Bool, true, false, ◌&&◌, find, inl, inr, List, [], ◌∷◌, length, get_or, Some, refl, sym, ap, ◌∙◌, arith, slice_get, nat_eq, codes}
 use Rattle.std.proofs.lemmas.Bool.{ne_eqb, eqb-true, and_parts, cases_Bool}
-use Rattle.er7_tree.specs.declared.delims.Delims.{Delims}
+use Rattle.er7_tree.specs.Delims.{Delims}
 use Rattle.er7_tree.specs.Path.{field_at}
 use Rattle.er7_tree.specs.Pieces.{split, piece_at}
 use Rattle.er7_tree.specs.Tree.{Tree, has_name, is_header}
-use Rattle.hl7_head.specs.declared.places.Span.{Span}
+use Rattle.er7_tree.specs.declared.segments.Span.{Span}
 use Rattle.hl7_head.specs.Header.{header}
-use Rattle.hl7_head.specs.Places.{AreFirstPieces, bytes_at}
+use Rattle.er7_tree.specs.Spans.{covered}
+use Rattle.hl7_head.specs.Places.{AreFirstPieces}
 use Rattle.hl7_head.specs.Segment.{component_at, header_in}
 
 -- a field of a header segment, of whose pieces the name is the first and stands for MSH-1
 pub field_read : (d : Delims) (segment : List ℕ) (spans : List Span) → is_header segment ≡ true
     → AreFirstPieces segment (split d.field segment) spans
-    → (n : ℕ) (s : Span) → 1 ≤ n → n < length spans → bytes_at segment (get_or spans n s) ≡ field_at d (n + 1) segment
+    → (n : ℕ) (s : Span) → 1 ≤ n → n < length spans → covered segment (get_or spans n s) ≡ field_at d (n + 1) segment
 field_read d segment spans is all n s low short =
     let not_first : nat_eq (n + 1) 1 ≡ false = ne_eqb (n + 1) 1 (λ e. absurd (omega arith)) in
     all.read n s short ∙ rw (is, not_first) refl
 
 -- a component of the first repetition of a field of a header segment
-pub component_read : (d : Delims) (segment : List ℕ) (field : Span) (f : ℕ) (spans : List Span) → bytes_at segment field ≡ field_at d f segment
-    → AreFirstPieces segment (split d.component (piece_at 1 (split d.repetition (bytes_at segment field)))) spans
-    → (n : ℕ) (s : Span) → n < length spans → bytes_at segment (get_or spans n s) ≡ component_at d f (n + 1) segment
+pub component_read : (d : Delims) (segment : List ℕ) (field : Span) (f : ℕ) (spans : List Span) → covered segment field ≡ field_at d f segment
+    → AreFirstPieces segment (split d.component (piece_at 1 (split d.repetition (covered segment field)))) spans
+    → (n : ℕ) (s : Span) → n < length spans → covered segment (get_or spans n s) ≡ component_at d f (n + 1) segment
 component_read d segment field f spans is all n s short = all.read n s short ∙ ap (λ text. piece_at (n + 1) (split d.component (piece_at 1 (split d.repetition text)))) is
 
 header_first : (d : Delims) (segments : List (List ℕ)) (first : List ℕ) → slice_get segments 0 ≡ Some first → is_header first ≡ true
@@ -59,5 +60,5 @@ found_passes p (y ∷ ys) x is =
 
 -- a field of an MSA segment, whose pieces begin with its name
 pub msa_field_read : (d : Delims) (segment : List ℕ) (spans : List Span) → has_name (codes "MSA") segment ≡ true → AreFirstPieces segment (split d.field segment) spans
-    → (n : ℕ) (s : Span) → n < length spans → bytes_at segment (get_or spans n s) ≡ field_at d n segment
+    → (n : ℕ) (s : Span) → n < length spans → covered segment (get_or spans n s) ≡ field_at d n segment
 msa_field_read d segment spans named all n s short = all.read n s short ∙ rw (not_header segment named) refl

@@ -6,9 +6,8 @@ use Rattle.std.specs.Option.{option_map, option_map_or, option_to_list}
 use Rattle.std.proofs.lemmas.Bool.{and_parts, and_from, cases_Bool, eq-eqb, eqb-true, false≢true, le-leb, ne_eqb}
 use Rattle.std.proofs.lemmas.Fmt.{decimal_by_steps}
 use Rattle.std.proofs.lemmas.List.Folds.{list_all-append}
-use Rattle.er7_tree.specs.declared.delims.Delims.{Delims}
 use Rattle.er7_tree.specs.declared.refusal.Refusal.{Refusal}
-use Rattle.er7_tree.specs.Delims.{is_delimiter, lacks, delims_of, declared_by, are_delimiters}
+use Rattle.er7_tree.specs.Delims.{Delims, is_delimiter, lacks, delims_of, declared_by, are_delimiters}
 use Rattle.er7_tree.specs.Path.{field_at}
 use Rattle.er7_tree.specs.Pieces.{is_vacant, piece_at, split}
 use Rattle.er7_tree.specs.Tree.{Tree, IsMessage, ended, first_of, is_header, text_of, tree}

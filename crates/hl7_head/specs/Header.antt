@@ -1,6 +1,6 @@
 -- The message header, the segment MSH.
 use Rattle.std.specs.Prelude.{ℕ, List, Option, None, Some, Result, Ok, Err}
-use Rattle.er7_tree.specs.declared.delims.Delims.{Delims}
+use Rattle.er7_tree.specs.Delims.{Delims}
 use Rattle.er7_tree.specs.declared.refusal.Refusal.{Refusal}
 use Rattle.er7_tree.specs.Path.{raw, header_place}
 use Rattle.er7_tree.specs.Tree.{Tree, tree}

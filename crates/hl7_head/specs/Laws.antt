@@ -8,15 +8,10 @@ use Rattle.hl7_head.specs.declared.ack.AckPart.{AckPart}
 use Rattle.hl7_head.specs.Ack.{cause_text, code_text, reply_id}
 use Rattle.hl7_head.specs.Header.{Msh}
 use Rattle.hl7_head.specs.Msa.{MsaFields, msa}
-use Rattle.hl7_head.specs.declared.reply.TheConstants.{CARRIAGE_RETURN}
 
--- the first byte that is no control byte
-abbrev pub SPACE : ℕ
-SPACE = 32
-
--- The bytes that pass are control bytes, and none is the carriage return, which ends segments.
+-- The bytes that pass are control bytes, which stand before the space, 32, and none is the carriage return, 13, which ends segments.
 abbrev pub AreControl : (ℕ → Bool) → Type 0
-AreControl control = (b : ℕ) → control b ≡ true → (b < SPACE) × (b ≢ CARRIAGE_RETURN)
+AreControl control = (b : ℕ) → control b ≡ true → (b < 32) × (b ≢ 13)
 
 -- the header that an acknowledgment has itself: sender and receiver have changed places
 abbrev pub header_back : Msh → AckPart → ℕ → ℕ → Msh

@@ -1,7 +1,7 @@
 -- The message acknowledgment segment, MSA.
 use Rattle.std.specs.Prelude.{List, ℕ, Option, codes, find}
 use Rattle.std.specs.Option.{option_map}
-use Rattle.er7_tree.specs.declared.delims.Delims.{Delims}
+use Rattle.er7_tree.specs.Delims.{Delims}
 use Rattle.er7_tree.specs.Path.{field_at}
 use Rattle.er7_tree.specs.Tree.{Tree, has_name}
 

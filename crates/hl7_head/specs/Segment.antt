@@ -1,6 +1,6 @@
 -- The header of a message by its segment alone.
 use Rattle.std.specs.Prelude.{ℕ, List}
-use Rattle.er7_tree.specs.declared.delims.Delims.{Delims}
+use Rattle.er7_tree.specs.Delims.{Delims}
 use Rattle.er7_tree.specs.declared.path.Part.TheVariants.{Component}
 use Rattle.er7_tree.specs.Path.{field_at, part_of}
 use Rattle.hl7_head.specs.Header.{Msh}

@@ -1,5 +1,5 @@
 ghost use Rattle.std.specs.Prelude.{◌≡◌};
-ghost use Rattle.hl7_head.specs.Ack.{cause_text, code_text};
+ghost use Rattle.hl7_head.specs.Ack.{cause_code, cause_text, code_text};
 
 /// An acknowledgment code, MSA-1 (table 0008).
 #[derive(Clone, Copy, Debug, PartialEq, Eq)]
@@ -38,7 +38,7 @@ impl AckCode {
 #[derive(Clone, Copy, Debug, PartialEq, Eq)]
 pub enum Cause {
     /// No channel takes messages of this type, MSH-9.
-    UnsupportedType = 1,
+    UnsupportedType,
     /// No message with this processing id, MSH-11, is taken (table 0103).
     UnsupportedProcessing,
     /// No message of this version, MSH-12, is taken.
@@ -62,6 +62,25 @@ pub enum Cause {
 }
 
 impl Cause {
+    /// The number of the cause, 1 to 11.
+    pub fn code(self) -> u8
+        ensures { result ≡ cause_code self }
+    {
+        match self {
+            Cause::UnsupportedType => 1,
+            Cause::UnsupportedProcessing => 2,
+            Cause::UnsupportedVersion => 3,
+            Cause::MissingControlId => 4,
+            Cause::BadControlId => 5,
+            Cause::SourceTransform => 6,
+            Cause::RouteTransform => 7,
+            Cause::IdReused => 8,
+            Cause::NoMemory => 9,
+            Cause::Full => 10,
+            Cause::PlanChanged => 11,
+        }
+    }
+
     /// The name of the cause, as MSA-3 bears it.
     pub fn text(self) -> &'static [u8]
         ensures { result.now ≡ cause_text self }

@@ -58,97 +58,97 @@ impl Header {
     pub fn encoding_characters(&self) -> &[u8]
         ensures { result.now ≡ self.now.encoding_characters }
     {
-        self.places.encoding_characters.bytes_of(&self.segment)
+        self.places.encoding_characters.of(&self.segment)
     }
 
     /// MSH-3, the sending application.
     pub fn sending_application(&self) -> &[u8]
         ensures { result.now ≡ self.now.sending_application }
     {
-        self.places.sending_application.bytes_of(&self.segment)
+        self.places.sending_application.of(&self.segment)
     }
 
     /// MSH-4, the sending facility.
     pub fn sending_facility(&self) -> &[u8]
         ensures { result.now ≡ self.now.sending_facility }
     {
-        self.places.sending_facility.bytes_of(&self.segment)
+        self.places.sending_facility.of(&self.segment)
     }
 
     /// MSH-5, the receiving application.
     pub fn receiving_application(&self) -> &[u8]
         ensures { result.now ≡ self.now.receiving_application }
     {
-        self.places.receiving_application.bytes_of(&self.segment)
+        self.places.receiving_application.of(&self.segment)
     }
 
     /// MSH-6, the receiving facility.
     pub fn receiving_facility(&self) -> &[u8]
         ensures { result.now ≡ self.now.receiving_facility }
     {
-        self.places.receiving_facility.bytes_of(&self.segment)
+        self.places.receiving_facility.of(&self.segment)
     }
 
     /// MSH-9.1, the message code.
     pub fn message_code(&self) -> &[u8]
         ensures { result.now ≡ self.now.message_code }
     {
-        self.places.message_code.bytes_of(&self.segment)
+        self.places.message_code.of(&self.segment)
     }
 
     /// MSH-9.2, the trigger event.
     pub fn trigger_event(&self) -> &[u8]
         ensures { result.now ≡ self.now.trigger_event }
     {
-        self.places.trigger_event.bytes_of(&self.segment)
+        self.places.trigger_event.of(&self.segment)
     }
 
     /// MSH-10, the message control id.
     pub fn control_id(&self) -> &[u8]
         ensures { result.now ≡ self.now.control_id }
     {
-        self.places.control_id.bytes_of(&self.segment)
+        self.places.control_id.of(&self.segment)
     }
 
     /// MSH-11, the processing id.
     pub fn processing_id(&self) -> &[u8]
         ensures { result.now ≡ self.now.processing_id }
     {
-        self.places.processing_id.bytes_of(&self.segment)
+        self.places.processing_id.of(&self.segment)
     }
 
     /// MSH-11.1, the processing id proper (table 0103).
     pub fn processing_code(&self) -> &[u8]
         ensures { result.now ≡ self.now.processing_code }
     {
-        self.places.processing_code.bytes_of(&self.segment)
+        self.places.processing_code.of(&self.segment)
     }
 
     /// MSH-12, the version id.
     pub fn version_id(&self) -> &[u8]
         ensures { result.now ≡ self.now.version_id }
     {
-        self.places.version_id.bytes_of(&self.segment)
+        self.places.version_id.of(&self.segment)
     }
 
     /// MSH-12.1, the version id proper (table 0104).
     pub fn version_code(&self) -> &[u8]
         ensures { result.now ≡ self.now.version_code }
     {
-        self.places.version_code.bytes_of(&self.segment)
+        self.places.version_code.of(&self.segment)
     }
 
     /// MSH-15, the accept acknowledgment type (table 0155).
     pub fn accept_type(&self) -> &[u8]
         ensures { result.now ≡ self.now.accept_type }
     {
-        self.places.accept_type.bytes_of(&self.segment)
+        self.places.accept_type.of(&self.segment)
     }
 
     /// MSH-16, the application acknowledgment type (table 0155).
     pub fn application_type(&self) -> &[u8]
         ensures { result.now ≡ self.now.application_type }
     {
-        self.places.application_type.bytes_of(&self.segment)
+        self.places.application_type.of(&self.segment)
     }
 }

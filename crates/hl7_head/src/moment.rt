@@ -14,13 +14,12 @@ pub struct Moment {
 
 impl Model for Moment {
     ghost use Rattle.std.specs.Prelude.{ℕ, ◌≤◌};
-    ghost use Rattle.hl7_head.specs.declared.moment.TheConstants.{LAST_MOMENT};
 
     ghost Value = { ℕ };
 
     ghost view = { λ m. m.seconds };
 
-    ghost invariant = { λ m. m.seconds ≤ LAST_MOMENT };
+    ghost invariant = { λ m. m.seconds ≤ 253370764799 };
 
     ghost inverse = { λ n. record { seconds = n } };
 }
@@ -37,7 +36,7 @@ impl Moment {
     ///
     /// Seconds below 0 and above [`LAST_MOMENT`] are no moment.
     pub fn of_unix(seconds: i64) -> Result<Moment, MomentRange>
-        ensures range { IsOk result ↔ ((pos 0 ≤ℤ seconds) × (seconds ≤ℤ pos LAST_MOMENT)) }
+        ensures range { IsOk result ↔ ((pos 0 ≤ℤ seconds) × (seconds ≤ℤ pos 253370764799)) }
         ensures value { IfOk result (λ moment. pos moment ≡ seconds) }
     {
         match u64::try_from(seconds) {
@@ -49,7 +48,7 @@ impl Moment {
     /// The seconds since the year 1970 began.
     pub fn secs(self) -> u64
         ensures value { result ≡ self }
-        ensures bound { result ≤ LAST_MOMENT }
+        ensures bound { result ≤ 253370764799 }
     {
         self.seconds
     }

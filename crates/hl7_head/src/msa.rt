@@ -1,7 +1,7 @@
-ghost use Rattle.std.specs.Prelude.{◌≡◌, IfOk};
+ghost use Rattle.std.specs.Prelude.{◌≡◌, IfOk, None, Ok};
 
-use crate::places::{Span, first_pieces};
-use er7_tree::Message;
+use crate::places::first_pieces;
+use er7_tree::{Message, Span};
 use std::alloc::{AllocError, Global};
 use std::marker::Model;
 
@@ -32,20 +32,23 @@ impl Msa {
 
     /// The first MSA of a message, where it has one.
     pub fn read(alloc: Global, message: &Message) -> Result<Option<Msa>, AllocError>
-        ensures { IfOk result (λ found. found ≡ msa message.now) }
+        ensures value { IfOk result (λ found. found ≡ msa message.now) }
+
+        // A message without an MSA takes no memory.
+        ensures absent { msa message.now ≡ None → result ≡ Ok None }
     {
         let Some(segment) = message.segment(b"MSA") else {
             return Ok(None);
         };
         let [_name, code, control_id, text] = first_pieces::<PIECES_READ>(
             segment,
-            Span::of(segment),
-            message.delims().field,
+            Span::whole(segment),
+            message.delims().field(),
         );
         Ok(Some(Msa {
-            code: Vec::from_slice(alloc, code.bytes_of(segment))?,
-            control_id: Vec::from_slice(alloc, control_id.bytes_of(segment))?,
-            text: Vec::from_slice(alloc, text.bytes_of(segment))?,
+            code: Vec::from_slice(alloc, code.of(segment))?,
+            control_id: Vec::from_slice(alloc, control_id.of(segment))?,
+            text: Vec::from_slice(alloc, text.of(segment))?,
         }))
     }
 }

@@ -1,48 +1,19 @@
 ghost use Rattle.std.specs.Prelude.{◌≡◌, true, length};
 ghost use Rattle.er7_tree.specs.Pieces.{split, piece_at};
 ghost use Rattle.er7_tree.specs.Tree.{is_header};
-ghost use Rattle.hl7_head.specs.Places.{bytes_at, AreFirstPieces, AreWithin, IsWithin, ReadsFirst, bytes_at, pieces_at};
+ghost use Rattle.er7_tree.specs.Spans.{covered, IsBetween};
+ghost use Rattle.hl7_head.specs.Places.{AreFirstPieces, AreWithin, ReadsFirst, pieces_at};
 ghost use Rattle.hl7_head.specs.Segment.{header_in};
 
-use er7_tree::Delims;
+use er7_tree::{Delims, Span};
 use memchr::memchr;
 
 /// MSH is read up to its sixteenth field; its name stands in the place of the first, the field separator.
 const FIELDS_READ: usize = 16;
 
-/// Where a piece of a segment stands: its first byte, and the byte after its last.
-#[derive(Clone, Copy, Debug)]
-pub struct Span {
-    pub start: usize,
-    pub end: usize,
-}
-
-impl Span {
-    const EMPTY: Span = Span { start: 0, end: 0 };
-
-    /// The whole of a segment.
-    pub fn of(segment: &[u8]) -> Span
-        ensures within { IsWithin (length segment.now) result }
-        ensures whole { bytes_at segment.now result ≡ segment.now }
-    {
-        Span {
-            start: 0,
-            end: segment.len(),
-        }
-    }
-
-    /// The bytes that the span takes in.
-    pub fn bytes_of(self, segment: &[u8]) -> &[u8]
-        requires { IsWithin (length segment.now) self }
-        ensures { result.now ≡ bytes_at segment.now self }
-    {
-        &segment[self.start..self.end]
-    }
-}
-
 /// The first piece of a part of a segment between separators.
 fn first_piece(segment: &[u8], part: Span, separator: u8) -> Span
-    requires { IsWithin (length segment.now) part }
+    requires { IsBetween 0 (length segment.now) part }
     ensures { ReadsFirst segment.now separator part result }
 {
     match memchr(separator, &segment[part.start..part.end]) {
@@ -56,8 +27,8 @@ fn first_piece(segment: &[u8], part: Span, separator: u8) -> Span
 
 /// The first `N` pieces of a part of a segment between separators. A piece that isn't there is empty.
 pub fn first_pieces<const N: usize>(segment: &[u8], part: Span, separator: u8) -> [Span; N]
-    requires { IsWithin (length segment.now) part }
-    ensures { AreFirstPieces segment.now (split separator (bytes_at segment.now part)) result }
+    requires { IsBetween 0 (length segment.now) part }
+    ensures { AreFirstPieces segment.now (split separator (covered segment.now part)) result }
 {
     let mut pieces = [Span::EMPTY; N];
     let mut left = part;
@@ -90,11 +61,11 @@ pub struct Places {
 
 /// The first two components of the first repetition of a field.
 fn components(segment: &[u8], delims: Delims, field: Span) -> [Span; 2]
-    requires { IsWithin (length segment.now) field }
-    ensures { AreFirstPieces segment.now (split delims.component (piece_at 1 (split delims.repetition (bytes_at segment.now field)))) result }
+    requires { IsBetween 0 (length segment.now) field }
+    ensures { AreFirstPieces segment.now (split delims.component (piece_at 1 (split delims.repetition (covered segment.now field)))) result }
 {
-    let [repetition] = first_pieces::<1>(segment, field, delims.repetition);
-    first_pieces(segment, repetition, delims.component)
+    let [repetition] = first_pieces::<1>(segment, field, delims.repetition());
+    first_pieces(segment, repetition, delims.component())
 }
 
 impl Places {
@@ -121,7 +92,7 @@ impl Places {
             _continuation_pointer,
             accept_type,
             application_type,
-        ] = first_pieces::<FIELDS_READ>(segment, Span::of(segment), delims.field);
+        ] = first_pieces::<FIELDS_READ>(segment, Span::whole(segment), delims.field());
         let [message_code, trigger_event] = components(segment, delims, message_type);
         let [processing_code, _] = components(segment, delims, processing_id);
         let [version_code, _] = components(segment, delims, version_id);

@@ -5,11 +5,9 @@ use crate::ack::AckPart;
 use crate::header::Header;
 use crate::moment::Moment;
 use crate::stamping::stamp;
-use er7_tree::is_vacant;
+use er7_tree::{CARRIAGE_RETURN, is_vacant};
 use itoa::Buffer;
 use std::alloc::{AllocError, Global};
-
-const CARRIAGE_RETURN: u8 = b'\r';
 
 /// What an acknowledgment holds beside pieces of the header that it answers: names, codes, separators, the stamp and the id.
 const OWN_BYTES: usize = 128;
@@ -37,8 +35,8 @@ fn push_reply_type(text: &mut Vec<u8>, header: &Header) -> Result<(), AllocError
     ensures { OnOk result (text.new.items ≡ text.old.items ++ header.now.delims.field ∷ reply_type header.now) }
 {
     let event = header.trigger_event();
-    let component = header.delims().component;
-    push_field(text, header.delims().field, b"ACK")?;
+    let component = header.delims().component();
+    push_field(text, header.delims().field(), b"ACK")?;
     if !is_vacant(event) {
         push_field(text, component, event)?;
         push_field(text, component, b"ACK")?;
@@ -83,7 +81,7 @@ fn push_header(
     ensures { OnOk result (text.new.items ≡ text.old.items
         ++ segment_text header.now.delims.field (codes "MSH") (reply_header header.now part.now moment (reply_id connection number))) }
 {
-    let separator = header.delims().field;
+    let separator = header.delims().field();
     let stamp = stamp(moment);
     let to_date_and_security: [&[u8]; 7] = [
         header.encoding_characters(),
@@ -113,7 +111,7 @@ fn push_answer(text: &mut Vec<u8>, header: &Header, part: &AckPart) -> Result<()
     ensures { OnOk result (text.new.items ≡ text.old.items
         ++ segment_text header.now.delims.field (codes "MSA") (reply_answer header.now part.now)) }
 {
-    let separator = header.delims().field;
+    let separator = header.delims().field();
     text.extend_from_slice(b"MSA")?;
     push_field(text, separator, part.code.text())?;
     push_field(text, separator, header.control_id())?;

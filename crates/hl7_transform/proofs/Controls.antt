@@ -2,8 +2,7 @@
 use Rattle.std.proofs.Common.{◌≡◌, ℕ, zero, suc, ◌+◌, Bool, true, false, not, ◌&&◌, ◌||◌, List, [], ◌∷◌, refl, sym, ap, ◌∙◌, subst, inl, inr, nat_eq, arith, IfOk, Contains}
 use Rattle.std.proofs.lemmas.Bool.{and_parts, cases_Bool, false≢true, ne_eqb}
 use Rattle.std.specs.List.{list_all}
-use Rattle.er7_tree.specs.declared.delims.Delims.{Delims}
-use Rattle.er7_tree.specs.Delims.{AreDelims, is_delimiter, lacks}
+use Rattle.er7_tree.specs.Delims.{Delims, AreDelims, is_delimiter, lacks}
 use Rattle.er7_tree.specs.Edit as edit
 use Rattle.er7_tree.specs.Escape.{escape, controls, reserved}
 use Rattle.er7_tree.specs.Path.{Place, raw, value, field_at, field_place, segment_at, is_fixed, same_level, levels}

@@ -3,10 +3,9 @@ use Rattle.std.proofs.Common.{◌≡◌, ℕ, zero, suc, ◌-◌, Bool, true, fa
 use Rattle.std.proofs.lemmas.Bool.{and_parts, and_from, cases_Bool}
 use Rattle.std.proofs.lemmas.List.Folds.{list_all-append}
 use Rattle.std.specs.List.{list_all, filter, flat_map}
-use Rattle.er7_tree.specs.declared.delims.Delims.{Delims}
 use Rattle.er7_tree.specs.declared.path.Part.{Part}
 use Rattle.er7_tree.specs.declared.path.Part.TheVariants.{Whole, Repetition, Component, Subcomponent}
-use Rattle.er7_tree.specs.Delims.{lacks}
+use Rattle.er7_tree.specs.Delims.{Delims, lacks}
 use Rattle.er7_tree.specs.Edit.{change_segment, put_in}
 use Rattle.er7_tree.specs.Path.{levels, piece_in, segment_at}
 use Rattle.er7_tree.specs.Pieces.{split, join, piece_at, put, put_after}

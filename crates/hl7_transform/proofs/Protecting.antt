@@ -10,7 +10,6 @@ use Rattle.er7_tree.proofs.EditLaws.{set_puts, copy_puts, clear_puts, remove_giv
 use Rattle.er7_tree.proofs.EditedMessages.{removed, is_path-name}
 use Rattle.er7_tree.proofs.Editing.{set_kept, copy_kept, clear_kept, fits-escape, fits-raw, fits-empty}
 use Rattle.er7_tree.proofs.Messages.{delims_are}
-use Rattle.hl7_transform.specs.declared.checking.TheConstants.{CONTROL_ID}
 use Rattle.hl7_transform.specs.Check.{is_protected, writable, may_stand}
 use Rattle.hl7_transform.specs.Rules.{KeepsProtected, names_paths}
 use Rattle.hl7_transform.specs.Step.{Edit, set, copy, clear, lookup, remove, partner, made, change, changed_at, after_from, after}
@@ -41,8 +40,8 @@ held p q named_p named_q is =
 -- places in one field are protected alike
 alike : (p q : Place) → p.segment ≡ q.segment → p.field ≡ q.field → is_protected p ≡ is_protected q
 alike p q segment field =
-    ap (λ name. (is_header name && nat_le p.field 2) || (is_header name && nat_eq p.field CONTROL_ID)) segment
-    ∙ ap (λ n. (is_header q.segment && nat_le n 2) || (is_header q.segment && nat_eq n CONTROL_ID)) field
+    ap (λ name. (is_header name && nat_le p.field 2) || (is_header name && nat_eq p.field 10)) segment
+    ∙ ap (λ n. (is_header q.segment && nat_le n 2) || (is_header q.segment && nat_eq n 10)) field
 
 not_from : (x : Bool) → (x ≡ true → ⊥) → not x ≡ true
 not_from true fails = absurd (fails refl)

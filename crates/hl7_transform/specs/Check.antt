@@ -4,12 +4,11 @@ use Rattle.er7_tree.specs.Path.{Place, is_fixed, same_level}
 use Rattle.er7_tree.specs.Tree.{is_name, is_header}
 use Rattle.hl7_transform.specs.declared.checking.StepCheck.{StepCheck}
 use Rattle.hl7_transform.specs.declared.checking.StepCheck.TheVariants.{BadPath, ForbiddenWrite}
-use Rattle.hl7_transform.specs.declared.checking.TheConstants.{CONTROL_ID}
 use Rattle.hl7_transform.specs.Step.{Edit, set, copy, clear, lookup, remove}
 
--- MSH-1, MSH-2, and MSH-10 with its parts
+-- MSH-1, MSH-2, and MSH-10, the message control id, with its parts
 abbrev pub is_protected : Place → Bool
-is_protected p = is_fixed p || (is_header p.segment && p.field == CONTROL_ID)
+is_protected p = is_fixed p || (is_header p.segment && p.field == 10)
 
 -- a write to a place
 abbrev pub writable : Place → Result (Unit {0}) StepCheck
@@ -30,6 +29,11 @@ check_step (copy from to) = copyable from to
 check_step (clear place) = writable place
 check_step (lookup place table default) = writable place
 check_step (remove name) = removable name
+
+-- the numbers of these answers
+abbrev pub check_code : StepCheck → ℕ
+check_code BadPath = 1
+check_code ForbiddenWrite = 2
 
 -- the step may stand
 abbrev pub may_stand : Edit → Bool

@@ -1,6 +1,5 @@
 -- What is answered of steps.
 use Rattle.std.specs.Prelude.{◌≡◌, true, List, Result, Ok, Err}
-use Rattle.std.specs.List.{list_any}
 use Rattle.er7_tree.specs.declared.refusal.Refusal.{Refusal}
 use Rattle.er7_tree.specs.declared.refusal.Refusal.TheVariants as refusal
 use Rattle.er7_tree.specs.Tree.{Tree}
@@ -10,21 +9,23 @@ use Rattle.hl7_transform.specs.declared.fault.StopCause.{StopCause}
 use Rattle.hl7_transform.specs.declared.fault.StopCause.TheVariants.{NoSuchSegment}
 use Rattle.hl7_transform.specs.declared.stop.Stop.{Stop}
 use Rattle.hl7_transform.specs.declared.stop.Stop.TheVariants as stop
-use Rattle.hl7_transform.specs.Step.{Edit, wants_memory}
+use Rattle.hl7_transform.specs.Step.{Edit, SomeWantsMemory, after, change, wants_memory}
 
 -- why a step stops where an edit is refused
 abbrev pub stop_of : Refusal → Stop
 stop_of refusal.NoMemory = stop.NoMemory
 stop_of _ = stop.Cause NoSuchSegment
 
--- The new message is that of the answer, or the cause is its; want of memory stands only for a step that wants memory.
-abbrev pub Takes : Edit → Result (Unit {0}) Stop → Tree → Result Tree StopCause → Type 0
-Takes step (Ok _) new answer = answer ≡ Ok new
-Takes step (Err (stop.Cause cause)) new answer = answer ≡ Err cause
-Takes step (Err stop.NoMemory) new answer = wants_memory step ≡ true
+-- What a step made of a message: the new message is that of the step, or the cause is its; want of memory stands only where
+-- the step may want memory.
+abbrev pub Takes : Edit → Tree → Result (Unit {0}) Stop → Tree → Type 0
+Takes step old (Ok _) new = change step old ≡ Ok new
+Takes step old (Err (stop.Cause cause)) new = change step old ≡ Err cause
+Takes step old (Err stop.NoMemory) new = wants_memory step old ≡ true
 
--- What was answered is this answer; want of memory stands only where a step wants memory.
-abbrev pub Gives : List Edit → Result Tree StepFault → Result Tree StepFault → Type 0
-Gives steps (Ok t) answer = answer ≡ Ok t
-Gives steps (Err (fault.Stopped place cause)) answer = answer ≡ Err (fault.Stopped place cause)
-Gives steps (Err fault.NoMemory) answer = list_any wants_memory steps ≡ true
+-- What was answered of steps on a message is the message after them, or the place and the cause at which they stop; want of
+-- memory stands only where a step that is reached may want memory.
+abbrev pub Gives : List Edit → Tree → Result Tree StepFault → Type 0
+Gives steps old (Ok new) = after steps old ≡ Ok new
+Gives steps old (Err (fault.Stopped place cause)) = after steps old ≡ Err (fault.Stopped place cause)
+Gives steps old (Err fault.NoMemory) = SomeWantsMemory steps old

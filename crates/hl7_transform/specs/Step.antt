@@ -1,5 +1,5 @@
 -- The steps of a transformer, and the message after them.
-use Rattle.std.specs.Prelude.{ℕ, ◌+◌, Bool, true, false, List, [], ◌∷◌, Option, option_map, find, Result, Ok, Err}
+use Rattle.std.specs.Prelude.{◌≡◌, ◌⊎◌, ℕ, ◌+◌, Bool, true, false, List, [], ◌∷◌, Option, option_map, find, Result, Ok, Err, is_ok, IsOkAnd}
 use Rattle.std.specs.Option.{ok_or, option_or}
 use Rattle.std.specs.Result.{result_map_both}
 use Rattle.std.specs.Str.{bytes_eq}
@@ -44,10 +44,19 @@ change (clear place) t = made (edit.clear t place)
 change (lookup place table default) t = ok_or (partner table default (value t place)) NotInTable >>= λ text. made (edit.set t place text)
 change (remove name) t = made (edit.remove_segments t name)
 
--- a removal of segments wants no memory
-abbrev pub wants_memory : Edit → Bool
-wants_memory (remove name) = false
-wants_memory _ = true
+-- A step may want memory for the piece that it writes, so only where it can be taken: a clear only for a piece that is there,
+-- a removal of segments never. A lookup reads a value first, and may want memory for that too.
+abbrev pub wants_memory : Edit → Tree → Bool
+wants_memory (set place text) t = is_ok (change (set place text) t)
+wants_memory (copy from to) t = is_ok (change (copy from to) t)
+wants_memory (clear place) t = edit.has t place
+wants_memory (lookup place table default) t = true
+wants_memory (remove name) t = false
+
+-- Some step that is reached may want memory: the first, or one of the others, after the first.
+abbrev pub SomeWantsMemory : List Edit → Tree → Type 0
+SomeWantsMemory [] t = ⊥
+SomeWantsMemory (step ∷ steps) t = (wants_memory step t ≡ true) ⊎ IsOkAnd (change step t) (SomeWantsMemory steps)
 
 -- a step at a place among the steps
 abbrev pub changed_at : ℕ → Edit → Tree → Result Tree StepFault

@@ -1,11 +1,10 @@
 ghost use Rattle.std.specs.Prelude.{◌≡◌};
-ghost use Rattle.hl7_transform.specs.Check.{is_protected, writable, removable, check_step, may_stand};
+ghost use Rattle.hl7_transform.specs.Check.{is_protected, writable, removable, check_step, check_code, may_stand};
 ghost use Rattle.std.specs.List.{list_all};
-ghost use Rattle.er7_tree.specs.Tree.{is_name};
 ghost use Rattle.hl7_transform.specs.View.{view, steps_view};
 
 use crate::step::Step;
-use er7_tree::Path;
+use er7_tree::{Path, is_header, is_name};
 use thiserror::Error;
 
 /// The field of MSH that holds the message control id (HL7 v2.5.1, 2.15.9.10).
@@ -22,11 +21,28 @@ pub enum StepCheck {
     ForbiddenWrite,
 }
 
+impl StepCheck {
+    /// The number of the answer, 1 or 2.
+    pub fn code(self) -> u8
+        ensures { result ≡ check_code self }
+    {
+        match self {
+            StepCheck::BadPath => 1,
+            StepCheck::ForbiddenWrite => 2,
+        }
+    }
+}
+
+/// The field that is protected is MSH-10, as the definitions write out.
+pub fn constants_are()
+    ensures { CONTROL_ID ≡ 10 }
+{}
+
 /// Whether this is MSH-1, MSH-2, MSH-10 or a part of MSH-10.
 fn is_protected(path: &Path) -> bool
     ensures { result ≡ is_protected path.now }
 {
-    path.is_fixed() || (path.segment().starts_with(b"MSH") && path.field() == CONTROL_ID)
+    path.is_fixed() || (is_header(path.segment()) && path.field() == CONTROL_ID)
 }
 
 /// A write to a place.
@@ -39,18 +55,6 @@ fn writable(path: &Path) -> Result<(), StepCheck>
     Ok(())
 }
 
-/// Whether this is a segment's name: a capital letter, and two capital letters or digits.
-fn is_name(name: &[u8]) -> bool
-    ensures { result ≡ is_name name.now }
-{
-    let [first, second, third] = name else {
-        return false;
-    };
-    first.is_ascii_uppercase()
-        && (second.is_ascii_uppercase() || second.is_ascii_digit())
-        && (third.is_ascii_uppercase() || third.is_ascii_digit())
-}
-
 /// A removal of the segments of a name.
 fn removable(name: &[u8]) -> Result<(), StepCheck>
     ensures { result ≡ removable name.now }
@@ -58,7 +62,7 @@ fn removable(name: &[u8]) -> Result<(), StepCheck>
     if !is_name(name) {
         return Err(StepCheck::BadPath);
     }
-    if name == b"MSH".as_slice() {
+    if is_header(name) {
         return Err(StepCheck::ForbiddenWrite);
     }
     Ok(())

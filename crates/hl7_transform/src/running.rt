@@ -3,7 +3,7 @@ ghost use Rattle.std.specs.Option.{option_copied};
 ghost use Rattle.std.specs.List.{list_all};
 ghost use Rattle.hl7_transform.specs.Check.{may_stand};
 ghost use Rattle.hl7_transform.specs.Outcome.{Gives, Takes};
-ghost use Rattle.hl7_transform.specs.Step.{partner, change, after};
+ghost use Rattle.hl7_transform.specs.Step.{partner};
 ghost use Rattle.hl7_transform.specs.View.{view, steps_view, table_view};
 
 use crate::fault::{StepFault, StopCause};
@@ -26,7 +26,7 @@ fn partner<'t>(table: &'t [Pair], default: Option<&'t Bytes>, value: &[u8]) -> O
 
 /// Takes one step.
 fn take(step: &Step, message: &mut Message) -> Result<(), Stop>
-    ensures { Takes (view step.now) result message.new (change (view step.now) message.old) }
+    ensures { Takes (view step.now) message.old result message.new }
 {
     match step {
         Step::Set(path, text) => message.set(path, text.as_slice())?,
@@ -50,10 +50,11 @@ fn take(step: &Step, message: &mut Message) -> Result<(), Stop>
 
 /// The message after the steps, each of which sees the result of the one before.
 ///
-/// `Stopped` tells the first step that can't be taken; on a fault the message is dropped.
+/// `Stopped` tells the first step that can't be taken, and `NoMemory` that a growth was refused for a step that could be, or
+/// for the value that a lookup reads. On a fault the message is dropped.
 pub fn apply(steps: &[Step], mut message: Message) -> Result<Message, StepFault>
     requires { IsTrue (list_all may_stand (steps_view steps.now)) }
-    ensures { Gives (steps_view steps.now) result (after (steps_view steps.now) message) }
+    ensures { Gives (steps_view steps.now) message result }
 {
     for (place, step) in steps.iter().enumerate() {
         if let Err(stop) = take(step, &mut message) {

@@ -15,7 +15,6 @@ use Rattle.hl7_transform.specs.declared.fault.StepFault.{StepFault}
 use Rattle.hl7_transform.specs.Step.{after}
 use Rattle.plan_text.specs.Entries.{PlanEntry, ChannelEntry, RouteEntry, takes_type, takes_processing, takes_version}
 use Rattle.judge_core.specs.declared.delivery.Delivery.{Delivery}
-use Rattle.judge_core.specs.declared.judged.TheConstants.{CONTROL_ID_MAX}
 use Rattle.judge_core.specs.declared.judged.Verdict.{Verdict}
 use Rattle.judge_core.specs.declared.judged.Verdict.TheVariants.{Unreadable, Stray, Refuse, Filtered, Accept}
 use Rattle.judge_core.specs.Delivering.{destinations_of}
@@ -30,14 +29,14 @@ pub record Judgement : Type 0 where
 abbrev pub is_acknowledgment : Msh → Bool
 is_acknowledgment h = bytes_eq h.message_code (codes "ACK")
 
--- the first fault of a header: a type, processing id or version that the channel doesn't take, a control id that is missing or too long
+-- the first fault of a header: a type, processing id or version that the channel doesn't take, a control id that is missing or of over 199 bytes
 unfoldable pub header_fault : ChannelEntry → Msh → Option Cause
 header_fault channel h =
     if not (takes_type channel h.message_code h.trigger_event) then Some UnsupportedType
     else (if not (takes_processing channel h.processing_code) then Some UnsupportedProcessing
     else (if not (takes_version channel h.version_code) then Some UnsupportedVersion
     else (if is_vacant h.control_id then Some MissingControlId
-    else (if nat_lt CONTROL_ID_MAX (length h.control_id) then Some BadControlId
+    else (if nat_lt 199 (length h.control_id) then Some BadControlId
     else None))))
 
 -- whether a message passes a filter; where there is none each message does

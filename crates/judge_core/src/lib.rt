@@ -8,8 +8,6 @@ mod text;
 
 pub use delivery::{Deliveries, Delivery};
 pub use judged::{CONTROL_ID_MAX, Judged, Verdict, judge};
-pub use laws::{key_rules, verdict_rules};
+pub use laws::{constants_are, key_rules, verdict_rules};
 pub use text::{Text, fits_block};
 
-#[cfg(test)]
-mod tests;

@@ -14,13 +14,13 @@ use Rattle.plan_text.specs.Entries.{DestinationEntry, RouteEntry, ChannelEntry, 
 use Rattle.plan_text.specs.Keys.{key, key_path, required, or_else, table_at, only_keys, list, list_within, item_count, each, each_after}
 use Rattle.plan_text.specs.Kinds.{new_name, text_within, message_type, processing_id, version_id}
 use Rattle.plan_text.specs.Conditions.{path, path_in, path_and_text, filter_at}
-use Rattle.plan_text.specs.Steps.{checked, stands_at, two_texts, pairs, pair_at, any_text, default_text, set_at, copy_at, clear_at, lookup_at, remove_at, step_key, step_by, step, steps_at}
+use Rattle.plan_text.specs.Steps.{checked, stands_at, step_key, step_by, step, steps_at}
 use Rattle.hl7_transform.specs.declared.checking.StepCheck.{StepCheck}
 use Rattle.hl7_transform.specs.declared.checking.StepCheck.TheVariants as check
 use Rattle.hl7_transform.specs.Check.{check_step, may_stand}
 use Rattle.hl7_transform.specs.Step.{Edit, set, copy, clear, lookup, remove}
 use Rattle.plan_text.specs.Destinations.{destinations}
-use Rattle.plan_text.specs.Channels.{place_of, leads_to, new_place, route_to, route, route_keys, routes_at, entries_at, channel, channel_keys, channel_has_name}
+use Rattle.plan_text.specs.Channels.{place_of, leads_to, new_place, way_at, route_to, route, route_keys, routes_at, taken_at, channel, channel_keys, channel_has_name}
 use Rattle.plan_text.specs.Document.{some_within}
 use Rattle.plan_text.proofs.Deep.{filter-levels}
 use Rattle.plan_text.proofs.Laws.{bound, told_Ok, name_is, list_is, passed, each_after-length, each_after-keeps, differs, destinations-are}
@@ -48,59 +48,14 @@ edit_as s = Ok s
 same_stands : (s t : Edit) → edit_as s ≡ Ok t → may_stand s ≡ true → may_stand t ≡ true
 same_stands s t e h = let same : s ≡ t = cc in subst (λ x. may_stand x ≡ true) same h
 
-set-stands : (at : List ℕ) (t : Members) → Stands (set_at at t)
-unfolding set_at
-set-stands at t s h =
-    let p = bound (key at t (codes "set") (required path_and_text)) _ s h in
-    let u = bound (stands_at (key_path at (codes "set")) (set p.0.0 p.0.1)) _ s p.1.1 in
-    same_stands (set p.0.0 p.0.1) s u.1.1 (stands (key_path at (codes "set")) (set p.0.0 p.0.1) u.0 u.1.0)
-
-copy-stands : (at : List ℕ) (t : Members) → Stands (copy_at at t)
-unfolding copy_at
-copy-stands at t s h =
-    let p = bound (key at t (codes "copy") (required two_texts)) _ s h in
-    let from = bound (told (key_path at (codes "copy")) (path_in p.0.0)) _ s p.1.1 in
-    let to = bound (told (key_path at (codes "copy")) (path_in p.0.1)) _ s from.1.1 in
-    let u = bound (stands_at (key_path at (codes "copy")) (copy from.0 to.0)) _ s to.1.1 in
-    same_stands (copy from.0 to.0) s u.1.1 (stands (key_path at (codes "copy")) (copy from.0 to.0) u.0 u.1.0)
-
-clear-stands : (at : List ℕ) (t : Members) → Stands (clear_at at t)
-unfolding clear_at
-clear-stands at t s h =
-    let p = bound (key at t (codes "clear") (required path)) _ s h in
-    let u = bound (stands_at (key_path at (codes "clear")) (clear p.0)) _ s p.1.1 in
-    same_stands (clear p.0) s u.1.1 (stands (key_path at (codes "clear")) (clear p.0) u.0 u.1.0)
-
-lookup-stands : (at : List ℕ) (t : Members) → Stands (lookup_at at t)
-unfolding lookup_at
-lookup-stands at t s h =
-    let p = bound (key at t (codes "lookup") (required path)) _ s h in
-    let u = bound (stands_at (key_path at (codes "lookup")) (clear p.0)) _ s p.1.1 in
-    let ds = bound (key at t (codes "table") (required pairs)) _ s u.1.1 in
-    let table = bound (each pair_at (key_path at (codes "table")) ds.0) _ s ds.1.1 in
-    let default = bound (key at t (codes "default") (or_else None default_text)) _ s table.1.1 in
-    same_stands (lookup p.0 table.0 default.0) s default.1.1 (stands (key_path at (codes "lookup")) (clear p.0) u.0 u.1.0)
-
-remove-stands : (at : List ℕ) (t : Members) → Stands (remove_at at t)
-unfolding remove_at
-remove-stands at t s h =
-    let name = bound (key at t (codes "remove") (required any_text)) _ s h in
-    let u = bound (stands_at (key_path at (codes "remove")) (remove name.0)) _ s name.1.1 in
-    same_stands (remove name.0) s u.1.1 (stands (key_path at (codes "remove")) (remove name.0) u.0 u.1.0)
-
-one_of_two : (b : Bool) (r s : Result Edit PlanFault) → Stands r → Stands s → Stands (if b then r else s)
-one_of_two true r s p q = p
-one_of_two false r s p q = q
-
 step-stands : (at : List ℕ) (d : Data) → Stands (step at d)
-unfolding step step_by
+unfolding step
 step-stands at d s h =
     let t = bound (table_at at d) _ s h in
     let k = bound (step_key at t.0) _ s t.1.1 in
-    one_of_two (bytes_eq k.0 (codes "set")) _ _ (set-stands at t.0)
-    (one_of_two (bytes_eq k.0 (codes "copy")) _ _ (copy-stands at t.0)
-    (one_of_two (bytes_eq k.0 (codes "clear")) _ _ (clear-stands at t.0)
-    (one_of_two (bytes_eq k.0 (codes "lookup")) _ _ (lookup-stands at t.0) (remove-stands at t.0)))) s k.1.1
+    let r = bound (step_by k.0 at t.0) _ s k.1.1 in
+    let u = bound (stands_at (key_path at k.0) r.0) _ s r.1.1 in
+    same_stands r.0 s u.1.1 (stands (key_path at k.0) r.0 u.0 u.1.0)
 
 steps-stand : (at : List ℕ) (v : Option Data) (steps : List Edit) → steps_at at v ≡ Ok steps → AllStand steps
 unfolding steps_at
@@ -152,6 +107,19 @@ record IsNew (ds : List DestinationEntry) (before : List RouteEntry) (r : RouteE
   pub shallow : IsShallow r.filter
   pub stand : AllStand r.steps
 
+abbrev way_as : Option Condition × List Edit → Result (Option Condition × List Edit) PlanFault
+way_as w = Ok w
+
+way-is : (at : List ℕ) (t : Members) (w : Option Condition × List Edit) → way_at at t ≡ Ok w → IsShallow w.0 × AllStand w.1
+unfolding way_at
+way-is at t w h =
+    let filter = bound (filter_at (key_path at (codes "filter")) (get_member (codes "filter") t)) _ w h in
+    let steps = bound (steps_at (key_path at (codes "steps")) (get_member (codes "steps") t)) _ w filter.1.1 in
+    same (filter.0, steps.0) steps.1.1 (shallow (key_path at (codes "filter")) (get_member (codes "filter") t) filter.0 filter.1.0, steps-stand (key_path at (codes "steps")) (get_member (codes "steps") t) steps.0 steps.1.0)
+  where
+    same : (v : Option Condition × List Edit) → way_as v ≡ Ok w → IsShallow v.0 × AllStand v.1 → IsShallow w.0 × AllStand w.1
+    same v e is = let e' : v ≡ w = cc in subst (λ (z : Option Condition × List Edit). IsShallow z.0 × AllStand z.1) e' is
+
 abbrev route_as : RouteEntry → Result RouteEntry PlanFault
 route_as r = Ok r
 
@@ -161,15 +129,10 @@ route-is ds before at d x h =
     let t = bound (table_at at d) _ x h in
     let known = bound (only_keys route_keys at t.0) _ x t.1.1 in
     let to = bound (key at t.0 (codes "to") (required (route_to ds before))) _ x known.1.1 in
-    let filter = bound (filter_at (key_path at (codes "filter")) (get_member (codes "filter") t.0)) _ x to.1.1 in
-    let steps = bound (steps_at (key_path at (codes "steps")) (get_member (codes "steps") t.0)) _ x filter.1.1 in
+    let way = bound (way_at at t.0) _ x to.1.1 in
+    let is = way-is at t.0 way.0 way.1.0 in
     let place = route_to-is ds before (get_member (codes "to") t.0) to.0 (told_Ok _ _ _ to.1.0) in
-    whole (record { to = to.0; filter = filter.0; steps = steps.0 }) steps.1.1 (record {
-      leads = place.0;
-      free = place.1;
-      shallow = shallow (key_path at (codes "filter")) (get_member (codes "filter") t.0) filter.0 filter.1.0;
-      stand = steps-stand (key_path at (codes "steps")) (get_member (codes "steps") t.0) steps.0 steps.1.0;
-    })
+    whole (record { to = to.0; filter = way.0.0; steps = way.0.1 }) way.1.1 (record { leads = place.0; free = place.1; shallow = is.0; stand = is.1 })
   where
     whole : (y : RouteEntry) → route_as y ≡ Ok x → IsNew ds before y → IsNew ds before x
     whole y e is = let same : y ≡ x = cc in subst (IsNew ds before) same is
@@ -209,17 +172,15 @@ channel-is ds before at d x h =
     let known = bound (only_keys channel_keys at t.0) _ x t.1.1 in
     let name = bound (key at t.0 (codes "name") (required (new_name (channel_has_name before)))) _ x known.1.1 in
     let listen = bound (key at t.0 (codes "listen") (required (text_within 1 255))) _ x name.1.1 in
-    let types = bound (entries_at message_type (key_path at (codes "types")) (get_member (codes "types") t.0)) _ x listen.1.1 in
-    let processing = bound (entries_at processing_id (key_path at (codes "processing")) (get_member (codes "processing") t.0)) _ x types.1.1 in
-    let versions = bound (entries_at version_id (key_path at (codes "versions")) (get_member (codes "versions") t.0)) _ x processing.1.1 in
-    let filter = bound (filter_at (key_path at (codes "filter")) (get_member (codes "filter") t.0)) _ x versions.1.1 in
-    let steps = bound (steps_at (key_path at (codes "steps")) (get_member (codes "steps") t.0)) _ x filter.1.1 in
-    let routes = bound (routes_at ds (key_path at (codes "route")) (get_member (codes "route") t.0)) _ x steps.1.1 in
+    let taken = bound (taken_at at t.0) _ x listen.1.1 in
+    let way = bound (way_at at t.0) _ x taken.1.1 in
+    let is = way-is at t.0 way.0 way.1.0 in
+    let routes = bound (routes_at ds (key_path at (codes "route")) (get_member (codes "route") t.0)) _ x way.1.1 in
     let are = routes-are ds (key_path at (codes "route")) (get_member (codes "route") t.0) routes.0 routes.1.0 in
-    whole (record { name = name.0; listen = listen.0; types = types.0; processing = processing.0; versions = versions.0; filter = filter.0; steps = steps.0; routes = routes.0 }) routes.1.1
+    whole (record { name = name.0; listen = listen.0; types = taken.0.0; processing = taken.0.1.0; versions = taken.0.1.1; filter = way.0.0; steps = way.0.1; routes = routes.0 }) routes.1.1
     (record {
-      shallow = shallow (key_path at (codes "filter")) (get_member (codes "filter") t.0) filter.0 filter.1.0;
-      stand = steps-stand (key_path at (codes "steps")) (get_member (codes "steps") t.0) steps.0 steps.1.0;
+      shallow = is.0;
+      stand = is.1;
       routes_lead = are.lead;
       routes_apart = are.apart;
       routes_shallow = are.shallow;

@@ -8,7 +8,7 @@ use Rattle.plan_text.specs.declared.fault.FaultName.TheVariants as name
 use Rattle.plan_text.specs.declared.fault.PlanFault.{PlanFault}
 use Rattle.plan_text.specs.Fault.{◌>>=◌, fault_at}
 use Rattle.plan_text.specs.Keys.{key_path, table_at, each}
-use Rattle.plan_text.specs.Conditions.{by_key, condition_key, with_one_key, condition, filter_at}
+use Rattle.plan_text.specs.Conditions.{on_piece, by_key, condition_key, with_one_key, condition, filter_at}
 use Rattle.plan_text.proofs.Laws.{bound, each_after-keeps}
 
 -- a reader gives conditions of at most so many levels
@@ -46,17 +46,21 @@ turned n (Ok d) inner shallow c h =
     let same : negated inside.0 ≡ c = let e = inside.1.1 in cc in
     rw (← same) (omega (arith, few))
 
+on_piece-levels : (n : ℕ) (at : List ℕ) (t : Members) (k : List ℕ) → Within (suc n) (on_piece at t k)
+unfolding on_piece
+on_piece-levels n at t k =
+    either (suc n) (bytes_eq k (codes "one_of")) _ _ (single n _ (λ p. one_of p.0 p.1) (λ _. refl))
+    (either (suc n) (bytes_eq k (codes "exists")) _ _ (single n _ exists (λ _. refl))
+    (either (suc n) (bytes_eq k (codes "equals")) _ _ (single n _ (λ p. equals p.0 p.1) (λ _. refl))
+    (either (suc n) (bytes_eq k (codes "starts")) _ _ (single n _ (λ p. starts p.0 p.1) (λ _. refl))
+    (single n _ (λ p. contains p.0 p.1) (λ _. refl)))))
+
 by_key-levels : (n : ℕ) (inner : List ℕ → Data → Result Condition PlanFault) (at : List ℕ) (t : Members) (k : List ℕ) → ((path : List ℕ) (d : Data) → Within n (inner path d)) → Within (suc n) (by_key inner at t k)
 unfolding by_key
 by_key-levels n inner at t k shallow =
-    either (suc n) (bytes_eq k (codes "equals")) _ _ (single n _ (λ p. equals p.0 p.1) (λ _. refl))
-    (either (suc n) (bytes_eq k (codes "one_of")) _ _ (single n _ (λ p. one_of p.0 p.1) (λ _. refl))
-    (either (suc n) (bytes_eq k (codes "exists")) _ _ (single n _ exists (λ _. refl))
-    (either (suc n) (bytes_eq k (codes "starts")) _ _ (single n _ (λ p. starts p.0 p.1) (λ _. refl))
-    (either (suc n) (bytes_eq k (codes "contains")) _ _ (single n _ (λ p. contains p.0 p.1) (λ _. refl))
-    (either (suc n) (bytes_eq k (codes "all")) _ _ (listed n _ inner (key_path at k) all shallow (λ _. refl))
+    either (suc n) (bytes_eq k (codes "all")) _ _ (listed n _ inner (key_path at k) all shallow (λ _. refl))
     (either (suc n) (bytes_eq k (codes "any")) _ _ (listed n _ inner (key_path at k) any shallow (λ _. refl))
-    (turned n _ (inner (key_path at k)) (shallow (key_path at k)))))))))
+    (either (suc n) (bytes_eq k (codes "not")) _ _ (turned n _ (inner (key_path at k)) (shallow (key_path at k))) (on_piece-levels n at t k)))
 
 pub condition-levels : (n : ℕ) (at : List ℕ) (d : Data) → Within n (condition n at d)
 unfolding condition with_one_key

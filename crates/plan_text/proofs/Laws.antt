@@ -17,8 +17,9 @@ use Rattle.plan_text.specs.Fault.{◌>>=◌, told}
 use Rattle.plan_text.specs.Entries.{DestinationEntry, IsDestination}
 use Rattle.plan_text.specs.Keys.{key, required, or_else, table_at, only_keys, list_within, item_count, each_after, member_path}
 use Rattle.plan_text.specs.Kinds.{within, number_within, new_name, is_name, text_within, text_as, await_word}
-use Rattle.plan_text.specs.Destinations.{destination, destinations, destination_keys, has_name}
+use Rattle.plan_text.specs.Destinations.{sending, destination, destinations, destination_keys, has_name}
 use Rattle.plan_text.specs.declared.destination.Await.TheVariants as await
+use Rattle.plan_text.specs.declared.reading.destinations.Sending.{Sending}
 
 -- the steps of a chain that came to an end
 pub bound : {A B : Type 0} (r : Result A PlanFault) (f : A → Result B PlanFault) (y : B) → (r >>= f) ≡ Ok y → (x : A) × ((r ≡ Ok x) × (f x ≡ Ok y))
@@ -100,6 +101,31 @@ differs f xs s none k d lt same =
     let found : list_any (λ x. bytes_eq (f x) s) xs ≡ true = list_any_at (λ x. bytes_eq (f x) s) xs k d lt ((bytes_eq-Decides (f (get_or xs k d)) s).1 same) in
     let bad : true ≡ false = sym found ∙ none in cc
 
+abbrev sent_as : Sending → Result Sending PlanFault
+sent_as y = Ok y
+
+-- the numbers of a destination are within their bounds
+record IsSent (s : Sending) : Type 0 where
+  pub attempts : (1 ≤ s.attempts) × (s.attempts ≤ 100)
+  pub interval : s.interval ≤ 86400
+  pub timeout : (1 ≤ s.timeout) × (s.timeout ≤ 3600)
+
+sending-is : (at : List ℕ) (t : Members) (x : Sending) → sending at t ≡ Ok x → IsSent x
+unfolding sending
+sending-is at t x h =
+    let attempts = bound (key at t (codes "attempts") (or_else 3 (number_within 1 100))) _ x h in
+    let interval = bound (key at t (codes "interval") (or_else 10 (number_within 0 86400))) _ x attempts.1.1 in
+    let timeout = bound (key at t (codes "timeout") (or_else 30 (number_within 1 3600))) _ x interval.1.1 in
+    let wait = bound (key at t (codes "await") (or_else await.Ack (text_as await_word))) _ x timeout.1.1 in
+    whole (record { attempts = attempts.0; interval = interval.0; timeout = timeout.0; wait = wait.0 }) wait.1.1 (record {
+      attempts = number_is 3 1 100 attempts.0 (get_member (codes "attempts") t) (lit≤ tt) (lit≤ tt) (told_Ok _ _ _ attempts.1.0);
+      interval = (number_is 10 0 86400 interval.0 (get_member (codes "interval") t) (lit≤ tt) (lit≤ tt) (told_Ok _ _ _ interval.1.0)).1;
+      timeout = number_is 30 1 3600 timeout.0 (get_member (codes "timeout") t) (lit≤ tt) (lit≤ tt) (told_Ok _ _ _ timeout.1.0);
+    })
+  where
+    whole : (y : Sending) → sent_as y ≡ Ok x → IsSent y → IsSent x
+    whole y e is = let same : y ≡ x = cc in subst IsSent same is
+
 abbrev read_as : DestinationEntry → Result DestinationEntry PlanFault
 read_as y = Ok y
 
@@ -110,21 +136,16 @@ destination-is before at d x h =
     let known = bound (only_keys destination_keys at t.0) _ x t.1.1 in
     let name = bound (key at t.0 (codes "name") (required (new_name (has_name before)))) _ x known.1.1 in
     let address = bound (key at t.0 (codes "address") (required (text_within 1 255))) _ x name.1.1 in
-    let attempts = bound (key at t.0 (codes "attempts") (or_else 3 (number_within 1 100))) _ x address.1.1 in
-    let interval = bound (key at t.0 (codes "interval") (or_else 10 (number_within 0 86400))) _ x attempts.1.1 in
-    let timeout = bound (key at t.0 (codes "timeout") (or_else 30 (number_within 1 3600))) _ x interval.1.1 in
-    let wait = bound (key at t.0 (codes "await") (or_else await.Ack (text_as await_word))) _ x timeout.1.1 in
-    let a = number_is 3 1 100 attempts.0 (get_member (codes "attempts") t.0) (lit≤ tt) (lit≤ tt) (told_Ok _ _ _ attempts.1.0) in
-    let i = number_is 10 0 86400 interval.0 (get_member (codes "interval") t.0) (lit≤ tt) (lit≤ tt) (told_Ok _ _ _ interval.1.0) in
-    let w = number_is 30 1 3600 timeout.0 (get_member (codes "timeout") t.0) (lit≤ tt) (lit≤ tt) (told_Ok _ _ _ timeout.1.0) in
+    let sent = bound (sending at t.0) _ x address.1.1 in
+    let is = sending-is at t.0 sent.0 sent.1.0 in
     let free = name_is (has_name before) (get_member (codes "name") t.0) name.0 (told_Ok _ _ _ name.1.0) in
-    whole wait.1.1 a i w free
+    whole (record { name = name.0; address = address.0; attempts = sent.0.attempts; interval = sent.0.interval; timeout = sent.0.timeout; wait = sent.0.wait }) sent.1.1
+    (record { tried = is.attempts.0; attempts = is.attempts.1; interval = is.interval; waited = is.timeout.0; timeout = is.timeout.1 }) free
   where
-    whole : {y : DestinationEntry} → read_as y ≡ Ok x → (1 ≤ y.attempts) × (y.attempts ≤ 100) → (0 ≤ y.interval) × (y.interval ≤ 86400) → (1 ≤ y.timeout) × (y.timeout ≤ 3600)
-        → has_name before y.name ≡ false → IsDestination x × (has_name before x.name ≡ false)
-    whole {y = y} e a i w free =
+    whole : (y : DestinationEntry) → read_as y ≡ Ok x → IsDestination y → has_name before y.name ≡ false → IsDestination x × (has_name before x.name ≡ false)
+    whole y e is free =
         let same : y ≡ x = cc in
-        subst (λ z. IsDestination z × (has_name before z.name ≡ false)) same (record { tried = a.0; attempts = a.1; interval = i.1; waited = w.0; timeout = w.1 }, free)
+        subst (λ z. IsDestination z × (has_name before z.name ≡ false)) same (is, free)
 
 -- what holds of the destinations of every plan
 pub record AreDestinations (ds : List DestinationEntry) : Type 0 where

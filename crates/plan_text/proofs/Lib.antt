@@ -6,5 +6,4 @@ pub mod Chosen
 pub mod Laws
 pub mod Deep
 pub mod ChannelLaws
-pub mod KeyByKey
 pub mod Unknown

@@ -1,10 +1,14 @@
 -- The built-in plan.
-use Rattle.std.specs.Prelude.{[], ◌∷◌, codes, None}
+use Rattle.std.specs.Prelude.{ℕ, List, [], ◌∷◌, codes, None}
 use Rattle.plan_text.specs.declared.destination.Await.TheVariants as await
 use Rattle.plan_text.specs.declared.channel.MessageType.TheVariants as type
 use Rattle.plan_text.specs.declared.channel.ProcessingId.TheVariants as processing
 use Rattle.plan_text.specs.declared.channel.VersionId.TheVariants as version
 use Rattle.plan_text.specs.Entries.{DestinationEntry, ChannelEntry, PlanEntry}
+
+-- its text
+abbrev pub built_in_text : List ℕ
+built_in_text = codes "[[destination]]\nname = \"LAB\"\naddress = \"127.0.0.1:6661\"\n\n[[channel]]\nname = \"ADT\"\nlisten = \"127.0.0.1:6660\"\ntypes = [\"ADT\"]\nprocessing = [\"P\", \"T\"]\nversions = [\"2.5.1\"]\n[[channel.route]]\nto = \"LAB\"\n"
 
 -- [[destination]]
 -- name = "LAB"

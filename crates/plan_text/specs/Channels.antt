@@ -2,10 +2,15 @@
 use Rattle.std.specs.Prelude.{ℕ, List, [], ◌∷◌, Bool, codes, Option, Some, None, Result, Ok, Err, if◌then◌else◌, ◌==◌, position}
 use Rattle.std.specs.List.{list_any}
 use Rattle.std.specs.Str.{bytes_eq}
-use Rattle.toml.specs.Data.{Data, string, get_member}
+use Rattle.toml.specs.Data.{Data, string, Members, get_member}
+use Rattle.hl7_filter.specs.Condition.{Condition}
+use Rattle.hl7_transform.specs.Step.{Edit}
 use Rattle.plan_text.specs.declared.fault.FaultName.{FaultName}
 use Rattle.plan_text.specs.declared.fault.FaultName.TheVariants as name
 use Rattle.plan_text.specs.declared.fault.PlanFault.{PlanFault}
+use Rattle.plan_text.specs.declared.channel.MessageType.{MessageType}
+use Rattle.plan_text.specs.declared.channel.ProcessingId.{ProcessingId}
+use Rattle.plan_text.specs.declared.channel.VersionId.{VersionId}
 use Rattle.plan_text.specs.Fault.{◌>>=◌, told}
 use Rattle.plan_text.specs.Entries.{DestinationEntry, RouteEntry, ChannelEntry}
 use Rattle.plan_text.specs.Keys.{key, key_path, required, only_keys, table_at, list, list_within, each, each_after}
@@ -31,6 +36,13 @@ abbrev pub route_to : List DestinationEntry → List RouteEntry → Data → Res
 route_to ds before (string s) = new_place before (place_of ds s)
 route_to ds before _ = Err name.BadRange
 
+-- which messages go on, and what is done with them
+unfoldable pub way_at : List ℕ → Members → Result (Option Condition × List Edit) PlanFault
+way_at at t = do
+  filter ← filter_at (key_path at (codes "filter")) (get_member (codes "filter") t)
+  steps ← steps_at (key_path at (codes "steps")) (get_member (codes "steps") t)
+  Ok (filter, steps)
+
 abbrev pub route_keys : List (List ℕ)
 route_keys = codes "to" ∷ codes "filter" ∷ codes "steps" ∷ []
 
@@ -40,9 +52,8 @@ route ds before at d = do
   t ← table_at at d
   known ← only_keys route_keys at t
   to ← key at t (codes "to") (required (route_to ds before))
-  filter ← filter_at (key_path at (codes "filter")) (get_member (codes "filter") t)
-  steps ← steps_at (key_path at (codes "steps")) (get_member (codes "steps") t)
-  Ok (record { to = to; filter = filter; steps = steps })
+  way ← way_at at t
+  Ok (record { to = to; filter = way.0; steps = way.1 })
 
 -- the routes of a channel, none where they are left out
 unfoldable pub routes_at : List DestinationEntry → List ℕ → Option Data → Result (List RouteEntry) PlanFault
@@ -61,6 +72,14 @@ entries_at form at d = told at (required (list_within 256) d) >>= each (entry_at
 abbrev pub channel_has_name : List ChannelEntry → List ℕ → Bool
 channel_has_name cs name = list_any (λ c. bytes_eq c.name name) cs
 
+-- the messages that a channel takes
+unfoldable pub taken_at : List ℕ → Members → Result (List MessageType × (List ProcessingId × List VersionId)) PlanFault
+taken_at at t = do
+  types ← entries_at message_type (key_path at (codes "types")) (get_member (codes "types") t)
+  processing ← entries_at processing_id (key_path at (codes "processing")) (get_member (codes "processing") t)
+  versions ← entries_at version_id (key_path at (codes "versions")) (get_member (codes "versions") t)
+  Ok (types, (processing, versions))
+
 abbrev pub channel_keys : List (List ℕ)
 channel_keys = codes "name" ∷ codes "listen" ∷ codes "types" ∷ codes "processing" ∷ codes "versions" ∷ codes "filter" ∷ codes "steps" ∷ codes "route" ∷ []
 
@@ -71,10 +90,7 @@ channel ds before at d = do
   known ← only_keys channel_keys at t
   name ← key at t (codes "name") (required (new_name (channel_has_name before)))
   listen ← key at t (codes "listen") (required (text_within 1 255))
-  types ← entries_at message_type (key_path at (codes "types")) (get_member (codes "types") t)
-  processing ← entries_at processing_id (key_path at (codes "processing")) (get_member (codes "processing") t)
-  versions ← entries_at version_id (key_path at (codes "versions")) (get_member (codes "versions") t)
-  filter ← filter_at (key_path at (codes "filter")) (get_member (codes "filter") t)
-  steps ← steps_at (key_path at (codes "steps")) (get_member (codes "steps") t)
+  taken ← taken_at at t
+  way ← way_at at t
   routes ← routes_at ds (key_path at (codes "route")) (get_member (codes "route") t)
-  Ok (record { name = name; listen = listen; types = types; processing = processing; versions = versions; filter = filter; steps = steps; routes = routes })
+  Ok (record { name = name; listen = listen; types = taken.0; processing = taken.1.0; versions = taken.1.1; filter = way.0; steps = way.1; routes = routes })

@@ -65,18 +65,23 @@ path_and_texts d = do
 abbrev pub condition_keys : List (List ℕ)
 condition_keys = codes "equals" ∷ codes "one_of" ∷ codes "exists" ∷ codes "starts" ∷ codes "contains" ∷ codes "all" ∷ codes "any" ∷ codes "not" ∷ []
 
+-- a condition on one piece of a message, by its key
+unfoldable pub on_piece : List ℕ → Members → List ℕ → Result Condition PlanFault
+on_piece at t k =
+    if bytes_eq k (codes "one_of") then (key at t k (required path_and_texts) >>= λ p. Ok (one_of p.0 p.1))
+    else if bytes_eq k (codes "exists") then (key at t k (required path) >>= λ p. Ok (exists p))
+    else if bytes_eq k (codes "equals") then (key at t k (required path_and_text) >>= λ p. Ok (equals p.0 p.1))
+    else if bytes_eq k (codes "starts") then (key at t k (required path_and_text) >>= λ p. Ok (starts p.0 p.1))
+    else (key at t k (required path_and_text) >>= λ p. Ok (contains p.0 p.1))
+
 -- a condition by its key, where `inner` reads those inside
 unfoldable pub by_key : (List ℕ → Data → Result Condition PlanFault) → List ℕ → Members → List ℕ → Result Condition PlanFault
 by_key inner at t k =
     let many = key at t k (required (list_within 256)) >>= each inner (key_path at k) in
-    if bytes_eq k (codes "equals") then (key at t k (required path_and_text) >>= λ p. Ok (equals p.0 p.1))
-    else if bytes_eq k (codes "one_of") then (key at t k (required path_and_texts) >>= λ p. Ok (one_of p.0 p.1))
-    else if bytes_eq k (codes "exists") then (key at t k (required path) >>= λ p. Ok (exists p))
-    else if bytes_eq k (codes "starts") then (key at t k (required path_and_text) >>= λ p. Ok (starts p.0 p.1))
-    else if bytes_eq k (codes "contains") then (key at t k (required path_and_text) >>= λ p. Ok (contains p.0 p.1))
-    else if bytes_eq k (codes "all") then (many >>= λ cs. Ok (all (conditions_of cs)))
+    if bytes_eq k (codes "all") then (many >>= λ cs. Ok (all (conditions_of cs)))
     else if bytes_eq k (codes "any") then (many >>= λ cs. Ok (any (conditions_of cs)))
-    else (key at t k (required Ok) >>= inner (key_path at k) >>= λ c. Ok (negated c))
+    else if bytes_eq k (codes "not") then (key at t k (required Ok) >>= inner (key_path at k) >>= λ c. Ok (negated c))
+    else on_piece at t k
 
 -- the one key of a condition
 unfoldable pub condition_key : List ℕ → Members → Result (List ℕ) PlanFault

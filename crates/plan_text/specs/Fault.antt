@@ -1,10 +1,36 @@
 -- Reading a plan to its end or to its first fault.
-use Rattle.std.specs.Prelude.{◌≡◌, ℕ, List, [], ◌⊎◌, Result, Ok, Err}
+use Rattle.std.specs.Prelude.{◌≡◌, ℕ, List, [], ◌⊎◌, codes, Result, Ok, Err}
 use Rattle.plan_text.specs.declared.fault.FaultName.{FaultName}
 use Rattle.plan_text.specs.declared.fault.FaultName.TheVariants as name
 use Rattle.plan_text.specs.declared.fault.PlanFault.{PlanFault}
 use Rattle.plan_text.specs.declared.fault.Stop.{Stop}
 use Rattle.plan_text.specs.declared.fault.Stop.TheVariants as stop
+
+-- the faults by their numbers
+abbrev pub fault_code : FaultName → ℕ
+fault_code name.NotToml = 1
+fault_code name.UnknownKey = 2
+fault_code name.Missing = 3
+fault_code name.BadRange = 4
+fault_code name.BadPath = 5
+fault_code name.ForbiddenWrite = 6
+fault_code name.UnknownName = 7
+fault_code name.DoubleName = 8
+fault_code name.TooMany = 9
+fault_code name.NoMemory = 10
+
+-- and by their names
+abbrev pub fault_text : FaultName → List ℕ
+fault_text name.NotToml = codes "NotToml"
+fault_text name.UnknownKey = codes "UnknownKey"
+fault_text name.Missing = codes "Missing"
+fault_text name.BadRange = codes "BadRange"
+fault_text name.BadPath = codes "BadPath"
+fault_text name.ForbiddenWrite = codes "ForbiddenWrite"
+fault_text name.UnknownName = codes "UnknownName"
+fault_text name.DoubleName = codes "DoubleName"
+fault_text name.TooMany = codes "TooMany"
+fault_text name.NoMemory = codes "NoMemory"
 
 -- what is read first may fault; what comes after it is read only if it doesn't
 infixl 10 ◌>>=◌

@@ -25,31 +25,8 @@ checked (Err check.ForbiddenWrite) = Err name.ForbiddenWrite
 abbrev pub stands_at : List ℕ → Edit → Result (Unit {0}) PlanFault
 stands_at at step = told at (checked (check_step step))
 
--- set = [path, text]
-unfoldable pub set_at : List ℕ → Members → Result Edit PlanFault
-set_at at t = do
-  p ← key at t (codes "set") (required path_and_text)
-  stands ← stands_at (key_path at (codes "set")) (set p.0 p.1)
-  Ok (set p.0 p.1)
-
 abbrev pub two_texts : Data → Result (List ℕ × List ℕ) FaultName
 two_texts d = in_range (text_pair d)
-
--- copy = [from, to]
-unfoldable pub copy_at : List ℕ → Members → Result Edit PlanFault
-copy_at at t = do
-  p ← key at t (codes "copy") (required two_texts)
-  from ← told (key_path at (codes "copy")) (path_in p.0)
-  to ← told (key_path at (codes "copy")) (path_in p.1)
-  stands ← stands_at (key_path at (codes "copy")) (copy from to)
-  Ok (copy from to)
-
--- clear = path
-unfoldable pub clear_at : List ℕ → Members → Result Edit PlanFault
-clear_at at t = do
-  place ← key at t (codes "clear") (required path)
-  stands ← stands_at (key_path at (codes "clear")) (clear place)
-  Ok (clear place)
 
 -- the lookup text of the pair is this
 abbrev pub looks_up : List ℕ → Data → Bool
@@ -80,7 +57,7 @@ any_text = text_as Some
 abbrev pub default_text : Data → Result (Option (List ℕ)) FaultName
 default_text = text_as (λ s. Some (Some s))
 
--- lookup = path, table = [[from, to], ..], default = text
+-- lookup = path, table = [[from, to], ..], default = text; what it writes is told before its table is read
 unfoldable pub lookup_at : List ℕ → Members → Result Edit PlanFault
 lookup_at at t = do
   place ← key at t (codes "lookup") (required path)
@@ -89,13 +66,6 @@ lookup_at at t = do
   table ← each pair_at (key_path at (codes "table")) ds
   default ← key at t (codes "default") (or_else None default_text)
   Ok (lookup place table default)
-
--- remove = name
-unfoldable pub remove_at : List ℕ → Members → Result Edit PlanFault
-remove_at at t = do
-  name ← key at t (codes "remove") (required any_text)
-  stands ← stands_at (key_path at (codes "remove")) (remove name)
-  Ok (remove name)
 
 abbrev pub step_keys : List (List ℕ)
 step_keys = codes "set" ∷ codes "copy" ∷ codes "clear" ∷ codes "lookup" ∷ codes "remove" ∷ []
@@ -110,21 +80,23 @@ step_key at t = do
   known ← only_keys (known_keys t) at t
   one_key step_keys at t
 
--- a step by its first key
+-- set = [path, text]; copy = [from, to]; clear = path; lookup = path; remove = name
 unfoldable pub step_by : List ℕ → List ℕ → Members → Result Edit PlanFault
 step_by k at t =
-    if bytes_eq k (codes "set") then set_at at t
-    else if bytes_eq k (codes "copy") then copy_at at t
-    else if bytes_eq k (codes "clear") then clear_at at t
+    if bytes_eq k (codes "set") then (key at t k (required path_and_text) >>= λ p. Ok (set p.0 p.1))
+    else if bytes_eq k (codes "copy") then (key at t k (required two_texts) >>= λ p. told (key_path at k) (path_in p.0) >>= λ from. told (key_path at k) (path_in p.1) >>= λ to. Ok (copy from to))
+    else if bytes_eq k (codes "clear") then (key at t k (required path) >>= λ p. Ok (clear p))
     else if bytes_eq k (codes "lookup") then lookup_at at t
-    else remove_at at t
+    else (key at t k (required any_text) >>= λ name. Ok (remove name))
 
--- a step
+-- a step, which may stand
 unfoldable pub step : List ℕ → Data → Result Edit PlanFault
 step at d = do
   t ← table_at at d
   k ← step_key at t
-  step_by k at t
+  s ← step_by k at t
+  stands ← stands_at (key_path at k) s
+  Ok s
 
 -- at most 256 steps, none where they are left out
 unfoldable pub steps_at : List ℕ → Option Data → Result (List Edit) PlanFault

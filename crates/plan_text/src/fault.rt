@@ -1,47 +1,75 @@
 //! What is wrong with a plan, and where.
 
 ghost use Rattle.std.specs.Prelude.{◌≡◌, []};
+ghost use Rattle.plan_text.specs.Fault.{fault_code, fault_text};
 ghost use Rattle.plan_text.specs.declared.fault.Stop.TheVariants.{NoMemory as no_memory};
 
 use crate::literal::Literal;
 use std::alloc::{AllocError, AllocFailed, Global};
 use std::error::Error;
 use std::fmt;
-use thiserror::Error as FaultError;
 
-/// The faults of a plan, by their numbers.
-#[derive(Clone, Copy, Debug, PartialEq, Eq, FaultError)]
+/// The faults of a plan.
+#[derive(Clone, Copy, Debug, PartialEq, Eq)]
 pub enum FaultName {
     /// The text isn't a TOML document.
-    #[error("NotToml")]
-    NotToml = 1,
+    NotToml,
     /// A key that the plan has no use for.
-    #[error("UnknownKey")]
     UnknownKey,
     /// A required key, or the one key of a condition or a step, isn't there.
-    #[error("Missing")]
     Missing,
     /// A value of another kind, or outside its range or its form.
-    #[error("BadRange")]
     BadRange,
     /// A text that should be the path to a piece of a message and isn't.
-    #[error("BadPath")]
     BadPath,
     /// A step that writes MSH-1, MSH-2 or MSH-10, or removes MSH.
-    #[error("ForbiddenWrite")]
     ForbiddenWrite,
     /// A route to no destination.
-    #[error("UnknownName")]
     UnknownName,
     /// A name, a destination of a channel or a lookup text that stands twice.
-    #[error("DoubleName")]
     DoubleName,
     /// A list that is too long, or conditions too deep.
-    #[error("TooMany")]
     TooMany,
     /// Memory was refused.
-    #[error("NoMemory")]
     NoMemory,
+}
+
+impl FaultName {
+    /// The number of the fault, 1 to 10.
+    pub fn code(self) -> u8
+        ensures { result ≡ fault_code self }
+    {
+        match self {
+            FaultName::NotToml => 1,
+            FaultName::UnknownKey => 2,
+            FaultName::Missing => 3,
+            FaultName::BadRange => 4,
+            FaultName::BadPath => 5,
+            FaultName::ForbiddenWrite => 6,
+            FaultName::UnknownName => 7,
+            FaultName::DoubleName => 8,
+            FaultName::TooMany => 9,
+            FaultName::NoMemory => 10,
+        }
+    }
+
+    /// The name of the fault, as it is shown.
+    pub fn text(self) -> &'static str
+        ensures { result.now ≡ fault_text self }
+    {
+        match self {
+            FaultName::NotToml => "NotToml",
+            FaultName::UnknownKey => "UnknownKey",
+            FaultName::Missing => "Missing",
+            FaultName::BadRange => "BadRange",
+            FaultName::BadPath => "BadPath",
+            FaultName::ForbiddenWrite => "ForbiddenWrite",
+            FaultName::UnknownName => "UnknownName",
+            FaultName::DoubleName => "DoubleName",
+            FaultName::TooMany => "TooMany",
+            FaultName::NoMemory => "NoMemory",
+        }
+    }
 }
 
 /// The first fault of a plan, and the keys that lead to it, as `channel[0].route[1].to`.
@@ -55,11 +83,12 @@ pub struct PlanFault {
 
 impl fmt::Display for PlanFault {
     fn fmt<W: fmt::Write>(&self, f: &mut fmt::Formatter<W>) -> fmt::Result {
-        if self.path.as_str().is_empty() {
-            write!(f, "{}", self.name)
-        } else {
-            write!(f, "{} at {}", self.name, self.path.as_str())
+        f.write_str(self.name.text())?;
+        if !self.path.as_str().is_empty() {
+            f.write_str(" at ")?;
+            f.write_str(self.path.as_str())?;
         }
+        Ok(())
     }
 }
 

@@ -5,6 +5,7 @@ mod built_in;
 mod channel;
 mod destination;
 mod fault;
+mod limits;
 mod literal;
 mod plan;
 mod reading;
@@ -12,8 +13,8 @@ mod reading;
 pub use channel::{Channel, MessageType, ProcessingId, Route, VersionId};
 pub use destination::{Await, Destination};
 pub use fault::{FaultName, PlanFault};
+pub use limits::{
+    CHANNELS_MAX, DESTINATIONS_MAX, LEVELS_MAX, MEMBERS_MAX, PAIRS_MAX, constants_are,
+};
 pub use literal::Literal;
 pub use plan::Plan;
-
-#[cfg(test)]
-mod tests;

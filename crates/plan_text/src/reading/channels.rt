@@ -1,21 +1,26 @@
 //! The channels of a plan.
 
-ghost use Rattle.std.specs.Prelude.{◌≡◌, ◌≤◌, [], codes, length};
-ghost use Rattle.toml.specs.View.{view, array_view};
+ghost use Rattle.std.specs.Prelude.{◌≡◌, ◌≤◌, [], codes, length, option_map};
+ghost use Rattle.toml.specs.View.{view, array_view, table_view};
+ghost use Rattle.hl7_filter.specs.View.{view as condition_view};
+ghost use Rattle.hl7_transform.specs.View.{steps_view};
 ghost use Rattle.plan_text.specs.AtKey.{at_key, key_at, value_at};
 ghost use Rattle.plan_text.specs.Fault.{Gives};
 ghost use Rattle.plan_text.specs.Keys.{member_path, required, each, each_after};
 ghost use Rattle.plan_text.specs.Kinds.{new_name};
-ghost use Rattle.plan_text.specs.Channels.{place_of, leads_to, route_to, route, routes_at, entry_at, entries_at, channel_has_name, channel};
+ghost use Rattle.plan_text.specs.Channels.{place_of, leads_to, way_at, route_to, route, routes_at, entry_at, entries_at, taken_at, channel_has_name, channel};
 
-use crate::channel::{Channel, Route};
+use crate::channel::{Channel, MessageType, ProcessingId, Route, VersionId};
 use crate::destination::Destination;
 use crate::fault::{FaultName, Stop};
+use crate::limits::MEMBERS_MAX;
 use crate::literal::Literal;
 use crate::reading::conditions::filter_of;
 use crate::reading::keys::{Key, Keys, member_fault, member_path};
 use crate::reading::kinds::{FromText, is_name};
 use crate::reading::steps::steps_of;
+use hl7_filter::Cond;
+use hl7_transform::Step;
 use std::alloc::Global;
 use toml::Value;
 use toml::value::Array;
@@ -53,6 +58,22 @@ fn route_to(destinations: &[Destination], before: &[Route], key: &Key<'_>) -> Re
     Ok(place)
 }
 
+/// Which messages go on, and what is done with them.
+#[derive(Drop)]
+struct Way {
+    filter: Option<Cond>,
+    steps: Vec<Step>,
+}
+
+#[tactic(auto, unfolding(crate::specs::Channels::way_at))]
+fn way_of(keys: &Keys<'_>) -> Result<Way, Stop>
+    ensures { Gives (λ w. (option_map condition_view w.filter, steps_view w.steps.items)) result (way_at keys.now.at.now (table_view keys.now.table.now)) }
+{
+    let filter = filter_of(&keys.key("filter"))?;
+    let steps = steps_of(&keys.key("steps"))?;
+    Ok(Way { filter, steps })
+}
+
 #[tactic(auto, unfolding(crate::specs::Channels::route))]
 fn route_of(
     alloc: Global,
@@ -67,9 +88,12 @@ fn route_of(
     let keys = Keys::of(alloc, at, value)?;
     keys.only(&["to", "filter", "steps"])?;
     let to = route_to(destinations, before, &keys.key("to"))?;
-    let filter = filter_of(&keys.key("filter"))?;
-    let steps = steps_of(&keys.key("steps"))?;
-    Ok(Route { to, filter, steps })
+    let way = way_of(&keys)?;
+    Ok(Route {
+        to,
+        filter: way.filter,
+        steps: way.steps,
+    })
 }
 
 /// The route that stands behind these in the list at `at`.
@@ -149,7 +173,7 @@ fn each_entry<E: FromText>(alloc: Global, at: &str, values: &Array) -> Result<Ve
 fn entries_of<E: FromText>(key: &Key<'_>) -> Result<Vec<E>, Stop>
     ensures { Gives (λ v. v.items) result (entries_at E.form (key_at key.now) (value_at key.now)) }
 {
-    let values = key.list(256)?;
+    let values = key.list(MEMBERS_MAX)?;
     let at = key.path()?;
     each_entry(key.alloc, at.as_str(), values)
 }
@@ -178,6 +202,28 @@ fn new_name<'a>(key: &Key<'a>, before: &[Channel]) -> Result<&'a str, Stop>
     }
 }
 
+/// The messages that a channel takes.
+#[derive(Drop)]
+struct Taken {
+    types: Vec<MessageType>,
+    processing: Vec<ProcessingId>,
+    versions: Vec<VersionId>,
+}
+
+#[tactic(auto, unfolding(crate::specs::Channels::taken_at))]
+fn taken_of(keys: &Keys<'_>) -> Result<Taken, Stop>
+    ensures { Gives (λ t. (t.types.items, (t.processing.items, t.versions.items))) result (taken_at keys.now.at.now (table_view keys.now.table.now)) }
+{
+    let types = entries_of(&keys.key("types"))?;
+    let processing = entries_of(&keys.key("processing"))?;
+    let versions = entries_of(&keys.key("versions"))?;
+    Ok(Taken {
+        types,
+        processing,
+        versions,
+    })
+}
+
 #[tactic(auto, unfolding(crate::specs::Channels::channel))]
 fn channel_of(
     alloc: Global,
@@ -202,20 +248,17 @@ fn channel_of(
     ])?;
     let name = new_name(&keys.key("name"), before)?;
     let listen = keys.key("listen").text(1, 255)?;
-    let types = entries_of(&keys.key("types"))?;
-    let processing = entries_of(&keys.key("processing"))?;
-    let versions = entries_of(&keys.key("versions"))?;
-    let filter = filter_of(&keys.key("filter"))?;
-    let steps = steps_of(&keys.key("steps"))?;
+    let taken = taken_of(&keys)?;
+    let way = way_of(&keys)?;
     let routes = routes_of(&keys.key("route"), destinations)?;
     Ok(Channel {
         name: Literal::new(alloc, name)?,
         listen: Literal::new(alloc, listen)?,
-        types,
-        processing,
-        versions,
-        filter,
-        steps,
+        types: taken.types,
+        processing: taken.processing,
+        versions: taken.versions,
+        filter: way.filter,
+        steps: way.steps,
         routes,
     })
 }

@@ -7,18 +7,16 @@ ghost use Rattle.hl7_filter.specs.View.{view as condition_view};
 ghost use Rattle.plan_text.specs.AtKey.{at_key, key_at, value_at};
 ghost use Rattle.plan_text.specs.Fault.{Gives, told};
 ghost use Rattle.plan_text.specs.Keys.{required, each};
-ghost use Rattle.plan_text.specs.Conditions.{pair_of, text_pair, text_and_list, all_texts, path_in, path, path_and_text, path_and_texts, condition_key, condition, by_key, filter_at};
+ghost use Rattle.plan_text.specs.Conditions.{pair_of, text_pair, text_and_list, all_texts, path_in, path, path_and_text, path_and_texts, condition_key, on_piece, condition, by_key, filter_at};
 
 use crate::fault::{FaultName, Stop};
+use crate::limits::{LEVELS_MAX, MEMBERS_MAX};
 use crate::reading::keys::{Key, Keys, fault_at, member_path};
 use er7_tree::Path;
 use hl7_filter::{Bytes, Cond};
 use std::alloc::{AllocError, Global};
 use toml::Value;
 use toml::value::Array;
-
-/// How many conditions may stand in one another.
-const LEVELS_MAX: u32 = 16;
 
 /// The two members of a list of two.
 pub(crate) fn pair_of(value: &Value) -> Option<(&Value, &Value)>
@@ -121,7 +119,7 @@ impl<'a> Key<'a> {
         let Some(texts) = texts_of(self.alloc, values)? else {
             return Err(self.fault(FaultName::BadRange));
         };
-        if values.len() > 256 {
+        if values.len() > MEMBERS_MAX {
             return Err(self.fault(FaultName::TooMany));
         }
         Ok((self.path_in(path)?, texts))
@@ -155,6 +153,32 @@ fn condition_of(alloc: Global, levels: u32, at: &str, value: &Value) -> Result<C
     by_key(alloc, levels - 1, &keys.key(name))
 }
 
+/// The condition on one piece of a message, at its key.
+#[tactic(auto, unfolding(crate::specs::Conditions::on_piece))]
+fn on_piece(key: &Key<'_>) -> Result<Cond, Stop>
+    ensures { (t : Members) → value_at key.now ≡ get_member key.now.name.now t → Gives condition_view result (on_piece key.now.at.now t key.now.name.now) }
+{
+    match key.name {
+        "one_of" => {
+            let (path, texts) = key.path_and_texts()?;
+            Ok(Cond::OneOf(path, texts))
+        }
+        "exists" => Ok(Cond::Exists(key.piece()?)),
+        "equals" => {
+            let (path, text) = key.path_and_text()?;
+            Ok(Cond::Equals(path, text))
+        }
+        "starts" => {
+            let (path, text) = key.path_and_text()?;
+            Ok(Cond::Starts(path, text))
+        }
+        _ => {
+            let (path, text) = key.path_and_text()?;
+            Ok(Cond::Contains(path, text))
+        }
+    }
+}
+
 /// The condition at its one key, with conditions of at most `levels` levels inside.
 #[cycle(condition)]
 #[tactic(auto, unfolding(crate::specs::Conditions::by_key))]
@@ -162,38 +186,22 @@ fn by_key(alloc: Global, levels: u32, key: &Key<'_>) -> Result<Cond, Stop>
     ensures { (t : Members) → value_at key.now ≡ get_member key.now.name.now t → Gives condition_view result (by_key (condition levels) key.now.at.now t key.now.name.now) }
 {
     match key.name {
-        "equals" => {
-            let (path, text) = key.path_and_text()?;
-            Ok(Cond::Equals(path, text))
-        }
-        "one_of" => {
-            let (path, texts) = key.path_and_texts()?;
-            Ok(Cond::OneOf(path, texts))
-        }
-        "exists" => Ok(Cond::Exists(key.piece()?)),
-        "starts" => {
-            let (path, text) = key.path_and_text()?;
-            Ok(Cond::Starts(path, text))
-        }
-        "contains" => {
-            let (path, text) = key.path_and_text()?;
-            Ok(Cond::Contains(path, text))
-        }
         "all" => {
             let at = key.path()?;
-            Ok(Cond::All(conditions_of(alloc, levels, at.as_str(), key.list(256)?)?))
+            Ok(Cond::All(conditions_of(alloc, levels, at.as_str(), key.list(MEMBERS_MAX)?)?))
         }
         "any" => {
             let at = key.path()?;
-            Ok(Cond::Any(conditions_of(alloc, levels, at.as_str(), key.list(256)?)?))
+            Ok(Cond::Any(conditions_of(alloc, levels, at.as_str(), key.list(MEMBERS_MAX)?)?))
         }
-        _ => {
+        "not" => {
             let at = key.path()?;
             Ok(Cond::Not(Box::new(
                 alloc,
                 condition_of(alloc, levels, at.as_str(), key.required()?)?,
             )?))
         }
+        _ => on_piece(key),
     }
 }
 

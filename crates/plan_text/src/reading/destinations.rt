@@ -6,11 +6,12 @@ ghost use Rattle.plan_text.specs.AtKey.{at_key};
 ghost use Rattle.plan_text.specs.Fault.{Gives};
 ghost use Rattle.plan_text.specs.Keys.{member_path, required, or_else, each_after};
 ghost use Rattle.plan_text.specs.Kinds.{new_name, text_as, await_word};
-ghost use Rattle.plan_text.specs.Destinations.{destination, destinations, has_name};
+ghost use Rattle.plan_text.specs.Destinations.{sending, destination, destinations, has_name};
 ghost use Rattle.plan_text.specs.declared.destination.Await.TheVariants as await;
 
 use crate::destination::{Await, Destination};
 use crate::fault::{FaultName, Stop};
+use crate::limits::DESTINATIONS_MAX;
 use crate::literal::Literal;
 use crate::reading::keys::{Key, Keys, member_path};
 use crate::reading::kinds::{await_word, is_name};
@@ -57,6 +58,31 @@ fn await_of(key: &Key<'_>) -> Result<Await, Stop>
     }
 }
 
+/// How messages are sent to a destination.
+#[derive(Clone, Copy)]
+pub(crate) struct Sending {
+    attempts: u32,
+    interval: u32,
+    timeout: u32,
+    wait: Await,
+}
+
+#[tactic(auto, unfolding(crate::specs::Destinations::sending))]
+fn sending_of(keys: &Keys<'_>) -> Result<Sending, Stop>
+    ensures { Gives (λ s. s) result (sending keys.now.at.now (table_view keys.now.table.now)) }
+{
+    let attempts = keys.key("attempts").number_or(3, 1, 100)?;
+    let interval = keys.key("interval").number_or(10, 0, 86_400)?;
+    let timeout = keys.key("timeout").number_or(30, 1, 3_600)?;
+    let wait = await_of(&keys.key("await"))?;
+    Ok(Sending {
+        attempts,
+        interval,
+        timeout,
+        wait,
+    })
+}
+
 #[tactic(auto, unfolding(crate::specs::Destinations::destination))]
 fn destination_of(
     alloc: Global,
@@ -72,17 +98,14 @@ fn destination_of(
     ])?;
     let name = new_name(&keys.key("name"), before)?;
     let address = keys.key("address").text(1, 255)?;
-    let attempts = keys.key("attempts").number_or(3, 1, 100)?;
-    let interval = keys.key("interval").number_or(10, 0, 86_400)?;
-    let timeout = keys.key("timeout").number_or(30, 1, 3_600)?;
-    let wait = await_of(&keys.key("await"))?;
+    let sending = sending_of(&keys)?;
     Ok(Destination {
         name: Literal::new(alloc, name)?,
         address: Literal::new(alloc, address)?,
-        attempts,
-        interval,
-        timeout,
-        wait,
+        attempts: sending.attempts,
+        interval: sending.interval,
+        timeout: sending.timeout,
+        wait: sending.wait,
     })
 }
 
@@ -115,5 +138,5 @@ pub(crate) fn destinations_of(alloc: Global, document: &Keys<'_>) -> Result<Vec<
     requires { document.now.at.now ≡ [] }
     ensures { Gives (λ v. v.items) result (destinations (table_view document.now.table.now)) }
 {
-    each_destination(alloc, document.key("destination").list(32)?)
+    each_destination(alloc, document.key("destination").list(DESTINATIONS_MAX)?)
 }

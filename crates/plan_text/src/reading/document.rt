@@ -9,6 +9,7 @@ ghost use Rattle.plan_text.specs.Keys.{required};
 ghost use Rattle.plan_text.specs.Document.{some_within, plan_of, plan_in};
 
 use crate::fault::{FaultName, PlanFault, Stop};
+use crate::limits::CHANNELS_MAX;
 use crate::plan::Plan;
 use crate::reading::channels::each_channel;
 use crate::reading::destinations::destinations_of;
@@ -43,7 +44,7 @@ fn plan_of(alloc: Global, document: &Table) -> Result<Plan, Stop>
     let channels = each_channel(
         alloc,
         destinations.as_slice(),
-        some_of(&keys.key("channel"), 64)?,
+        some_of(&keys.key("channel"), CHANNELS_MAX)?,
     )?;
     Ok(Plan {
         destinations,

@@ -8,9 +8,10 @@ ghost use Rattle.plan_text.specs.AtKey.{at_key, key_at, value_at};
 ghost use Rattle.plan_text.specs.Fault.{Gives};
 ghost use Rattle.plan_text.specs.Conditions.{text_pair};
 ghost use Rattle.plan_text.specs.Keys.{member_path, required, or_else, only_keys, each};
-ghost use Rattle.plan_text.specs.Steps.{stands_at, two_texts, set_at, copy_at, clear_at, looks_up, any_looks_up, has_double, pairs, pair_at, any_text, default_text, lookup_at, remove_at, known_keys, step_key, step_by, step, steps_at};
+ghost use Rattle.plan_text.specs.Steps.{stands_at, two_texts, looks_up, any_looks_up, has_double, pairs, pair_at, any_text, default_text, lookup_at, known_keys, step_key, step_by, step, steps_at};
 
 use crate::fault::{FaultName, Stop};
+use crate::limits::{MEMBERS_MAX, PAIRS_MAX};
 use crate::reading::conditions::{bytes_of, text_pair};
 use crate::reading::keys::{Key, Keys, member_fault, member_path};
 use hl7_filter::Bytes;
@@ -18,12 +19,6 @@ use hl7_transform::{Pair, Step, StepCheck, check_step};
 use std::alloc::Global;
 use toml::Value;
 use toml::value::Array;
-
-/// How many pairs a lookup table may have.
-const PAIRS_MAX: usize = 1_000;
-
-/// How many steps may stand in a list.
-const STEPS_MAX: usize = 256;
 
 /// Whether the lookup text of a pair is this.
 fn looks_up(text: &str, value: &Value) -> bool
@@ -157,46 +152,13 @@ fn each_pair(alloc: Global, at: &str, values: &Array) -> Result<Vec<Pair>, Stop>
     Ok(pairs)
 }
 
-#[tactic(auto, unfolding(crate::specs::Steps::set_at))]
-fn set_of(keys: &Keys<'_>) -> Result<Step, Stop>
-    ensures { Gives step_view result (set_at keys.now.at.now (members_of keys.now.table.now)) }
-{
-    let key = keys.key("set");
-    let (path, text) = key.path_and_text()?;
-    let step = Step::Set(path, text);
-    key.stands(&step)?;
-    Ok(step)
-}
-
-#[tactic(auto, unfolding(crate::specs::Steps::copy_at))]
-fn copy_of(keys: &Keys<'_>) -> Result<Step, Stop>
-    ensures { Gives step_view result (copy_at keys.now.at.now (members_of keys.now.table.now)) }
-{
-    let key = keys.key("copy");
-    let (from, to) = key.two_texts()?;
-    let from = key.path_in(from)?;
-    let to = key.path_in(to)?;
-    let step = Step::Copy { from, to };
-    key.stands(&step)?;
-    Ok(step)
-}
-
-#[tactic(auto, unfolding(crate::specs::Steps::clear_at))]
-fn clear_of(keys: &Keys<'_>) -> Result<Step, Stop>
-    ensures { Gives step_view result (clear_at keys.now.at.now (members_of keys.now.table.now)) }
-{
-    let key = keys.key("clear");
-    let step = Step::Clear(key.piece()?);
-    key.stands(&step)?;
-    Ok(step)
-}
-
 #[tactic(auto, unfolding(crate::specs::Steps::lookup_at))]
 fn lookup_of(keys: &Keys<'_>) -> Result<Step, Stop>
     ensures { Gives step_view result (lookup_at keys.now.at.now (members_of keys.now.table.now)) }
 {
     let key = keys.key("lookup");
     let path = key.piece()?;
+    // What a lookup writes is told before its table is read; it may write what it may clear.
     key.stands(&Step::Clear(path))?;
     let table_key = keys.key("table");
     let values = table_key.pairs()?;
@@ -208,17 +170,6 @@ fn lookup_of(keys: &Keys<'_>) -> Result<Step, Stop>
         table,
         default,
     })
-}
-
-#[tactic(auto, unfolding(crate::specs::Steps::remove_at))]
-fn remove_of(keys: &Keys<'_>) -> Result<Step, Stop>
-    ensures { Gives step_view result (remove_at keys.now.at.now (members_of keys.now.table.now)) }
-{
-    let key = keys.key("remove");
-    let name = bytes_of(keys.alloc, key.any_text()?)?;
-    let step = Step::RemoveSegments(name);
-    key.stands(&step)?;
-    Ok(step)
 }
 
 /// No key but those of a step; `table` and `default` stand beside `lookup` alone.
@@ -248,12 +199,21 @@ fn step_key(keys: &Keys<'_>) -> Result<&'static str, Stop>
 fn step_by(name: &str, keys: &Keys<'_>) -> Result<Step, Stop>
     ensures { Gives step_view result (step_by name.now keys.now.at.now (members_of keys.now.table.now)) }
 {
+    let key = keys.key(name);
     match name {
-        "set" => set_of(keys),
-        "copy" => copy_of(keys),
-        "clear" => clear_of(keys),
+        "set" => {
+            let (path, text) = key.path_and_text()?;
+            Ok(Step::Set(path, text))
+        }
+        "copy" => {
+            let (from, to) = key.two_texts()?;
+            let from = key.path_in(from)?;
+            let to = key.path_in(to)?;
+            Ok(Step::Copy { from, to })
+        }
+        "clear" => Ok(Step::Clear(key.piece()?)),
         "lookup" => lookup_of(keys),
-        _ => remove_of(keys),
+        _ => Ok(Step::RemoveSegments(bytes_of(keys.alloc, key.any_text()?)?)),
     }
 }
 
@@ -263,7 +223,9 @@ fn step_of(alloc: Global, at: &str, value: &Value) -> Result<Step, Stop>
 {
     let keys = Keys::of(alloc, at, value)?;
     let name = step_key(&keys)?;
-    step_by(name, &keys)
+    let step = step_by(name, &keys)?;
+    keys.key(name).stands(&step)?;
+    Ok(step)
 }
 
 fn each_step(alloc: Global, at: &str, values: &Array) -> Result<Vec<Step>, Stop>
@@ -287,5 +249,5 @@ pub(crate) fn steps_of(key: &Key<'_>) -> Result<Vec<Step>, Stop>
         return Ok(Vec::new(key.alloc));
     }
     let at = key.path()?;
-    each_step(key.alloc, at.as_str(), key.list(STEPS_MAX)?)
+    each_step(key.alloc, at.as_str(), key.list(MEMBERS_MAX)?)
 }

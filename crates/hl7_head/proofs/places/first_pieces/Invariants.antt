@@ -1,7 +1,7 @@
 use Rattle.er7_tree.specs.Pieces.{split}
-use Rattle.hl7_head.specs.Places.{bytes_at}
+use Rattle.er7_tree.specs.Spans.{covered}
 use Rattle.hl7_head.proofs.Cutting.{ReadsOn}
 use Rattle.hl7_head.proofs.places.first_pieces.Given as goal
 
 abbrev pub invariant-loop-piece : goal.invariant-loop-piece
-invariant-loop-piece g l = ReadsOn l.segment l.separator l.left l.piece-index g.row.N (split l.separator (bytes_at l.segment l.fn.part)) l.piece-items
+invariant-loop-piece g l = ReadsOn l.segment l.separator l.left l.piece-index g.row.N (split l.separator (covered l.segment l.fn.part)) l.piece-items

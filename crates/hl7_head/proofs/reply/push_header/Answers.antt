@@ -8,7 +8,8 @@ pub returns : goal.returns
 returns c =
     let h = c.args.header.now in
     let routed = rw (
-      c.delims-separator.ensures,
+      c.field-separator.ensures,
+      c.delims.ensures,
       c.encoding_characters.ensures,
       c.receiving_application.ensures,
       c.receiving_facility.ensures,
@@ -16,9 +17,9 @@ returns c =
       c.sending_facility.ensures,
       c.stamp-stamp.ensures,
     ) at c.in_ok-push_fields.ensures in
-    let identified = rw c.delims-separator.ensures at c.in_ok-push_reply_id.ensures in
-    let copied = rw (c.delims-separator.ensures, c.processing_id.ensures, c.version_id.ensures) at c.in_ok-push_fields-2.ensures in
-    let done = rw c.delims-separator.ensures at c.in_ok-push_reply_mode.ensures in
+    let identified = rw (c.field-separator.ensures, c.delims.ensures) at c.in_ok-push_reply_id.ensures in
+    let copied = rw (c.field-separator.ensures, c.delims.ensures, c.processing_id.ensures, c.version_id.ensures) at c.in_ok-push_fields-2.ensures in
+    let done = rw (c.field-separator.ensures, c.delims.ensures) at c.in_ok-push_reply_mode.ensures in
     assembled h.delims.field
     (h.encoding_characters ∷ h.receiving_application ∷ h.receiving_facility ∷ h.sending_application ∷ h.sending_facility ∷ stamp c.args.moment ∷ [] ∷ [])
     (reply_type h) (reply_id c.args.connection c.args.number) (h.processing_id ∷ h.version_id ∷ []) (reply_mode c.args.part.now.enhanced)

@@ -9,5 +9,6 @@ returns-in-Err c =
           (stopped_at c.args.steps.now c.loop-place.place c.index-steps-place.result c.args.message c.loop-place.message w.in-Cause.cause
           c.loop-place-test.true c.index-steps-place.is c.loop-place.invariant (rw w.in-Cause.is at c.in-Err.ensures))
       | in-NoMemory w ↦ rw w.result-is
-          (some_wants c.args.steps.now c.loop-place.place c.index-steps-place.result c.loop-place-test.true c.index-steps-place.is (rw w.in-NoMemory.is at c.in-Err.ensures))
+          (some_wants c.args.steps.now c.loop-place.place c.index-steps-place.result c.args.message c.loop-place.message
+          c.loop-place-test.true c.index-steps-place.is c.loop-place.invariant (rw w.in-NoMemory.is at c.in-Err.ensures))
     ]

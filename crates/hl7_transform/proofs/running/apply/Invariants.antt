@@ -1,7 +1,5 @@
-use Rattle.std.proofs.Common.{◌≡◌, drop}
-use Rattle.hl7_transform.specs.Step.{after, after_from}
-use Rattle.hl7_transform.specs.View.{steps_view}
+use Rattle.hl7_transform.proofs.Stopping.{SoFar}
 use Rattle.hl7_transform.proofs.running.apply.Given as goal
 
 abbrev pub invariant-loop-place : goal.invariant-loop-place
-invariant-loop-place l = after (steps_view l.steps) l.initial.message ≡ after_from l.place (steps_view (drop l.place l.steps)) l.message
+invariant-loop-place l = SoFar l.steps l.initial.message l.place l.message

@@ -8,5 +8,5 @@ pub returns : goal.returns
 returns c =
     let segment = c.header-segment.result.now in
     let copied = ap (λ bytes. pieces_at c.delims-delims.result bytes c.of-places.result) c.in_ok-from_slice.ensures.items in
-    let declared = ap (λ delims. header_in delims segment) c.delims-delims.ensures.value in
+    let declared = ap (λ delims. header_in delims segment) c.delims-delims.ensures in
     copied ∙ c.of-places.ensures.pieces ∙ declared ∙ header_by_segment c.args.message.now segment c.header-segment.ensures.first c.header-segment.ensures.named

@@ -1,6 +1,6 @@
-use Rattle.std.proofs.Common.{◌≡◌, find, Some, arith, refl, codes}
+use Rattle.std.proofs.Common.{◌≡◌, find, Some, arith, refl, sym, codes}
 use Rattle.er7_tree.specs.Tree.{has_name}
-use Rattle.hl7_head.specs.declared.places.Span.{Span}
+use Rattle.er7_tree.specs.declared.segments.Span.{Span}
 use Rattle.hl7_head.proofs.HeaderSegment.{found_passes, msa_field_read}
 use Rattle.hl7_head.proofs.msa.Msa.read.Goals as goal
 
@@ -10,21 +10,24 @@ returns c =
     let segment = c.in-Some.segment.now in
     let found : Some segment ≡ find (has_name (codes "MSA")) t.segments = c.in-Some.ensures in
     let named = found_passes (has_name (codes "MSA")) t.segments segment found in
-    let none : Span = record { start = 0; end = 0 } in
-    let pieces = rw (c.of.ensures.whole, c.delims.ensures.value) at c.first_pieces.ensures in
+    let nowhere : Span = record { start = 0; end = 0 } in
+    let pieces = rw (c.whole.ensures.all, c.field.ensures, c.delims.ensures) at c.first_pieces.ensures in
     let read = msa_field_read t.delims segment c.first_pieces.result named pieces in
-    let code = read 1 none (omega arith) in
-    let control_id = read 2 none (omega arith) in
-    let text = read 3 none (omega arith) in
-    rw (
-      c.in_ok-from_slice.ensures.items,
-      c.in_ok-from_slice-2.ensures.items,
-      c.in_ok-from_slice-3.ensures.items,
-      c.bytes_of.ensures,
-      c.bytes_of-2.ensures,
-      c.bytes_of-3.ensures,
-      ← found,
-      code,
-      control_id,
-      text,
-    ) refl
+    let code = read 1 nowhere (omega arith) in
+    let control_id = read 2 nowhere (omega arith) in
+    let text = read 3 nowhere (omega arith) in
+    record {
+      value = rw (
+        c.in_ok-from_slice.ensures.items,
+        c.in_ok-from_slice-2.ensures.items,
+        c.in_ok-from_slice-3.ensures.items,
+        c.of.ensures,
+        c.of-2.ensures,
+        c.of-3.ensures,
+        ← found,
+        code,
+        control_id,
+        text,
+      ) refl;
+      absent = λ none. let bad = rw (sym found) at none in cc;
+    }

@@ -1,12 +1,12 @@
 use Rattle.std.proofs.Common.{arith, get_or, refl}
-use Rattle.hl7_head.specs.declared.places.Span.{Span}
+use Rattle.er7_tree.specs.declared.segments.Span.{Span}
 use Rattle.hl7_head.proofs.HeaderSegment.{field_read, component_read}
 use Rattle.hl7_head.proofs.places.Places.of.Goals as goal
 
 pub returns-clause-pieces : goal.returns-clause-pieces
 returns-clause-pieces c =
     let none : Span = record { start = 0; end = 0 } in
-    let pieces = rw c.of.ensures.whole at c.first_pieces.ensures in
+    let pieces = rw (c.whole.ensures.all, c.field.ensures) at c.first_pieces.ensures in
     let field = field_read c.args.delims c.args.segment.now c.first_pieces.result c.requires pieces in
     let encoding_characters = field 1 none (omega arith) (omega arith) in
     let sending_application = field 2 none (omega arith) (omega arith) in
