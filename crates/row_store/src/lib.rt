@@ -9,11 +9,9 @@ ghost use Rattle.row_store.specs.Rows.{NumbersRise, stands_in, without, queue_of
 
 use std::alloc::{AllocFailed, Global};
 
-mod plain;
-#[cfg(test)]
-mod tests;
+mod plain_rows;
 
-pub use plain::PlainRows;
+pub use plain_rows::PlainRows;
 
 /// How many queues there are: a queue's place is below this.
 pub const QUEUES: u32 = 32;
@@ -102,8 +100,10 @@ pub trait RowStore<T> {
     }
 }
 
-/// The laws of queues: a change to a row and the queues that it stands in.
+/// The laws of queues: how many there are, and what a change to a row does to those that it stands in.
 pub fn queue_rules<T>()
+    ensures queues { QUEUES ≡ 32 }
+
     // The front is the first of the queue.
     ensures front { (rows : List (Row T)) (d : ℕ) → front_of d rows ≡ slice_get (queue_of d rows) 0 }
 
