@@ -49,6 +49,10 @@ pub trait RowStore<T> {
     /// The rows, in the order of their numbers.
     ghost rows: { Self → List (Row T) };
 
+    /// How many rows can be added with no memory asked for. A store that makes each row in memory of its own has room for
+    /// none.
+    ghost room: { Self → ℕ };
+
     /// A store with no row.
     fn make(alloc: Global) -> Self
         ensures { rows result ≡ [] };
@@ -57,11 +61,12 @@ pub trait RowStore<T> {
     fn numbers_rise(&self)
         ensures { NumbersRise (rows self.now) };
 
-    /// Adds a row at the end. Want of memory hands the item back.
+    /// Adds a row at the end. Want of memory, which comes only where there was no room, hands the item back.
     fn push(&mut self, number: u32, item: T, mask: u32) -> Result<(), AllocFailed<T>>
         requires { All (λ row. row.number < number) (rows self.old) }
         ensures ok { OnOk result (rows self.new ≡ rows self.old ++ record { number = number; item = item; mask = mask } ∷ []) }
         ensures err { OnErr result (rows self.new ≡ rows self.old) }
+        ensures missing { OnErr result (room self.old ≡ 0) }
         ensures item_returned { IfErr result (λ failed. failed.value ≡ item) };
 
     /// The first number in queue d.

@@ -15,19 +15,21 @@ pub struct PlainRows<T> {
 }
 
 impl<T> Model for PlainRows<T> {
-    ghost use Rattle.std.specs.Prelude.{List};
+    ghost use Rattle.std.specs.Prelude.{◌-◌, ℕ, List, vec_len, vec_capacity};
     ghost use Rattle.row_store.specs.declared.Row.{Row};
     ghost use Rattle.row_store.specs.Rows.{NumbersRise};
 
-    ghost Value = { List (Row T) };
+    ghost Value = { List (Row T) × ℕ };
 
-    ghost view = { λ s. s.rows.items };
+    ghost view = { λ s. (s.rows.items, vec_capacity s.rows - vec_len s.rows) };
 
     ghost invariant = { λ s. NumbersRise s.rows.items };
 }
 
 impl<T: Drop> RowStore<T> for PlainRows<T> {
-    ghost rows = { λ s. s };
+    ghost rows = { λ s. s.0 };
+
+    ghost room = { λ s. s.1 };
 
     fn make(alloc: Global) -> Self {
         PlainRows {

@@ -1,12 +1,13 @@
-use Rattle.std.proofs.Common.{sym, refl}
+use Rattle.std.proofs.Common.{ap, sym, refl}
 use Rattle.row_store.proofs.Places.{only_at, find-missing, find-at, changed_at-at, numbers-changed_at}
 use Rattle.row_store.proofs.plain_rows.PlainRowsRowStore.get_mut.Goals as goal
 
 pub returns-in_err-place : goal.returns-in_err-place
 returns-in_err-place g c =
-    let missing = rw (c.deref.ensures.value, c.self.view_is) at c.in_err-place.ensures.missing in
-    let none = find-missing c.args.number c.args.self.now missing in
-    rw c.from_residual.ensures ((refl, (λ w. tt), c.self.view_is), record { writes_back = tt; item = rw none refl })
+    let shown = ap (λ s. s.0) c.self.view_is in
+    let missing = rw (c.deref.ensures.value, shown) at c.in_err-place.ensures.missing in
+    let none = find-missing c.args.number c.args.self.now.0 missing in
+    rw c.from_residual.ensures ((refl, (λ w. tt), shown), record { writes_back = tt; item = rw none refl })
 
 pub invariant_of-self-lent : goal.invariant_of-self-lent
 invariant_of-self-lent g c = λ w.
@@ -17,6 +18,7 @@ invariant_of-self-lent g c = λ w.
 
 pub returns : goal.returns
 returns g c =
+    let shown = ap (λ s. s.0) c.self.view_is in
     let only = only_at c.args.number c.in_ok-place.place c.self.inside.rows.items c.self.invariant (rw c.deref.ensures.value at c.in_ok-place.ensures.inside) (rw c.deref.ensures.value at c.in_ok-place.ensures.found) in
     let found = find-at c.args.number c.in_ok-place.place c.index_mut-row.result.now c.self.inside.rows.items only in
-    ((refl, (λ w. rw (c.index_mut-row.ensures.value, ← c.self.view_is) (sym (changed_at-at c.args.number (λ row. record row { item = w }) c.in_ok-place.place c.index_mut-row.result.now c.self.inside.rows.items only))), refl), record { writes_back = tt; item = rw (← c.self.view_is, found, ← c.index_mut-row.ensures.value) refl })
+    ((refl, (λ w. rw (c.index_mut-row.ensures.value, ← shown) (sym (changed_at-at c.args.number (λ row. record row { item = w }) c.in_ok-place.place c.index_mut-row.result.now c.self.inside.rows.items only))), refl), record { writes_back = tt; item = rw (← shown, found, ← c.index_mut-row.ensures.value) refl })
