@@ -14,7 +14,7 @@ use Rattle.dest_queue.specs.declared.slots.Slot.{Slot}
 use Rattle.dest_queue.specs.SlotsBy.{slots_by}
 use Rattle.dup_index.specs.Known.{Known}
 use Rattle.stat_count.specs.declared.ChannelCounts.{ChannelCounts}
-use Rattle.stat_count.specs.Tally.{Tally}
+use Rattle.stat_count.specs.Statistics.{Statistics}
 use Rattle.event_log.specs.History.{History, deliveries, names, slot, state}
 use Rattle.event_log.proofs.Reading.{queue-rises}
 use Rattle.event_log.proofs.Replaying.{accepted-is, filtered-is, message-arrived, repeat-is}
@@ -49,7 +49,7 @@ slots-apart state (x ∷ ds) once =
         All-cons (λ (b : Slot). x.destination ≢ b.destination) (record { destination = y.destination; state = state y.destination }) (slots_by state (destinations_of ds))
         (All-head (λ y. x.destination ≢ y.destination) y ds all) (elsewhere ds (All-tail (λ y. x.destination ≢ y.destination) y ds all))
 
-module _ (h : History) (rows : List (Row (Addressed Letter))) (index : List Known) (tally : Tally) (flights room : ℕ) (kept : IsKept h rows index tally flights room) where
+module _ (h : History) (rows : List (Row (Addressed Letter))) (index : List Known) (tally : Statistics) (flights room : ℕ) (kept : IsKept h rows index tally flights room) where
   -- no row has two slots for a destination
   rows-once : (rows : List (Row (Addressed Letter))) → AllByRecursion (IsAsTold h) rows → AllByRecursion (λ row. AllPairs (λ (a b : Slot). a.destination ≢ b.destination) row.item.slots) rows
   rows-once [] told = tt
@@ -82,7 +82,7 @@ module _ (h : History) (rows : List (Row (Addressed Letter))) (index : List Know
         queued = kept-queue h rows kept.rows_agree;
         in_order = λ d inside. subst IsStrictlyIncreasing (sym (kept-queue h rows kept.rows_agree d inside)) (queue-rises h d);
         statistics = statistics;
-        received = subst (λ (t : Tally). All (λ (c : ChannelCounts). c.received ≡ c.filtered + c.accepted + c.refused) t.channels) (sym statistics)
+        received = subst (λ (t : Statistics). All (λ (c : ChannelCounts). c.received ≡ c.filtered + c.accepted + c.refused) t.channels) (sym statistics)
             (All-map (λ (c : ChannelCounts). c.received ≡ c.filtered + c.accepted + c.refused) (channel_counts h) (range_with_len 0 64)
             (all-each (λ c. (channel_counts h c).received ≡ (channel_counts h c).filtered + (channel_counts h c).accepted + (channel_counts h c).refused) (received-sum h) (range_with_len 0 64)));
         room = kept.sound.room;

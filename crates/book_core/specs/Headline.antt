@@ -7,7 +7,7 @@ use Rattle.row_store.specs.declared.Row.{Row}
 use Rattle.row_store.specs.Rows.{numbers as numbers_of, queue_of}
 use Rattle.dest_queue.specs.declared.slots.Addressed.{Addressed}
 use Rattle.dest_queue.specs.Queues.{slot_of}
-use Rattle.stat_count.specs.Tally.{Tally}
+use Rattle.stat_count.specs.Statistics.{Statistics}
 use Rattle.event_log.specs.declared.entry.Entry.{Entry}
 use Rattle.event_log.specs.declared.entry.Entry.TheVariants.{Arrival}
 use Rattle.event_log.specs.declared.entry.Told.TheVariants as told
@@ -24,7 +24,7 @@ abbrev pub is_repeated_by : ℕ → List ℕ → Entry → Bool
 is_repeated_by channel raw e = keeps (key_of channel raw) e && brings raw e
 
 -- what a book promises whenever it is free: these are its history, the rows that it keeps, and its statistics
-pub record KeepsItsPromise (h : History) (rows : List (Row (Addressed Letter))) (tally : Tally) : Type 0 where
+pub record KeepsItsPromise (h : History) (rows : List (Row (Addressed Letter))) (tally : Statistics) : Type 0 where
   -- the sequential engine, run over the same events, gives this very history: each acknowledgment, each message taken,
   -- each state settled and each cancellation as it was replied
   pub replayed : replay h ≡ h
