@@ -10,7 +10,7 @@ use Rattle.judge_core.specs.Delivering.{destinations_of}
 use Rattle.judge_core.specs.Judging.{verdict as decided, deliveries_of}
 use Rattle.dest_queue.specs.declared.SlotState.TheVariants.{Waiting}
 use Rattle.stat_count.specs.declared.ChannelCounts.{ChannelCounts}
-use Rattle.stat_count.specs.Tally.{Tally, channel_at, waits_one}
+use Rattle.stat_count.specs.Statistics.{Statistics, channel_at, waits_one}
 use Rattle.event_log.specs.declared.entry.Told.{Told}
 use Rattle.event_log.specs.declared.entry.Told.TheVariants as told
 use Rattle.event_log.specs.declared.entry.Entry.TheVariants.{Arrival}
@@ -112,7 +112,7 @@ arrived-counts h conn channel raw (told.Refused cause) sound step d = kept-count
 arrived-counts h conn channel raw (told.Repeat place) sound step d = kept-counts h conn channel raw (told.Repeat place) (step.accepted ∙ append-nil (accepted h)) step.state d
 
 -- the statistics after an arrival
-pub counted-arrival : (h : History) (conn channel : ℕ) (raw : List ℕ) (reply : Told) (tally new : Tally) → IsSound h → ArrivalStep h conn channel raw reply → channel < 64 → AreCounted h tally
+pub counted-arrival : (h : History) (conn channel : ℕ) (raw : List ℕ) (reply : Told) (tally new : Statistics) → IsSound h → ArrivalStep h conn channel raw reply → channel < 64 → AreCounted h tally
     → CountsArrival channel reply (slots_added (plan_in_force h) channel raw reply) tally new → AreCounted (followed_by h (Arrival conn channel raw reply)) new
 counted-arrival h conn channel raw reply tally new sound step place counts arrives = record {
   all_channels = arrives.channels ∙ counts.all_channels;
