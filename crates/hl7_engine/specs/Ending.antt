@@ -2,8 +2,8 @@
 use Rattle.std.specs.Prelude.{ℕ}
 use Rattle.hl7_engine.specs.declared.fault.Fault.{Fault}
 use Rattle.hl7_engine.specs.declared.fault.Fault.TheVariants as fault
-use Rattle.hl7_engine.specs.declared.reports.ServeEnd.{ServeEnd}
-use Rattle.hl7_engine.specs.declared.reports.ServeEnd.TheVariants as end
+use Rattle.conn_worker.specs.declared.report.ServeEnd.{ServeEnd}
+use Rattle.conn_worker.specs.declared.report.ServeEnd.TheVariants as end
 
 -- the exit status: 1 of a faulty plan, 2 of words that aren't taken, 3 of a file, a device or memory
 abbrev pub status_of : Fault → ℕ

@@ -2,20 +2,13 @@
 //! and checks plans.
 #![tactic(auto)]
 
-mod answering;
-mod clock;
 mod command_line;
-mod counted;
+mod commands;
 mod fault;
-mod reports;
-mod running;
-mod serving;
-mod streaming;
-mod tally;
 
 use command_line::ask;
+use commands::run;
 use fault::Fault;
-use running::run;
 use std::env;
 use std::io::ErrorKind;
 use std::process::ExitCode;
@@ -29,7 +22,7 @@ fn words_given<'a>(rt: &HostRuntime) -> Result<Vec<String>, Fault<'a>> {
     }
 }
 
-/// Prints the help that was asked for, which is a success, or passes on what is wrong with the words.
+/// Prints the help or the version that was asked for, which is a success, or passes on what is wrong with the words.
 fn explain<'a>(rt: &HostRuntime, error: clap::Error) -> Result<(), Fault<'a>> {
     if error.use_stderr() {
         Err(Fault::from(error))
@@ -64,6 +57,3 @@ fn main(rt: HostRuntime) -> ExitCode {
         Err(fault) => finish(&rt, Err(fault)),
     }
 }
-
-#[cfg(test)]
-mod tests;

@@ -1,0 +1,19 @@
+use Rattle.std.proofs.Common.{◌≡◌, length, get_or, None, arith}
+use Rattle.conn_core.proofs.Numbering.{due_part, dues_two, two_parts, second_appended, second_missing}
+use Rattle.conn_core.proofs.replies.Replies.append.Goals as goal
+
+pub returns-clause-ok : goal.returns-clause-ok
+returns-clause-ok c =
+    let two : length c.parts.result ≡ 2 = omega arith in
+    let dues = dues_two c.args.header.now c.args.outcome c.args.now c.of.result c.told_of.result c.parts.result two c.parts.ensures c.of.ensures c.told_of.ensures in
+    second_appended c.append_part-2.result _ _ _ _ _ _ c.in_ok-append_part.ensures.ok
+    (two_parts c.args.conn c.args.self.now.made (due_part c.args.header.now c.args.now) (get_or c.parts.result 0 None) (get_or c.parts.result 1 None) c.append_part.new.self.made _ c.in_ok-append_part.ensures.counted dues)
+    c.append_part-2.ensures.ok
+
+pub returns-clause-err : goal.returns-clause-err
+returns-clause-err c =
+    let two : length c.parts.result ≡ 2 = omega arith in
+    let dues = dues_two c.args.header.now c.args.outcome c.args.now c.of.result c.told_of.result c.parts.result two c.parts.ensures c.of.ensures c.told_of.ensures in
+    second_missing c.append_part-2.result _ _ _ _ _ _ c.in_ok-append_part.ensures.ok
+    (two_parts c.args.conn c.args.self.now.made (due_part c.args.header.now c.args.now) (get_or c.parts.result 0 None) (get_or c.parts.result 1 None) c.append_part.new.self.made _ c.in_ok-append_part.ensures.counted dues)
+    c.append_part-2.ensures.err

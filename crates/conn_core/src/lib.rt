@@ -1,0 +1,13 @@
+//! Answering a message that came in a block: judging it, booking it wherever messages are booked, and making the
+//! acknowledgments that it is due. Nothing here reads or writes a device.
+#![tactic(auto)]
+
+mod block_outcome;
+mod booking;
+mod line;
+mod replies;
+
+pub use block_outcome::{BlockOutcome, Booked, answer_block, book_and_reply};
+pub use booking::Booking;
+pub use line::Line;
+pub use replies::Replies;

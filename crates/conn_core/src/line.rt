@@ -1,0 +1,11 @@
+//! A connection that messages come by.
+
+use std::alloc::Global;
+
+/// A connection: its number, and its channel by its place in the plan. Memory for its messages comes from `alloc`.
+#[derive(Clone, Copy)]
+pub struct Line {
+    pub alloc: Global,
+    pub conn: u32,
+    pub channel: u32,
+}

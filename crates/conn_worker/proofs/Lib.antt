@@ -1,0 +1,4 @@
+pub mod Written
+pub mod Growing
+pub mod Standing
+pub mod Pieces

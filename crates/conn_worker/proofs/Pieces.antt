@@ -1,0 +1,175 @@
+-- One more piece of a stream.
+use Rattle.std.proofs.Common.{◌≡◌, ◌≢◌, ℕ, List, [], ◌++◌, Option, map, Result, Ok, Err, OnErr, IfErr, refl, sym, ap, ◌∙◌, append_assoc, append-nil}
+use Rattle.std.specs.Io.KnownBytes.{Consumes, Appends, IsAtEnd}
+use Rattle.std.proofs.KnownBytes.{Consumes-nil, Consumes-trans, Appends-nil, Appends-trans}
+use Rattle.mllp_frame.specs.Event.{Event}
+use Rattle.mllp_frame.specs.Framed.{Framed, fed, blank}
+use Rattle.mllp_frame.specs.Framing.{blocks, open_end}
+use Rattle.conn_worker.specs.declared.report.ServeEnd.{ServeEnd}
+use Rattle.conn_worker.specs.declared.report.ServeEnd.TheVariants.{End, ReadFault, WriteFault, NoMemory, TurnBound}
+use Rattle.conn_worker.specs.declared.report.ServeReport.{ServeReport}
+use Rattle.conn_worker.specs.declared.dialogue.Dialogue.{Dialogue}
+use Rattle.conn_core.specs.Replies.{Answer}
+use Rattle.conn_core.specs.Messages.{message_by}
+use Rattle.conn_worker.specs.Serving.{Tells, Serves}
+use Rattle.conn_worker.specs.declared.session.Session.{Session}
+use Rattle.conn_worker.specs.Session.{SoFar}
+use Rattle.conn_worker.specs.Stream.{StopsReading, StopsWriting}
+use Rattle.conn_worker.specs.Handling.{HandlesAll, HandlesFront, StopsHandling}
+
+-- What a longer stream holds, as the laws of framing say it.
+pub record StreamLaws : Type 0 where
+  pub blocks_are : (s more : List ℕ) → blocks (s ++ more) ≡ blocks s ++ blocks (open_end s ++ more)
+  pub end_is : (s more : List ℕ) → open_end (s ++ more) ≡ open_end (open_end s ++ more)
+
+-- how serving ended is no part of what is told
+tells_end : {conn channel : ℕ} {events : List Event} {answers : List Answer} (r : ServeReport) (end : ServeEnd) → Tells conn channel events answers r → Tells conn channel events answers (record r { end = end })
+tells_end r end s =
+    record {
+      messages = s.messages;
+      receipts = s.receipts;
+      unbooked = s.unbooked;
+      unreadable_ones = s.unreadable_ones;
+      stray_ones = s.stray_ones;
+      broken_ones = s.broken_ones;
+    }
+
+-- no further piece was read
+pub ends_here : {conn channel : ℕ} {to_read left held holds : Option (List ℕ)} {z : Session} (left' : Option (List ℕ)) (end : ServeEnd) → SoFar conn channel to_read left held holds z
+    → Consumes left left' [] → (end ≡ End → IsAtEnd left') → Serves conn channel to_read left' held holds (record z.dialogue.report { end = end })
+ends_here {conn} {channel} {to_read} {left} {held} {holds} {z} left' end s reads at_end =
+    record {
+      read = s.read;
+      reads = let r = Consumes-trans to_read left left' s.read [] s.reads reads in rw append-nil at r;
+      handled = blocks s.read;
+      later = [];
+      events = sym (append-nil (blocks s.read));
+      answers = s.stands.answers;
+      tells = tells_end z.dialogue.report end s.stands.tells;
+      written = s.written;
+      unwritten = [];
+      replies = s.stands.replies ∙ ap (λ l. s.written ++ l) s.all_written;
+      wrote = s.wrote;
+      whole = λ e. (at_end e, refl, refl);
+    }
+
+module _ (laws : StreamLaws) where
+  -- a piece was read, the first of its events handled, and the front of their replies written
+  pub ends_amid : {conn channel : ℕ} {to_read left held holds : Option (List ℕ)} {z : Session} (left' holds' : Option (List ℕ)) (t' : Dialogue) (end : ServeEnd) (piece written unwritten : List ℕ)
+      → SoFar conn channel to_read left held holds z
+      → Consumes left left' piece → HandlesFront conn channel (blocks (z.framer.open_end ++ piece)) z.dialogue t'
+      → t'.replies.bytes.items ≡ written ++ unwritten → Appends holds holds' written → end ≢ End
+      → Serves conn channel to_read left' held holds' (record t'.report { end = end })
+  ends_amid {conn} {channel} {to_read} {left} {held} {holds} {z} left' holds' t' end piece written unwritten s reads front bytes_are wrote other =
+      let a = front (blocks s.read) s.written s.stands in
+      record {
+        read = s.read ++ piece;
+        reads = Consumes-trans to_read left left' s.read piece s.reads reads;
+        handled = blocks s.read ++ a.handled;
+        later = a.later;
+        events =
+            laws.blocks_are s.read piece
+            ∙ ap (λ l. blocks s.read ++ blocks (l ++ piece)) (sym s.left_open)
+            ∙ ap (λ l. blocks s.read ++ l) a.whole
+            ∙ sym (append_assoc (blocks s.read) a.handled a.later);
+        answers = a.answers;
+        tells = tells_end t'.report end a.tells;
+        written = s.written ++ written;
+        unwritten = unwritten ++ a.missing;
+        replies =
+            a.replies
+            ∙ ap (λ l. s.written ++ (l ++ a.missing)) bytes_are
+            ∙ ap (λ l. s.written ++ l) (append_assoc written unwritten a.missing)
+            ∙ sym (append_assoc s.written written (unwritten ++ a.missing));
+        wrote = Appends-trans held holds holds' s.written written s.wrote wrote;
+        whole = λ e. absurd (other e);
+      }
+
+  -- a piece was read, its events handled, and all their replies written
+  pub goes_on : {conn channel : ℕ} {to_read left held holds : Option (List ℕ)} {z : Session} (left' holds' : Option (List ℕ)) (t' : Dialogue) (z'' : Session) (piece : List ℕ)
+      → SoFar conn channel to_read left held holds z
+      → Consumes left left' piece → HandlesAll conn channel (blocks (z.framer.open_end ++ piece)) z.dialogue t'
+      → Appends holds holds' t'.replies.bytes.items → z''.framer.to_come ≡ [] → z''.framer.open_end ≡ open_end (z.framer.open_end ++ piece)
+      → z''.dialogue.report ≡ t'.report → z''.dialogue.replies.made ≡ t'.replies.made → z''.dialogue.replies.bytes.items ≡ []
+      → SoFar conn channel to_read left' held holds' z''
+  goes_on {conn} {channel} {to_read} {left} {held} {holds} {z} left' holds' t' z'' piece s reads all wrote none_left end_is report_is made_is cleared =
+      let a = all (blocks s.read) s.written s.stands in
+      let events : blocks (s.read ++ piece) ≡ blocks s.read ++ blocks (z.framer.open_end ++ piece) = laws.blocks_are s.read piece ∙ ap (λ l. blocks s.read ++ blocks (l ++ piece)) (sym s.left_open) in
+      record {
+        read = s.read ++ piece;
+        reads = Consumes-trans to_read left left' s.read piece s.reads reads;
+        none_left = none_left;
+        left_open = end_is ∙ ap (λ l. open_end (l ++ piece)) s.left_open ∙ sym (laws.end_is s.read piece);
+        written = s.written ++ t'.replies.bytes.items;
+        wrote = Appends-trans held holds holds' s.written t'.replies.bytes.items s.wrote wrote;
+        stands = record {
+          answers = a.answers;
+          tells = rw (events, report_is) a.tells;
+          replies = a.replies ∙ sym (append-nil (s.written ++ t'.replies.bytes.items)) ∙ ap (λ l. (s.written ++ t'.replies.bytes.items) ++ l) (sym cleared);
+          made = made_is ∙ a.made;
+        };
+        all_written = cleared;
+      }
+
+pub fed_events : (f f' : Framed) (piece : List ℕ) → f' ≡ fed f piece → f.to_come ≡ [] → f'.to_come ≡ blocks (f.open_end ++ piece)
+fed_events f f' piece is none = ap (λ (x : Framed). x.to_come) is ∙ ap (λ l. l ++ blocks (f.open_end ++ piece)) none
+
+pub writing_other : (end : ServeEnd) (a b : ℕ) → StopsWriting end a b → end ≢ End
+writing_other End a b h e = h
+writing_other ReadFault a b h e = h
+writing_other WriteFault a b h e = cc
+writing_other NoMemory a b h e = h
+writing_other TurnBound a b h e = cc
+
+pub handling_other : (end : ServeEnd) → StopsHandling end → end ≢ End
+handling_other End h e = h
+handling_other ReadFault h e = h
+handling_other WriteFault h e = h
+handling_other NoMemory h e = cc
+handling_other TurnBound h e = cc
+
+pub reading_end : (end : ServeEnd) (left : Option (List ℕ)) (a b : ℕ) → StopsReading end left a b → end ≡ End → IsAtEnd left
+reading_end end left a b h e = rw e at h
+
+pub if_err_two : {T E P : Type 0} {Q S : E → Type 0} (r : Result T E) → ((e : E) → P → Q e → S e) → OnErr r P → IfErr r Q → IfErr r S
+if_err_two (Ok x) f p q = tt
+if_err_two (Err e) f p q = f e p q
+
+-- at the start nothing is read
+pub starts : (conn channel : ℕ) (to_read held : Option (List ℕ)) (z : Session) → z.framer ≡ blank → z.dialogue.report.receipts.items ≡ [] → z.dialogue.report.unbooked ≡ 0 → z.dialogue.report.unreadable ≡ 0 → z.dialogue.report.strays ≡ 0 → z.dialogue.report.breaks ≡ 0
+    → z.dialogue.replies.made ≡ 0 → z.dialogue.replies.bytes.items ≡ [] → SoFar conn channel to_read to_read held held z
+starts conn channel to_read held z fresh receipts unbooked un st br made none =
+    record {
+      read = [];
+      reads = Consumes-nil to_read;
+      none_left = ap (λ (f : Framed). f.to_come) fresh;
+      left_open = ap (λ (f : Framed). f.open_end) fresh;
+      written = [];
+      wrote = Appends-nil held;
+      stands = record {
+        answers = [];
+        tells = record { messages = refl; receipts = ap (map message_by) receipts; unbooked = unbooked; unreadable_ones = un; stray_ones = st; broken_ones = br };
+        replies = sym none;
+        made = made;
+      };
+      all_written = none;
+    }
+
+-- nothing was read, and nothing handled
+pub serves_nothing : (conn channel : ℕ) (to_read held : Option (List ℕ)) (r : ServeReport) → r.receipts.items ≡ [] → r.unbooked ≡ 0 → r.unreadable ≡ 0 → r.strays ≡ 0 → r.breaks ≡ 0
+    → r.end ≢ End → Serves conn channel to_read to_read held held r
+serves_nothing conn channel to_read held r receipts unbooked un st br other =
+    record {
+      read = [];
+      reads = Consumes-nil to_read;
+      handled = [];
+      later = [];
+      events = refl;
+      answers = [];
+      tells = record { messages = refl; receipts = ap (map message_by) receipts; unbooked = unbooked; unreadable_ones = un; stray_ones = st; broken_ones = br };
+      written = [];
+      unwritten = [];
+      replies = refl;
+      wrote = Appends-nil held;
+      whole = λ e. absurd (other e);
+    }

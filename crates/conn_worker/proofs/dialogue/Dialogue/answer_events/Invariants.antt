@@ -1,0 +1,24 @@
+use Rattle.std.proofs.Common.{◌≡◌, ◌<◌, ◌≤◌, [], ◌++◌, List, length}
+use Rattle.mllp_frame.specs.Event.{Event}
+use Rattle.mllp_frame.specs.Framed.{Framed}
+use Rattle.conn_worker.specs.Handling.{BooksMore}
+use Rattle.conn_worker.specs.Handling.{HandlesAll, Fits}
+use Rattle.conn_worker.proofs.dialogue.Dialogue.answer_events.Given as goal
+
+-- the events that are gone from the framer were handled
+abbrev pub invariant-loop-event : goal.invariant-loop-event
+invariant-loop-event g l =
+    let emptied : Framed → Framed = λ f. record f { to_come = [] } in
+    record {
+      handled : List Event;
+      whole : l.fn.framer.to_come ≡ handled ++ l.framer.to_come;
+      stands : HandlesAll l.line.conn l.line.channel handled l.fn.self l.self;
+      rest : emptied l.framer ≡ emptied l.fn.framer;
+      booked : BooksMore g.B.Booking.books l.fn.book l.book l.fn.self.report.receipts.items l.self.report.receipts.items;
+      channel : l.line.channel < g.B.Booking.channels l.book;
+      fits : Fits l.self;
+      few : l.self.events ≤ l.events_max;
+    }
+
+abbrev pub decreases-loop-event : goal.decreases-loop-event
+decreases-loop-event g l = length l.framer.to_come

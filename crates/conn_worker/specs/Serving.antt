@@ -1,0 +1,35 @@
+-- What serving a connection comes to.
+use Rattle.std.specs.Prelude.{◌≡◌, ℕ, List, [], ◌++◌, map, Option, count_by}
+use Rattle.std.specs.Result.{is_err}
+use Rattle.std.specs.Io.KnownBytes.{Consumes, Appends, IsAtEnd}
+use Rattle.mllp_frame.specs.Event.{Event}
+use Rattle.mllp_frame.specs.Framing.{blocks}
+use Rattle.conn_core.specs.Messages.{booked, is_break, is_stray, is_unreadable, message_by, messages_of}
+use Rattle.conn_core.specs.Replies.{Answer, replies}
+use Rattle.conn_worker.specs.declared.report.ServeReport.{ServeReport}
+use Rattle.conn_worker.specs.declared.report.ServeEnd.TheVariants.{End}
+
+-- A report tells of these events, of which the messages got these answers.
+pub record Tells (conn channel : ℕ) (events : List Event) (answers : List Answer) (r : ServeReport) : Type 0 where
+  pub messages : messages_of events ≡ map (λ a. a.raw) answers
+  pub receipts : map message_by r.receipts.items ≡ booked conn channel answers
+  pub unbooked : r.unbooked ≡ count_by (λ a. is_err a.outcome) answers
+  pub unreadable_ones : r.unreadable ≡ count_by is_unreadable events
+  pub stray_ones : r.strays ≡ count_by is_stray events
+  pub broken_ones : r.breaks ≡ count_by is_break events
+
+-- The events at the front of those read were handled and are told of, and the front of their replies was written. At the
+-- reader's end nothing is left out: all that it had was read, all events were handled and all replies written.
+pub record Serves (conn channel : ℕ) (to_read left held holds : Option (List ℕ)) (r : ServeReport) : Type 0 where
+  pub read : List ℕ
+  pub reads : Consumes to_read left read
+  pub handled : List Event
+  pub later : List Event
+  pub events : blocks read ≡ handled ++ later
+  pub answers : List Answer
+  pub tells : Tells conn channel handled answers r
+  pub written : List ℕ
+  pub unwritten : List ℕ
+  pub replies : replies conn answers ≡ written ++ unwritten
+  pub wrote : Appends held holds written
+  pub whole : r.end ≡ End → IsAtEnd left × (later ≡ []) × (unwritten ≡ [])

@@ -1,0 +1,131 @@
+//! What a connection and the engine said to each other.
+
+ghost use Rattle.std.specs.Prelude.{◌≡◌, ◌+◌, ◌<◌, ◌≤◌, ◌∷◌, [], IfErr, OnOk, OnErr};
+ghost use Rattle.mllp_frame.specs.Event.{block, event_of};
+ghost use Rattle.mllp_frame.specs.Framing.{IsBlockData, HoldsData};
+ghost use Rattle.conn_worker.specs.Handling.{BooksMore, Fits, Handles, HandlesAll, HandlesFront, StopsHandling};
+
+use crate::clock::Clock;
+use crate::report::{ServeEnd, ServeReport};
+use crate::session::TURNS_MAX;
+use conn_core::{Booking, Line, Replies, answer_block};
+use hl7_head::Moment;
+use mllp_frame::{FrameEvent, Framer};
+use std::alloc::{AllocError, Global};
+
+/// What came of a connection's events so far, and the replies to them.
+#[derive(Drop)]
+pub struct Dialogue {
+    pub report: ServeReport,
+    /// How many events there were.
+    pub events: u64,
+    pub replies: Replies,
+}
+
+impl Dialogue {
+    /// With nothing read yet.
+    pub fn new(alloc: Global) -> Self
+        ensures receipts { result.report.receipts.items ≡ [] }
+        ensures unreadable_ones { result.report.unreadable ≡ 0 }
+        ensures stray_ones { result.report.strays ≡ 0 }
+        ensures broken_ones { result.report.breaks ≡ 0 }
+        ensures unbooked { result.report.unbooked ≡ 0 }
+        ensures events { result.events ≡ 0 }
+        ensures made { result.replies.made ≡ 0 }
+        ensures bytes { result.replies.bytes.items ≡ [] }
+    {
+        Dialogue {
+            report: ServeReport::new(alloc),
+            events: 0,
+            replies: Replies::new(alloc),
+        }
+    }
+
+    /// Answers a block, and counts what became of it. Room for a receipt is made before anything is booked.
+    fn answer<B: Booking>(
+        &mut self,
+        line: &Line,
+        book: &mut B,
+        raw: Vec<u8>,
+        now: Moment,
+    ) -> Result<(), AllocError>
+        requires channel { line.now.channel < B.channels book.old }
+        requires data { IsBlockData raw.items }
+        requires fits { Fits self.old }
+        requires few { self.old.events ≤ TURNS_MAX }
+        ensures ok { OnOk result (Handles line.now.conn line.now.channel (block raw.items) self.old self.new) }
+        ensures err { OnErr result (HandlesFront line.now.conn line.now.channel (block raw.items ∷ []) self.old self.new) }
+        ensures booked { BooksMore B.books book.old book.new self.old.report.receipts.items self.new.report.receipts.items }
+        ensures made { OnOk result (self.new.replies.made ≤ self.old.replies.made + 2) }
+        ensures unbooked { OnOk result (self.new.report.unbooked ≤ self.old.report.unbooked + 1) }
+        ensures unreadable_ones { OnOk result (self.new.report.unreadable ≤ self.old.report.unreadable + 1) }
+        ensures stray_ones { OnOk result (self.new.report.strays ≤ self.old.report.strays + 1) }
+        ensures broken_ones { OnOk result (self.new.report.breaks ≡ self.old.report.breaks) }
+        ensures events { OnOk result (self.new.events ≡ self.old.events) }
+    {
+        self.report.receipts.reserve(1)?;
+        let outcome = answer_block(line, book, raw, now, &mut self.replies)?;
+        let whole = outcome.is_whole();
+        self.report.count(outcome);
+        if whole { Ok(()) } else { Err(AllocError) }
+    }
+
+    /// Handles an event.
+    fn answer_event<B: Booking, C: Clock>(
+        &mut self,
+        line: &Line,
+        book: &mut B,
+        event: FrameEvent,
+        clock: &mut C,
+    ) -> Result<(), AllocError>
+        requires channel { line.now.channel < B.channels book.old }
+        requires data { HoldsData (event_of event) }
+        requires fits { Fits self.old }
+        requires few { self.old.events < TURNS_MAX }
+        ensures ok { OnOk result (Handles line.now.conn line.now.channel (event_of event) self.old self.new) }
+        ensures err { OnErr result (HandlesFront line.now.conn line.now.channel (event_of event ∷ []) self.old self.new) }
+        ensures booked { BooksMore B.books book.old book.new self.old.report.receipts.items self.new.report.receipts.items }
+        ensures fits { OnOk result (Fits self.new) }
+        ensures counted { OnOk result (self.new.events ≡ self.old.events + 1) }
+    {
+        self.events += 1;
+        match event {
+            FrameEvent::Broken(_) => {
+                self.report.breaks += 1;
+                Ok(())
+            }
+            FrameEvent::Block(raw) => self.answer(line, book, raw, clock.now()),
+        }
+    }
+
+    /// Handles all events to come, up to so many over the whole connection.
+    pub fn answer_events<B: Booking, C: Clock>(
+        &mut self,
+        line: &Line,
+        book: &mut B,
+        framer: &mut Framer,
+        clock: &mut C,
+        events_max: u64,
+    ) -> Result<(), ServeEnd>
+        requires channel { line.now.channel < B.channels book.old }
+        requires fits { Fits self.old }
+        requires few { self.old.events ≤ events_max }
+        requires bound { events_max ≤ TURNS_MAX }
+        ensures ok { OnOk result (HandlesAll line.now.conn line.now.channel framer.old.to_come self.old self.new) }
+        ensures left { OnOk result (framer.new ≡ record framer.old { to_come = [] }) }
+        ensures fits { OnOk result (Fits self.new) }
+        ensures few { OnOk result (self.new.events ≤ events_max) }
+        ensures err { OnErr result (HandlesFront line.now.conn line.now.channel framer.old.to_come self.old self.new) }
+        ensures stop { IfErr result (λ end. StopsHandling end) }
+        ensures bound { IfErr result (λ end. end ≡ ServeEnd.TurnBound → self.new.events ≡ events_max) }
+        ensures booked { BooksMore B.books book.old book.new self.old.report.receipts.items self.new.report.receipts.items }
+    {
+        while let Some(event) = framer.next() {
+            if self.events >= events_max {
+                return Err(ServeEnd::TurnBound);
+            }
+            self.answer_event(line, book, event, clock)?;
+        }
+        Ok(())
+    }
+}

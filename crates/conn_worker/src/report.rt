@@ -1,0 +1,98 @@
+//! What serving a connection comes to.
+
+ghost use Rattle.std.specs.Prelude.{◌≡◌, ◌+◌, ◌<◌, ◌++◌, [], vec_len, vec_capacity};
+ghost use Rattle.conn_core.specs.Outcomes.{receipts_in};
+ghost use Rattle.conn_worker.specs.Counting.{unbooked_in, unreadable_in, strays_in};
+
+use book_core::Receipt;
+use conn_core::{BlockOutcome, Booked};
+use std::alloc::{AllocError, Global};
+
+/// Why serving a connection ended.
+#[derive(Clone, Copy, PartialEq, Eq, Debug)]
+pub enum ServeEnd {
+    /// The reader is at its end, and all that it brought is answered.
+    End,
+    /// The reader failed.
+    ReadFault,
+    /// The writer failed, or took no byte.
+    WriteFault,
+    /// Memory was refused for the stream, for a receipt, in judging a message or in making a reply.
+    NoMemory,
+    /// As many reads were made, or as many events came, as one connection may have.
+    TurnBound,
+}
+
+impl From<AllocError> for ServeEnd {
+    ghost use Rattle.std.specs.Prelude.{◌≡◌};
+    ghost use Rattle.conn_worker.specs.declared.report.ServeEnd.TheVariants.{NoMemory};
+
+    ghost from_gives = { λ _ end. end ≡ NoMemory };
+
+    fn from(_: AllocError) -> Self {
+        ServeEnd::NoMemory
+    }
+}
+
+/// What came of a connection's events, and why serving it ended.
+#[derive(Debug, Drop)]
+pub struct ServeReport {
+    /// The receipts of the booked messages, in the order in which they came.
+    pub receipts: Vec<Receipt>,
+    /// How many blocks were no message.
+    pub unreadable: u64,
+    /// How many were acknowledgments, which ask for no answer.
+    pub strays: u64,
+    /// How many blocks were broken.
+    pub breaks: u64,
+    /// How many messages couldn't be booked. Their senders were told so.
+    pub unbooked: u64,
+    pub end: ServeEnd,
+}
+
+impl ServeReport {
+    /// Of no event yet; where nothing else ends it, memory was refused.
+    pub fn new(alloc: Global) -> Self
+        ensures receipts { result.receipts.items ≡ [] }
+        ensures unreadable_ones { result.unreadable ≡ 0 }
+        ensures stray_ones { result.strays ≡ 0 }
+        ensures broken_ones { result.breaks ≡ 0 }
+        ensures unbooked { result.unbooked ≡ 0 }
+        ensures end { result.end ≡ ServeEnd.NoMemory }
+    {
+        ServeReport {
+            receipts: Vec::new(alloc),
+            unreadable: 0,
+            strays: 0,
+            breaks: 0,
+            unbooked: 0,
+            end: ServeEnd::NoMemory,
+        }
+    }
+
+    /// Counts what became of a block, and keeps the receipt of a booked message, for which there is room.
+    pub fn count(&mut self, outcome: BlockOutcome)
+        requires room { vec_len self.old.receipts < vec_capacity self.old.receipts }
+        requires few_unreadable { self.old.unreadable < u64.MAX }
+        requires few_strays { self.old.strays < u64.MAX }
+        requires few_unbooked { self.old.unbooked < u64.MAX }
+        ensures receipts { self.new.receipts.items ≡ self.old.receipts.items ++ receipts_in outcome }
+        ensures unbooked { self.new.unbooked ≡ self.old.unbooked + unbooked_in outcome }
+        ensures unreadable_ones { self.new.unreadable ≡ self.old.unreadable + unreadable_in outcome }
+        ensures stray_ones { self.new.strays ≡ self.old.strays + strays_in outcome }
+        ensures broken_ones { self.new.breaks ≡ self.old.breaks }
+    {
+        match outcome {
+            BlockOutcome::Unreadable => self.unreadable += 1,
+            BlockOutcome::Stray => self.strays += 1,
+            BlockOutcome::Message(Booked {
+                outcome: Ok(receipt),
+                whole: _,
+            }) => self.receipts.push_reserved(receipt),
+            BlockOutcome::Message(Booked {
+                outcome: Err(_),
+                whole: _,
+            }) => self.unbooked += 1,
+        }
+    }
+}

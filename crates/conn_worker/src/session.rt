@@ -1,0 +1,168 @@
+//! Serving a connection.
+
+ghost use Rattle.std.specs.Prelude.{◌≡◌, ◌<◌, ◌≤◌, ◌⊎◌, [], false, IfOk, IfErr, OnOk, List, ℕ, Option};
+ghost use Rattle.conn_worker.specs.Handling.{BooksMore};
+ghost use Rattle.conn_worker.specs.Serving.{Serves};
+ghost use Rattle.conn_worker.specs.Faults.{Rose};
+ghost use Rattle.conn_worker.specs.Session.{IsReady, SoFar};
+
+use crate::clock::Clock;
+use crate::counted::Counted;
+use crate::dialogue::Dialogue;
+use crate::report::{ServeEnd, ServeReport};
+use crate::stream::{read_piece, write_out};
+use conn_core::{Booking, Line};
+use mllp_frame::{Framer, longer_streams};
+use std::alloc::{AllocError, Global};
+use std::io::{Read, Write};
+
+/// The most events that are handled for one connection, and the most reads that are made, interrupted ones and
+/// interrupted writes among them.
+pub const TURNS_MAX: u64 = 1_000_000_000;
+
+/// The most bytes that one read asks for.
+const PIECE: usize = 65_536;
+
+/// What a connection has while it is served.
+#[derive(Drop)]
+pub struct Session {
+    pub framer: Framer,
+    /// Where the next piece is read to.
+    pub buffer: Vec<u8>,
+    /// How many reads may still be made.
+    pub turns: u64,
+    /// The most events that are handled.
+    pub events_max: u64,
+    pub dialogue: Dialogue,
+}
+
+impl Session {
+    /// With nothing read yet.
+    fn new(alloc: Global, bound: u64) -> Result<Session, AllocError>
+        requires { bound ≤ TURNS_MAX }
+        ensures ready { IfOk result (λ s. IsReady s) }
+        ensures start { IfOk result (λ s. (conn channel : ℕ) (to_read held : Option (List ℕ)) → SoFar conn channel to_read to_read held held s) }
+        ensures none { IfOk result (λ s. s.dialogue.report.receipts.items ≡ []) }
+    {
+        Ok(Session {
+            framer: Framer::new(alloc),
+            buffer: vec![in alloc; 0; PIECE]?,
+            turns: bound,
+            events_max: bound,
+            dialogue: Dialogue::new(alloc),
+        })
+    }
+
+    /// Reads a piece, handles its events, and writes and flushes their replies.
+    fn serve_piece<B: Booking, R: Read, W: Write, C: Clock>(
+        &mut self,
+        line: &Line,
+        book: &mut B,
+        reader: &mut Counted<R>,
+        writer: &mut Counted<W>,
+        clock: &mut C,
+    ) -> Result<(), ServeEnd>
+        requires ready { IsReady self.old }
+        requires channel { line.now.channel < B.channels book.old }
+        ensures ready { OnOk result (IsReady self.new) }
+        ensures ok { OnOk result ((to_read held : Option (List ℕ)) →
+            SoFar line.now.conn line.now.channel to_read (R.remaining reader.old.inner) held (W.contents writer.old.inner) self.old →
+            SoFar line.now.conn line.now.channel to_read (R.remaining reader.new.inner) held (W.contents writer.new.inner) self.new) }
+        ensures progress { OnOk result (self.new.turns < self.old.turns) }
+        ensures err { IfErr result (λ end. (to_read held : Option (List ℕ)) →
+            SoFar line.now.conn line.now.channel to_read (R.remaining reader.old.inner) held (W.contents writer.old.inner) self.old →
+            Serves line.now.conn line.now.channel to_read (R.remaining reader.new.inner) held (W.contents writer.new.inner) (record self.new.dialogue.report { end = end })) }
+        ensures booked { BooksMore B.books book.old book.new self.old.dialogue.report.receipts.items self.new.dialogue.report.receipts.items }
+        ensures reader { reader.old.faults ≤ reader.new.faults }
+        ensures writer { writer.old.faults ≤ writer.new.faults }
+        ensures read_fault { IfErr result (λ end. end ≡ ServeEnd.ReadFault → Rose reader.old.faults reader.new.faults) }
+        ensures write_fault { IfErr result (λ end. end ≡ ServeEnd.WriteFault → Rose writer.old.faults writer.new.faults) }
+        ensures flushed { OnOk result (writer.old.unflushed ≡ false → writer.new.unflushed ≡ false) }
+        ensures flushed_end { IfErr result (λ end. end ≡ ServeEnd.End → writer.old.unflushed ≡ false → writer.new.unflushed ≡ false) }
+        ensures bound { IfErr result (λ end. end ≡ ServeEnd.TurnBound → (self.new.turns ≡ 0) ⊎ (self.new.dialogue.events ≡ self.old.events_max)) }
+    {
+        longer_streams();
+        let len = match read_piece(reader, &mut self.buffer, &mut self.turns) {
+            Ok(len) => len,
+            Err(end) => return Err(end),
+        };
+        let Ok(()) = self.framer.feed(&self.buffer[..len]) else {
+            return Err(ServeEnd::NoMemory);
+        };
+        let answered = self.dialogue.answer_events(
+            line,
+            book,
+            &mut self.framer,
+            clock,
+            self.events_max,
+        );
+        match write_out(writer, &self.dialogue.replies.bytes, &mut self.turns) {
+            Ok(()) => {}
+            Err(end) => return Err(end),
+        }
+        self.dialogue.replies.bytes.clear();
+        answered
+    }
+
+    /// Serves piece after piece, and gives why it ended.
+    fn serve_pieces<B: Booking, R: Read, W: Write, C: Clock>(
+        &mut self,
+        line: &Line,
+        book: &mut B,
+        reader: &mut Counted<R>,
+        writer: &mut Counted<W>,
+        clock: &mut C,
+    ) -> ServeEnd
+        requires ready { IsReady self.old }
+        requires channel { line.now.channel < B.channels book.old }
+        requires start { SoFar line.now.conn line.now.channel (R.remaining reader.old.inner) (R.remaining reader.old.inner) (W.contents writer.old.inner) (W.contents writer.old.inner) self.old }
+        ensures served { Serves line.now.conn line.now.channel (R.remaining reader.old.inner) (R.remaining reader.new.inner) (W.contents writer.old.inner) (W.contents writer.new.inner) (record self.new.dialogue.report { end = result }) }
+        ensures booked { BooksMore B.books book.old book.new self.old.dialogue.report.receipts.items self.new.dialogue.report.receipts.items }
+        ensures read_fault { result ≡ ServeEnd.ReadFault → Rose reader.old.faults reader.new.faults }
+        ensures write_fault { result ≡ ServeEnd.WriteFault → Rose writer.old.faults writer.new.faults }
+        ensures flushed { result ≡ ServeEnd.End → writer.old.unflushed ≡ false → writer.new.unflushed ≡ false }
+    {
+        'pieces: loop {
+            match self.serve_piece(line, book, reader, writer, clock) {
+                Ok(()) => {}
+                Err(end) => return end,
+            }
+        }
+    }
+}
+
+/// Serves a connection to its reader's end, or to a fault, or to so many reads or events: each message is booked and
+/// acknowledged as its header asks (HL7 v2.5.1, 2.9.2 and 2.9.3). The replies to a piece are written and flushed before
+/// the next read waits. The moments of the replies are the clock's.
+pub fn serve_within<B: Booking, R: Read, W: Write, C: Clock>(
+    line: &Line,
+    book: &mut B,
+    reader: &mut Counted<R>,
+    writer: &mut Counted<W>,
+    clock: &mut C,
+    bound: u64,
+) -> ServeReport
+    requires channel { line.now.channel < B.channels book.old }
+    requires bound { bound ≤ 1_000_000_000 }
+
+    // The messages read, what was told of them, and what was written.
+    ensures served { Serves line.now.conn line.now.channel (R.remaining reader.old.inner) (R.remaining reader.new.inner) (W.contents writer.old.inner) (W.contents writer.new.inner) result }
+
+    // The receipts are those of the messages that were booked here.
+    ensures booked { B.books book.old book.new result.receipts.items }
+
+    // A fault is told where the device failed.
+    ensures read_fault { result.end ≡ ServeEnd.ReadFault → Rose reader.old.faults reader.new.faults }
+    ensures write_fault { result.end ≡ ServeEnd.WriteFault → Rose writer.old.faults writer.new.faults }
+
+    // At the reader's end all that was written is flushed.
+    ensures flushed { result.end ≡ ServeEnd.End → writer.old.unflushed ≡ false → writer.new.unflushed ≡ false }
+{
+    let Ok(mut session) = Session::new(line.alloc, bound) else {
+        return ServeReport::new(line.alloc);
+    };
+    let end = session.serve_pieces(line, book, reader, writer, clock);
+    let Session { mut dialogue, .. } = session;
+    dialogue.report.end = end;
+    dialogue.report
+}
