@@ -1,0 +1,7 @@
+use Rattle.std.proofs.Common.{◌≡◌, ◌+◌, ◌≤◌, All, vec_len, vec_capacity}
+use Rattle.book_lock.proofs.desks.open_desks.Given as goal
+
+abbrev pub invariant-loop : goal.invariant-loop
+invariant-loop g l =
+    (l.left.parts + l.counter ≡ l.count + 1) × (l.left.amount ≡ 0) × (vec_len l.desks ≡ l.counter) × (vec_capacity l.desks ≡ l.count)
+    × All (λ made. made ≡ 0) l.desks.items

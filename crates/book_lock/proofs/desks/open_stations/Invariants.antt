@@ -1,0 +1,10 @@
+use Rattle.std.proofs.Common.{◌≡◌, ◌+◌, ◌≤◌, All, vec_len, vec_capacity}
+use Rattle.book_lock.specs.Shares.{no_calls}
+use Rattle.book_lock.proofs.desks.open_stations.Given as goal
+
+abbrev pub invariant-loop : goal.invariant-loop
+invariant-loop g l =
+    (l.left_takes.parts + l.counter ≡ l.count + 1) × (l.left_takes.amount ≡ 0)
+    × (l.left_settlements.parts + l.counter ≡ l.count + 1) × (l.left_settlements.amount ≡ 0)
+    × (vec_len l.stations ≡ l.counter) × (vec_capacity l.stations ≡ l.count)
+    × All (λ made. made ≡ no_calls) l.stations.items

@@ -1,0 +1,54 @@
+-- The audit: the receipts that were handed out, against the arrivals of the history.
+use Rattle.std.specs.Prelude.{◌≡◌, ◌≢◌, ℕ, ◌+◌, ◌<◌, ◌==◌, List, [], ◌∷◌, Option, Some, None, length, drop}
+use Rattle.std.specs.List.{filter, cons_option}
+use Rattle.event_log.specs.declared.entry.Entry.{Entry}
+use Rattle.event_log.specs.declared.entry.Entry.TheVariants.{Arrival, Take, Settle, Cancel}
+use Rattle.event_log.specs.History.{History}
+use Rattle.book_core.specs.declared.receipt.Receipt.{Receipt}
+use Rattle.book_lock.specs.declared.auditing.AuditFault.{AuditFault}
+use Rattle.book_lock.specs.declared.auditing.AuditFault.TheVariants.{Missing, Doubled, Differs}
+use Rattle.book_lock.specs.Rises.{Held}
+
+-- the receipt of an entry at this place, if it is an arrival
+abbrev pub receipt_at : ℕ → Entry → Option Receipt
+receipt_at place (Arrival conn channel raw told) = Some (record { entry = place; conn = conn; channel = channel; raw = raw; told = told })
+receipt_at place (Take ticket now) = None
+receipt_at place (Settle ticket outcome now state) = None
+receipt_at place (Cancel number mask) = None
+
+-- the receipts of these entries, the first of which stands at this place
+abbrev pub receipts_from : ℕ → List Entry → List Receipt
+receipts_from place [] = []
+receipts_from place (e ∷ es) = cons_option (receipt_at place e) (receipts_from (place + 1) es)
+
+-- the entries from a place on
+abbrev pub entries_from : ℕ → History → List Entry
+entries_from place h = drop place h.entries
+
+-- the receipts of the arrivals since the book was shared, in order
+abbrev pub receipts_due : Held → List Receipt
+receipts_due h = receipts_from h.first (entries_from h.first h.book)
+
+-- the receipts that name a place
+abbrev pub naming : ℕ → List Receipt → List Receipt
+naming place receipts = filter (λ r. r.entry == place) receipts
+
+-- the place of a fault
+abbrev pub place_of : AuditFault → ℕ
+place_of (Missing place) = place
+place_of (Doubled place) = place
+place_of (Differs place) = place
+
+-- the receipts that name a place are those that are due there
+abbrev pub IsRightAt : Held → List Receipt → ℕ → Type 0
+IsRightAt h receipts place = naming place receipts ≡ naming place (receipts_due h)
+
+-- what is wrong with the receipts that name the fault's place
+abbrev pub IsFault : Held → List Receipt → AuditFault → Type 0
+IsFault h receipts (Missing place) = (naming place receipts ≡ []) × (naming place (receipts_due h) ≢ [])
+IsFault h receipts (Doubled place) = 1 < length (naming place receipts)
+IsFault h receipts (Differs place) = (length (naming place receipts) ≡ 1) × (naming place receipts ≢ naming place (receipts_due h))
+
+-- it is the first: at each place before it, the receipts are those that are due
+abbrev pub IsFirstFault : Held → List Receipt → AuditFault → Type 0
+IsFirstFault h receipts fault = IsFault h receipts fault × ((p : ℕ) → p < place_of fault → IsRightAt h receipts p)

@@ -1,0 +1,7 @@
+pub mod Shares
+pub mod Rises
+pub mod Coding
+pub mod Closing
+pub mod Auditing
+pub mod Windows
+pub mod Moving

@@ -1,0 +1,26 @@
+-- What a table tells of the receipts that name a place.
+use Rattle.std.specs.Prelude.{◌≡◌, ◌≢◌, ℕ, ◌+◌, ◌<◌, Bool, true, false, List, [], length, slice_index_or}
+use Rattle.book_core.specs.declared.receipt.Receipt.{Receipt}
+use Rattle.book_lock.specs.declared.windows.Named.{Named}
+use Rattle.book_lock.specs.declared.windows.Named.TheVariants.{Never, Right, Wrong, Often}
+use Rattle.book_lock.specs.Auditing.{naming, receipts_due}
+use Rattle.book_lock.specs.Rises.{Held}
+
+-- how the receipts that name a place stand to the one that is due there
+abbrev pub IsNamed : Held → List Receipt → ℕ → Named → Type 0
+IsNamed h receipts place Never = naming place receipts ≡ []
+IsNamed h receipts place Right = (length (naming place receipts) ≡ 1) × (naming place receipts ≡ naming place (receipts_due h))
+IsNamed h receipts place Wrong = (length (naming place receipts) ≡ 1) × (naming place receipts ≢ naming place (receipts_due h))
+IsNamed h receipts place Often = 1 < length (naming place receipts)
+
+-- a table tells it of the places from one on
+abbrev pub Tells : Held → List Receipt → ℕ → List Named → Type 0
+Tells h receipts from table = (k : ℕ) → k < length table → IsNamed h receipts (from + k) (slice_index_or table k Never)
+
+-- with one more receipt that names the place, which is due there or not
+abbrev pub named_again : Named → Bool → Named
+named_again Never true = Right
+named_again Never false = Wrong
+named_again Right is_due = Often
+named_again Wrong is_due = Often
+named_again Often is_due = Often

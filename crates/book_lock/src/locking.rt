@@ -1,0 +1,391 @@
+//! The value behind the lock.
+
+ghost use Rattle.std.specs.Prelude.{◌≡◌, ◌≢◌, ◌+◌, ◌<◌, ◌≤◌, ◌⊎◌, ◌↔◌, Ok, Err, IsOk, IfOk, IfErr, OnOk, OnErr, IsErrOf, IsTrue, Some, length};
+ghost use Rattle.std.specs.Arc.{arc_value};
+ghost use Rattle.judge_core.specs.Judging.{is_bookable};
+ghost use Rattle.stat_count.specs.Sums.{arrivals};
+ghost use Rattle.event_log.specs.History.{control_id, followed_by, next_place, payload, plan_in_force};
+ghost use Rattle.event_log.specs.Answers.{answer, cancel_answer, settle_answer, take_answer};
+ghost use Rattle.event_log.specs.Room.{is_full};
+ghost use Rattle.book_core.specs.Counting.{counted};
+ghost use Rattle.book_core.specs.Headline.{KeepsItsPromise};
+ghost use Rattle.book_core.specs.Sending.{awaits_ack};
+ghost use Rattle.book_lock.specs.Rises.{AddsUp, with_book};
+ghost use Rattle.book_lock.specs.Shares.{with_settlement, with_take};
+
+use crate::desks::{Desk, Station, audit_desks, audit_stations, made_by, settled_at, taken_at};
+use crate::sums::{arrivals, settlements, takes, three_sums};
+use book_core::{Book, CancelRefusal, Entry, Job, Letter, NotBooked, Receipt, TakeRefusal, Ticket};
+use dest_queue::{Addressed, Outcome, SettleRefusal, SlotState};
+use hl7_head::Moment;
+use judge_core::Judged;
+use plan_text::Plan;
+use row_store::RowStore;
+use stat_count::Counts;
+use std::marker::{Brand, Model};
+use std::sync::Arc;
+use std::sync::ledger;
+use std::sync::ledger::{Ledger, Share};
+
+/// The ledger of a shared book's arrivals, with what the book had when it was shared.
+pub trait Opening: Ledger {
+    ghost use Rattle.std.specs.Prelude.{ℕ};
+    ghost use Rattle.stat_count.specs.Tally.{Tally};
+
+    /// Its statistics.
+    ghost counts: { Tally };
+
+    /// Its next place.
+    ghost first: { ℕ };
+
+    /// The number of its channels, which never changes.
+    ghost channels: { ℕ };
+}
+
+impl Opening for Brand {
+    ghost use Rattle.stat_count.specs.Tally.{empty};
+
+    ghost counts = { empty };
+
+    ghost first = { 0 };
+
+    ghost channels = { 0 };
+}
+
+/// The book, with the ledgers of its arrivals, takes and settlements since it was shared.
+#[derive(Drop)]
+pub struct Locked<A: Opening, T: Ledger, U: Ledger, S: RowStore<Addressed<Letter>>> {
+    book: Book<S>,
+    opening: Counts,
+    first: usize,
+    arrivals: ledger::Book<A>,
+    takes: ledger::Book<T>,
+    settlements: ledger::Book<U>,
+    left_arrivals: Share<A>,
+    left_takes: Share<T>,
+    left_settlements: Share<U>,
+    rung: u32,
+}
+
+impl<A: Opening, T: Ledger, U: Ledger, S: RowStore<Addressed<Letter>>> Model
+    for Locked<A, T, U, S>
+{
+    ghost use Rattle.std.specs.Prelude.{◌≡◌, ◌+◌, ◌≤◌, length};
+    ghost use Rattle.stat_count.specs.Sums.{arrivals as arrivals_of, settlements as settlements_of, takes as takes_of};
+    ghost use Rattle.event_log.specs.History.{next_place, plan_in_force};
+    ghost use Rattle.book_core.specs.Counting.{counted};
+    ghost use Rattle.book_lock.specs.Rises.{Held};
+    ghost use Rattle.book_lock.specs.Coding.{held_code};
+
+    ghost Value = { Held };
+
+    ghost coded = { held_code };
+
+    ghost view = { λ l. record { book = l.book; opening = l.opening; first = l.first } };
+
+    ghost invariant = { λ l.
+        (l.opening ≡ A.counts) × (l.first ≡ A.first) × (length (plan_in_force l.book).channels ≡ A.channels)
+        × (arrivals_of (counted l.book) ≡ arrivals_of l.opening + l.arrivals.total)
+        × (takes_of (counted l.book) ≡ takes_of l.opening + l.takes.total)
+        × (settlements_of (counted l.book) ≡ settlements_of l.opening + l.settlements.total)
+        × (l.first ≤ next_place l.book)
+        × (l.left_arrivals.parts ≡ 1) × (l.left_arrivals.amount ≡ 0)
+        × (l.left_takes.parts ≡ 1) × (l.left_takes.amount ≡ 0)
+        × (l.left_settlements.parts ≡ 1) × (l.left_settlements.amount ≡ 0) };
+}
+
+/// A book out of its lock.
+#[derive(Drop)]
+pub struct Closed<S: RowStore<Addressed<Letter>>> {
+    book: Book<S>,
+    opening: Counts,
+    first: usize,
+}
+
+impl<S: RowStore<Addressed<Letter>>> Model for Closed<S> {
+    ghost use Rattle.std.specs.Prelude.{◌≤◌};
+    ghost use Rattle.event_log.specs.History.{next_place};
+    ghost use Rattle.book_lock.specs.Rises.{Held};
+    ghost use Rattle.book_lock.specs.Coding.{held_code};
+
+    ghost Value = { Held };
+
+    ghost coded = { held_code };
+
+    ghost view = { λ c. record { book = c.book; opening = c.opening; first = c.first } };
+
+    ghost invariant = { λ c. c.first ≤ next_place c.book };
+}
+
+impl<S: RowStore<Addressed<Letter>>> Closed<S> {
+    /// The book.
+    pub fn book(&self) -> &Book<S>
+        ensures { result.now ≡ self.now.book }
+    {
+        &self.book
+    }
+
+    /// The statistics that the book had when it was shared.
+    pub fn opening(&self) -> &Counts
+        ensures { result.now ≡ self.now.opening }
+    {
+        &self.opening
+    }
+
+    /// The next place that the book had when it was shared: the place of the first entry since.
+    pub fn first(&self) -> usize
+        ensures first { result ≡ self.now.first }
+        ensures within { result ≤ next_place self.now.book }
+    {
+        self.first
+    }
+
+    /// The rows and the statistics of the book, which keeps its promise.
+    pub fn promise(&self) -> (&S, &Counts)
+        ensures { KeepsItsPromise self.now.book (S.rows result.0.now) result.1.now }
+    {
+        self.book.promise()
+    }
+}
+
+impl<A: Opening, T: Ledger, U: Ledger, S: RowStore<Addressed<Letter>>> Locked<A, T, U, S> {
+    /// Begins to count for a book. Each ledger is new, and each share left over has one part.
+    pub fn new(
+        book: Book<S>,
+        arrivals: ledger::Book<A>,
+        takes: ledger::Book<T>,
+        settlements: ledger::Book<U>,
+        left_arrivals: Share<A>,
+        left_takes: Share<T>,
+        left_settlements: Share<U>,
+    ) -> Locked<A, T, U, S>
+        requires counts { counted book ≡ A.counts }
+        requires first { next_place book ≡ A.first }
+        requires channels { length (plan_in_force book).channels ≡ A.channels }
+        requires books { (arrivals.total ≡ 0) × (takes.total ≡ 0) × (settlements.total ≡ 0) }
+        requires left_arrivals { (left_arrivals.parts ≡ 1) × (left_arrivals.amount ≡ 0) }
+        requires left_takes { (left_takes.parts ≡ 1) × (left_takes.amount ≡ 0) }
+        requires left_settlements { (left_settlements.parts ≡ 1) × (left_settlements.amount ≡ 0) }
+        ensures { result ≡ record { book = book; opening = counted book; first = next_place book } }
+    {
+        let opening = *book.counts();
+        let first = book.len();
+        Locked {
+            book,
+            opening,
+            first,
+            arrivals,
+            takes,
+            settlements,
+            left_arrivals,
+            left_takes,
+            left_settlements,
+            rung: 0,
+        }
+    }
+
+    /// The book.
+    pub fn book(&self) -> &Book<S>
+        ensures { result.now ≡ self.now.book }
+    {
+        &self.book
+    }
+
+    /// The rows and the statistics of the book, which keeps its promise whenever the lock is free.
+    pub fn promise(&self) -> (&S, &Counts)
+        ensures { KeepsItsPromise self.now.book (S.rows result.0.now) result.1.now }
+    {
+        self.book.promise()
+    }
+
+    /// The plan in force.
+    pub fn plan(&self) -> &Arc<Plan>
+        ensures plan { arc_value result.now ≡ plan_in_force self.now.book }
+        ensures channels { length (arc_value result.now).channels ≡ A.channels }
+    {
+        self.book.plan()
+    }
+
+    /// The statistics. They show at least as many arrivals as the desk made since the book was shared.
+    pub fn counts(&mut self, desk: &mut Desk<A>) -> Counts
+        ensures counts { result ≡ counted self.old.book }
+        ensures shown { arrivals A.counts + desk.old ≤ arrivals result }
+        ensures same { (self.new ≡ self.old) × (desk.new ≡ desk.old) }
+    {
+        desk.audit(&mut self.arrivals);
+        *self.book.counts()
+    }
+
+    /// Books an arrival as the book does, and counts it for the desk.
+    ///
+    /// # Errors
+    ///
+    /// The book's, in its order. A refusal leaves the book and the desk as they were.
+    pub fn arrive(
+        &mut self,
+        desk: &mut Desk<A>,
+        conn: u32,
+        judged: &Judged,
+    ) -> Result<Receipt, NotBooked>
+        requires { IsTrue (is_bookable judged.now.raw) }
+        ensures entry { IfOk result (λ receipt. receipt.entry ≡ next_place self.old.book) }
+        ensures conn { IfOk result (λ receipt. receipt.conn ≡ conn) }
+        ensures channel { IfOk result (λ receipt. receipt.channel ≡ judged.now.channel) }
+        ensures raw { IfOk result (λ receipt. receipt.raw ≡ judged.now.raw) }
+        ensures told { IfOk result (λ receipt. answer self.old.book judged.now.channel judged.now.raw ≡ Some receipt.told) }
+        ensures booked { IfOk result (λ receipt. self.new ≡ with_book self.old (followed_by self.old.book (Entry.Arrival conn judged.now.channel judged.now.raw receipt.told))) }
+        ensures counted { OnOk result (desk.new ≡ desk.old + 1) }
+
+        ensures plan { IsErrOf result NotBooked.PlanChanged ↔ judged.now.plan ≢ plan_in_force self.old.book }
+        ensures full { IsErrOf result NotBooked.Full ↔ (judged.now.plan ≡ plan_in_force self.old.book) × IsTrue (is_full self.old.book judged.now.channel judged.now.raw) }
+        ensures err { OnErr result ((self.new ≡ self.old) × (desk.new ≡ desk.old)) }
+    {
+        three_sums();
+        let _channel = judged.channel();
+        let receipt = self.book.arrive(conn, judged)?;
+        let _promise = self.book.promise();
+        let _len = self.book.len();
+        desk.count(&mut self.arrivals);
+        Ok(receipt)
+    }
+
+    /// Takes the front of queue `d` as the book does, and counts it for the station.
+    ///
+    /// # Errors
+    ///
+    /// The book's, in its order. A refusal leaves the book and the station as they were.
+    pub fn take(
+        &mut self,
+        station: &mut Station<T, U>,
+        d: u32,
+        now: Moment,
+    ) -> Result<Job, TakeRefusal>
+        ensures answer { IfOk result (λ job. take_answer self.old.book d now ≡ Ok job.ticket) }
+        ensures control_id { IfOk result (λ job. job.control_id ≡ control_id self.old.book job.ticket.number) }
+        ensures payload { IfOk result (λ job. job.payload ≡ payload self.old.book job.ticket.number d) }
+        ensures ack { IfOk result (λ job. job.ack ≡ awaits_ack (plan_in_force self.old.book) d) }
+        ensures booked { IfOk result (λ job. self.new ≡ with_book self.old (followed_by self.old.book (Entry.Take job.ticket now))) }
+        ensures counted { OnOk result (station.new ≡ with_take station.old) }
+        ensures refused { IfErr result (λ e. (take_answer self.old.book d now ≡ Err e) ⊎ (e ≡ TakeRefusal.NoMemory) × IsOk (take_answer self.old.book d now)) }
+        ensures err { OnErr result ((self.new ≡ self.old) × (station.new ≡ station.old)) }
+    {
+        three_sums();
+        let job = self.book.take(d, now)?;
+        let _promise = self.book.promise();
+        let _len = self.book.len();
+        station.count_take(&mut self.takes);
+        Ok(job)
+    }
+
+    /// Settles an attempt as the book does, and counts it for the station.
+    ///
+    /// # Errors
+    ///
+    /// The book's, in its order. A refusal leaves the book and the station as they were.
+    pub fn settle(
+        &mut self,
+        station: &mut Station<T, U>,
+        ticket: &Ticket,
+        outcome: Outcome,
+        now: Moment,
+    ) -> Result<SlotState, SettleRefusal>
+        ensures answer { result ≡ settle_answer self.old.book ticket.now outcome now }
+        ensures booked { IfOk result (λ state. self.new ≡ with_book self.old (followed_by self.old.book (Entry.Settle ticket.now outcome now state))) }
+        ensures counted { OnOk result (station.new ≡ with_settlement station.old) }
+        ensures err { OnErr result ((self.new ≡ self.old) × (station.new ≡ station.old)) }
+    {
+        three_sums();
+        let state = self.book.settle(ticket, outcome, now)?;
+        let _promise = self.book.promise();
+        let _len = self.book.len();
+        station.count_settlement(&mut self.settlements);
+        Ok(state)
+    }
+
+    /// Cancels a message wherever it waits, as the book does: no share rises.
+    ///
+    /// # Errors
+    ///
+    /// The book's, in its order. A refusal leaves the book as it was.
+    pub fn cancel(&mut self, number: u32) -> Result<u32, CancelRefusal>
+        ensures answer { IfOk result (λ mask. cancel_answer self.old.book number ≡ Ok mask) }
+        ensures booked { IfOk result (λ mask. self.new ≡ with_book self.old (followed_by self.old.book (Entry.Cancel number mask))) }
+        ensures refused { IfErr result (λ e. (cancel_answer self.old.book number ≡ Err e) ⊎ (e ≡ CancelRefusal.NoMemory) × IsOk (cancel_answer self.old.book number)) }
+        ensures err { OnErr result (self.new ≡ self.old) }
+    {
+        three_sums();
+        let mask = self.book.cancel(number)?;
+        let _promise = self.book.promise();
+        Ok(mask)
+    }
+
+    /// Notes a change at the destinations of a mask, and answers those at which none was noted.
+    pub fn ring(&mut self, mask: u32) -> u32
+        ensures { self.new ≡ self.old }
+    {
+        let rung = self.rung;
+        self.rung = rung | mask;
+        mask & !rung
+    }
+
+    /// Whether a change was noted at destination `d` since this was asked before.
+    pub fn hear(&mut self, d: u32) -> bool
+        requires { d < 32 }
+        ensures { self.new ≡ self.old }
+    {
+        let rung = self.rung;
+        let here = 1 << d;
+        self.rung = rung & !here;
+        rung & here != 0
+    }
+
+    /// Whether the shares of these desks and stations add up. Where all their parts are here, they do.
+    pub fn reckon(&mut self, desks: &mut [Desk<A>], stations: &mut [Station<T, U>]) -> bool
+        ensures same { (self.new ≡ self.old) × (desks.new ≡ desks.old) × (stations.new ≡ stations.old) }
+        ensures adds_up { IsTrue result ↔ AddsUp self.old desks.old stations.old }
+        ensures whole { (length desks.old + 1 ≡ A.parts) × (length stations.old + 1 ≡ T.parts) × (length stations.old + 1 ≡ U.parts) → IsTrue result }
+    {
+        audit_desks(&mut self.arrivals, &mut self.left_arrivals, desks);
+        audit_stations(
+            &mut self.takes,
+            &mut self.settlements,
+            &mut self.left_takes,
+            &mut self.left_settlements,
+            stations,
+        );
+        add_up(self, desks, stations)
+    }
+
+    /// The book out of its lock.
+    pub fn close(self) -> Closed<S>
+        ensures same { result ≡ self }
+        ensures opening { (result.opening ≡ A.counts) × (result.first ≡ A.first) }
+    {
+        let Locked {
+            book,
+            opening,
+            first,
+            ..
+        } = self;
+        Closed {
+            book,
+            opening,
+            first,
+        }
+    }
+}
+
+/// Whether the shares of these desks and stations add up to what rose in the statistics since the book was shared.
+pub fn add_up<A: Opening, T: Ledger, U: Ledger, S: RowStore<Addressed<Letter>>>(
+    locked: &Locked<A, T, U, S>,
+    desks: &[Desk<A>],
+    stations: &[Station<T, U>],
+) -> bool
+    ensures { IsTrue result ↔ AddsUp locked.now desks.now stations.now }
+{
+    let now = locked.book.counts();
+    let opening = &locked.opening;
+    made_by(desks) == arrivals(now) - arrivals(opening)
+        && taken_at(stations) == takes(now) - takes(opening)
+        && settled_at(stations) == settlements(now) - settlements(opening)
+}

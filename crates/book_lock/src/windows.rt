@@ -1,0 +1,159 @@
+//! The places of the history, a window of them at a time: each window costs one pass over the receipts, and no memory
+//! but a table of a byte for each of its places.
+
+ghost use Rattle.std.specs.Prelude.{◌≡◌, ◌≢◌, ◌+◌, ◌<◌, ◌≤◌, ◌↔◌, [], ◌∷◌, ◌++◌, IsTrue, IfErr, OnOk, All, length, slice_index_or};
+ghost use Rattle.event_log.specs.History.{next_place};
+ghost use Rattle.book_lock.specs.Auditing.{IsFault, IsFirstFault, IsRightAt, naming, place_of, receipt_at, receipts_due};
+ghost use Rattle.book_lock.specs.Windows.{Tells, named_again};
+
+use crate::auditing::AuditFault;
+use crate::locking::Closed;
+use book_core::{Entry, Letter, Receipt};
+use dest_queue::Addressed;
+use row_store::RowStore;
+
+/// How many places the audit looks at in one pass over the receipts.
+pub const WINDOW: usize = 65_536;
+
+/// How the receipts that name a place stand to the one that is due there.
+#[derive(Clone, Copy)]
+pub enum Named {
+    /// None names it.
+    Never,
+    /// One names it, which is the one that is due.
+    Right,
+    /// One names it, which is not.
+    Wrong,
+    /// More than one names it.
+    Often,
+}
+
+impl Named {
+    /// With one more receipt that names the place, which is due there or not.
+    fn named_again(self, is_due: bool) -> Named
+        ensures { result ≡ named_again self is_due }
+    {
+        match (self, is_due) {
+            (Named::Never, true) => Named::Right,
+            (Named::Never, false) => Named::Wrong,
+            _ => Named::Often,
+        }
+    }
+}
+
+/// Whether the receipts are right at every place of the history, in windows of the table's size.
+///
+/// # Errors
+///
+/// The least place of the history that is wrong.
+pub fn check_windows<S: RowStore<Addressed<Letter>>>(
+    closed: &Closed<S>,
+    receipts: &[Receipt],
+    table: &mut [Named],
+) -> Result<(), AuditFault>
+    requires { 0 < length table.old }
+    ensures right { OnOk result ((p : _) → p < next_place closed.now.book → IsRightAt closed.now receipts.now p) }
+    ensures fault { IfErr result (IsFirstFault closed.now receipts.now) }
+{
+    let end = closed.book().len();
+    let mut from = 0;
+    while from < end {
+        let size = table.len().min(end - from);
+        check_window(closed, receipts, from, &mut table[..size])?;
+        from += size;
+    }
+    Ok(())
+}
+
+/// Whether the receipts are right at each place from `from` on of which the table has room to tell.
+///
+/// # Errors
+///
+/// The least of these places that is wrong.
+fn check_window<S: RowStore<Addressed<Letter>>>(
+    closed: &Closed<S>,
+    receipts: &[Receipt],
+    from: usize,
+    table: &mut [Named],
+) -> Result<(), AuditFault>
+    requires within { from + length table.old ≤ next_place closed.now.book }
+    ensures right { OnOk result ((p : _) → from ≤ p → p < from + length table.old → IsRightAt closed.now receipts.now p) }
+    ensures fault { IfErr result (IsFault closed.now receipts.now) }
+    ensures before { IfErr result (λ fault. (p : _) → from ≤ p → p < place_of fault → IsRightAt closed.now receipts.now p) }
+{
+    tell(closed, receipts, from, table);
+    for k in 0..table.len() {
+        let place = from + k;
+        match table[k] {
+            Named::Never if is_due_at(closed, place) => return Err(AuditFault::Missing(place)),
+            Named::Never | Named::Right => {}
+            Named::Wrong => return Err(AuditFault::Differs(place)),
+            Named::Often => return Err(AuditFault::Doubled(place)),
+        }
+    }
+    Ok(())
+}
+
+/// Tells of the places from `from` on how the receipts name them.
+fn tell<S: RowStore<Addressed<Letter>>>(
+    closed: &Closed<S>,
+    receipts: &[Receipt],
+    from: usize,
+    table: &mut [Named],
+)
+    ensures size { length table.new ≡ length table.old }
+    ensures told { Tells closed.now receipts.now from table.new }
+{
+    table.fill(Named::Never);
+    for receipt in receipts {
+        let place = receipt.entry;
+        if from <= place && place - from < table.len() {
+            let k = place - from;
+            table[k] = table[k].named_again(is_due(closed, receipt));
+        }
+    }
+}
+
+/// Whether a receipt is the one that is due at the place that it names.
+fn is_due<S: RowStore<Addressed<Letter>>>(closed: &Closed<S>, receipt: &Receipt) -> bool
+    ensures { IsTrue result ↔ (receipt.now ∷ [] ≡ naming receipt.now.entry (receipts_due closed.now)) }
+{
+    let place = receipt.entry;
+    if place < closed.first() {
+        return false;
+    }
+    match closed.book().entry(place) {
+        Some(entry) => is_receipt_of(receipt, entry),
+        None => false,
+    }
+}
+
+/// Whether a receipt is due at a place.
+fn is_due_at<S: RowStore<Addressed<Letter>>>(closed: &Closed<S>, place: usize) -> bool
+    ensures { IsTrue result ↔ (naming place (receipts_due closed.now) ≢ []) }
+{
+    if place < closed.first() {
+        return false;
+    }
+    matches!(closed.book().entry(place), Some(Entry::Arrival { .. }))
+}
+
+/// Whether a receipt is that of an entry at the place that it names.
+fn is_receipt_of(receipt: &Receipt, entry: &Entry) -> bool
+    ensures { IsTrue result ↔ (receipt_at receipt.now.entry entry.now ≡ Some receipt.now) }
+{
+    match entry {
+        Entry::Arrival {
+            conn,
+            channel,
+            raw,
+            told,
+        } => {
+            *conn == receipt.conn
+                && *channel == receipt.channel
+                && *told == receipt.told
+                && raw.as_slice() == receipt.raw.as_slice()
+        }
+        _ => false,
+    }
+}
