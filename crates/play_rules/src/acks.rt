@@ -91,7 +91,11 @@ fn cause_told(alloc: Global, name: &str) -> Result<String> {
 /// The stamp of a moment.
 fn stamped(alloc: Global, seconds: &str) -> Result<String> {
     match Moment::of_unix(seconds.parse()?) {
-        Ok(moment) => Ok(format!(in alloc; "{} at {}", shown(alloc, &stamp(moment))?, moment.secs())?),
+        Ok(moment) => Ok(format!(in alloc;
+            "{} at {}",
+            shown(alloc, &stamp(moment))?,
+            moment.secs()
+        )?),
         Err(range) => Ok(format!(in alloc; "{range:?}")?),
     }
 }
@@ -130,7 +134,14 @@ fn pieces(alloc: Global, header: &Header) -> Result<String> {
 }
 
 /// The acknowledgments of the message, from a number on, each in angle brackets as a block.
-fn acknowledged(alloc: Global, header: &Header, told: &str, seconds: &str, connection: &str, first: &str) -> Result<String> {
+fn acknowledged(
+    alloc: Global,
+    header: &Header,
+    told: &str,
+    seconds: &str,
+    connection: &str,
+    first: &str,
+) -> Result<String> {
     let moment = Moment::of_unix(seconds.parse()?)?;
     let connection = connection.parse()?;
     let mut number = first.parse::<u32>()?;

@@ -13,12 +13,7 @@ use rules::Rules;
 use std::alloc::Global;
 
 /// The answer to a call.
-fn answer(
-    alloc: Global,
-    message: &mut Message,
-    rules: &mut Rules,
-    line: &str,
-) -> Result<String> {
+fn answer(alloc: Global, message: &mut Message, rules: &mut Rules, line: &str) -> Result<String> {
     let words = words_of(alloc, line)?;
     if let ["parse", text] = words.as_slice() {
         *message = Message::parse(alloc, &bytes_of(alloc, text)?)?;

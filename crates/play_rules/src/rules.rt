@@ -68,7 +68,11 @@ fn step_of(alloc: Global, words: &[&str]) -> Result<Step> {
         ["lookup", path, default, table @ ..] => Step::Lookup {
             path: Path::parse(path)?,
             table: table_of(alloc, table)?,
-            default: if *default == "-" { None } else { Some(text_of(alloc, default)?) },
+            default: if *default == "-" {
+                None
+            } else {
+                Some(text_of(alloc, default)?)
+            },
         },
         ["remove", name] => Step::RemoveSegments(text_of(alloc, name)?),
         _ => bail!("no step"),
@@ -130,7 +134,9 @@ impl Rules {
         }
         match apply(&steps, message.clone()?) {
             Ok(changed) => Ok(shown(alloc, &changed.print()?)?),
-            Err(StepFault::Stopped { place, cause }) => Ok(format!(in alloc; "stopped {place} {cause:?}")?),
+            Err(StepFault::Stopped { place, cause }) => Ok(format!(in alloc;
+                "stopped {place} {cause:?}"
+            )?),
             Err(StepFault::NoMemory) => bail!("out of memory"),
         }
     }

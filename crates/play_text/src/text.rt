@@ -33,13 +33,22 @@ fn named(alloc: Global, path: &str) -> Result<String> {
     };
     let segment = shown(alloc, path.segment())?;
     let fixed = if path.is_fixed() { " fixed" } else { "" };
-    Ok(format!(in alloc; "{segment} {} field {} {:?}{fixed}", path.occurrence(), path.field(), path.part())?)
+    Ok(format!(in alloc;
+        "{segment} {} field {} {:?}{fixed}",
+        path.occurrence(),
+        path.field(),
+        path.part()
+    )?)
 }
 
 /// Whether two paths name one piece, and whether they are of one level.
 fn compared(alloc: Global, path: &str, other: &str) -> Result<String> {
     let (path, other) = (Path::parse(path)?, Path::parse(other)?);
-    Ok(format!(in alloc; "same {}, level {}", path == other, path.is_level_with(&other))?)
+    Ok(format!(in alloc;
+        "same {}, level {}",
+        path == other,
+        path.is_level_with(&other)
+    )?)
 }
 
 impl Text {
@@ -69,7 +78,11 @@ impl Text {
         }
         text.extend_from_slice(&bytes_of(self.alloc, last)?)?;
         match Message::parse(self.alloc, &text) {
-            Ok(message) => Ok(format!(in self.alloc; "{} of {} bytes", message.print()?.len(), text.len())?),
+            Ok(message) => Ok(format!(in self.alloc;
+                "{} of {} bytes",
+                message.print()?.len(),
+                text.len()
+            )?),
             Err(refusal) => Ok(refused(self.alloc, &refusal)?),
         }
     }
@@ -103,7 +116,9 @@ impl Text {
         Ok(match words {
             ["raw", path] => Some(self.message.get_raw(&Path::parse(path)?)),
             ["msh", field] => Some(self.message.msh(field.parse()?, None)),
-            ["msh", field, component] => Some(self.message.msh(field.parse()?, Some(component.parse()?))),
+            ["msh", field, component] => Some(
+                self.message.msh(field.parse()?, Some(component.parse()?)),
+            ),
             ["header"] => Some(self.message.header()),
             _ => None,
         })
