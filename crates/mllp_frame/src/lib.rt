@@ -199,6 +199,3 @@ pub fn write_block(text: &[u8], out: &mut Vec<u8>) -> Result<(), AllocError>
     out.push_reserved(CARRIAGE_RETURN);
     Ok(())
 }
-
-#[cfg(test)]
-mod tests;
