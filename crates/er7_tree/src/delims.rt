@@ -1,3 +1,6 @@
+//! The delimiters that a header declares. A value of them is made by reading a header and in no other way, so whoever holds
+//! one knows that no two are the same and that none is a letter: an escape sequence can be told from text.
+
 ghost use Rattle.std.specs.Prelude.{◌≡◌, ◌≤◌, ◌∷◌, IfSome, length};
 ghost use Rattle.std.specs.List.{list_all};
 ghost use Rattle.er7_tree.specs.Delims.{is_delimiter, has_other_use, all_distinct, are_delimiters, lacks};

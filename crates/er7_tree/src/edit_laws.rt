@@ -1,3 +1,6 @@
+//! What edits keep, for the contracts above this crate. Each law is a function with an empty body: who calls it knows its
+//! clauses.
+
 ghost use Rattle.std.specs.Prelude.{◌≡◌, ◌≢◌, [], ℕ, List, Ok, false, length, not, true};
 ghost use Rattle.std.specs.List.{list_all};
 ghost use Rattle.er7_tree.specs.Delims.{lacks};

@@ -1,3 +1,6 @@
+//! Changes of a message. The changed segment is made first, with all the memory that it takes, and is then put in place: so
+//! a refused change leaves the message as it was.
+
 ghost use Rattle.std.specs.Prelude.{◌≡◌, Err, IfErr, IfOk, IsErrOf, Ok, OnErr, OnOk, true};
 ghost use Rattle.er7_tree.specs.Edit.{clear, copy, field_levels, has, has_in, put_field, remove_segments, set, with_piece};
 ghost use Rattle.er7_tree.specs.Path.{is_path};

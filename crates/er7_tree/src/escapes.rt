@@ -1,3 +1,5 @@
+//! Escape sequences (HL7 v2.5.1, 2.7). What stands between two bytes that need one is copied as a whole.
+
 ghost use Rattle.std.specs.Prelude.{◌≡◌, ◌++◌, IfOk, OnOk, IsSome, [], unwrap_or, is_some, IfSome, ◌<◌, not, true, false};
 ghost use Rattle.std.specs.List.{list_all, position};
 ghost use Rattle.er7_tree.specs.Delims.{AreDelims, lacks};

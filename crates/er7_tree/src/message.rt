@@ -1,3 +1,6 @@
+//! A message is kept as one text and the spans of its segments in it, so that reading copies the text once and a piece is a
+//! part of that text. Nothing below a segment is kept: a piece is found when it is asked for.
+
 ghost use Rattle.std.specs.Prelude.{◌≡◌, ◌<◌, ◌≤◌, ◌-◌, IfOk, IfSome, IfNone, None, OnOk, OnErr, Some, codes, filter, length, map, not, slice_get, slice_set, true, false};
 ghost use Rattle.std.specs.List.{find, flat_map};
 ghost use Rattle.std.specs.Option.{option_copied};

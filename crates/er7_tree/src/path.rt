@@ -1,3 +1,5 @@
+//! Paths to pieces of a message, of the form `NAME[n]-F[r].C.S`.
+
 ghost use Rattle.std.specs.Prelude.{◌≡◌, ◌∷◌, [], IfSome, IsTrue, ◌↔◌, None, Some, true, MatchOption, nat_le, unwrap_or};
 ghost use Rattle.std.specs.Bool.{then_some};
 ghost use Rattle.std.specs.List.{list_all};

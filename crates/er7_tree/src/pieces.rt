@@ -1,3 +1,5 @@
+//! Pieces of a text between separators, found by `memchr` and counted from 1.
+
 ghost use Rattle.std.specs.Prelude.{nat_le, ◌≡◌, ◌<◌, ◌==◌, ◌∷◌, [], length, IfSome, IfOk, MatchOption};
 ghost use Rattle.std.specs.List.{before_first};
 ghost use Rattle.er7_tree.specs.Edit.{has_in, put_in};

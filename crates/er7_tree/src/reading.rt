@@ -1,3 +1,5 @@
+//! Reading a text: first its header, which declares the delimiters, and then all segments in one walk.
+
 ghost use Rattle.std.specs.Prelude.{◌≡◌, ◌∷◌, ◌≤◌, drop, length, true, Ok, IfOk, MatchResult};
 ghost use Rattle.er7_tree.specs.Spans.{covered, spanned, IsBetween, InOrder};
 ghost use Rattle.er7_tree.specs.Tree.{Gives, checked, segments_of, tree};

@@ -1,3 +1,5 @@
+//! Why a text, a path or a change is refused, and by which number that is told.
+
 use std::alloc::{AllocError, AllocFailed};
 use thiserror::Error;
 

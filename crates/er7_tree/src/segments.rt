@@ -1,3 +1,6 @@
+//! Where the segments of a text stand, how they are named, and where their fields begin: what is particular to MSH stands
+//! here alone.
+
 ghost use Rattle.std.specs.Prelude.{◌≡◌, ◌≢◌, ◌<◌, ◌≤◌, ◌∷◌, [], length, drop, slice_index, IfSome, MatchOption};
 ghost use Rattle.er7_tree.specs.Spans.{covered, IsBetween};
 ghost use Rattle.er7_tree.specs.Path.{field_place};
