@@ -1,6 +1,6 @@
 -- What is decided of a text, by what it says.
 use Rattle.std.proofs.Common.{◌≡◌, ℕ, true, false, not, cond, List, [], ◌∷◌, Option, None, Some, Result, Ok, Err, refl, ◌<◌, length, arith}
-use Rattle.std.specs.Prelude.{slice_get}
+use Rattle.std.specs.Prelude.{slice_get, IfOk}
 use Rattle.std.specs.Result.{result_ok}
 use Rattle.std.specs.Option.{option_map_or}
 use Rattle.er7_tree.specs.declared.refusal.Refusal.{Refusal}
@@ -8,10 +8,11 @@ use Rattle.er7_tree.specs.Tree.{Tree, tree}
 use Rattle.hl7_head.specs.declared.ack.Cause.TheVariants.{UnsupportedType, SourceTransform, RouteTransform}
 use Rattle.hl7_head.specs.Header.{Msh, header, header_of, header_where}
 use Rattle.hl7_transform.specs.declared.fault.StepFault.{StepFault}
-use Rattle.hl7_transform.specs.Step.{after}
+use Rattle.hl7_transform.specs.Step.{Edit, after}
 use Rattle.std.specs.List.{list_any}
 use Rattle.plan_text.specs.Entries.{PlanEntry, ChannelEntry, RouteEntry}
 use Rattle.judge_core.specs.declared.delivery.Delivery.{Delivery}
+use Rattle.judge_core.specs.Delivering.{AreDeliveries}
 use Rattle.judge_core.specs.declared.judged.Verdict.TheVariants.{Unreadable, Stray, Refuse, Filtered, Accept}
 use Rattle.judge_core.specs.Judging.{verdict, verdict_where, verdict_of, decided_by, header_fault, sent_to, deliveries_by, filtered_by, is_stopped, open_routes, passes, routed, stepped, is_acknowledgment, is_bookable, is_booked, key_of, key_by}
 
@@ -109,6 +110,22 @@ sent-some (delivery ∷ deliveries) some = refl
 -- and of routes that give deliveries
 pub routed-sent : (routes : List RouteEntry) (t : Tree) (deliveries : List Delivery) → list_any (is_stopped t) (open_routes routes t) ≡ false → deliveries ≡ deliveries_by routes t → 0 < length deliveries → routed routes t ≡ Accept deliveries
 routed-sent routes t deliveries goes is some = rw (goes, ← is) (sent-some deliveries some)
+
+sent-none : (deliveries : List Delivery) → length deliveries ≡ 0 → sent_to deliveries ≡ Filtered
+sent-none [] none = refl
+sent-none (delivery ∷ deliveries) none = absurd (omega arith)
+
+-- and of routes that give none
+pub routed-nowhere : (routes : List RouteEntry) (t : Tree) (deliveries : List Delivery) → list_any (is_stopped t) (open_routes routes t) ≡ false → deliveries ≡ deliveries_by routes t → length deliveries ≡ 0 → routed routes t ≡ Filtered
+routed-nowhere routes t deliveries goes is none = rw (goes, ← is) (sent-none deliveries none)
+
+-- what holds of the deliveries of what the channel's steps give holds of these
+pub delivered : (steps : List Edit) (m t : Tree) (routes : List RouteEntry) (deliveries : List Delivery) → IfOk (after steps m) (λ u. AreDeliveries (deliveries_by routes u)) → Some t ≡ result_ok (after steps m) → deliveries ≡ deliveries_by routes t → AreDeliveries deliveries
+delivered steps m t routes deliveries goes made is = rw is (by_after (after steps m) goes made)
+  where
+    by_after : (r : Result Tree StepFault) → IfOk r (λ u. AreDeliveries (deliveries_by routes u)) → Some t ≡ result_ok r → AreDeliveries (deliveries_by routes t)
+    by_after (Ok u) goes made = let same : t ≡ u = cc in rw same goes
+    by_after (Err stop) goes made = absurd cc
 
 -- a message that its channel's steps can't change as they say
 pub verdict-stopped : (channel : ChannelEntry) (h : Msh) (t : Tree) → is_acknowledgment h ≡ false → header_fault channel h ≡ None → passes t channel.filter ≡ true → None ≡ result_ok (after channel.steps t) → verdict_of (Some channel) h t ≡ Refuse SourceTransform

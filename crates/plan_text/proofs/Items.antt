@@ -40,3 +40,9 @@ pub goes_on_seen : {X A : Type 0} (see : X → A) (read : List ℕ → Data → 
     → each_after (λ before. read) at (map see (done ++ x ∷ [])) (items_view (drop (i + 1) vs)) ≡ total
 goes_on_seen see read at done vs i v x total lt is h so_far =
     rw (map-append see done (x ∷ [])) (goes_on (λ before. read) at (map see done) (map see done) vs i v (see x) total lt refl is (rw (length-map done see) h) so_far)
+
+pub ends_seen : {X A : Type 0} (see : X → A) (read : List ℕ → Data → Result A PlanFault) (at : List ℕ) (e : Stop) (done : List X) (vs : List Value) (i : ℕ) (v : Value) (total : Result (List A) PlanFault)
+    → i < length vs → v ≡ get_or vs i v → Fails e (read (member_path at (length done)) (view v))
+    → each_after (λ before. read) at (map see done) (items_view (drop i vs)) ≡ total → Fails e total
+ends_seen see read at e done vs i v total lt is bad so_far =
+    ends (λ before. read) at e (map see done) (map see done) vs i v total lt refl is (rw (length-map done see) bad) so_far

@@ -16,7 +16,7 @@ use Rattle.plan_text.specs.Entries.{DestinationEntry, RouteEntry, ChannelEntry}
 use Rattle.plan_text.specs.Keys.{key, key_path, required, only_keys, table_at, list, list_within, each, each_after}
 use Rattle.plan_text.specs.Conditions.{filter_at}
 use Rattle.plan_text.specs.Steps.{steps_at}
-use Rattle.plan_text.specs.Kinds.{new_name, text_as, text_within, message_type, processing_id, version_id}
+use Rattle.plan_text.specs.Kinds.{is_named, new_name, text_as, text_within, message_type, processing_id, version_id}
 
 -- the place of the destination of this name
 abbrev pub place_of : List DestinationEntry → List ℕ → Option ℕ
@@ -70,7 +70,7 @@ entries_at form at d = told at (required (list_within 256) d) >>= each (entry_at
 
 -- one of these has the name
 abbrev pub channel_has_name : List ChannelEntry → List ℕ → Bool
-channel_has_name cs name = list_any (λ c. bytes_eq c.name name) cs
+channel_has_name cs name = is_named (λ c. c.name) cs name
 
 -- the messages that a channel takes
 unfoldable pub taken_at : List ℕ → Members → Result (List MessageType × (List ProcessingId × List VersionId)) PlanFault

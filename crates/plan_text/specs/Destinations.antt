@@ -1,7 +1,5 @@
 -- The destinations of a plan.
 use Rattle.std.specs.Prelude.{ℕ, List, [], ◌∷◌, Bool, codes, Result, Ok}
-use Rattle.std.specs.List.{list_any}
-use Rattle.std.specs.Str.{bytes_eq}
 use Rattle.toml.specs.Data.{Data, Members}
 use Rattle.plan_text.specs.declared.fault.PlanFault.{PlanFault}
 use Rattle.plan_text.specs.declared.destination.Await.TheVariants as await
@@ -9,11 +7,11 @@ use Rattle.plan_text.specs.declared.reading.destinations.Sending.{Sending}
 use Rattle.plan_text.specs.Fault.{◌>>=◌}
 use Rattle.plan_text.specs.Entries.{DestinationEntry}
 use Rattle.plan_text.specs.Keys.{key, required, or_else, only_keys, table_at, list_within, each_after}
-use Rattle.plan_text.specs.Kinds.{new_name, text_as, text_within, number_within, await_word}
+use Rattle.plan_text.specs.Kinds.{is_named, new_name, text_as, text_within, number_within, await_word}
 
 -- one of these has the name
 abbrev pub has_name : List DestinationEntry → List ℕ → Bool
-has_name ds name = list_any (λ d. bytes_eq d.name name) ds
+has_name ds name = is_named (λ d. d.name) ds name
 
 abbrev pub destination_keys : List (List ℕ)
 destination_keys = codes "name" ∷ codes "address" ∷ codes "attempts" ∷ codes "interval" ∷ codes "timeout" ∷ codes "await" ∷ []

@@ -1,6 +1,6 @@
 -- The kinds of values.
 use Rattle.std.specs.Prelude.{ℕ, pos, List, length, codes, Bool, ◌&&◌, ◌||◌, nat_le, ◌==◌, if◌then◌else◌, Option, Some, None, Result, Ok, Err}
-use Rattle.std.specs.List.{list_all, before_first, after_first}
+use Rattle.std.specs.List.{list_any, list_all, before_first, after_first}
 use Rattle.std.specs.Str.{bytes_eq}
 use Rattle.toml.specs.Data.{Data, string, integer}
 use Rattle.plan_text.specs.declared.fault.FaultName.{FaultName}
@@ -45,6 +45,10 @@ is_name_byte b = (within 65 90 b || within 97 122 b) || (within 48 57 b || (b ==
 
 abbrev pub is_name : List ℕ → Bool
 is_name s = within 1 32 (length s) && list_all is_name_byte s
+
+-- one of these has the name
+abbrev pub is_named : {A : Type 0} → (A → List ℕ) → List A → List ℕ → Bool
+is_named name_of xs name = list_any (λ x. bytes_eq (name_of x) name) xs
 
 -- a name that isn't taken
 abbrev pub new_name : (List ℕ → Bool) → Data → Result (List ℕ) FaultName

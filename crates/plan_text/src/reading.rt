@@ -6,4 +6,5 @@ pub(crate) mod destinations;
 pub(crate) mod document;
 pub(crate) mod keys;
 pub(crate) mod kinds;
+pub(crate) mod names;
 pub(crate) mod steps;

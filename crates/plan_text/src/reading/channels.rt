@@ -7,8 +7,7 @@ ghost use Rattle.hl7_transform.specs.View.{steps_view};
 ghost use Rattle.plan_text.specs.AtKey.{at_key, key_at, value_at};
 ghost use Rattle.plan_text.specs.Fault.{Gives};
 ghost use Rattle.plan_text.specs.Keys.{member_path, required, each, each_after};
-ghost use Rattle.plan_text.specs.Kinds.{new_name};
-ghost use Rattle.plan_text.specs.Channels.{place_of, leads_to, way_at, route_to, route, routes_at, entry_at, entries_at, taken_at, channel_has_name, channel};
+ghost use Rattle.plan_text.specs.Channels.{place_of, leads_to, way_at, route_to, route, routes_at, entry_at, entries_at, taken_at, channel};
 
 use crate::channel::{Channel, MessageType, ProcessingId, Route, VersionId};
 use crate::destination::Destination;
@@ -17,7 +16,8 @@ use crate::limits::MEMBERS_MAX;
 use crate::literal::Literal;
 use crate::reading::conditions::filter_of;
 use crate::reading::keys::{Key, Keys, member_fault, member_path};
-use crate::reading::kinds::{FromText, is_name};
+use crate::reading::kinds::FromText;
+use crate::reading::names::new_name;
 use crate::reading::steps::steps_of;
 use hl7_filter::Cond;
 use hl7_transform::Step;
@@ -176,30 +176,6 @@ fn entries_of<E: FromText>(key: &Key<'_>) -> Result<Vec<E>, Stop>
     let values = key.list(MEMBERS_MAX)?;
     let at = key.path()?;
     each_entry(key.alloc, at.as_str(), values)
-}
-
-fn has_name(channels: &[Channel], name: &str) -> bool
-    ensures { result ≡ channel_has_name channels.now name.now }
-{
-    channels.iter().any(|channel| channel.name() == name)
-}
-
-fn new_name<'a>(key: &Key<'a>, before: &[Channel]) -> Result<&'a str, Stop>
-    ensures { Gives (λ s. s.now) result (at_key key.now (required (new_name (channel_has_name before.now)))) }
-{
-    let Some(value) = key.value else {
-        return Err(key.fault(FaultName::Missing));
-    };
-    match value.as_str() {
-        Some(name) if is_name(name) => {
-            if has_name(before, name) {
-                Err(key.fault(FaultName::DoubleName))
-            } else {
-                Ok(name)
-            }
-        }
-        _ => Err(key.fault(FaultName::BadRange)),
-    }
 }
 
 /// The messages that a channel takes.

@@ -5,8 +5,8 @@ ghost use Rattle.toml.specs.View.{view, array_view, table_view};
 ghost use Rattle.plan_text.specs.AtKey.{at_key};
 ghost use Rattle.plan_text.specs.Fault.{Gives};
 ghost use Rattle.plan_text.specs.Keys.{member_path, required, or_else, each_after};
-ghost use Rattle.plan_text.specs.Kinds.{new_name, text_as, await_word};
-ghost use Rattle.plan_text.specs.Destinations.{sending, destination, destinations, has_name};
+ghost use Rattle.plan_text.specs.Kinds.{text_as, await_word};
+ghost use Rattle.plan_text.specs.Destinations.{sending, destination, destinations};
 ghost use Rattle.plan_text.specs.declared.destination.Await.TheVariants as await;
 
 use crate::destination::{Await, Destination};
@@ -14,34 +14,11 @@ use crate::fault::{FaultName, Stop};
 use crate::limits::DESTINATIONS_MAX;
 use crate::literal::Literal;
 use crate::reading::keys::{Key, Keys, member_path};
-use crate::reading::kinds::{await_word, is_name};
+use crate::reading::kinds::await_word;
+use crate::reading::names::new_name;
 use std::alloc::Global;
 use toml::Value;
 use toml::value::Array;
-
-fn has_name(destinations: &[Destination], name: &str) -> bool
-    ensures { result ≡ has_name destinations.now name.now }
-{
-    destinations.iter().any(|d| d.name() == name)
-}
-
-fn new_name<'a>(key: &Key<'a>, before: &[Destination]) -> Result<&'a str, Stop>
-    ensures { Gives (λ s. s.now) result (at_key key.now (required (new_name (has_name before.now)))) }
-{
-    let Some(value) = key.value else {
-        return Err(key.fault(FaultName::Missing));
-    };
-    match value.as_str() {
-        Some(name) if is_name(name) => {
-            if has_name(before, name) {
-                Err(key.fault(FaultName::DoubleName))
-            } else {
-                Ok(name)
-            }
-        }
-        _ => Err(key.fault(FaultName::BadRange)),
-    }
-}
 
 fn await_of(key: &Key<'_>) -> Result<Await, Stop>
     ensures { Gives (λ w. w) result (at_key key.now (or_else await.Ack (text_as await_word))) }
