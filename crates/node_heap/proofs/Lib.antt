@@ -1,0 +1,5 @@
+pub mod Crosses
+pub mod Cut
+pub mod Memory
+pub mod Sharing
+pub mod Parts
