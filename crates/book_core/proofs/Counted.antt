@@ -19,7 +19,7 @@ use Rattle.book_core.specs.Counting.{AreCounted, channel_counts, counted, destin
 use Rattle.book_core.proofs.Slots.{slots-entries}
 
 -- a list of which each place holds what a function gives there
-listed : {X : Type 0} (f : ℕ → X) (k : ℕ) (xs : List X) (d : X) → length xs ≡ k → ((n : ℕ) → n < k → get_or xs n d ≡ f n) → xs ≡ map f (range_with_len 0 k)
+pub listed : {X : Type 0} (f : ℕ → X) (k : ℕ) (xs : List X) (d : X) → length xs ≡ k → ((n : ℕ) → n < k → get_or xs n d ≡ f n) → xs ≡ map f (range_with_len 0 k)
 listed f k xs d size each =
     ext_get_or d xs (map f (range_with_len 0 k)) (size ∙ sym (length-map-range_with_len f 0 k))
     (λ n inside. let below : n < k = omega arith in each n below ∙ sym (get_or-map-range_with_len f 0 k n n d below (omega arith)))

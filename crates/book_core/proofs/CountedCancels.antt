@@ -71,7 +71,7 @@ module _ (h : History) (number mask : ℕ) (step : CancelStep h number mask) whe
       (slot-same h (followed_by h (Cancel number mask)) step.nothing.accepted number d ∙ ap (λ s. cond (names d (deliveries h number)) (Some s) None) (own-state d false bit))) (attempts-kept d)
 
   -- a destination's counters after a cancellation
-  cancelled-counts : (d : ℕ) → destination_counts (followed_by h (Cancel number mask)) d ≡ cond (bit_at mask d == 1) (cancelled_one (destination_counts h d)) (destination_counts h d)
+  pub cancelled-counts : (d : ℕ) → destination_counts (followed_by h (Cancel number mask)) d ≡ cond (bit_at mask d == 1) (cancelled_one (destination_counts h d)) (destination_counts h d)
   cancelled-counts d =
       elim (eqb_tells (bit_at mask d) 1) [
         | inl w ↦ (off-counts d w.0).0 ∙ sym (ap (λ b. cond b (cancelled_one (destination_counts h d)) (destination_counts h d)) w.0)

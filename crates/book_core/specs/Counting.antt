@@ -1,5 +1,5 @@
 -- The statistics of a history.
-use Rattle.std.specs.Prelude.{◌≡◌, ◌<◌, ℕ, Bool, true, false, not, ◌&&◌, ◌==◌, ◌≢◌, if◌then◌else◌, List, length, map, count_by}
+use Rattle.std.specs.Prelude.{◌≡◌, ◌+◌, ◌<◌, ℕ, Bool, true, false, not, ◌&&◌, ◌==◌, ◌≢◌, if◌then◌else◌, List, length, map, count_by}
 use Rattle.std.specs.List.{list_any, range_with_len}
 use Rattle.std.specs.Int.{bit_at}
 use Rattle.std.specs.Option.{option_map_or}
@@ -9,6 +9,7 @@ use Rattle.dest_queue.specs.States.{is_waiting}
 use Rattle.stat_count.specs.declared.ChannelCounts.{ChannelCounts}
 use Rattle.stat_count.specs.declared.DestinationCounts.{DestinationCounts}
 use Rattle.stat_count.specs.Statistics.{Statistics, channel_at, destination_at, accepted_one, filtered_one, refused_one, repeated_one, waits_one, delivered_one, failed_one, again_one, cancelled_one}
+use Rattle.stat_count.specs.Sums.{arrivals, settlements, takes}
 use Rattle.event_log.specs.declared.entry.Told.{Told}
 use Rattle.event_log.specs.declared.entry.Told.TheVariants as told
 use Rattle.event_log.specs.declared.entry.Entry.{Entry}
@@ -97,6 +98,12 @@ destination_counts h d = record {
 -- the statistics of a history, for 64 channels and 32 destinations
 abbrev pub counted : History → Statistics
 counted h = record { channels = map (channel_counts h) (range_with_len 0 64); destinations = map (destination_counts h) (range_with_len 0 32) }
+
+-- the three sums of the statistics rise by so many arrivals, attempts begun and attempts settled
+pub record SumsRise (came begun ended : ℕ) (old new : Statistics) : Type 0 where
+  pub arrivals : arrivals new ≡ arrivals old + came
+  pub takes : takes new ≡ takes old + begun
+  pub settlements : settlements new ≡ settlements old + ended
 
 -- the same, counter by counter
 pub record AreCounted (h : History) (tally : Statistics) : Type 0 where

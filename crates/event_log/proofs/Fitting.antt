@@ -28,14 +28,14 @@ sound-followed_by h (Settle ticket outcome now state) sound may = (settle-step h
 sound-followed_by h (Cancel number mask) sound may = (cancel-step h sound number mask may).sound
 
 -- the first items, where there is no other
-take-past : {A : Type 0} (xs : List A) (k : ℕ) → slice_get xs k ≡ None → take (suc k) xs ≡ take k xs
+pub take-past : {A : Type 0} (xs : List A) (k : ℕ) → slice_get xs k ≡ None → take (suc k) xs ≡ take k xs
 take-past [] zero none = refl
 take-past [] (suc k) none = refl
 take-past (y ∷ xs) zero none = absurd cc
 take-past (y ∷ xs) (suc k) none = ap (λ zs. y ∷ zs) (take-past xs k none)
 
 -- a legal history is sound as far as it was booked
-sound-before : (h : History) → IsPlan (plan_in_force h) → IsLegal h → (k : ℕ) → IsSound (before h k)
+pub sound-before : (h : History) → IsPlan (plan_in_force h) → IsLegal h → (k : ℕ) → IsSound (before h k)
 sound-before h good legal zero = opened-sound (plan_in_force h) h.opening.events_max good
 sound-before h good legal (suc k) =
     let earlier = sound-before h good legal k in
