@@ -18,7 +18,7 @@ pub record BooksMore {B : Type 0} (books : B → B → List Receipt → Type 0) 
   pub arrivals : books old new added
 
 -- A booked message has its receipt kept, any other none.
-abbrev pub KeepsReceiptReceipt : ℕ → ℕ → List ℕ → Result Told NotBooked → List Receipt → List Receipt → Type 0
+abbrev pub KeepsReceipt : ℕ → ℕ → List ℕ → Result Told NotBooked → List Receipt → List Receipt → Type 0
 KeepsReceipt conn channel raw (Ok told) old new = (r : Receipt) × (new ≡ old ++ r ∷ []) × (message_by r ≡ record { conn = conn; channel = channel; raw = raw; told = told })
 KeepsReceipt conn channel raw (Err refusal) old new = new ≡ old
 

@@ -105,7 +105,7 @@ impl Exchange {
                     self.stream.push(b'A')?;
                 }
             }
-            Call::Serve => return self.served(Cut::AtEachByte),
+            Call::Serve(cut) => return self.served(*cut),
             Call::Exchange => return self.exchanged(rt),
             Call::Take(destination) => return self.taken(*destination),
         }
@@ -114,11 +114,11 @@ impl Exchange {
 
     /// What comes of the stream however it is cut, each time in a new book.
     fn exchanged(&mut self, rt: &HostRuntime) -> Result<String> {
-        let stream = self.stream.try_clone()?;
+        let stream = self.stream.clone()?;
         self.begin_anew(rt)?;
         let whole = self.served(Cut::Nowhere)?;
         for cut in [Cut::AtEachByte, Cut::BehindEachEnd] {
-            self.stream = stream.try_clone()?;
+            self.stream = stream.clone()?;
             self.begin_anew(rt)?;
             let pieces = self.served(cut)?;
             if pieces != whole {
@@ -186,13 +186,12 @@ impl Exchange {
 
 /// Replies, a block a line.
 fn replies_shown(alloc: Global, bytes: &[u8]) -> Result<String, AllocError> {
-    let mut text = String::new(alloc);
-    for block in bytes.split_inclusive(|b| *b == 0x1C) {
-        let block = shown(alloc, block)?;
-        let line = format!(in alloc; "  {block}\n")?;
-        text.push_str(line.as_str())?;
+    if bytes.is_empty() {
+        return Ok(String::new(alloc));
     }
-    Ok(text)
+    let blocks = shown(alloc, bytes)?;
+    let lines = blocks.replace(alloc, "<FS><CR><VT>", "<FS><CR>\n  <VT>")?;
+    format!(in alloc; "  {lines}\n")
 }
 
 /// What a report tells: the entries and what was told, and what the blocks and their end were.

@@ -29,12 +29,22 @@ pub enum Call<'a> {
     Bytes(&'a str),
     /// `letters N`: so many letters come.
     Letters(u32),
-    /// `serve`: what came is served as one connection, byte by byte.
-    Serve,
+    /// `serve whole`, `serve bytes` or `serve ends`: what came is served as one connection, cut so.
+    Serve(Cut),
     /// `exchange`: what came is served however it is cut, each time in a new book.
     Exchange,
     /// `take D`: the front of a destination's queue is taken.
     Take(u32),
+}
+
+/// The cut of this name.
+fn cut_of(name: &str) -> Option<Cut> {
+    match name {
+        "whole" => Some(Cut::Nowhere),
+        "bytes" => Some(Cut::AtEachByte),
+        "ends" => Some(Cut::BehindEachEnd),
+        _ => None,
+    }
 }
 
 /// The call that a line is.
@@ -52,7 +62,7 @@ pub fn call_of(line: &str) -> Option<Call<'_>> {
         "text" => Some(Call::Text(rest)),
         "bytes" => Some(Call::Bytes(rest)),
         "letters" => rest.parse().ok().map(Call::Letters),
-        "serve" => Some(Call::Serve),
+        "serve" => cut_of(rest).map(Call::Serve),
         "exchange" => Some(Call::Exchange),
         "take" => rest.parse().ok().map(Call::Take),
         _ => None,

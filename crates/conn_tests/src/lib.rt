@@ -1,0 +1,7 @@
+//! Tests of serving a connection over devices that fail.
+#![tactic(auto)]
+
+#[cfg(test)]
+mod devices;
+#[cfg(test)]
+mod serving;
