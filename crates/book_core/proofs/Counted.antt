@@ -9,7 +9,7 @@ use Rattle.std.proofs.lemmas.List.Sums.{count_by-le-length, sum_by-cons}
 use Rattle.plan_text.specs.Entries.{PlanEntry}
 use Rattle.stat_count.specs.declared.ChannelCounts.{ChannelCounts}
 use Rattle.stat_count.specs.declared.DestinationCounts.{DestinationCounts}
-use Rattle.stat_count.specs.Tally.{Tally, channel_at, destination_at, empty, no_arrivals, no_slots, on_destination, slots_of}
+use Rattle.stat_count.specs.Statistics.{Statistics, channel_at, destination_at, empty, no_arrivals, no_slots, on_destination, slots_of}
 use Rattle.event_log.specs.declared.entry.Told.{Told}
 use Rattle.event_log.specs.declared.entry.Told.TheVariants as told
 use Rattle.event_log.specs.declared.entry.Entry.{Entry}
@@ -19,17 +19,17 @@ use Rattle.book_core.specs.Counting.{AreCounted, channel_counts, counted, destin
 use Rattle.book_core.proofs.Slots.{slots-entries}
 
 -- a list of which each place holds what a function gives there
-listed : {X : Type 0} (f : ℕ → X) (k : ℕ) (xs : List X) (d : X) → length xs ≡ k → ((n : ℕ) → n < k → get_or xs n d ≡ f n) → xs ≡ map f (range_with_len 0 k)
+pub listed : {X : Type 0} (f : ℕ → X) (k : ℕ) (xs : List X) (d : X) → length xs ≡ k → ((n : ℕ) → n < k → get_or xs n d ≡ f n) → xs ≡ map f (range_with_len 0 k)
 listed f k xs d size each =
     ext_get_or d xs (map f (range_with_len 0 k)) (size ∙ sym (length-map-range_with_len f 0 k))
     (λ n inside. let below : n < k = omega arith in each n below ∙ sym (get_or-map-range_with_len f 0 k n n d below (omega arith)))
 
 -- tallies are equal if their counters are
-tally-equal : (s t : Tally) → s.channels ≡ t.channels → s.destinations ≡ t.destinations → s ≡ t
+tally-equal : (s t : Statistics) → s.channels ≡ t.channels → s.destinations ≡ t.destinations → s ≡ t
 tally-equal s t channels destinations = λ i. record { channels = channels i; destinations = destinations i }
 
 -- a tally with the counters of a history is its statistics
-pub counted-is : (h : History) (tally : Tally) → AreCounted h tally → tally ≡ counted h
+pub counted-is : (h : History) (tally : Statistics) → AreCounted h tally → tally ≡ counted h
 counted-is h tally counts =
     tally-equal tally (counted h) (listed (channel_counts h) 64 tally.channels no_arrivals counts.all_channels counts.channel) (listed (destination_counts h) 32 tally.destinations no_slots counts.all_destinations counts.destination)
 
@@ -52,7 +52,7 @@ counted-opened plan events_max = record {
 }
 
 -- the counters of one destination changed
-pub counted-at : (h h' : History) (tally : Tally) (d : ℕ) (change : DestinationCounts → DestinationCounts) → d < 32 → AreCounted h tally → ((c : ℕ) → channel_counts h' c ≡ channel_counts h c)
+pub counted-at : (h h' : History) (tally : Statistics) (d : ℕ) (change : DestinationCounts → DestinationCounts) → d < 32 → AreCounted h tally → ((c : ℕ) → channel_counts h' c ≡ channel_counts h c)
     → destination_counts h' d ≡ change (destination_counts h d) → ((e : ℕ) → e ≢ d → destination_counts h' e ≡ destination_counts h e) → AreCounted h' (on_destination d change tally)
 counted-at h h' tally d change inside counts channels its others = record {
   all_channels = counts.all_channels;
@@ -72,17 +72,17 @@ pub channels-equal : (a b : ChannelCounts) → a.received ≡ b.received → a.f
 channels-equal a b received filtered accepted refused repeats = λ i. record { received = received i; filtered = filtered i; accepted = accepted i; refused = refused i; repeats = repeats i }
 
 -- no more are received than there are entries
-pub received-entries : (h : History) (tally : Tally) (c : ℕ) → c < 64 → AreCounted h tally → (channel_at c tally).received ≤ length h.entries
+pub received-entries : (h : History) (tally : Statistics) (c : ℕ) → c < 64 → AreCounted h tally → (channel_at c tally).received ≤ length h.entries
 received-entries h tally c below counts =
     let is = ap (λ t. t.received) (counts.channel c below) in let few = count_by-le-length (is_told c (λ told. not (is_repeat told))) h.entries in omega arith
 
 -- no more are repeats
-pub repeats-entries : (h : History) (tally : Tally) (c : ℕ) → c < 64 → AreCounted h tally → (channel_at c tally).repeats ≤ length h.entries
+pub repeats-entries : (h : History) (tally : Statistics) (c : ℕ) → c < 64 → AreCounted h tally → (channel_at c tally).repeats ≤ length h.entries
 repeats-entries h tally c below counts =
     let is = ap (λ t. t.repeats) (counts.channel c below) in let few = count_by-le-length (is_told c is_repeat) h.entries in omega arith
 
 -- no destination has more slots
-pub slots_of-entries : (h : History) (tally : Tally) (d : ℕ) → d < 32 → AreCounted h tally → slots_of (destination_at d tally) ≤ length h.entries
+pub slots_of-entries : (h : History) (tally : Statistics) (d : ℕ) → d < 32 → AreCounted h tally → slots_of (destination_at d tally) ≤ length h.entries
 slots_of-entries h tally d below counts = let is = ap slots_of (counts.destination d below) in let few = slots-entries h d in omega arith
 
 -- each entry is counted as received where it is counted as filtered, accepted or refused

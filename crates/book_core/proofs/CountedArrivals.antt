@@ -10,7 +10,7 @@ use Rattle.judge_core.specs.Delivering.{destinations_of}
 use Rattle.judge_core.specs.Judging.{verdict as decided, deliveries_of}
 use Rattle.dest_queue.specs.declared.SlotState.TheVariants.{Waiting}
 use Rattle.stat_count.specs.declared.ChannelCounts.{ChannelCounts}
-use Rattle.stat_count.specs.Tally.{Tally, channel_at, waits_one}
+use Rattle.stat_count.specs.Statistics.{Statistics, channel_at, waits_one}
 use Rattle.event_log.specs.declared.entry.Told.{Told}
 use Rattle.event_log.specs.declared.entry.Told.TheVariants as told
 use Rattle.event_log.specs.declared.entry.Entry.TheVariants.{Arrival}
@@ -41,7 +41,7 @@ names-either d (x ∷ ds) = ap (λ b. (x.destination == d) || b) (names-either d
 
 module _ (h : History) (conn channel : ℕ) (raw : List ℕ) where
   -- the counters of its channel
-  channel-told : (reply : Told) → channel_counts (followed_by h (Arrival conn channel raw reply)) channel ≡ told_one reply (channel_counts h channel)
+  pub channel-told : (reply : Told) → channel_counts (followed_by h (Arrival conn channel raw reply)) channel ≡ told_one reply (channel_counts h channel)
   channel-told reply =
       told_one-is reply (channel_counts h channel) (channel_counts (followed_by h (Arrival conn channel raw reply)) channel) (by (λ t. not (is_repeat t))) (by is_filtered) (by is_accepted) (by is_refused) (by is_repeat)
     where
@@ -49,7 +49,7 @@ module _ (h : History) (conn channel : ℕ) (raw : List ℕ) where
       by so = count-push (is_told channel so) h (Arrival conn channel raw reply) ∙ ap (λ b. told_count h channel so + cond (b && so reply) 1 0) (eq-eqb channel channel refl)
 
   -- the counters of another channel
-  channel-kept : (reply : Told) (c : ℕ) → c ≢ channel → channel_counts (followed_by h (Arrival conn channel raw reply)) c ≡ channel_counts h c
+  pub channel-kept : (reply : Told) (c : ℕ) → c ≢ channel → channel_counts (followed_by h (Arrival conn channel raw reply)) c ≡ channel_counts h c
   channel-kept reply c apart =
       channels-equal (channel_counts (followed_by h (Arrival conn channel raw reply)) c) (channel_counts h c) (by (λ t. not (is_repeat t))) (by is_filtered) (by is_accepted) (by is_refused) (by is_repeat)
     where
@@ -101,7 +101,7 @@ came-counts h h' m longer states fresh d attempts = by (names d m.deliveries) re
         ∙ sym (ap (λ t. cond t (waits_one (destination_counts h d)) (destination_counts h d)) is)
 
 -- a destination's counters after an arrival
-arrived-counts : (h : History) (conn channel : ℕ) (raw : List ℕ) (reply : Told) → IsSound h → ArrivalStep h conn channel raw reply → (d : ℕ)
+pub arrived-counts : (h : History) (conn channel : ℕ) (raw : List ℕ) (reply : Told) → IsSound h → ArrivalStep h conn channel raw reply → (d : ℕ)
     → destination_counts (followed_by h (Arrival conn channel raw reply)) d ≡ cond (list_any (λ e. e == d) (slots_added (plan_in_force h) channel raw reply)) (waits_one (destination_counts h d)) (destination_counts h d)
 arrived-counts h conn channel raw (told.Accepted number) sound step d =
     came-counts h (followed_by h (Arrival conn channel raw (told.Accepted number))) (accepted_under (plan_in_force h) channel raw) step.accepted step.state
@@ -112,7 +112,7 @@ arrived-counts h conn channel raw (told.Refused cause) sound step d = kept-count
 arrived-counts h conn channel raw (told.Repeat place) sound step d = kept-counts h conn channel raw (told.Repeat place) (step.accepted ∙ append-nil (accepted h)) step.state d
 
 -- the statistics after an arrival
-pub counted-arrival : (h : History) (conn channel : ℕ) (raw : List ℕ) (reply : Told) (tally new : Tally) → IsSound h → ArrivalStep h conn channel raw reply → channel < 64 → AreCounted h tally
+pub counted-arrival : (h : History) (conn channel : ℕ) (raw : List ℕ) (reply : Told) (tally new : Statistics) → IsSound h → ArrivalStep h conn channel raw reply → channel < 64 → AreCounted h tally
     → CountsArrival channel reply (slots_added (plan_in_force h) channel raw reply) tally new → AreCounted (followed_by h (Arrival conn channel raw reply)) new
 counted-arrival h conn channel raw reply tally new sound step place counts arrives = record {
   all_channels = arrives.channels ∙ counts.all_channels;

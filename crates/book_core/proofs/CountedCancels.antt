@@ -8,7 +8,7 @@ use Rattle.dest_queue.specs.declared.FailCause.TheVariants.{Cancelled}
 use Rattle.dest_queue.specs.declared.SlotState.{SlotState}
 use Rattle.dest_queue.specs.declared.SlotState.TheVariants.{Waiting, InFlight, Delivered, Failed}
 use Rattle.dest_queue.specs.States.{is_waiting}
-use Rattle.stat_count.specs.Tally.{Tally, channel_at, destination_at, cancelled_one}
+use Rattle.stat_count.specs.Statistics.{Statistics, channel_at, destination_at, cancelled_one}
 use Rattle.event_log.specs.declared.entry.Entry.TheVariants.{Cancel}
 use Rattle.event_log.specs.History.{History, deliveries, followed_by, names, slot, state}
 use Rattle.event_log.proofs.Following.{message_count-same, slot-same}
@@ -71,7 +71,7 @@ module _ (h : History) (number mask : ℕ) (step : CancelStep h number mask) whe
       (slot-same h (followed_by h (Cancel number mask)) step.nothing.accepted number d ∙ ap (λ s. cond (names d (deliveries h number)) (Some s) None) (own-state d false bit))) (attempts-kept d)
 
   -- a destination's counters after a cancellation
-  cancelled-counts : (d : ℕ) → destination_counts (followed_by h (Cancel number mask)) d ≡ cond (bit_at mask d == 1) (cancelled_one (destination_counts h d)) (destination_counts h d)
+  pub cancelled-counts : (d : ℕ) → destination_counts (followed_by h (Cancel number mask)) d ≡ cond (bit_at mask d == 1) (cancelled_one (destination_counts h d)) (destination_counts h d)
   cancelled-counts d =
       elim (eqb_tells (bit_at mask d) 1) [
         | inl w ↦ (off-counts d w.0).0 ∙ sym (ap (λ b. cond b (cancelled_one (destination_counts h d)) (destination_counts h d)) w.0)
@@ -79,7 +79,7 @@ module _ (h : History) (number mask : ℕ) (step : CancelStep h number mask) whe
       ]
 
   -- the statistics after a cancellation
-  pub counted-cancel : (tally new : Tally) → AreCounted h tally → CountsCancel mask tally new → AreCounted (followed_by h (Cancel number mask)) new
+  pub counted-cancel : (tally new : Statistics) → AreCounted h tally → CountsCancel mask tally new → AreCounted (followed_by h (Cancel number mask)) new
   counted-cancel tally new counts cancels = record {
     all_channels = ap length cancels.channels ∙ counts.all_channels;
     all_destinations = cancels.destinations ∙ counts.all_destinations;
@@ -90,5 +90,5 @@ module _ (h : History) (number mask : ℕ) (step : CancelStep h number mask) whe
   }
 
   -- before a cancellation a slot waits at each destination of the mask
-  pub cancel-waits : (tally : Tally) → AreCounted h tally → (d : ℕ) → d < 32 → (bit_at mask d == 1) ≡ true → 0 < (destination_at d tally).waiting
+  pub cancel-waits : (tally : Statistics) → AreCounted h tally → (d : ℕ) → d < 32 → (bit_at mask d == 1) ≡ true → 0 < (destination_at d tally).waiting
   cancel-waits tally counts d below bit = let waiting = ap (λ k. k.waiting) (counts.destination d below) in let some = (off-counts d bit).1 in omega arith

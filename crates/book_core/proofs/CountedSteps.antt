@@ -7,7 +7,7 @@ use Rattle.std.proofs.lemmas.List.Sums.{count_by-le-length}
 use Rattle.dest_queue.specs.declared.Outcome.{Outcome}
 use Rattle.dest_queue.specs.declared.SlotState.{SlotState}
 use Rattle.dest_queue.specs.declared.SlotState.TheVariants.{Waiting, InFlight}
-use Rattle.stat_count.specs.Tally.{Tally, destination_at, on_destination, taken_one}
+use Rattle.stat_count.specs.Statistics.{Statistics, destination_at, on_destination, taken_one}
 use Rattle.event_log.specs.declared.entry.Ticket.{Ticket}
 use Rattle.event_log.specs.declared.entry.Told.{Told}
 use Rattle.event_log.specs.declared.entry.Entry.{Entry}
@@ -70,7 +70,7 @@ taken-counts h now ticket step =
     (count-more (is_take_at ticket.destination) h (Take ticket now) (eq-eqb ticket.destination ticket.destination refl))
 
 -- the statistics after a take
-pub counted-take : (h : History) (now : ℕ) (ticket : Ticket) (tally : Tally) → TakeStep h now ticket → ticket.destination < 32 → AreCounted h tally
+pub counted-take : (h : History) (now : ℕ) (ticket : Ticket) (tally : Statistics) → TakeStep h now ticket → ticket.destination < 32 → AreCounted h tally
     → AreCounted (followed_by h (Take ticket now)) (on_destination ticket.destination taken_one tally)
 counted-take h now ticket tally step inside counts =
     counted-at h (followed_by h (Take ticket now)) tally ticket.destination taken_one inside counts (channels-kept h (Take ticket now) (λ c so. refl)) (taken-counts h now ticket step).0
@@ -78,7 +78,7 @@ counted-take h now ticket tally step inside counts =
     (count-kept (is_take_at d) h (Take ticket now) (elim (eqb_tells ticket.destination d) [ inl w ↦ absurd (apart (sym w.1)) | inr w ↦ w.0 ])))
 
 -- before a take a slot waits, and there were no more attempts than entries
-pub take-waits : (h : History) (now : ℕ) (ticket : Ticket) (tally : Tally) → TakeStep h now ticket → ticket.destination < 32 → AreCounted h tally
+pub take-waits : (h : History) (now : ℕ) (ticket : Ticket) (tally : Statistics) → TakeStep h now ticket → ticket.destination < 32 → AreCounted h tally
     → (0 < (destination_at ticket.destination tally).waiting) × ((destination_at ticket.destination tally).attempts ≤ length h.entries)
 take-waits h now ticket tally step inside counts =
     let is = counts.destination ticket.destination inside in
@@ -102,7 +102,7 @@ settle-inside h ticket outcome now after step =
     (slot-left h (followed_by h (Settle ticket outcome now after)) ticket after step.nothing.accepted step.exists step.state (InFlight ticket.attempt) step.flew)
 
 -- the statistics after a settlement
-pub counted-settle : (h : History) (ticket : Ticket) (outcome : Outcome) (now : ℕ) (after : SlotState) (tally : Tally) → SettleStep h ticket outcome now after → AreCounted h tally
+pub counted-settle : (h : History) (ticket : Ticket) (outcome : Outcome) (now : ℕ) (after : SlotState) (tally : Statistics) → SettleStep h ticket outcome now after → AreCounted h tally
     → AreCounted (followed_by h (Settle ticket outcome now after)) (on_destination ticket.destination (settled_one after) tally)
 counted-settle h ticket outcome now after tally step counts =
     counted-at h (followed_by h (Settle ticket outcome now after)) tally ticket.destination (settled_one after) (settle-inside h ticket outcome now after step) counts
@@ -110,7 +110,7 @@ counted-settle h ticket outcome now after tally step counts =
     (λ d apart. others-stay h (followed_by h (Settle ticket outcome now after)) ticket after step.nothing.accepted step.exists step.state d apart (count-kept (is_take_at d) h (Settle ticket outcome now after) refl))
 
 -- before a settlement a slot is in flight
-pub settle-flies : (h : History) (ticket : Ticket) (outcome : Outcome) (now : ℕ) (after : SlotState) (tally : Tally) → SettleStep h ticket outcome now after → AreCounted h tally → 0 < (destination_at ticket.destination tally).inflight
+pub settle-flies : (h : History) (ticket : Ticket) (outcome : Outcome) (now : ℕ) (after : SlotState) (tally : Statistics) → SettleStep h ticket outcome now after → AreCounted h tally → 0 < (destination_at ticket.destination tally).inflight
 settle-flies h ticket outcome now after tally step counts =
     let inflight = ap (λ k. k.inflight) (counts.destination ticket.destination (settle-inside h ticket outcome now after step)) in
     let some = (settled-counts h ticket outcome now after step).1 in omega arith

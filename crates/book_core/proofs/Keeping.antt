@@ -10,7 +10,7 @@ use Rattle.dest_queue.specs.declared.slots.Addressed.{Addressed}
 use Rattle.dest_queue.specs.Queues.{settle, slot_of}
 use Rattle.dest_queue.specs.States.{is_live, settle_answer as slot_answer}
 use Rattle.dup_index.specs.Known.{Known}
-use Rattle.stat_count.specs.Tally.{Tally, destination_at, empty, on_destination}
+use Rattle.stat_count.specs.Statistics.{Statistics, destination_at, empty, on_destination}
 use Rattle.event_log.specs.declared.entry.Ticket.{Ticket}
 use Rattle.event_log.specs.declared.entry.Entry.TheVariants.{Settle}
 use Rattle.event_log.specs.History.{History, followed_by, next_place, opened_by, plan_in_force}
@@ -41,7 +41,7 @@ kept-opened plan events_max room good few = record {
 }
 
 -- a book whose room grew
-pub kept-more : (h : History) (rows : List (Row (Addressed Letter))) (index : List Known) (tally : Tally) (flights room more : ℕ) → IsKept h rows index tally flights room → room ≤ more → IsKept h rows index tally flights more
+pub kept-more : (h : History) (rows : List (Row (Addressed Letter))) (index : List Known) (tally : Statistics) (flights room more : ℕ) → IsKept h rows index tally flights room → room ≤ more → IsKept h rows index tally flights more
 kept-more h rows index tally flights room more kept grows = record {
   sound = kept.sound;
   rows_agree = kept.rows_agree;
@@ -52,7 +52,7 @@ kept-more h rows index tally flights room more kept grows = record {
   bound = kept.bound;
 }
 
-module _ (h : History) (rows : List (Row (Addressed Letter))) (index : List Known) (tally : Tally) (flights room : ℕ) (kept : IsKept h rows index tally flights room) where
+module _ (h : History) (rows : List (Row (Addressed Letter))) (index : List Known) (tally : Statistics) (flights room : ℕ) (kept : IsKept h rows index tally flights room) where
   -- attempts under way are few
   pub few-flights : flights ≤ 1000000
   few-flights = omega (arith, kept.flights_are, in_flight-owed h, kept.sound.room, kept.bound)

@@ -12,7 +12,7 @@ use Rattle.row_store.specs.declared.Row.{Row}
 use Rattle.dest_queue.specs.declared.slots.Addressed.{Addressed}
 use Rattle.dup_index.specs.Known.{Known, place_of}
 use Rattle.dup_index.proofs.Seen.{place_of-added}
-use Rattle.stat_count.specs.Tally.{Tally, destination_at, slots_of}
+use Rattle.stat_count.specs.Statistics.{Statistics, destination_at, slots_of}
 use Rattle.event_log.specs.declared.entry.Told.{Told}
 use Rattle.event_log.specs.declared.entry.Told.TheVariants as told
 use Rattle.event_log.specs.declared.entry.Entry.TheVariants.{Arrival}
@@ -44,7 +44,7 @@ place-either (Some place) = refl
 
 -- ---- the book
 
-module _ (h : History) (rows : List (Row (Addressed Letter))) (index : List Known) (tally : Tally) (flights room : ℕ) (kept : IsKept h rows index tally flights room) where
+module _ (h : History) (rows : List (Row (Addressed Letter))) (index : List Known) (tally : Statistics) (flights room : ℕ) (kept : IsKept h rows index tally flights room) where
   -- there is a row for each message
   pub rows-length : length rows ≡ message_count h
   rows-length = sym (length-map rows (λ (row : Row (Addressed Letter)). row.number)) ∙ (ap length kept.rows_agree.each_once ∙ length-range_with_len 0 (message_count h))
@@ -118,7 +118,7 @@ module _ (h : History) (rows : List (Row (Addressed Letter))) (index : List Know
         subst (KeysAgree (followed_by h (Arrival conn channel raw reply))) (sym (adds ∙ λ i. as_before i ++ record { key = same i; place = here i } ∷ [])) (keys-more copies.0)
 
     -- the book is kept
-    pub kept-arrived : (rows' : List (Row (Addressed Letter))) (index' : List Known) (tally' : Tally) (room' : ℕ) → channel < 64
+    pub kept-arrived : (rows' : List (Row (Addressed Letter))) (index' : List Known) (tally' : Statistics) (room' : ℕ) → channel < 64
         → AddsMessage reply (control_id_of raw) (decided (plan_in_force h) channel raw) rows rows'
         → KeysAgree (followed_by h (Arrival conn channel raw reply)) index'
         → CountsArrival channel reply (slots_added (plan_in_force h) channel raw reply) tally tally'

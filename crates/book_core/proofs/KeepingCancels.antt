@@ -12,7 +12,7 @@ use Rattle.dest_queue.specs.declared.slots.Addressed.{Addressed}
 use Rattle.dest_queue.specs.Queues.{cancel}
 use Rattle.dest_queue.specs.Slots.{state_at}
 use Rattle.dup_index.specs.Known.{Known}
-use Rattle.stat_count.specs.Tally.{Tally, destination_at}
+use Rattle.stat_count.specs.Statistics.{Statistics, destination_at}
 use Rattle.event_log.specs.declared.entry.Entry.TheVariants.{Cancel}
 use Rattle.event_log.specs.declared.refusal.CancelRefusal.{CancelRefusal}
 use Rattle.event_log.specs.declared.refusal.CancelRefusal.TheVariants.{NoSuchMessage, NothingWaiting}
@@ -59,7 +59,7 @@ found-below {T} n item (row ∷ rows) a (suc k) e found =
       | false ↦ λ t is. omega (arith, found-below n item rows (a + 1) k rest is)
     ] refl found
 
-module _ (h : History) (rows : List (Row (Addressed Letter))) (index : List Known) (tally : Tally) (flights room : ℕ) (kept : IsKept h rows index tally flights room) where
+module _ (h : History) (rows : List (Row (Addressed Letter))) (index : List Known) (tally : Statistics) (flights room : ℕ) (kept : IsKept h rows index tally flights room) where
   -- a number that has no row is no message's
   pub asked-none : (number : ℕ) → item_at number rows ≡ None → cancel_answer h number ≡ Err NoSuchMessage
   asked-none number none = elim (row-of h rows kept.rows_agree number)
@@ -96,7 +96,7 @@ module _ (h : History) (rows : List (Row (Addressed Letter))) (index : List Know
         cancelled-waits = cancel-waits h number mask cancelled tally kept.are_counted
 
         -- the book is kept
-        pub kept-cancelled : (tally' : Tally) (room' : ℕ) → CountsCancel mask tally tally' → flights ≤ room'
+        pub kept-cancelled : (tally' : Statistics) (room' : ℕ) → CountsCancel mask tally tally' → flights ≤ room'
             → IsKept (followed_by h (Cancel number mask)) (changed_at number cancel rows) index tally' flights room'
         kept-cancelled tally' room' counts left = record {
           sound = cancelled.sound;

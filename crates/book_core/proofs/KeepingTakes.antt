@@ -14,7 +14,7 @@ use Rattle.dest_queue.specs.declared.slots.Addressed.{Addressed}
 use Rattle.dest_queue.specs.Queues.{front_state, put, WaitsBelow}
 use Rattle.dest_queue.specs.States.{is_live, next_attempt}
 use Rattle.dup_index.specs.Known.{Known}
-use Rattle.stat_count.specs.Tally.{Tally, destination_at, on_destination, taken_one}
+use Rattle.stat_count.specs.Statistics.{Statistics, destination_at, on_destination, taken_one}
 use Rattle.event_log.specs.declared.entry.Ticket.{Ticket}
 use Rattle.event_log.specs.declared.entry.Entry.TheVariants.{Take}
 use Rattle.event_log.specs.declared.refusal.TakeRefusal.TheVariants.{Idle}
@@ -56,7 +56,7 @@ few-attempts plan d good =
     elim (slice_get plan.destinations d) as (λ o. slice_get plan.destinations d ≡ o → option_map_or (λ x. x.attempts) o 0 ≤ 100)
     [ None ↦ λ e. omega arith | Some x ↦ λ e. (All-slice_get IsDestination plan.destinations d x e good.each_destination).attempts ] refl
 
-module _ (h : History) (rows : List (Row (Addressed Letter))) (index : List Known) (tally : Tally) (flights room : ℕ) (kept : IsKept h rows index tally flights room) where
+module _ (h : History) (rows : List (Row (Addressed Letter))) (index : List Known) (tally : Statistics) (flights room : ℕ) (kept : IsKept h rows index tally flights room) where
   -- an empty queue, or none that is linked
   pub front-none : (d now : ℕ) → d < 32 → front_state d rows ≡ None → take_answer h d now ≡ Err Idle
   front-none d now within none =

@@ -9,7 +9,6 @@ pub mod KeepingCancels
 pub mod KeepingTakes
 pub mod Moves
 pub mod Naming
-pub mod Owing
 pub mod Promise
 pub mod RowSteps
 pub mod Rows
@@ -17,4 +16,5 @@ pub mod RowsAdded
 pub mod RowsCancelled
 pub mod Slots
 pub mod Telling
+pub mod ThreeSums
 pub mod Waiting

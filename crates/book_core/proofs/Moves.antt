@@ -5,7 +5,7 @@ use Rattle.dest_queue.specs.declared.SlotState.{SlotState}
 use Rattle.dest_queue.specs.declared.SlotState.TheVariants.{Waiting, InFlight, Delivered, Failed}
 use Rattle.dest_queue.specs.States.{is_waiting}
 use Rattle.stat_count.specs.declared.DestinationCounts.{DestinationCounts}
-use Rattle.stat_count.specs.Tally.{cancelled_one, taken_one, waits_one}
+use Rattle.stat_count.specs.Statistics.{cancelled_one, taken_one, waits_one}
 use Rattle.event_log.specs.History.{History, message_count, slot}
 use Rattle.event_log.specs.Room.{is_in_flight}
 use Rattle.book_core.specs.Counting.{destination_counts, is_delivered, is_failed, settled_one, slot_count}

@@ -1,7 +1,8 @@
 -- A book that is kept keeps its promise.
-use Rattle.std.proofs.Common.{◌≡◌, ◌≢◌, ℕ, ◌+◌, Bool, true, false, cond, List, [], ◌∷◌, None, Some, refl, sym, subst, arith, suc}
+use Rattle.std.proofs.Common.{◌≡◌, ◌≢◌, ℕ, ◌+◌, Bool, true, false, cond, List, [], ◌∷◌, None, Some, refl, sym, ◌∙◌, ap, subst, arith, suc}
 use Rattle.std.specs.Prelude.{All, AllPairs, is_some}
 use Rattle.std.specs.List.{AllByRecursion, range_with_len}
+use Rattle.std.specs.List.Sorted.{IsStrictlyIncreasing}
 use Rattle.std.proofs.lemmas.List.Elements.{All-cons, All-head, All-map, All-nil, All-tail}
 use Rattle.std.proofs.lemmas.List.Kept.{AllPairs-cons}
 use Rattle.judge_core.specs.declared.delivery.Delivery.{Delivery}
@@ -13,10 +14,10 @@ use Rattle.dest_queue.specs.declared.slots.Slot.{Slot}
 use Rattle.dest_queue.specs.SlotsBy.{slots_by}
 use Rattle.dup_index.specs.Known.{Known}
 use Rattle.stat_count.specs.declared.ChannelCounts.{ChannelCounts}
-use Rattle.stat_count.specs.Tally.{Tally}
+use Rattle.stat_count.specs.Statistics.{Statistics}
 use Rattle.event_log.specs.History.{History, deliveries, names, slot, state}
 use Rattle.event_log.proofs.Reading.{queue-rises}
-use Rattle.event_log.proofs.Replaying.{accepted-is, message-goes, repeat-is}
+use Rattle.event_log.proofs.Replaying.{accepted-is, filtered-is, message-arrived, repeat-is}
 use Rattle.event_log.proofs.Rerun.{replay-same}
 use Rattle.book_core.specs.declared.letter.Letter.{Letter}
 use Rattle.book_core.specs.Counting.{channel_counts}
@@ -48,7 +49,7 @@ slots-apart state (x ∷ ds) once =
         All-cons (λ (b : Slot). x.destination ≢ b.destination) (record { destination = y.destination; state = state y.destination }) (slots_by state (destinations_of ds))
         (All-head (λ y. x.destination ≢ y.destination) y ds all) (elsewhere ds (All-tail (λ y. x.destination ≢ y.destination) y ds all))
 
-module _ (h : History) (rows : List (Row (Addressed Letter))) (index : List Known) (tally : Tally) (flights room : ℕ) (kept : IsKept h rows index tally flights room) where
+module _ (h : History) (rows : List (Row (Addressed Letter))) (index : List Known) (tally : Statistics) (flights room : ℕ) (kept : IsKept h rows index tally flights room) where
   -- no row has two slots for a destination
   rows-once : (rows : List (Row (Addressed Letter))) → AllByRecursion (IsAsTold h) rows → AllByRecursion (λ row. AllPairs (λ (a b : Slot). a.destination ≢ b.destination) row.item.slots) rows
   rows-once [] told = tt
@@ -71,16 +72,17 @@ module _ (h : History) (rows : List (Row (Addressed Letter))) (index : List Know
         replayed = replay-same h kept.sound.legal;
         answered = kept.sound.legal;
         acknowledged = accepted-is h kept.sound.legal;
+        arrived = message-arrived h kept.sound.legal;
+        filtered = filtered-is h kept.sound.legal;
         repeated = repeat-is h kept.sound.legal;
-        sent = message-goes h;
         one_row = kept.rows_agree.each_once;
         standing = kept-slot h rows kept.rows_agree;
         once = all-listed (λ row. AllPairs (λ (a b : Slot). a.destination ≢ b.destination) row.item.slots) rows (rows-once rows kept.rows_agree.as_told);
-        for_no_other = slot-named;
+        for_no_other = λ n d. ap is_some (kept-slot h rows kept.rows_agree n d) ∙ slot-named n d;
         queued = kept-queue h rows kept.rows_agree;
-        in_order = queue-rises h;
+        in_order = λ d inside. subst IsStrictlyIncreasing (sym (kept-queue h rows kept.rows_agree d inside)) (queue-rises h d);
         statistics = statistics;
-        received = subst (λ (t : Tally). All (λ (c : ChannelCounts). c.received ≡ c.filtered + c.accepted + c.refused) t.channels) (sym statistics)
+        received = subst (λ (t : Statistics). All (λ (c : ChannelCounts). c.received ≡ c.filtered + c.accepted + c.refused) t.channels) (sym statistics)
             (All-map (λ (c : ChannelCounts). c.received ≡ c.filtered + c.accepted + c.refused) (channel_counts h) (range_with_len 0 64)
             (all-each (λ c. (channel_counts h c).received ≡ (channel_counts h c).filtered + (channel_counts h c).accepted + (channel_counts h c).refused) (received-sum h) (range_with_len 0 64)));
         room = kept.sound.room;

@@ -8,7 +8,7 @@ use Rattle.std.proofs.lemmas.List.Sums.{length-filter, sum_by-cons, sum_by_push}
 use Rattle.dest_queue.specs.declared.SlotState.{SlotState}
 use Rattle.dest_queue.specs.declared.SlotState.TheVariants.{Waiting, InFlight, Delivered, Failed}
 use Rattle.dest_queue.specs.States.{is_live, is_waiting}
-use Rattle.stat_count.specs.Tally.{slots_of}
+use Rattle.stat_count.specs.Statistics.{slots_of}
 use Rattle.event_log.specs.declared.entry.Entry.{Entry}
 use Rattle.event_log.specs.History.{History, followed_by, message_count, numbers, queue, slot}
 use Rattle.event_log.specs.Room.{is_in_flight}

@@ -1,5 +1,5 @@
 -- The statistics of a history.
-use Rattle.std.specs.Prelude.{◌≡◌, ◌<◌, ℕ, Bool, true, false, not, ◌&&◌, ◌==◌, ◌≢◌, if◌then◌else◌, List, length, map, count_by}
+use Rattle.std.specs.Prelude.{◌≡◌, ◌+◌, ◌<◌, ℕ, Bool, true, false, not, ◌&&◌, ◌==◌, ◌≢◌, if◌then◌else◌, List, length, map, count_by}
 use Rattle.std.specs.List.{list_any, range_with_len}
 use Rattle.std.specs.Int.{bit_at}
 use Rattle.std.specs.Option.{option_map_or}
@@ -8,7 +8,8 @@ use Rattle.dest_queue.specs.declared.SlotState.TheVariants.{Waiting, InFlight, D
 use Rattle.dest_queue.specs.States.{is_waiting}
 use Rattle.stat_count.specs.declared.ChannelCounts.{ChannelCounts}
 use Rattle.stat_count.specs.declared.DestinationCounts.{DestinationCounts}
-use Rattle.stat_count.specs.Tally.{Tally, channel_at, destination_at, accepted_one, filtered_one, refused_one, repeated_one, waits_one, delivered_one, failed_one, again_one, cancelled_one}
+use Rattle.stat_count.specs.Statistics.{Statistics, channel_at, destination_at, accepted_one, filtered_one, refused_one, repeated_one, waits_one, delivered_one, failed_one, again_one, cancelled_one}
+use Rattle.stat_count.specs.Sums.{arrivals, settlements, takes}
 use Rattle.event_log.specs.declared.entry.Told.{Told}
 use Rattle.event_log.specs.declared.entry.Told.TheVariants as told
 use Rattle.event_log.specs.declared.entry.Entry.{Entry}
@@ -95,11 +96,17 @@ destination_counts h d = record {
 }
 
 -- the statistics of a history, for 64 channels and 32 destinations
-abbrev pub counted : History → Tally
+abbrev pub counted : History → Statistics
 counted h = record { channels = map (channel_counts h) (range_with_len 0 64); destinations = map (destination_counts h) (range_with_len 0 32) }
 
+-- the three sums of the statistics rise by so many arrivals, attempts begun and attempts settled
+pub record SumsRise (came begun ended : ℕ) (old new : Statistics) : Type 0 where
+  pub arrivals : arrivals new ≡ arrivals old + came
+  pub takes : takes new ≡ takes old + begun
+  pub settlements : settlements new ≡ settlements old + ended
+
 -- the same, counter by counter
-pub record AreCounted (h : History) (tally : Tally) : Type 0 where
+pub record AreCounted (h : History) (tally : Statistics) : Type 0 where
   pub all_channels : length tally.channels ≡ 64
   pub all_destinations : length tally.destinations ≡ 32
   pub channel : (c : ℕ) → c < 64 → channel_at c tally ≡ channel_counts h c
@@ -120,7 +127,7 @@ settled_one Delivered counts = delivered_one counts
 settled_one (Failed cause) counts = failed_one counts
 
 -- one arrival was counted: its channel, and the destinations at which it begins to wait
-pub record CountsArrival (channel : ℕ) (told : Told) (named : List ℕ) (old new : Tally) : Type 0 where
+pub record CountsArrival (channel : ℕ) (told : Told) (named : List ℕ) (old new : Statistics) : Type 0 where
   pub channels : length new.channels ≡ length old.channels
   pub destinations : length new.destinations ≡ length old.destinations
   pub its_channel : channel_at channel new ≡ told_one told (channel_at channel old)
@@ -128,7 +135,7 @@ pub record CountsArrival (channel : ℕ) (told : Told) (named : List ℕ) (old n
   pub each_destination : (d : ℕ) → d < 32 → destination_at d new ≡ (if list_any (λ e. e == d) named then waits_one (destination_at d old) else destination_at d old)
 
 -- one cancellation was counted, at the destinations of the mask
-pub record CountsCancel (mask : ℕ) (old new : Tally) : Type 0 where
+pub record CountsCancel (mask : ℕ) (old new : Statistics) : Type 0 where
   pub channels : new.channels ≡ old.channels
   pub destinations : length new.destinations ≡ length old.destinations
   pub each_destination : (d : ℕ) → d < 32 → destination_at d new ≡ (if bit_at mask d == 1 then cancelled_one (destination_at d old) else destination_at d old)

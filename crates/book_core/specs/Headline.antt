@@ -1,5 +1,5 @@
 -- What a book promises of its history, of the rows beside it and of the statistics.
-use Rattle.std.specs.Prelude.{◌≡◌, ◌≢◌, ◌<◌, ◌≤◌, ◌+◌, ◌&&◌, ℕ, Bool, true, false, List, Some, All, AllPairs, is_some, length, slice_get}
+use Rattle.std.specs.Prelude.{◌≡◌, ◌≢◌, ◌<◌, ◌≤◌, ◌+◌, ◌&&◌, ℕ, Bool, true, false, List, [], Some, All, AllPairs, is_some, length}
 use Rattle.std.specs.List.Sorted.{IsStrictlyIncreasing}
 use Rattle.std.specs.Option.{option_map_or}
 use Rattle.judge_core.specs.Judging.{verdict as decided, deliveries_of, key_of}
@@ -7,13 +7,13 @@ use Rattle.row_store.specs.declared.Row.{Row}
 use Rattle.row_store.specs.Rows.{numbers as numbers_of, queue_of}
 use Rattle.dest_queue.specs.declared.slots.Addressed.{Addressed}
 use Rattle.dest_queue.specs.Queues.{slot_of}
-use Rattle.stat_count.specs.Tally.{Tally}
+use Rattle.stat_count.specs.Statistics.{Statistics}
 use Rattle.event_log.specs.declared.entry.Entry.{Entry}
 use Rattle.event_log.specs.declared.entry.Entry.TheVariants.{Arrival}
 use Rattle.event_log.specs.declared.entry.Told.TheVariants as told
-use Rattle.event_log.specs.History.{Accepted, History, accepted, accepted_under, deliveries, names, numbers, plan_in_force, queue, slot}
+use Rattle.event_log.specs.History.{Accepted, History, accepted, accepted_under, before, deliveries, entry_at, message_at, names, numbers, plan_in_force, queue, slot}
 use Rattle.event_log.specs.Answers.{brings, keeps}
-use Rattle.event_log.specs.Legal.{IsLegal}
+use Rattle.event_log.specs.Legal.{HasArrival, IsLegal}
 use Rattle.event_log.specs.Replay.{replay}
 use Rattle.event_log.specs.Room.{owed}
 use Rattle.book_core.specs.declared.letter.Letter.{Letter}
@@ -24,20 +24,23 @@ abbrev pub is_repeated_by : ℕ → List ℕ → Entry → Bool
 is_repeated_by channel raw e = keeps (key_of channel raw) e && brings raw e
 
 -- what a book promises whenever it is free: these are its history, the rows that it keeps, and its statistics
-pub record KeepsItsPromise (h : History) (rows : List (Row (Addressed Letter))) (tally : Tally) : Type 0 where
+pub record KeepsItsPromise (h : History) (rows : List (Row (Addressed Letter))) (tally : Statistics) : Type 0 where
   -- the sequential engine, run over the same events, gives this very history: each acknowledgment, each message taken,
   -- each state settled and each cancellation as it was replied
   pub replayed : replay h ≡ h
   -- each of these events could come, had room, and was answered from the entries before it
   pub answered : IsLegal h
   -- an arrival acknowledged as message n is message n: its channel, its bytes, and where they go
-  pub acknowledged : (place conn channel n : ℕ) (raw : List ℕ) → slice_get h.entries place ≡ Some (Arrival conn channel raw (told.Accepted n))
-      → slice_get (accepted h) n ≡ Some (accepted_under (plan_in_force h) channel raw)
+  pub acknowledged : (place conn channel n : ℕ) (raw : List ℕ) → entry_at h place ≡ Some (Arrival conn channel raw (told.Accepted n))
+      → message_at h n ≡ Some (accepted_under (plan_in_force (before h place)) channel raw)
+  -- each message has its arrival, acknowledged with its number
+  pub arrived : (n : ℕ) (m : Accepted) → message_at h n ≡ Some m → HasArrival h n m
+  -- an arrival acknowledged as filtered goes nowhere, and is no message
+  pub filtered : (place conn channel : ℕ) (raw : List ℕ) → entry_at h place ≡ Some (Arrival conn channel raw told.Filtered)
+      → (deliveries_of (decided (plan_in_force (before h place)) channel raw) ≡ []) × (accepted (before h (place + 1)) ≡ accepted (before h place))
   -- an arrival acknowledged as a repeat repeats an arrival before it
-  pub repeated : (place conn channel first : ℕ) (raw : List ℕ) → slice_get h.entries place ≡ Some (Arrival conn channel raw (told.Repeat first))
-      → (first < place) × (option_map_or (is_repeated_by channel raw) (slice_get h.entries first) false ≡ true)
-  -- an accepted message goes where the filters, the routes and the steps of its channel send it
-  pub sent : (n : ℕ) (m : Accepted) → slice_get (accepted h) n ≡ Some m → m.deliveries ≡ deliveries_of (decided (plan_in_force h) m.channel m.raw)
+  pub repeated : (place conn channel first : ℕ) (raw : List ℕ) → entry_at h place ≡ Some (Arrival conn channel raw (told.Repeat first))
+      → (first < place) × (option_map_or (is_repeated_by channel raw) (entry_at h first) false ≡ true)
   -- each accepted message has one row, and the rows are in order of acceptance
   pub one_row : numbers_of rows ≡ numbers h
   -- the row says how it stands with the message at each destination, waiting, in flight, delivered or failed, as the history does
@@ -45,11 +48,11 @@ pub record KeepsItsPromise (h : History) (rows : List (Row (Addressed Letter))) 
   -- it stands there once
   pub once : All (λ row. AllPairs (λ a b. a.destination ≢ b.destination) row.item.slots) rows
   -- it stands for each destination that its channel names, and for no other
-  pub for_no_other : (n d : ℕ) → is_some (slot h n d) ≡ names d (deliveries h n)
+  pub for_no_other : (n d : ℕ) → is_some (slot_of n d rows) ≡ names d (deliveries h n)
   -- each queue is linked as the history has it: the messages that wait or are in flight at its destination
   pub queued : (d : ℕ) → d < 32 → queue_of d rows ≡ queue h d
   -- first in, first out: each queue is in order of acceptance
-  pub in_order : (d : ℕ) → IsStrictlyIncreasing (queue h d)
+  pub in_order : (d : ℕ) → d < 32 → IsStrictlyIncreasing (queue_of d rows)
   -- each statistic is counted as the history has it
   pub statistics : tally ≡ counted h
   -- on each channel every message received was filtered, accepted or refused

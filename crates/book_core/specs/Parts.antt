@@ -6,7 +6,7 @@ use Rattle.row_store.specs.Rows.{numbers as numbers_of, stands_in}
 use Rattle.dest_queue.specs.declared.slots.Addressed.{Addressed}
 use Rattle.dest_queue.specs.SlotsBy.{slots_by}
 use Rattle.dup_index.specs.Known.{Known, place_of}
-use Rattle.stat_count.specs.Tally.{Tally}
+use Rattle.stat_count.specs.Statistics.{Statistics}
 use Rattle.event_log.specs.History.{History, control_id, deliveries, is_queued, named, numbers, state}
 use Rattle.event_log.specs.Answers.{known}
 use Rattle.event_log.specs.Room.{in_flight}
@@ -31,7 +31,7 @@ abbrev pub KeysAgree : History → List Known → Type 0
 KeysAgree h index = (key : List ℕ) → place_of key index ≡ known h key
 
 -- each part of a book agrees with the history
-pub record IsKept (h : History) (rows : List (Row (Addressed Letter))) (index : List Known) (tally : Tally) (flights room : ℕ) : Type 0 where
+pub record IsKept (h : History) (rows : List (Row (Addressed Letter))) (index : List Known) (tally : Statistics) (flights room : ℕ) : Type 0 where
   pub sound : IsSound h
   pub rows_agree : RowsAgree h rows
   pub keys_agree : KeysAgree h index

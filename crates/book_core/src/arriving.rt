@@ -5,22 +5,21 @@ ghost use Rattle.std.specs.Int.{bit_at};
 ghost use Rattle.std.specs.Option.{option_map_or};
 ghost use Rattle.dup_index.specs.Known.{place_of};
 ghost use Rattle.judge_core.specs.Delivering.{destinations_of};
-ghost use Rattle.judge_core.specs.Judging.{is_bookable, is_booked, verdict};
+ghost use Rattle.judge_core.specs.Judging.{is_bookable, verdict};
 ghost use Rattle.dest_queue.specs.declared.SlotState.{SlotState};
 ghost use Rattle.dest_queue.specs.SlotsBy.{slots_by};
 ghost use Rattle.event_log.specs.History.{control_id_of, entry_at, message_count, names, plan_in_force};
-ghost use Rattle.event_log.specs.Answers.{answer, attempts_max, brings, interval, is_kept, told_by};
-ghost use Rattle.event_log.specs.Room.{own, own_owed};
+ghost use Rattle.event_log.specs.Answers.{answer, brings, is_kept};
+ghost use Rattle.event_log.specs.Room.{own};
 ghost use Rattle.book_core.specs.Parts.{KeysAgree};
 ghost use Rattle.book_core.specs.Sending.{AddsMessage, AddsRow, IsAccepting, IsNextRow, deliveries_if};
 
 use crate::letter::Letter;
-use dest_queue::{ATTEMPTS_MAX, Addressed, Slots};
+use dest_queue::{Addressed, Slots};
 use dup_index::Keys;
-use event_log::{Entry, Log, Told};
+use event_log::{Log, Told, own_owed, told_first};
 use hl7_head::Cause;
 use judge_core::{Deliveries, Delivery, Judged, Text, Verdict};
-use plan_text::Plan;
 use row_store::RowStore;
 use std::alloc::{AllocError, Global};
 
@@ -29,21 +28,8 @@ fn brings(log: &Log, place: usize, raw: &[u8]) -> bool
     ensures { result ≡ option_map_or (brings raw.now) (entry_at log.now.history place) false }
 {
     match log.entry(place) {
-        Some(Entry::Arrival { raw: came, .. }) => raw == came.as_slice(),
-        _ => false,
-    }
-}
-
-/// What the sender is told of a message whose key is not known; an accepted one gets this number.
-fn told_first(verdict: &Verdict, number: u32) -> Told
-    requires { is_booked verdict.now ≡ true }
-    ensures { told_by number verdict.now ≡ Some result }
-{
-    match verdict {
-        Verdict::Refuse(cause) => Told::Refused(*cause),
-        Verdict::Filtered => Told::Filtered,
-        Verdict::Accept(_) => Told::Accepted(number),
-        Verdict::Unreadable | Verdict::Stray => unreachable!(),
+        Some(entry) => entry.brings(raw),
+        None => false,
     }
 }
 
@@ -73,37 +59,6 @@ pub fn deliveries_if(told: Told, verdict: &Verdict) -> &[Delivery]
         (Told::Accepted(_), Verdict::Accept(deliveries)) => deliveries.as_slice(),
         _ => &[],
     }
-}
-
-/// How often a message is sent to d at most; 0 where the plan has no such destination.
-pub fn attempts_max(plan: &Plan, d: u32) -> u32
-    ensures value { result ≡ attempts_max plan.now d }
-    ensures bound { result ≤ ATTEMPTS_MAX }
-{
-    plan.rules();
-    plan.destination(d).map_or(0, |x| x.attempts())
-}
-
-/// How many seconds a retry at d waits; 0 where the plan has no such destination.
-pub fn interval(plan: &Plan, d: u32) -> u32
-    ensures value { result ≡ interval plan.now d }
-    ensures bound { result ≤ 86400 }
-{
-    plan.rules();
-    plan.destination(d).map_or(0, |x| x.interval())
-}
-
-/// The entries that the new slots of a message owe.
-fn own_owed(plan: &Plan, deliveries: &[Delivery]) -> u32
-    requires within { All (λ x. x.destination < 32) deliveries.now }
-    requires once { AllPairs (λ x y. x.destination ≢ y.destination) deliveries.now }
-    ensures { result ≡ own_owed plan.now (destinations_of deliveries.now) }
-{
-    let mut own = 0;
-    for delivery in deliveries {
-        own += 2 * attempts_max(plan, delivery.destination) + 1;
-    }
-    own
 }
 
 /// The entries that the new slots of an arrival owe that is told so.

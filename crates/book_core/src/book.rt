@@ -5,24 +5,26 @@ ghost use Rattle.std.specs.Arc.{arc_value};
 ghost use Rattle.judge_core.specs.Judging.{is_bookable};
 ghost use Rattle.event_log.specs.History.{control_id, deliveries, entry_at, followed_by, message_count, names, next_place, opened_by, payload, plan_in_force, queue, slot};
 ghost use Rattle.event_log.specs.Answers.{answer, cancel_answer, settle_answer, take_answer};
+ghost use Rattle.event_log.specs.Legal.{IsSound, MayFollow};
 ghost use Rattle.event_log.specs.Room.{is_full};
 ghost use Rattle.book_core.specs.Counting.{counted};
 ghost use Rattle.book_core.specs.Headline.{KeepsItsPromise};
 ghost use Rattle.book_core.specs.Sending.{awaits_ack};
 
-use crate::arriving::{
-    add_message, attempts_max, deliveries_if, interval, keep_key, key_to_keep, own_of, told,
-};
+use crate::arriving::{add_message, deliveries_if, keep_key, key_to_keep, own_of, told};
 use crate::counting::{count_arrival, count_cancelled, count_settled};
 use crate::letter::{Job, Letter};
 use crate::receipt::{NotBooked, Receipt};
-use crate::sending::{awaits_ack, payload, ticket_for, where_waiting};
+use crate::sending::{awaits_ack, payload, where_waiting};
 use dest_queue::{
     Addressed, Outcome, SettleRefusal, SlotState, cancel_waiting, front_state, settle_slot,
     slot_of, take_front,
 };
 use dup_index::Keys;
-use event_log::{CancelRefusal, EVENTS_MAX, Entry, Log, TakeRefusal, Ticket, slot_owed};
+use event_log::{
+    CancelRefusal, EVENTS_MAX, Entry, Log, TakeRefusal, Ticket, attempts_max, front_answer,
+    interval, slot_owed,
+};
 use hl7_head::Moment;
 use judge_core::{Judged, Text};
 use plan_text::Plan;
@@ -126,6 +128,14 @@ impl<S: RowStore<Addressed<Letter>>> Book<S> {
         &self.counts
     }
 
+    /// What holds of every book's history.
+    pub fn rules(&self)
+        ensures sound { IsSound self.now }
+        ensures few { self.now.opening.events_max ≤ 1000000 }
+    {
+        let _ = &self.log;
+    }
+
     /// The rows of the accepted messages, and the statistics. As long as they are lent the book is free of any event, and
     /// so it keeps its promise: it agrees with its history, and the history with the sequential engine.
     pub fn promise(&self) -> (&S, &Counts)
@@ -162,6 +172,7 @@ impl<S: RowStore<Addressed<Letter>>> Book<S> {
         ensures raw { IfOk result (λ receipt. receipt.raw ≡ judged.now.raw) }
         ensures told { IfOk result (λ receipt. answer self.old judged.now.channel judged.now.raw ≡ Some receipt.told) }
         ensures booked { IfOk result (λ receipt. self.new ≡ followed_by self.old (Entry.Arrival conn judged.now.channel judged.now.raw receipt.told)) }
+        ensures follows { IfOk result (λ receipt. MayFollow self.old (Entry.Arrival conn judged.now.channel judged.now.raw receipt.told)) }
 
         // It is judged by the plan in force, and there is room for it.
         ensures plan { IsErrOf result NotBooked.PlanChanged ↔ judged.now.plan ≢ plan_in_force self.old }
@@ -184,6 +195,7 @@ impl<S: RowStore<Addressed<Letter>>> Book<S> {
         ensures raw { IfOk result (λ receipt. receipt.raw ≡ judged.now.raw) }
         ensures told { IfOk result (λ receipt. answer self.old judged.now.channel judged.now.raw ≡ Some receipt.told) }
         ensures booked { IfOk result (λ receipt. self.new ≡ followed_by self.old (Entry.Arrival conn judged.now.channel judged.now.raw receipt.told)) }
+        ensures follows { IfOk result (λ receipt. MayFollow self.old (Entry.Arrival conn judged.now.channel judged.now.raw receipt.told)) }
         ensures full { IsErrOf result NotBooked.Full ↔ IsTrue (is_full self.old judged.now.channel judged.now.raw) }
         ensures plan { result ≢ Err NotBooked.PlanChanged }
         ensures err { OnErr result (self.new ≡ self.old) }
@@ -267,7 +279,7 @@ impl<S: RowStore<Addressed<Letter>>> Book<S> {
             return Err(TakeRefusal::Idle);
         }
         match front {
-            Some((number, state)) => ticket_for(number, d, state, now.secs()),
+            Some((number, state)) => front_answer(d, now.secs(), number, Some(state)),
             None => Err(TakeRefusal::Idle),
         }
     }

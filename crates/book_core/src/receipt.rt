@@ -1,5 +1,8 @@
 //! What a booked arrival is told.
 
+ghost use Rattle.std.specs.Prelude.{◌≡◌};
+ghost use Rattle.book_core.specs.Refusing.{not_booked_code};
+
 use event_log::Told;
 use judge_core::Text;
 use std::alloc::{AllocError, AllocFailed};
@@ -32,6 +35,19 @@ pub enum NotBooked {
     /// It was judged by another plan than the one in force.
     #[error("the plan has changed")]
     PlanChanged,
+}
+
+impl NotBooked {
+    /// The number of the refusal: 1 for `NoMemory`, 2 for `Full`, 3 for `PlanChanged`.
+    pub fn code(self) -> u32
+        ensures { result ≡ not_booked_code self }
+    {
+        match self {
+            NotBooked::NoMemory => 1,
+            NotBooked::Full => 2,
+            NotBooked::PlanChanged => 3,
+        }
+    }
 }
 
 impl From<AllocError> for NotBooked {

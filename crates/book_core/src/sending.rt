@@ -1,36 +1,17 @@
 //! What is sent of a message, and where it waits.
 
-ghost use Rattle.std.specs.Prelude.{◌≡◌, ◌<◌, ◌==◌, Some, false, find, option_copied};
+ghost use Rattle.std.specs.Prelude.{◌≡◌, ◌==◌, false, find, option_copied};
 ghost use Rattle.std.specs.Option.{option_map, option_map_or};
 ghost use Rattle.dest_queue.specs.States.{is_waiting};
 ghost use Rattle.dest_queue.specs.Slots.{state_at};
-ghost use Rattle.event_log.specs.Answers.{front_answer, mask_where};
-ghost use Rattle.event_log.specs.Legal.{IsWithin};
+ghost use Rattle.event_log.specs.Answers.{mask_where};
 ghost use Rattle.book_core.specs.Sending.{awaits_ack, owed_waiting};
 
-use crate::arriving::attempts_max;
-use dest_queue::{ATTEMPTS_MAX, SlotState, Slots};
-use event_log::{TakeRefusal, Ticket, slot_owed};
+use dest_queue::Slots;
+use event_log::{attempts_max, slot_owed};
 use judge_core::{Delivery, Text};
 use plan_text::{Await, Plan};
 use row_store::QUEUES;
-
-/// The ticket for the front of queue d, if it may be taken now, by its slot.
-pub fn ticket_for(number: u32, d: u32, state: SlotState, now: u64) -> Result<Ticket, TakeRefusal>
-    requires { IsWithin ATTEMPTS_MAX state }
-    ensures { result ≡ front_answer d now number (Some state) }
-{
-    match state {
-        SlotState::Waiting { due, .. } if now < due => Err(TakeRefusal::NotDue(due)),
-        SlotState::Waiting { attempts, .. } => Ok(Ticket {
-            number,
-            destination: d,
-            attempt: attempts + 1,
-        }),
-        SlotState::InFlight { .. } => Err(TakeRefusal::InFlightNow(number)),
-        SlotState::Delivered | SlotState::Failed(_) => Err(TakeRefusal::Idle),
-    }
-}
 
 /// The text for d among deliveries.
 pub fn payload(deliveries: &[Delivery], d: u32) -> Option<&Text>

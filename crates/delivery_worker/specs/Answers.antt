@@ -6,7 +6,6 @@ use Rattle.std.specs.Str.{bytes_eq}
 use Rattle.dest_queue.specs.declared.Outcome.{Outcome}
 use Rattle.dest_queue.specs.declared.Outcome.TheVariants.{Delivered, Again, Rejected}
 use Rattle.hl7_head.specs.Msa.{MsaFields}
-use Rattle.delivery_worker.specs.declared.answers.TheConstants.{MAX_ANSWERS}
 
 -- what an acknowledgment code of table 0008 comes to: accepted is delivered, rejected stays rejected, and on an error, as on any other code, the message is sent again
 abbrev pub code_outcome : List ℕ → Outcome
@@ -18,9 +17,9 @@ code_outcome code =
 abbrev pub answers_to : List ℕ → MsaFields → Bool
 answers_to control_id msa = bytes_eq msa.control_id control_id
 
--- the acknowledgments among the answers that are read; the others can't be read or hold none
+-- the acknowledgments among the first nine answers, which are read; the others can't be read or hold none
 abbrev pub acknowledgments : List (Option MsaFields) → List MsaFields
-acknowledgments answers = flat_map option_to_list (take MAX_ANSWERS answers)
+acknowledgments answers = flat_map option_to_list (take 9 answers)
 
 -- the first acknowledgment of the message decides; without one the message is sent again
 abbrev pub outcome_of : List ℕ → List (Option MsaFields) → Outcome

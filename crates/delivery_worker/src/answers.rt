@@ -46,3 +46,8 @@ pub fn outcome_of(control_id: &[u8], answers: &[Option<Msa>]) -> Outcome
         None => Outcome::Again,
     }
 }
+
+/// The law of answers: how many are read.
+pub fn answer_rules()
+    ensures { MAX_ANSWERS ≡ 9 }
+{}

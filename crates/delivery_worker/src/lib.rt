@@ -3,7 +3,4 @@
 
 mod answers;
 
-pub use answers::{MAX_ANSWERS, outcome_of};
-
-#[cfg(test)]
-mod tests;
+pub use answers::{MAX_ANSWERS, answer_rules, outcome_of};

@@ -42,3 +42,8 @@ settle_answer (Some (InFlight a)) outcome attempt now max interval = if a == att
 settle_answer (Some (Waiting a due)) outcome attempt now max interval = Err (NotInFlight (Waiting a due))
 settle_answer (Some Delivered) outcome attempt now max interval = Err (NotInFlight Delivered)
 settle_answer (Some (Failed cause)) outcome attempt now max interval = Err (NotInFlight (Failed cause))
+
+-- the number of a refusal
+abbrev pub refusal_code : SettleRefusal → ℕ
+refusal_code (NotInFlight state) = 1
+refusal_code NoSlot = 2

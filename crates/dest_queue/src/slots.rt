@@ -10,7 +10,7 @@ ghost use Rattle.dest_queue.specs.Queues.{waiting_at, without_each};
 ghost use Rattle.std.specs.Int.{bit_at};
 ghost use Rattle.dest_queue.specs.Slots.{new_slot, state_at, with_state, waits_at, cancelled};
 
-use crate::{FailCause, SlotState};
+use crate::{ATTEMPTS_MAX, FailCause, SlotState};
 use row_store::QUEUES;
 use std::alloc::{AllocError, Global};
 use std::marker::Model;
@@ -132,8 +132,10 @@ pub struct Addressed<T> {
     pub slots: Slots,
 }
 
-/// The laws of slots, told by a function from a message's destinations to states.
+/// The laws of slots: the most attempts, and slots told by a function from a message's destinations to states.
 pub fn slot_rules()
+    ensures attempts_max { ATTEMPTS_MAX ≡ 100 }
+
     ensures state_at { (state : ℕ → SlotState) (ds : List ℕ) (d : ℕ) →
         state_at d (slots_by state ds) ≡ (if is_among d ds then Some (state d) else None) }
     ensures waits_at { (state : ℕ → SlotState) (ds : List ℕ) (d : ℕ) →

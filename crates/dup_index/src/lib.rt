@@ -10,9 +10,6 @@ use std::alloc::{AllocError, Global};
 use std::hash::RandomState;
 use std::marker::Model;
 
-#[cfg(test)]
-mod tests;
-
 /// The known keys. They are hashed under a random seed, so that nobody can choose keys that collide.
 #[derive(Drop)]
 pub struct Keys {

@@ -16,6 +16,7 @@ use Rattle.event_log.proofs.Arriving.{arrival-step}
 use Rattle.event_log.proofs.Cancelling.{cancel-owes, cancel-step}
 use Rattle.event_log.proofs.Following.{take-whole}
 use Rattle.event_log.proofs.Reading.{opened-sound}
+use Rattle.event_log.proofs.Replaying.{take-more}
 use Rattle.event_log.proofs.Settling.{settle-less, settle-step}
 use Rattle.event_log.proofs.Taking.{take-step}
 
@@ -26,21 +27,15 @@ sound-followed_by h (Take ticket now) sound may = (take-step h sound ticket.dest
 sound-followed_by h (Settle ticket outcome now state) sound may = (settle-step h sound ticket outcome now state may).sound
 sound-followed_by h (Cancel number mask) sound may = (cancel-step h sound number mask may).sound
 
--- the first items and one more
-take-more : {A : Type 0} (xs : List A) (k : ℕ) (x : A) → slice_get xs k ≡ Some x → take (suc k) xs ≡ take k xs ++ x ∷ []
-take-more [] k x got = absurd cc
-take-more (y ∷ xs) zero x got = ap (λ z. z ∷ []) (same_Some y x got)
-take-more (y ∷ xs) (suc k) x got = ap (λ zs. y ∷ zs) (take-more xs k x got)
-
 -- the first items, where there is no other
-take-past : {A : Type 0} (xs : List A) (k : ℕ) → slice_get xs k ≡ None → take (suc k) xs ≡ take k xs
+pub take-past : {A : Type 0} (xs : List A) (k : ℕ) → slice_get xs k ≡ None → take (suc k) xs ≡ take k xs
 take-past [] zero none = refl
 take-past [] (suc k) none = refl
 take-past (y ∷ xs) zero none = absurd cc
 take-past (y ∷ xs) (suc k) none = ap (λ zs. y ∷ zs) (take-past xs k none)
 
 -- a legal history is sound as far as it was booked
-sound-before : (h : History) → IsPlan (plan_in_force h) → IsLegal h → (k : ℕ) → IsSound (before h k)
+pub sound-before : (h : History) → IsPlan (plan_in_force h) → IsLegal h → (k : ℕ) → IsSound (before h k)
 sound-before h good legal zero = opened-sound (plan_in_force h) h.opening.events_max good
 sound-before h good legal (suc k) =
     let earlier = sound-before h good legal k in

@@ -1,5 +1,5 @@
 -- What the arrivals of a legal history say.
-use Rattle.std.proofs.Common.{◌≡◌, ℕ, ◌<◌, ◌≤◌, Bool, true, false, cond, ◌&&◌, List, [], ◌∷◌, length, take, get_or, Option, None, Some, refl, sym, ◌∙◌, ap, subst, arith, suc, zero}
+use Rattle.std.proofs.Common.{◌≡◌, ℕ, ◌+◌, ◌<◌, ◌≤◌, Bool, true, false, cond, ◌&&◌, List, [], ◌∷◌, ◌++◌, length, take, get_or, Option, None, Some, refl, sym, ◌∙◌, ap, subst, arith, suc, zero}
 use Rattle.std.specs.Prelude.{nat_lt, slice_get, if◌then◌else◌}
 use Rattle.std.specs.List.{filter_map, cons_option, position_or_len}
 use Rattle.std.specs.Option.{option_map_or}
@@ -14,10 +14,11 @@ use Rattle.judge_core.specs.Judging.{verdict as decided, deliveries_of, is_booka
 use Rattle.event_log.specs.declared.entry.Told.TheVariants as told
 use Rattle.event_log.specs.declared.entry.Entry.{Entry}
 use Rattle.event_log.specs.declared.entry.Entry.TheVariants.{Arrival, Take, Settle, Cancel}
-use Rattle.event_log.specs.History.{Accepted, History, accepted, accepted_by, accepted_under, before, message_count, plan_in_force}
+use Rattle.event_log.specs.History.{Accepted, History, accepted, accepted_by, accepted_under, before, entry_at, message_at, message_count, plan_in_force}
 use Rattle.event_log.specs.Answers.{answer, brings, keeps, known, told_by}
-use Rattle.event_log.specs.Legal.{IsLegal}
+use Rattle.event_log.specs.Legal.{HasArrival, IsLegal}
 use Rattle.event_log.proofs.Arriving.{accepted-number}
+use Rattle.event_log.proofs.Following.{accepted-kept}
 
 -- ---- lists
 
@@ -41,17 +42,25 @@ get-given f (z ∷ xs) zero x y got gives = let here : f z ≡ Some y = ap f (sa
 get-given f (z ∷ xs) (suc k) x y got gives = elim (f z) as (λ o. slice_get (cons_option o (filter_map f xs)) (length (cons_option o (filter_map f (take k xs)))) ≡ Some y)
     [ None ↦ get-given f xs k x y got gives | Some w ↦ get-given f xs k x y got gives ]
 
+-- an item of a list that gives the n-th of what all give, after those that gave the ones before
+record GivenAt {A B : Type 0} (f : A → Option B) (xs : List A) (n : ℕ) (y : B) : Type 0 where
+  place : ℕ
+  item : A
+  there : slice_get xs place ≡ Some item
+  gives : f item ≡ Some y
+  after : length (filter_map f (take place xs)) ≡ n
+
 -- what was given comes of an item
-given-by : {A B : Type 0} (f : A → Option B) (xs : List A) (n : ℕ) (y : B) → slice_get (filter_map f xs) n ≡ Some y → (x : A) × (f x ≡ Some y)
-given-by f [] n y got = absurd cc
-given-by {A} {B} f (x ∷ xs) n y got = elim (f x) as (λ o. f x ≡ o → slice_get (cons_option o (filter_map f xs)) n ≡ Some y → (x : A) × (f x ≡ Some y)) [
-  | None ↦ λ e rest. given-by f xs n y rest
-  | Some w ↦ λ e rest. first n w e (λ k later. given-by f xs k y later) rest
+given-at : {A B : Type 0} (f : A → Option B) (xs : List A) (n : ℕ) (y : B) → slice_get (filter_map f xs) n ≡ Some y → GivenAt f xs n y
+given-at f [] n y got = absurd cc
+given-at {A} {B} f (x ∷ xs) n y got = elim (f x) as (λ o. f x ≡ o → slice_get (cons_option o (filter_map f xs)) n ≡ Some y → GivenAt f (x ∷ xs) n y) [
+  | None ↦ λ e rest. let at = given-at f xs n y rest in record { place = suc at.place; item = at.item; there = at.there; gives = at.gives; after = rw e at.after }
+  | Some w ↦ λ e rest. first n w e (λ k later. given-at f xs k y later) rest
 ] refl got
   where
-    first : (n : ℕ) (w : B) → f x ≡ Some w → ((k : ℕ) → slice_get (filter_map f xs) k ≡ Some y → (x : A) × (f x ≡ Some y)) → slice_get (w ∷ filter_map f xs) n ≡ Some y → (x : A) × (f x ≡ Some y)
-    first zero w e later is = (x, e ∙ is)
-    first (suc n) w e later is = later n is
+    first : (n : ℕ) (w : B) → f x ≡ Some w → ((k : ℕ) → slice_get (filter_map f xs) k ≡ Some y → GivenAt f xs k y) → slice_get (w ∷ filter_map f xs) n ≡ Some y → GivenAt f (x ∷ xs) n y
+    first zero w e later is = record { place = zero; item = x; there = refl; gives = e ∙ is; after = refl }
+    first (suc n) w e later is = let at = later n is in record { place = suc at.place; item = at.item; there = at.there; gives = at.gives; after = rw e (ap suc at.after) }
 
 -- ---- keys
 
@@ -83,29 +92,74 @@ unknown-none h key k e none inside = by (nat_lt (position_or_len (keeps key) h.e
 
 -- ---- what arrivals were told
 
--- an entry that brings a message brings it with the deliveries that its channel decides
-brought-goes : (plan : PlanEntry) (e : Entry) (m : Accepted) → accepted_by plan e ≡ Some m → m.deliveries ≡ deliveries_of (decided plan m.channel m.raw)
-brought-goes plan (Arrival conn channel raw (told.Accepted number)) m is =
-    subst (λ (m : Accepted). m.deliveries ≡ deliveries_of (decided plan m.channel m.raw)) (same_Some (accepted_under plan channel raw) m is) refl
-brought-goes plan (Arrival conn channel raw told.Filtered) m is = absurd cc
-brought-goes plan (Arrival conn channel raw (told.Refused cause)) m is = absurd cc
-brought-goes plan (Arrival conn channel raw (told.Repeat place)) m is = absurd cc
-brought-goes plan (Take ticket now) m is = absurd cc
-brought-goes plan (Settle ticket outcome now state) m is = absurd cc
-brought-goes plan (Cancel number mask) m is = absurd cc
+-- an entry that brings a message is its arrival, told Accepted
+arrived-by : (plan : PlanEntry) (e : Entry) (m : Accepted) → accepted_by plan e ≡ Some m → (conn : ℕ) × (number : ℕ) × (e ≡ Arrival conn m.channel m.raw (told.Accepted number))
+arrived-by plan (Arrival conn channel raw (told.Accepted number)) m is =
+    (conn, number, subst (λ (m : Accepted). Arrival conn channel raw (told.Accepted number) ≡ Arrival conn m.channel m.raw (told.Accepted number)) (same_Some (accepted_under plan channel raw) m is) refl)
+arrived-by plan (Arrival conn channel raw told.Filtered) m is = absurd cc
+arrived-by plan (Arrival conn channel raw (told.Refused cause)) m is = absurd cc
+arrived-by plan (Arrival conn channel raw (told.Repeat place)) m is = absurd cc
+arrived-by plan (Take ticket now) m is = absurd cc
+arrived-by plan (Settle ticket outcome now state) m is = absurd cc
+arrived-by plan (Cancel number mask) m is = absurd cc
 
--- an accepted message goes where its channel decides
-pub message-goes : (h : History) (n : ℕ) (m : Accepted) → slice_get (accepted h) n ≡ Some m → m.deliveries ≡ deliveries_of (decided (plan_in_force h) m.channel m.raw)
-message-goes h n m got = let by = given-by (accepted_by h.opening.plan) h.entries n m got in brought-goes h.opening.plan by.0 m by.1
+-- message n has its arrival, told Accepted n
+pub message-arrived : (h : History) → IsLegal h → (n : ℕ) (m : Accepted) → message_at h n ≡ Some m → HasArrival h n m
+message-arrived h legal n m got =
+    let at = given-at (accepted_by h.opening.plan) h.entries n m got in
+    let by = arrived-by h.opening.plan at.item m at.gives in
+    let there : entry_at h at.place ≡ Some (Arrival by.0 m.channel m.raw (told.Accepted by.1)) = at.there ∙ ap (λ e. Some e) by.2 in
+    let may = legal.follows at.place (Arrival by.0 m.channel m.raw (told.Accepted by.1)) there in
+    let number : by.1 ≡ n = accepted-number (before h at.place) m.channel m.raw by.1 may.answered ∙ at.after in
+    record { place = at.place; conn = by.0; entry = there ∙ ap (λ k. Some (Arrival by.0 m.channel m.raw (told.Accepted k))) number }
 
 -- an arrival told Accepted n is message n
-pub accepted-is : (h : History) → IsLegal h → (place conn channel n : ℕ) (raw : List ℕ) → slice_get h.entries place ≡ Some (Arrival conn channel raw (told.Accepted n))
-    → slice_get (accepted h) n ≡ Some (accepted_under (plan_in_force h) channel raw)
+pub accepted-is : (h : History) → IsLegal h → (place conn channel n : ℕ) (raw : List ℕ) → entry_at h place ≡ Some (Arrival conn channel raw (told.Accepted n))
+    → message_at h n ≡ Some (accepted_under (plan_in_force (before h place)) channel raw)
 accepted-is h legal place conn channel n raw got =
     let may = legal.follows place (Arrival conn channel raw (told.Accepted n)) got in
     let number : n ≡ message_count (before h place) = accepted-number (before h place) channel raw n may.answered in
-    subst (λ k. slice_get (accepted h) k ≡ Some (accepted_under (plan_in_force h) channel raw)) (sym number)
+    subst (λ k. message_at h k ≡ Some (accepted_under (plan_in_force h) channel raw)) (sym number)
     (get-given (accepted_by h.opening.plan) h.entries place (Arrival conn channel raw (told.Accepted n)) (accepted_under (plan_in_force h) channel raw) got refl)
+
+-- only a message that its channel sends nowhere is told that it was filtered
+judged-filtered : (v : Verdict) (count : ℕ) → told_by count v ≡ Some told.Filtered → deliveries_of v ≡ []
+judged-filtered verdict.Unreadable count is = refl
+judged-filtered verdict.Stray count is = refl
+judged-filtered (verdict.Refuse cause) count is = refl
+judged-filtered verdict.Filtered count is = refl
+judged-filtered (verdict.Accept deliveries) count is = absurd cc
+
+-- a message that came before isn't told so
+again-filtered : (same : Bool) (place : ℕ) → Some (if same then told.Repeat place else told.Refused IdReused) ≡ Some told.Filtered → ⊥
+again-filtered true place is = cc
+again-filtered false place is = cc
+
+told-filtered : (bookable : Bool) (seen : Option ℕ) (same : ℕ → Bool) (v : Verdict) (count : ℕ)
+    → (if bookable then option_map_or (λ place. Some (if same place then told.Repeat place else told.Refused IdReused)) seen (told_by count v) else None) ≡ Some told.Filtered → deliveries_of v ≡ []
+told-filtered false seen same v count is = absurd cc
+told-filtered true None same v count is = judged-filtered v count is
+told-filtered true (Some k) same v count is = absurd (again-filtered (same k) k is)
+
+filtered-answer : (h : History) (channel : ℕ) (raw : List ℕ) → answer h channel raw ≡ Some told.Filtered → deliveries_of (decided (plan_in_force h) channel raw) ≡ []
+unfolding answer
+filtered-answer h channel raw is =
+    told-filtered (is_bookable raw) (known h (key_of channel raw)) (λ place. option_map_or (brings raw) (entry_at h place) false) (decided (plan_in_force h) channel raw) (message_count h) is
+
+-- the first items and one more
+pub take-more : {A : Type 0} (xs : List A) (k : ℕ) (x : A) → slice_get xs k ≡ Some x → take (suc k) xs ≡ take k xs ++ x ∷ []
+take-more [] k x got = absurd cc
+take-more (y ∷ xs) zero x got = ap (λ z. z ∷ []) (same_Some y x got)
+take-more (y ∷ xs) (suc k) x got = ap (λ zs. y ∷ zs) (take-more xs k x got)
+
+-- an arrival told Filtered goes nowhere, and is no message
+pub filtered-is : (h : History) → IsLegal h → (place conn channel : ℕ) (raw : List ℕ) → entry_at h place ≡ Some (Arrival conn channel raw told.Filtered)
+    → (deliveries_of (decided (plan_in_force (before h place)) channel raw) ≡ []) × (accepted (before h (place + 1)) ≡ accepted (before h place))
+filtered-is h legal place conn channel raw got =
+    let may = legal.follows place (Arrival conn channel raw told.Filtered) got in
+    let next : place + 1 ≡ suc place = omega arith in
+    (filtered-answer (before h place) channel raw may.answered,
+    rw next (ap (λ es. accepted (record { opening = h.opening; entries = es })) (take-more h.entries place (Arrival conn channel raw told.Filtered) got) ∙ accepted-kept (before h place) (Arrival conn channel raw told.Filtered) refl))
 
 -- only a message whose key is known is told that it came before
 judged-first : (v : Verdict) (count place : ℕ) → told_by count v ≡ Some (told.Repeat place) → ⊥
@@ -136,8 +190,8 @@ repeat-found h channel raw place is =
     told-before (is_bookable raw) (known h (key_of channel raw)) (λ place. option_map_or (brings raw) (slice_get h.entries place) false) (decided (plan_in_force h) channel raw) (message_count h) place is
 
 -- an arrival told Repeat repeats one before it, with its key and its bytes, that was told Accepted or Filtered
-pub repeat-is : (h : History) → IsLegal h → (place conn channel first : ℕ) (raw : List ℕ) → slice_get h.entries place ≡ Some (Arrival conn channel raw (told.Repeat first))
-    → (first < place) × (option_map_or (λ e. keeps (key_of channel raw) e && brings raw e) (slice_get h.entries first) false ≡ true)
+pub repeat-is : (h : History) → IsLegal h → (place conn channel first : ℕ) (raw : List ℕ) → entry_at h place ≡ Some (Arrival conn channel raw (told.Repeat first))
+    → (first < place) × (option_map_or (λ e. keeps (key_of channel raw) e && brings raw e) (entry_at h first) false ≡ true)
 repeat-is h legal place conn channel first raw got =
     let may = legal.follows place (Arrival conn channel raw (told.Repeat first)) got in
     let found = repeat-found (before h place) channel raw first may.answered in

@@ -6,9 +6,10 @@ use Rattle.judge_core.specs.Delivering.{AreDeliveries}
 use Rattle.dest_queue.specs.declared.SlotState.{SlotState}
 use Rattle.dest_queue.specs.declared.SlotState.TheVariants.{Waiting, InFlight, Delivered, Failed}
 use Rattle.event_log.specs.declared.entry.Told.{Told}
+use Rattle.event_log.specs.declared.entry.Told.TheVariants as told
 use Rattle.event_log.specs.declared.entry.Entry.{Entry}
 use Rattle.event_log.specs.declared.entry.Entry.TheVariants.{Arrival, Take, Settle, Cancel}
-use Rattle.event_log.specs.History.{History, before, deliveries, entry_at, message_count, plan_in_force, slot, state}
+use Rattle.event_log.specs.History.{Accepted, History, before, deliveries, entry_at, message_count, plan_in_force, slot, state}
 use Rattle.event_log.specs.Answers.{answer, attempts_max, take_answer, settle_answer, cancel_answer}
 use Rattle.event_log.specs.Room.{is_full, owed}
 
@@ -28,6 +29,12 @@ MayFollow h (Cancel number mask) = cancel_answer h number ≡ Ok mask
 -- each entry might be booked after those before it
 pub record IsLegal (h : History) : Type 0 where
   pub follows : (place : ℕ) (e : Entry) → entry_at h place ≡ Some e → MayFollow (before h place) e
+
+-- the arrival of message n, whose sender was told this number
+pub record HasArrival (h : History) (n : ℕ) (m : Accepted) : Type 0 where
+  pub place : ℕ
+  pub conn : ℕ
+  pub entry : entry_at h place ≡ Some (Arrival conn m.channel m.raw (told.Accepted n))
 
 -- no attempt is past the last that is allowed, and a slot that waits has one left
 abbrev pub IsWithin : ℕ → SlotState → Type 0

@@ -1,5 +1,8 @@
 //! Events with their replies.
 
+ghost use Rattle.std.specs.Prelude.{◌≡◌};
+ghost use Rattle.event_log.specs.Answers.{brings};
+
 use dest_queue::{Outcome, SlotState};
 use hl7_head::{Cause, Moment};
 use judge_core::Text;
@@ -55,4 +58,16 @@ pub enum Entry {
         number: u32,
         mask: u32,
     },
+}
+
+impl Entry {
+    /// Whether it is the arrival of these bytes.
+    pub fn brings(&self, raw: &[u8]) -> bool
+        ensures { result ≡ brings raw.now self.now }
+    {
+        match self {
+            Entry::Arrival { raw: came, .. } => raw == came.as_slice(),
+            _ => false,
+        }
+    }
 }

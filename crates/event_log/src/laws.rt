@@ -14,8 +14,12 @@ ghost use Rattle.event_log.specs.Legal.{IsLegal, IsSound, MayFollow};
 ghost use Rattle.event_log.specs.Replay.{replay};
 ghost use Rattle.event_log.specs.Room.{owed};
 
-/// The laws of histories, for every plan, bound, entry and key.
+use crate::log::EVENTS_MAX;
+
+/// The laws of histories, for every plan, bound, entry and key, and the most entries that one may hold.
 pub fn history_rules()
+    ensures events_max { EVENTS_MAX ≡ 1000000 }
+
     // A legal history is what the sequential engine gives of its events alone, reply for reply.
     ensures replayed { (h : History) → IsLegal h → replay h ≡ h }
 

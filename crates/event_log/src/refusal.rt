@@ -1,5 +1,8 @@
 //! Why an event was not booked.
 
+ghost use Rattle.std.specs.Prelude.{◌≡◌};
+ghost use Rattle.event_log.specs.Answers.{cancel_refusal_code, take_refusal_code};
+
 use std::alloc::AllocError;
 use thiserror::Error;
 
@@ -32,6 +35,33 @@ pub enum CancelRefusal {
     /// A growth was refused.
     #[error("out of memory")]
     NoMemory,
+}
+
+impl TakeRefusal {
+    /// The number of the refusal: 1 for `Idle`, 2 for `InFlightNow`, 3 for `NotDue`, 4 for `NoMemory`.
+    pub fn code(self) -> u32
+        ensures { result ≡ take_refusal_code self }
+    {
+        match self {
+            TakeRefusal::Idle => 1,
+            TakeRefusal::InFlightNow(_) => 2,
+            TakeRefusal::NotDue(_) => 3,
+            TakeRefusal::NoMemory => 4,
+        }
+    }
+}
+
+impl CancelRefusal {
+    /// The number of the refusal: 1 for `NoSuchMessage`, 2 for `NothingWaiting`, 3 for `NoMemory`.
+    pub fn code(self) -> u32
+        ensures { result ≡ cancel_refusal_code self }
+    {
+        match self {
+            CancelRefusal::NoSuchMessage => 1,
+            CancelRefusal::NothingWaiting => 2,
+            CancelRefusal::NoMemory => 3,
+        }
+    }
 }
 
 impl From<AllocError> for TakeRefusal {

@@ -9,11 +9,9 @@ ghost use Rattle.row_store.specs.Rows.{NumbersRise, stands_in, without, queue_of
 
 use std::alloc::{AllocFailed, Global};
 
-mod plain;
-#[cfg(test)]
-mod tests;
+mod plain_rows;
 
-pub use plain::PlainRows;
+pub use plain_rows::PlainRows;
 
 /// How many queues there are: a queue's place is below this.
 pub const QUEUES: u32 = 32;
@@ -51,6 +49,10 @@ pub trait RowStore<T> {
     /// The rows, in the order of their numbers.
     ghost rows: { Self → List (Row T) };
 
+    /// How many rows can be added with no memory asked for. A store that makes each row in memory of its own has room for
+    /// none.
+    ghost room: { Self → ℕ };
+
     /// A store with no row.
     fn make(alloc: Global) -> Self
         ensures { rows result ≡ [] };
@@ -59,11 +61,12 @@ pub trait RowStore<T> {
     fn numbers_rise(&self)
         ensures { NumbersRise (rows self.now) };
 
-    /// Adds a row at the end. Want of memory hands the item back.
+    /// Adds a row at the end. Want of memory, which comes only where there was no room, hands the item back.
     fn push(&mut self, number: u32, item: T, mask: u32) -> Result<(), AllocFailed<T>>
         requires { All (λ row. row.number < number) (rows self.old) }
         ensures ok { OnOk result (rows self.new ≡ rows self.old ++ record { number = number; item = item; mask = mask } ∷ []) }
         ensures err { OnErr result (rows self.new ≡ rows self.old) }
+        ensures missing { OnErr result (room self.old ≡ 0) }
         ensures item_returned { IfErr result (λ failed. failed.value ≡ item) };
 
     /// The first number in queue d.
@@ -102,8 +105,10 @@ pub trait RowStore<T> {
     }
 }
 
-/// The laws of queues: a change to a row and the queues that it stands in.
+/// The laws of queues: how many there are, and what a change to a row does to those that it stands in.
 pub fn queue_rules<T>()
+    ensures queues { QUEUES ≡ 32 }
+
     // The front is the first of the queue.
     ensures front { (rows : List (Row T)) (d : ℕ) → front_of d rows ≡ slice_get (queue_of d rows) 0 }
 

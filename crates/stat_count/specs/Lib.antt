@@ -1,2 +1,2 @@
 pub mod Sums
-pub mod Tally
+pub mod Statistics

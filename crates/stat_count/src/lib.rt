@@ -6,14 +6,11 @@ ghost use Rattle.std.specs.Prelude.{◌≡◌, ◌≢◌, ◌+◌, ◌<◌, ◌�
 ghost use Rattle.stat_count.specs.declared.ChannelCounts.{ChannelCounts};
 ghost use Rattle.stat_count.specs.declared.DestinationCounts.{DestinationCounts};
 ghost use Rattle.stat_count.specs.Sums.{arrivals, takes, settlements};
-ghost use Rattle.stat_count.specs.Tally.{Tally, empty, channel_at, destination_at, on_channel, on_destination, slots_of};
-ghost use Rattle.stat_count.specs.Tally.{filtered_one, accepted_one, refused_one, repeated_one};
-ghost use Rattle.stat_count.specs.Tally.{waits_one, taken_one, delivered_one, failed_one, again_one, cancelled_one};
+ghost use Rattle.stat_count.specs.Statistics.{Statistics, empty, channel_at, destination_at, on_channel, on_destination, slots_of};
+ghost use Rattle.stat_count.specs.Statistics.{filtered_one, accepted_one, refused_one, repeated_one};
+ghost use Rattle.stat_count.specs.Statistics.{waits_one, taken_one, delivered_one, failed_one, again_one, cancelled_one};
 
 use std::marker::Model;
-
-#[cfg(test)]
-mod tests;
 
 /// How many channels are counted: a channel's place is below this.
 pub const CHANNELS: u32 = 64;
@@ -82,15 +79,15 @@ pub struct Counts {
 }
 
 impl Model for Counts {
-    ghost use Rattle.stat_count.specs.Tally.{Tally, IsTally};
+    ghost use Rattle.stat_count.specs.Statistics.{Statistics, IsStatistics};
 
-    ghost Value = { Tally };
+    ghost Value = { Statistics };
 
     ghost view = { λ c. record { channels = c.channels; destinations = c.destinations } };
 
-    ghost invariant = { λ c. IsTally (record { channels = c.channels; destinations = c.destinations }) };
+    ghost invariant = { λ c. IsStatistics (record { channels = c.channels; destinations = c.destinations }) };
 
-    ghost inverse = { λ t. record { channels = t.channels; destinations = t.destinations } };
+    ghost inverse = { λ s. record { channels = s.channels; destinations = s.destinations } };
 }
 
 impl Counts {
@@ -231,41 +228,44 @@ impl Counts {
     }
 }
 
-/// The laws of the tally: a change to one channel or destination changes its counters and no others.
-pub fn tally_rules()
-    ensures channel { (tally : Tally) (channel : ℕ) (change : ChannelCounts → ChannelCounts) → channel < length tally.channels →
-        channel_at channel (on_channel channel change tally) ≡ change (channel_at channel tally) }
-    ensures other_channels { (tally : Tally) (channel other : ℕ) (change : ChannelCounts → ChannelCounts) → other ≢ channel →
-        channel_at other (on_channel channel change tally) ≡ channel_at other tally }
-    ensures destination { (tally : Tally) (d : ℕ) (change : DestinationCounts → DestinationCounts) → d < length tally.destinations →
-        destination_at d (on_destination d change tally) ≡ change (destination_at d tally) }
-    ensures other_destinations { (tally : Tally) (d other : ℕ) (change : DestinationCounts → DestinationCounts) → other ≢ d →
-        destination_at other (on_destination d change tally) ≡ destination_at other tally }
+/// The laws of the statistics: how many places are counted, and that a change to one channel or destination changes its
+/// counters and no others.
+pub fn statistics_rules()
+    ensures counted_channels { CHANNELS ≡ 64 }
+    ensures counted_destinations { DESTINATIONS ≡ 32 }
+    ensures channel { (statistics : Statistics) (channel : ℕ) (change : ChannelCounts → ChannelCounts) → channel < length statistics.channels →
+        channel_at channel (on_channel channel change statistics) ≡ change (channel_at channel statistics) }
+    ensures other_channels { (statistics : Statistics) (channel other : ℕ) (change : ChannelCounts → ChannelCounts) → other ≢ channel →
+        channel_at other (on_channel channel change statistics) ≡ channel_at other statistics }
+    ensures destination { (statistics : Statistics) (d : ℕ) (change : DestinationCounts → DestinationCounts) → d < length statistics.destinations →
+        destination_at d (on_destination d change statistics) ≡ change (destination_at d statistics) }
+    ensures other_destinations { (statistics : Statistics) (d other : ℕ) (change : DestinationCounts → DestinationCounts) → other ≢ d →
+        destination_at other (on_destination d change statistics) ≡ destination_at other statistics }
 {}
 
 /// The laws of the sums: an arrival adds one to the arrivals, a take to the takes, and a settlement to the settlements.
 /// To begin to wait and to be cancelled add to none.
 pub fn sum_rules()
-    ensures arrivals { (tally : Tally) (channel : ℕ) → channel < length tally.channels →
-        (arrivals (on_channel channel filtered_one tally) ≡ arrivals tally + 1)
-        × (arrivals (on_channel channel accepted_one tally) ≡ arrivals tally + 1)
-        × (arrivals (on_channel channel refused_one tally) ≡ arrivals tally + 1)
-        × (arrivals (on_channel channel repeated_one tally) ≡ arrivals tally + 1) }
-    ensures takes { (tally : Tally) (d : ℕ) → d < length tally.destinations →
-        (takes (on_destination d taken_one tally) ≡ takes tally + 1)
-        × (settlements (on_destination d taken_one tally) ≡ settlements tally) }
-    ensures settlements { (tally : Tally) (d : ℕ) → d < length tally.destinations →
-        0 < (destination_at d tally).inflight → (destination_at d tally).inflight ≤ (destination_at d tally).attempts →
-        (settlements (on_destination d delivered_one tally) ≡ settlements tally + 1)
-        × (settlements (on_destination d failed_one tally) ≡ settlements tally + 1)
-        × (settlements (on_destination d again_one tally) ≡ settlements tally + 1) }
-    ensures settled_takes { (tally : Tally) (d : ℕ) → d < length tally.destinations →
-        (takes (on_destination d delivered_one tally) ≡ takes tally)
-        × (takes (on_destination d failed_one tally) ≡ takes tally)
-        × (takes (on_destination d again_one tally) ≡ takes tally) }
-    ensures neither { (tally : Tally) (d : ℕ) → d < length tally.destinations →
-        (takes (on_destination d waits_one tally) ≡ takes tally)
-        × (takes (on_destination d cancelled_one tally) ≡ takes tally)
-        × (settlements (on_destination d waits_one tally) ≡ settlements tally)
-        × (settlements (on_destination d cancelled_one tally) ≡ settlements tally) }
+    ensures arrivals { (statistics : Statistics) (channel : ℕ) → channel < length statistics.channels →
+        (arrivals (on_channel channel filtered_one statistics) ≡ arrivals statistics + 1)
+        × (arrivals (on_channel channel accepted_one statistics) ≡ arrivals statistics + 1)
+        × (arrivals (on_channel channel refused_one statistics) ≡ arrivals statistics + 1)
+        × (arrivals (on_channel channel repeated_one statistics) ≡ arrivals statistics + 1) }
+    ensures takes { (statistics : Statistics) (d : ℕ) → d < length statistics.destinations →
+        (takes (on_destination d taken_one statistics) ≡ takes statistics + 1)
+        × (settlements (on_destination d taken_one statistics) ≡ settlements statistics) }
+    ensures settlements { (statistics : Statistics) (d : ℕ) → d < length statistics.destinations →
+        0 < (destination_at d statistics).inflight → (destination_at d statistics).inflight ≤ (destination_at d statistics).attempts →
+        (settlements (on_destination d delivered_one statistics) ≡ settlements statistics + 1)
+        × (settlements (on_destination d failed_one statistics) ≡ settlements statistics + 1)
+        × (settlements (on_destination d again_one statistics) ≡ settlements statistics + 1) }
+    ensures settled_takes { (statistics : Statistics) (d : ℕ) → d < length statistics.destinations →
+        (takes (on_destination d delivered_one statistics) ≡ takes statistics)
+        × (takes (on_destination d failed_one statistics) ≡ takes statistics)
+        × (takes (on_destination d again_one statistics) ≡ takes statistics) }
+    ensures neither { (statistics : Statistics) (d : ℕ) → d < length statistics.destinations →
+        (takes (on_destination d waits_one statistics) ≡ takes statistics)
+        × (takes (on_destination d cancelled_one statistics) ≡ takes statistics)
+        × (settlements (on_destination d waits_one statistics) ≡ settlements statistics)
+        × (settlements (on_destination d cancelled_one statistics) ≡ settlements statistics) }
 {}

@@ -6,7 +6,7 @@ use Rattle.std.proofs.lemmas.List.Folds.{list_any_more, list_any_none}
 use Rattle.judge_core.specs.declared.delivery.Delivery.{Delivery}
 use Rattle.judge_core.specs.Delivering.{destinations_of}
 use Rattle.event_log.specs.declared.entry.Told.{Told}
-use Rattle.stat_count.specs.Tally.{Tally, channel_at, destination_at, no_arrivals, no_slots, on_channel, on_destination, waits_one}
+use Rattle.stat_count.specs.Statistics.{Statistics, channel_at, destination_at, no_arrivals, no_slots, on_channel, on_destination, waits_one}
 use Rattle.book_core.specs.Counting.{CountsArrival, told_one}
 use Rattle.book_core.proofs.CountedArrivals.{names-either}
 use Rattle.book_core.proofs.counting.count_arrival.Goals as goal
@@ -29,7 +29,7 @@ not-before ds i x once is inside =
     grind (arith, nat_tests))
 
 -- one more delivery: its destination waits, which did not before
-counted-next : (ds : List Delivery) (i : ℕ) (x : Delivery) (old so_far : Tally) → x ≡ get_or ds i x → i < length ds
+counted-next : (ds : List Delivery) (i : ℕ) (x : Delivery) (old so_far : Statistics) → x ≡ get_or ds i x → i < length ds
     → AllPairs (λ x y. x.destination ≢ y.destination) ds → x.destination < length so_far.destinations
     → ((d : ℕ) → destination_at d so_far ≡ cond (list_any (goes_to d) (take i ds)) (waits_one (destination_at d old)) (destination_at d old))
     → (d : ℕ) → destination_at d (on_destination x.destination waits_one so_far) ≡ cond (list_any (goes_to d) (take (i + 1) ds)) (waits_one (destination_at d old)) (destination_at d old)
@@ -58,7 +58,7 @@ counted-next ds i x old so_far is inside once known before d =
         next x.destination ∙ (ap (λ b. b || goes_to x.destination x) (not-before ds i x once is inside) ∙ own)
 
 -- the destinations stay as many
-all-stay : (d : ℕ) (so_far new : Tally) → length so_far.destinations ≡ 32 → new ≡ on_destination d waits_one so_far → length new.destinations ≡ 32
+all-stay : (d : ℕ) (so_far new : Statistics) → length so_far.destinations ≡ 32 → new ≡ on_destination d waits_one so_far → length new.destinations ≡ 32
 all-stay d so_far new before is = ap (λ t. length t.destinations) is ∙ (length-set so_far.destinations d (waits_one (destination_at d so_far)) ∙ before)
 
 -- a delivery's destination is one of those counted
@@ -76,7 +76,7 @@ loop-delivery-preserved c = record {
 }
 
 -- what was counted, from the channel's counter and the slots that wait
-all-counted : (channel : ℕ) (told : Told) (ds : List Delivery) (old so_far new : Tally) → channel < length old.channels → so_far ≡ on_channel channel (told_one told) old
+all-counted : (channel : ℕ) (told : Told) (ds : List Delivery) (old so_far new : Statistics) → channel < length old.channels → so_far ≡ on_channel channel (told_one told) old
     → new.channels ≡ so_far.channels → length new.destinations ≡ length so_far.destinations
     → ((d : ℕ) → destination_at d new ≡ cond (list_any (goes_to d) ds) (waits_one (destination_at d so_far)) (destination_at d so_far))
     → CountsArrival channel told (destinations_of ds) old new

@@ -1,6 +1,7 @@
-use Rattle.std.proofs.Common.{◌≡◌, ◌<◌, false, refl, ap, sym, ◌∙◌, arith}
+use Rattle.std.proofs.Common.{◌≡◌, ◌<◌, false, refl, ap, subst, sym, ◌∙◌, arith}
 use Rattle.mllp_frame.specs.Framing.{IsBlockData}
 use Rattle.event_log.specs.History.{message_count, plan_in_force}
+use Rattle.event_log.specs.Legal.{MayArrive}
 use Rattle.event_log.specs.Room.{is_full, owed}
 use Rattle.book_core.proofs.Answering.{asked-full, never-full, refused-memory, then-full, told-accepting, told-added}
 use Rattle.book_core.proofs.KeepingArrivals.{arrived-next, arrived-owed, few-slots, kept-arrived, key-unknown, keys-arrived}
@@ -75,3 +76,9 @@ invariant_of-self-2 g c =
 
 pub returns-clause-full : goal.returns-clause-full
 returns-clause-full g c = never-full _ _ _ _ c.self.view_is (asked-full _ _ _ _ _ _ c.own_of-own.ensures c.room.ensures c.if-not-room.false) (λ full. cc)
+
+pub returns-clause-follows : goal.returns-clause-follows
+returns-clause-follows g c =
+    let fits : IsBlockData c.args.judged.now.raw = rw c.raw.ensures.value at c.raw.ensures.fits in
+    subst (λ h. MayArrive h c.args.judged.now.channel c.args.judged.now.raw c.told-told.result) c.self.view_is
+    (record { fits = fits; room = asked-full _ _ _ _ _ _ c.own_of-own.ensures c.room.ensures c.if-not-room.false; answered = c.told-told.ensures })

@@ -1,8 +1,0 @@
-use Rattle.std.proofs.Common.{◌≡◌}
-use Rattle.std.specs.Prelude.{filter}
-use Rattle.std.specs.List.{range_with_len}
-use Rattle.event_log.specs.History.{is_queued}
-use Rattle.plain_book.proofs.engine.PlainBook.queue.Given as goal
-
-abbrev pub invariant-loop-number : goal.invariant-loop-number
-invariant-loop-number l = l.queue.items ≡ filter (is_queued l.self l.d) (range_with_len 0 l.number)

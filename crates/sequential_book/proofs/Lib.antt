@@ -1,0 +1,5 @@
+pub mod Adding
+pub mod Replies
+pub mod Following
+pub mod Messages
+pub mod Walks

@@ -1,0 +1,192 @@
+//! The plain engine itself.
+
+ghost use Rattle.std.specs.Prelude.{◌≡◌, ◌≤◌, ◌⊎◌, Ok, Err, IfOk, IfErr, OnOk, OnErr, IsErrOf, IsTrue, Some, false, length};
+ghost use Rattle.std.specs.Arc.{arc_value};
+ghost use Rattle.judge_core.specs.Judging.{is_bookable};
+ghost use Rattle.dest_queue.specs.declared.SettleRefusal.{SettleRefusal};
+ghost use Rattle.event_log.specs.History.{followed_by, opened_by, plan_in_force, queue, slot};
+ghost use Rattle.event_log.specs.Answers.{answer, cancel_answer, settle_answer, take_answer};
+ghost use Rattle.event_log.specs.Legal.{MayFollow};
+ghost use Rattle.event_log.specs.Room.{is_full};
+ghost use Rattle.sequential_book.specs.Reading.{IsJudgeable};
+
+mod answers;
+mod slots;
+
+use crate::refusal::{NotBooked, NotSettled};
+use dest_queue::{Outcome, SlotState};
+use event_log::{CancelRefusal, EVENTS_MAX, Entry, TakeRefusal, Ticket, Told};
+use hl7_head::Moment;
+use judge_core::Judged;
+use plan_text::Plan;
+use std::alloc::{AllocError, Global};
+use std::marker::Model;
+use std::sync::Arc;
+
+/// The sequential engine over a plain list of entries.
+#[derive(Drop)]
+pub struct SequentialBook {
+    alloc: Global,
+    plan: Arc<Plan>,
+    events_max: u32,
+    entries: Vec<Entry>,
+}
+
+impl Model for SequentialBook {
+    ghost use Rattle.std.specs.Arc.{arc_value};
+    ghost use Rattle.event_log.specs.History.{History, history_of};
+    ghost use Rattle.event_log.specs.Coding.{history_code};
+    ghost use Rattle.sequential_book.specs.Reading.{IsPlain};
+
+    ghost Value = { History };
+
+    ghost coded = { history_code };
+
+    ghost view = { λ b. history_of (arc_value b.plan) b.events_max b.entries.items };
+
+    ghost invariant = { λ b. IsPlain (history_of (arc_value b.plan) b.events_max b.entries.items) };
+}
+
+impl SequentialBook {
+    /// An engine of this plan that may book so many entries, and has booked none yet.
+    pub fn new(alloc: Global, plan: Arc<Plan>, events_max: u32) -> SequentialBook
+        requires { events_max ≤ EVENTS_MAX }
+        ensures { result ≡ opened_by (arc_value plan) events_max }
+    {
+        plan.rules();
+        SequentialBook {
+            alloc,
+            plan,
+            events_max,
+            entries: Vec::new(alloc),
+        }
+    }
+
+    /// The plan in force.
+    pub fn plan(&self) -> &Arc<Plan>
+        ensures { arc_value result.now ≡ plan_in_force self.now }
+    {
+        &self.plan
+    }
+
+    /// All that was booked, in its order.
+    pub fn entries(&self) -> &[Entry]
+        ensures { result.now ≡ self.now.entries }
+    {
+        &self.entries
+    }
+
+    /// The state of a message at destination d, if the message names d.
+    pub fn status(&self, number: u32, d: u32) -> Result<Option<SlotState>, AllocError>
+        ensures { IfOk result (λ slot_at. slot_at ≡ slot self.now number d) }
+    {
+        self.slot(number, d)
+    }
+
+    /// How many messages are still to be delivered to destination d.
+    pub fn queue_len(&self, d: u32) -> Result<usize, AllocError>
+        ensures { IfOk result (λ count. count ≡ length (queue self.now d)) }
+    {
+        Ok(self.queue(d)?.len())
+    }
+
+    /// Books a message that came by connection `conn`, and answers what its sender is told.
+    ///
+    /// # Errors
+    ///
+    /// `Full` where there is no room for it and its deliveries, and `NoMemory` where memory was refused. Nothing changes
+    /// then.
+    pub fn arrive(&mut self, conn: u32, judged: &Judged) -> Result<Told, NotBooked>
+        requires bookable { IsTrue (is_bookable judged.now.raw) }
+        requires same_plan { judged.now.plan ≡ plan_in_force self.old }
+        ensures told { IfOk result (λ told. answer self.old judged.now.channel judged.now.raw ≡ Some told) }
+        ensures booked { IfOk result (λ told. self.new ≡ followed_by self.old (Entry.Arrival conn judged.now.channel judged.now.raw told)) }
+        ensures room { OnOk result (is_full self.old judged.now.channel judged.now.raw ≡ false) }
+        ensures full { IsErrOf result NotBooked.Full → IsTrue (is_full self.old judged.now.channel judged.now.raw) }
+        ensures err { OnErr result (self.new ≡ self.old) }
+    {
+        let told = self.answer(judged)?;
+        if self.is_full(judged, told)? {
+            return Err(NotBooked::Full);
+        }
+        let raw = judged.raw().share()?;
+        self.book(Entry::Arrival {
+            conn,
+            channel: judged.channel(),
+            raw,
+            told,
+        })?;
+        Ok(told)
+    }
+
+    /// Takes the message at the front of queue d: the attempt that begins has to be settled.
+    ///
+    /// # Errors
+    ///
+    /// `Idle` where the queue is empty, `InFlightNow` where the front is under way, `NotDue` where it waits for a later
+    /// moment, and `NoMemory` where memory was refused. Nothing changes then.
+    pub fn take(&mut self, d: u32, now: Moment) -> Result<Ticket, TakeRefusal>
+        ensures answer { IfOk result (λ ticket. take_answer self.old d now ≡ Ok ticket) }
+        ensures booked { IfOk result (λ ticket. self.new ≡ followed_by self.old (Entry.Take ticket now)) }
+        ensures refused { IfErr result (λ e. (take_answer self.old d now ≡ Err e) ⊎ (e ≡ TakeRefusal.NoMemory)) }
+        ensures err { OnErr result (self.new ≡ self.old) }
+    {
+        let ticket = self.take_answer(d, now)??;
+        self.book(Entry::Take { ticket, now })?;
+        Ok(ticket)
+    }
+
+    /// Settles an attempt with its outcome, and answers the state of the slot afterwards.
+    ///
+    /// # Errors
+    ///
+    /// `Refused` where that very attempt is not under way, and `NoMemory` where memory was refused. Nothing changes then.
+    pub fn settle(
+        &mut self,
+        ticket: &Ticket,
+        outcome: Outcome,
+        now: Moment,
+    ) -> Result<SlotState, NotSettled>
+        ensures answer { IfOk result (λ state. settle_answer self.old ticket.now outcome now ≡ Ok state) }
+        ensures booked { IfOk result (λ state. self.new ≡ followed_by self.old (Entry.Settle ticket.now outcome now state)) }
+        ensures refused { (refusal : SettleRefusal) → result ≡ Err (NotSettled.Refused refusal) → settle_answer self.old ticket.now outcome now ≡ Err refusal }
+        ensures err { OnErr result (self.new ≡ self.old) }
+    {
+        let state = self.settle_answer(ticket, outcome, now)??;
+        self.book(Entry::Settle {
+            ticket: *ticket,
+            outcome,
+            now,
+            state,
+        })?;
+        Ok(state)
+    }
+
+    /// Cancels a message wherever it waits, and answers these destinations as a mask: bit d is set for destination d.
+    ///
+    /// # Errors
+    ///
+    /// `NoSuchMessage`, `NothingWaiting` where the message waits nowhere, and `NoMemory` where memory was refused.
+    /// Nothing changes then.
+    pub fn cancel(&mut self, number: u32) -> Result<u32, CancelRefusal>
+        ensures answer { IfOk result (λ mask. cancel_answer self.old number ≡ Ok mask) }
+        ensures booked { IfOk result (λ mask. self.new ≡ followed_by self.old (Entry.Cancel number mask)) }
+        ensures refused { IfErr result (λ e. (cancel_answer self.old number ≡ Err e) ⊎ (e ≡ CancelRefusal.NoMemory)) }
+        ensures err { OnErr result (self.new ≡ self.old) }
+    {
+        let mask = self.cancel_answer(number)??;
+        self.book(Entry::Cancel { number, mask })?;
+        Ok(mask)
+    }
+
+    /// Appends an entry that may follow.
+    fn book(&mut self, entry: Entry) -> Result<(), AllocError>
+        requires may_follow { MayFollow self.old entry }
+        requires judgeable { IsJudgeable (plan_in_force self.old) entry }
+        ensures ok { OnOk result (self.new ≡ followed_by self.old entry) }
+        ensures err { OnErr result (self.new ≡ self.old) }
+    {
+        self.entries.push(entry)?;
+        Ok(())
+    }
+}

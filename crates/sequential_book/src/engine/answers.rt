@@ -1,0 +1,100 @@
+//! The answers that the plain engine would give.
+
+ghost use Rattle.std.specs.Prelude.{◌≡◌, IfOk, IsTrue, Some};
+ghost use Rattle.judge_core.specs.Judging.{is_bookable};
+ghost use Rattle.event_log.specs.History.{plan_in_force};
+ghost use Rattle.event_log.specs.Answers.{answer, cancel_answer, settle_answer, take_answer};
+ghost use Rattle.event_log.specs.Room.{exceeds, is_full};
+
+use crate::answering::{arrival_owes, settled};
+use crate::engine::SequentialBook;
+use crate::reading::{known, told_again};
+use dest_queue::{Outcome, SettleRefusal, SlotState};
+use event_log::{
+    CancelRefusal, TakeRefusal, Ticket, Told, attempts_max, front_answer, interval, told_first,
+};
+use hl7_head::Moment;
+use judge_core::Judged;
+use std::alloc::AllocError;
+
+impl SequentialBook {
+    /// What the sender of a message is told; its key is looked up before its verdict is used.
+    pub(crate) fn answer(&self, judged: &Judged) -> Result<Told, AllocError>
+        requires bookable { IsTrue (is_bookable judged.now.raw) }
+        requires same_plan { judged.now.plan ≡ plan_in_force self.now }
+        ensures { IfOk result (λ told. answer self.now judged.now.channel judged.now.raw ≡ Some told) }
+    {
+        match known(self.alloc, &self.plan, &self.entries, judged.key())? {
+            Some(place) => Ok(told_again(&self.entries, judged.raw().as_slice(), place)),
+            None => Ok(told_first(judged.verdict(), self.message_count())),
+        }
+    }
+
+    /// Whether one more entry, whose own slots owe so many, goes past what the history may hold.
+    pub(crate) fn exceeds(&self, own: u32) -> Result<bool, AllocError>
+        ensures { IfOk result (λ past. past ≡ exceeds self.now own) }
+    {
+        let events_max = u64::from(self.events_max);
+        let held = self.entries.len() as u64;
+        Ok(events_max < held + self.owed()? + 1 + u64::from(own))
+    }
+
+    /// Whether there is no room for an arrival that is told so.
+    pub(crate) fn is_full(&self, judged: &Judged, told: Told) -> Result<bool, AllocError>
+        requires same_plan { judged.now.plan ≡ plan_in_force self.now }
+        requires told { answer self.now judged.now.channel judged.now.raw ≡ Some told }
+        ensures { IfOk result (λ full. full ≡ is_full self.now judged.now.channel judged.now.raw) }
+    {
+        let channel = judged.channel();
+        let raw = judged.raw().as_slice();
+        self.exceeds(arrival_owes(&self.plan, channel, raw, told, judged.verdict()))
+    }
+
+    /// The answer to a take at d.
+    pub(crate) fn take_answer(
+        &self,
+        d: u32,
+        now: Moment,
+    ) -> Result<Result<Ticket, TakeRefusal>, AllocError>
+        ensures { IfOk result (λ answer. answer ≡ take_answer self.now d now) }
+    {
+        self.rules();
+        match self.queue(d)?.first() {
+            Some(number) => Ok(front_answer(d, now.secs(), *number, self.slot(*number, d)?)),
+            None => Ok(Err(TakeRefusal::Idle)),
+        }
+    }
+
+    /// The answer to a settlement.
+    pub(crate) fn settle_answer(
+        &self,
+        ticket: &Ticket,
+        outcome: Outcome,
+        now: Moment,
+    ) -> Result<Result<SlotState, SettleRefusal>, AllocError>
+        ensures { IfOk result (λ answer. answer ≡ settle_answer self.now ticket.now outcome now) }
+    {
+        let slot = self.slot(ticket.number, ticket.destination)?;
+        let max = attempts_max(&self.plan, ticket.destination);
+        let interval = interval(&self.plan, ticket.destination);
+        Ok(settled(slot, outcome, ticket.attempt, now.secs(), max, interval))
+    }
+
+    /// The answer to a cancellation.
+    pub(crate) fn cancel_answer(
+        &self,
+        number: u32,
+    ) -> Result<Result<u32, CancelRefusal>, AllocError>
+        ensures { IfOk result (λ answer. answer ≡ cancel_answer self.now number) }
+    {
+        if number >= self.message_count() {
+            return Ok(Err(CancelRefusal::NoSuchMessage));
+        }
+        let mask = self.waiting_mask(number)?;
+        Ok(if mask == 0 {
+            Err(CancelRefusal::NothingWaiting)
+        } else {
+            Ok(mask)
+        })
+    }
+}
