@@ -1,9 +1,9 @@
 -- The audit: the receipts that were handed out, against the arrivals of the history.
-use Rattle.std.specs.Prelude.{◌≡◌, ◌≢◌, ℕ, ◌+◌, ◌<◌, ◌==◌, List, [], ◌∷◌, Option, Some, None, length, drop}
-use Rattle.std.specs.List.{filter, cons_option}
+use Rattle.std.specs.Prelude.{◌≡◌, ◌≢◌, ℕ, ◌-◌, ◌<◌, ◌==◌, List, [], Option, Some, None, length, option_and_then}
+use Rattle.std.specs.List.{filter, filter_map, range_with_len}
 use Rattle.event_log.specs.declared.entry.Entry.{Entry}
 use Rattle.event_log.specs.declared.entry.Entry.TheVariants.{Arrival, Take, Settle, Cancel}
-use Rattle.event_log.specs.History.{History}
+use Rattle.event_log.specs.History.{entry_at, next_place}
 use Rattle.book_core.specs.declared.receipt.Receipt.{Receipt}
 use Rattle.book_lock.specs.declared.auditing.AuditFault.{AuditFault}
 use Rattle.book_lock.specs.declared.auditing.AuditFault.TheVariants.{Missing, Doubled, Differs}
@@ -16,18 +16,13 @@ receipt_at place (Take ticket now) = None
 receipt_at place (Settle ticket outcome now state) = None
 receipt_at place (Cancel number mask) = None
 
--- the receipts of these entries, the first of which stands at this place
-abbrev pub receipts_from : ℕ → List Entry → List Receipt
-receipts_from place [] = []
-receipts_from place (e ∷ es) = cons_option (receipt_at place e) (receipts_from (place + 1) es)
-
--- the entries from a place on
-abbrev pub entries_from : ℕ → History → List Entry
-entries_from place h = drop place h.entries
+-- the receipt that is due at a place of the history: that of its arrival
+abbrev pub receipt_due : Held → ℕ → Option Receipt
+receipt_due h place = option_and_then (receipt_at place) (entry_at h.book place)
 
 -- the receipts of the arrivals since the book was shared, in order
 abbrev pub receipts_due : Held → List Receipt
-receipts_due h = receipts_from h.first (entries_from h.first h.book)
+receipts_due h = filter_map (receipt_due h) (range_with_len h.first (next_place h.book - h.first))
 
 -- the receipts that name a place
 abbrev pub naming : ℕ → List Receipt → List Receipt

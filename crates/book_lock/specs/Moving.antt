@@ -1,6 +1,5 @@
 -- How the sums of the statistics move with an entry.
 use Rattle.std.specs.Prelude.{◌≡◌, ℕ, ◌+◌, ◌<◌, ◌≤◌, List, length}
-use Rattle.stat_count.specs.Sums.{arrivals, settlements, takes}
 use Rattle.dest_queue.specs.declared.Outcome.{Outcome}
 use Rattle.dest_queue.specs.declared.SlotState.{SlotState}
 use Rattle.event_log.specs.declared.entry.Ticket.{Ticket}
@@ -9,12 +8,12 @@ use Rattle.event_log.specs.declared.entry.Entry.{Entry}
 use Rattle.event_log.specs.declared.entry.Entry.TheVariants.{Arrival, Take, Settle, Cancel}
 use Rattle.event_log.specs.History.{History, followed_by}
 use Rattle.event_log.specs.Legal.{IsLegal}
-use Rattle.book_core.specs.Counting.{counted}
+use Rattle.book_lock.specs.Rises.{arrived, taken, settled}
 
 -- the arrivals, the takes and the settlements of the statistics rise by so many
 abbrev pub Rise : ℕ → ℕ → ℕ → History → History → Type 0
 Rise a t s old new =
-    (arrivals (counted new) ≡ arrivals (counted old) + a) × (takes (counted new) ≡ takes (counted old) + t) × (settlements (counted new) ≡ settlements (counted old) + s)
+    (arrived new ≡ arrived old + a) × (taken new ≡ taken old + t) × (settled new ≡ settled old + s)
 
 abbrev pub ArrivalRises : Type 0
 ArrivalRises = (h : History) (conn channel : ℕ) (raw : List ℕ) (told : Told) → channel < 64 → IsLegal (followed_by h (Arrival conn channel raw told)) → Rise 1 0 0 h (followed_by h (Arrival conn channel raw told))
@@ -29,4 +28,4 @@ abbrev pub CancelRises : Type 0
 CancelRises = (h : History) (number mask : ℕ) → IsLegal (followed_by h (Cancel number mask)) → Rise 0 0 0 h (followed_by h (Cancel number mask))
 
 abbrev pub SumsAreFew : Type 0
-SumsAreFew = (h : History) → IsLegal h → (arrivals (counted h) ≤ length h.entries) × (takes (counted h) ≤ length h.entries) × (settlements (counted h) ≤ length h.entries)
+SumsAreFew = (h : History) → IsLegal h → (arrived h ≤ length h.entries) × (taken h ≤ length h.entries) × (settled h ≤ length h.entries)

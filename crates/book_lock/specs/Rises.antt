@@ -1,10 +1,22 @@
 -- What rose since the book was shared.
-use Rattle.std.specs.Prelude.{◌≡◌, ℕ, ◌-◌, List, sum, sum_by}
+use Rattle.std.specs.Prelude.{◌≡◌, ℕ, ◌+◌, ◌-◌, ◌≤◌, List, length, sum, sum_by}
 use Rattle.stat_count.specs.Tally.{Tally}
 use Rattle.stat_count.specs.Sums.{arrivals, settlements, takes}
-use Rattle.event_log.specs.History.{History}
+use Rattle.event_log.specs.History.{History, next_place, plan_in_force}
 use Rattle.book_core.specs.Counting.{counted}
 use Rattle.book_lock.specs.Shares.{Made}
+
+-- the arrivals of a book, by its statistics
+unfoldable pub arrived : History → ℕ
+arrived h = arrivals (counted h)
+
+-- the takes
+unfoldable pub taken : History → ℕ
+taken h = takes (counted h)
+
+-- the settlements
+unfoldable pub settled : History → ℕ
+settled h = settlements (counted h)
 
 -- a shared book: the book, and the statistics and the next place that it had when it was shared
 pub record Held : Type 0 where
@@ -12,15 +24,15 @@ pub record Held : Type 0 where
   pub opening : Tally
   pub first : ℕ
 
--- the arrivals, the takes and the settlements since the book was shared, by its statistics
+-- the arrivals, the takes and the settlements since the book was shared
 abbrev pub arrivals_rise : Held → ℕ
-arrivals_rise h = arrivals (counted h.book) - arrivals h.opening
+arrivals_rise h = arrived h.book - arrivals h.opening
 
 abbrev pub takes_rise : Held → ℕ
-takes_rise h = takes (counted h.book) - takes h.opening
+takes_rise h = taken h.book - takes h.opening
 
 abbrev pub settlements_rise : Held → ℕ
-settlements_rise h = settlements (counted h.book) - settlements h.opening
+settlements_rise h = settled h.book - settlements h.opening
 
 -- the shares of these desks and stations add up to the three rises
 pub record AddsUp (h : Held) (desks : List ℕ) (stations : List Made) : Type 0 where
@@ -31,3 +43,21 @@ pub record AddsUp (h : Held) (desks : List ℕ) (stations : List Made) : Type 0 
 -- the same book, shared at the same moment
 abbrev pub with_book : Held → History → Held
 with_book h book = record h { book = book }
+
+-- a book shared with these statistics, at this place, with so many channels
+pub record IsOpened (h : Held) (counts : Tally) (first channels : ℕ) : Type 0 where
+  pub opening : h.opening ≡ counts
+  pub first_is : h.first ≡ first
+  pub channels_are : length (plan_in_force h.book).channels ≡ channels
+
+-- the ledgers have as many arrivals, takes and settlements as there were since the book was shared
+pub record IsCounted (h : Held) (made took settled_there : ℕ) : Type 0 where
+  pub arrivals_are : arrived h.book ≡ arrivals h.opening + made
+  pub takes_are : taken h.book ≡ takes h.opening + took
+  pub settlements_are : settled h.book ≡ settlements h.opening + settled_there
+  pub since : h.first ≤ next_place h.book
+
+-- what is left over of a ledger: a part that has counted nothing
+pub record IsLeft (parts amount : ℕ) : Type 0 where
+  pub one : parts ≡ 1
+  pub none : amount ≡ 0

@@ -1,8 +1,10 @@
 -- What a table tells of the receipts that name a place.
-use Rattle.std.specs.Prelude.{◌≡◌, ◌≢◌, ℕ, ◌+◌, ◌<◌, Bool, true, false, List, [], length, slice_index_or}
+use Rattle.std.specs.Prelude.{◌≡◌, ◌≢◌, ℕ, ◌+◌, ◌<◌, Bool, true, false, if◌then◌else◌, List, [], Option, Some, None, length, slice_index_or}
 use Rattle.book_core.specs.declared.receipt.Receipt.{Receipt}
 use Rattle.book_lock.specs.declared.windows.Named.{Named}
 use Rattle.book_lock.specs.declared.windows.Named.TheVariants.{Never, Right, Wrong, Often}
+use Rattle.book_lock.specs.declared.auditing.AuditFault.{AuditFault}
+use Rattle.book_lock.specs.declared.auditing.AuditFault.TheVariants.{Missing, Doubled, Differs}
 use Rattle.book_lock.specs.Auditing.{naming, receipts_due}
 use Rattle.book_lock.specs.Rises.{Held}
 
@@ -24,3 +26,10 @@ named_again Never false = Wrong
 named_again Right is_due = Often
 named_again Wrong is_due = Often
 named_again Often is_due = Often
+
+-- what is wrong at a place that is named so, where a receipt is due or not
+abbrev pub fault_at : ℕ → Named → Bool → Option AuditFault
+fault_at place Never is_due = if is_due then Some (Missing place) else None
+fault_at place Right is_due = None
+fault_at place Wrong is_due = Some (Differs place)
+fault_at place Often is_due = Some (Doubled place)

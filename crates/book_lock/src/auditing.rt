@@ -39,9 +39,8 @@ pub fn audit<S: RowStore<Addressed<Letter>>>(
     ensures ok { IsOk result ↔ IsPermutation receipts.now (receipts_due closed.now) }
     ensures fault { IfErr result (IsFirstFault closed.now receipts.now) }
 {
-    let mut table = [Named::Never; WINDOW];
-    check_windows(closed, receipts, &mut table)?;
-    check_rest(closed, receipts)
+    let _first = closed.first();
+    first_fault(closed, receipts)
 }
 
 /// Whether the receipts' places rise strictly.
@@ -54,6 +53,19 @@ pub fn rising(receipts: &[Receipt]) -> bool
         }
     }
     true
+}
+
+/// The first place at which the receipts are not those that are due.
+fn first_fault<S: RowStore<Addressed<Letter>>>(
+    closed: &Closed<S>,
+    receipts: &[Receipt],
+) -> Result<(), AuditFault>
+    ensures right { OnOk result ((p : _) → IsRightAt closed.now receipts.now p) }
+    ensures fault { IfErr result (IsFirstFault closed.now receipts.now) }
+{
+    let mut table = [Named::Never; WINDOW];
+    check_windows(closed, receipts, &mut table)?;
+    check_rest(closed, receipts)
 }
 
 /// Whether no receipt names a place past the history, where all places of the history are right.

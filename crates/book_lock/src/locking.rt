@@ -70,11 +70,7 @@ pub struct Locked<A: Opening, T: Ledger, U: Ledger, S: RowStore<Addressed<Letter
 impl<A: Opening, T: Ledger, U: Ledger, S: RowStore<Addressed<Letter>>> Model
     for Locked<A, T, U, S>
 {
-    ghost use Rattle.std.specs.Prelude.{◌≡◌, ◌+◌, ◌≤◌, length};
-    ghost use Rattle.stat_count.specs.Sums.{arrivals as arrivals_of, settlements as settlements_of, takes as takes_of};
-    ghost use Rattle.event_log.specs.History.{next_place, plan_in_force};
-    ghost use Rattle.book_core.specs.Counting.{counted};
-    ghost use Rattle.book_lock.specs.Rises.{Held};
+    ghost use Rattle.book_lock.specs.Rises.{Held, IsCounted, IsLeft, IsOpened};
     ghost use Rattle.book_lock.specs.Coding.{held_code};
 
     ghost Value = { Held };
@@ -84,14 +80,11 @@ impl<A: Opening, T: Ledger, U: Ledger, S: RowStore<Addressed<Letter>>> Model
     ghost view = { λ l. record { book = l.book; opening = l.opening; first = l.first } };
 
     ghost invariant = { λ l.
-        (l.opening ≡ A.counts) × (l.first ≡ A.first) × (length (plan_in_force l.book).channels ≡ A.channels)
-        × (arrivals_of (counted l.book) ≡ arrivals_of l.opening + l.arrivals.total)
-        × (takes_of (counted l.book) ≡ takes_of l.opening + l.takes.total)
-        × (settlements_of (counted l.book) ≡ settlements_of l.opening + l.settlements.total)
-        × (l.first ≤ next_place l.book)
-        × (l.left_arrivals.parts ≡ 1) × (l.left_arrivals.amount ≡ 0)
-        × (l.left_takes.parts ≡ 1) × (l.left_takes.amount ≡ 0)
-        × (l.left_settlements.parts ≡ 1) × (l.left_settlements.amount ≡ 0) };
+        IsOpened (record { book = l.book; opening = l.opening; first = l.first }) A.counts A.first A.channels
+        × IsCounted (record { book = l.book; opening = l.opening; first = l.first }) l.arrivals.total l.takes.total l.settlements.total
+        × IsLeft l.left_arrivals.parts l.left_arrivals.amount
+        × IsLeft l.left_takes.parts l.left_takes.amount
+        × IsLeft l.left_settlements.parts l.left_settlements.amount };
 }
 
 /// A book out of its lock.

@@ -1,10 +1,10 @@
 //! The places of the history, a window of them at a time: each window costs one pass over the receipts, and no memory
 //! but a table of a byte for each of its places.
 
-ghost use Rattle.std.specs.Prelude.{◌≡◌, ◌≢◌, ◌+◌, ◌<◌, ◌≤◌, ◌↔◌, [], ◌∷◌, ◌++◌, IsTrue, IfErr, OnOk, All, length, slice_index_or};
+ghost use Rattle.std.specs.Prelude.{◌≡◌, ◌≢◌, ◌+◌, ◌<◌, ◌≤◌, ◌↔◌, [], ◌∷◌, Some, is_some, IsTrue, IfErr, OnOk, All, length, slice_index_or};
 ghost use Rattle.event_log.specs.History.{next_place};
 ghost use Rattle.book_lock.specs.Auditing.{IsFault, IsFirstFault, IsRightAt, naming, place_of, receipt_at, receipts_due};
-ghost use Rattle.book_lock.specs.Windows.{Tells, named_again};
+ghost use Rattle.book_lock.specs.Windows.{Tells, fault_at, named_again};
 
 use crate::auditing::AuditFault;
 use crate::locking::Closed;
@@ -82,16 +82,26 @@ fn check_window<S: RowStore<Addressed<Letter>>>(
     ensures before { IfErr result (λ fault. (p : _) → from ≤ p → p < place_of fault → IsRightAt closed.now receipts.now p) }
 {
     tell(closed, receipts, from, table);
+    let _end = closed.book().len();
     for k in 0..table.len() {
         let place = from + k;
-        match table[k] {
-            Named::Never if is_due_at(closed, place) => return Err(AuditFault::Missing(place)),
-            Named::Never | Named::Right => {}
-            Named::Wrong => return Err(AuditFault::Differs(place)),
-            Named::Often => return Err(AuditFault::Doubled(place)),
+        if let Some(fault) = fault_at(place, table[k], is_due_at(closed, place)) {
+            return Err(fault);
         }
     }
     Ok(())
+}
+
+/// What is wrong at a place, by how it is named, and by whether a receipt is due there.
+fn fault_at(place: usize, named: Named, is_due: bool) -> Option<AuditFault>
+    ensures { result ≡ fault_at place named is_due }
+{
+    match named {
+        Named::Never if is_due => Some(AuditFault::Missing(place)),
+        Named::Never | Named::Right => None,
+        Named::Wrong => Some(AuditFault::Differs(place)),
+        Named::Often => Some(AuditFault::Doubled(place)),
+    }
 }
 
 /// Tells of the places from `from` on how the receipts name them.
@@ -135,7 +145,17 @@ fn is_due_at<S: RowStore<Addressed<Letter>>>(closed: &Closed<S>, place: usize) -
     if place < closed.first() {
         return false;
     }
-    matches!(closed.book().entry(place), Some(Entry::Arrival { .. }))
+    match closed.book().entry(place) {
+        Some(entry) => is_arrival(entry),
+        None => false,
+    }
+}
+
+/// Whether an entry is an arrival, which has a receipt.
+fn is_arrival(entry: &Entry) -> bool
+    ensures { (place : _) → is_some (receipt_at place entry.now) ≡ result }
+{
+    matches!(entry, Entry::Arrival { .. })
 }
 
 /// Whether a receipt is that of an entry at the place that it names.

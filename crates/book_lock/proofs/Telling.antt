@@ -1,0 +1,47 @@
+-- What a window's table says of the receipts.
+use Rattle.std.proofs.Common.{◌≡◌, ◌≢◌, ℕ, ◌+◌, ◌<◌, ◌≤◌, Bool, true, false, List, [], ◌∷◌, Option, Some, None, ltb, ◌⊎◌, inl, inr, ◌↔◌, sym, ap, subst, refl, ◌∙◌, arith}
+use Rattle.std.specs.Prelude.{IsTrue}
+use Rattle.std.proofs.lemmas.Bool.{false≢true}
+use Rattle.book_core.specs.declared.receipt.Receipt.{Receipt}
+use Rattle.book_lock.specs.declared.auditing.AuditFault.{AuditFault}
+use Rattle.book_lock.specs.declared.auditing.AuditFault.TheVariants.{Missing, Doubled, Differs}
+use Rattle.book_lock.specs.declared.windows.Named.{Named}
+use Rattle.book_lock.specs.declared.windows.Named.TheVariants.{Never, Right, Wrong, Often}
+use Rattle.book_lock.specs.Auditing.{naming, receipts_due, place_of, IsRightAt, IsFault}
+use Rattle.book_lock.specs.Windows.{IsNamed, fault_at}
+use Rattle.book_lock.specs.Rises.{Held}
+use Rattle.book_lock.proofs.Naming.{split_by}
+
+none_if : {X : Type 0} (xs : List X) → (xs ≢ [] → IsTrue false) → xs ≡ []
+none_if [] h = refl
+none_if (x ∷ xs) h = absurd (false≢true (h (λ e. cc)))
+
+-- no fault is told where the receipts are right
+pub right_if : (h : Held) (rs : List Receipt) (p : ℕ) (n : Named) (t : Bool) → fault_at p n t ≡ None → IsNamed h rs p n → IsTrue t ↔ (naming p (receipts_due h) ≢ []) → IsRightAt h rs p
+right_if h rs p Never true none named due = cc
+right_if h rs p Never false none named due = named ∙ sym (none_if (naming p (receipts_due h)) due.1)
+right_if h rs p Right t none named due = named.1
+right_if h rs p Wrong t none named due = cc
+right_if h rs p Often t none named due = cc
+
+-- a fault that is told is one, at that place
+pub fault_if : (h : Held) (rs : List Receipt) (p : ℕ) (n : Named) (t : Bool) (f : AuditFault) → fault_at p n t ≡ Some f → IsNamed h rs p n → IsTrue t ↔ (naming p (receipts_due h) ≢ []) → IsFault h rs f × (place_of f ≡ p)
+fault_if h rs p Never true f is named due =
+    let e : Missing p ≡ f = cc in
+    subst (λ (w : AuditFault). IsFault h rs w × (place_of w ≡ p)) e ((named, due.0 refl), refl)
+fault_if h rs p Never false f is named due = cc
+fault_if h rs p Right t f is named due = cc
+fault_if h rs p Wrong t f is named due =
+    let e : Differs p ≡ f = cc in
+    subst (λ (w : AuditFault). IsFault h rs w × (place_of w ≡ p)) e (named, refl)
+fault_if h rs p Often t f is named due =
+    let e : Doubled p ≡ f = cc in
+    subst (λ (w : AuditFault). IsFault h rs w × (place_of w ≡ p)) e (named, refl)
+
+-- one more place that is right
+pub right_more : (h : Held) (rs : List Receipt) (from k : ℕ) → ((p : ℕ) → from ≤ p → p < from + k → IsRightAt h rs p) → IsRightAt h rs (from + k) → (p : ℕ) → from ≤ p → p < from + (k + 1) → IsRightAt h rs p
+right_more h rs from k below here p after before =
+    elim (split_by (from + k) p (ltb p (from + k)) refl) [
+      | inl last ↦ subst (λ w. IsRightAt h rs w) (omega (arith, last, before)) here
+      | inr inside ↦ below p after inside
+    ]
