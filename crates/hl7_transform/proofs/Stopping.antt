@@ -1,5 +1,5 @@
 -- Steps that stop.
-use Rattle.std.proofs.Common.{◌≡◌, ℕ, zero, suc, ◌+◌, ◌<◌, Bool, true, false, not, ◌||◌, cond, List, [], ◌∷◌, length, drop, get_or, drop-cons, Ok, Err, inl, inr, subst, refl, ◌∙◌, ap, sym, arith}
+use Rattle.std.proofs.Common.{◌≡◌, ℕ, suc, ◌+◌, ◌<◌, Bool, true, false, not, ◌||◌, cond, List, ◌∷◌, length, drop, get_or, drop-cons, Ok, Err, inl, inr, subst, refl, ◌∙◌, ap, sym, arith}
 use Rattle.er7_tree.specs.declared.refusal.Refusal.{Refusal}
 use Rattle.er7_tree.specs.declared.refusal.Refusal.TheVariants.{NoHeader, BadDelimiters, BadSegmentName, TooManySegments, BadPath, NoSuchSegment, NoMemory}
 use Rattle.er7_tree.specs.Edit.{remove_segments}

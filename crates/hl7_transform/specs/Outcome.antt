@@ -5,7 +5,6 @@ use Rattle.er7_tree.specs.declared.refusal.Refusal.TheVariants as refusal
 use Rattle.er7_tree.specs.Tree.{Tree}
 use Rattle.hl7_transform.specs.declared.fault.StepFault.{StepFault}
 use Rattle.hl7_transform.specs.declared.fault.StepFault.TheVariants as fault
-use Rattle.hl7_transform.specs.declared.fault.StopCause.{StopCause}
 use Rattle.hl7_transform.specs.declared.fault.StopCause.TheVariants.{NoSuchSegment}
 use Rattle.hl7_transform.specs.declared.stop.Stop.{Stop}
 use Rattle.hl7_transform.specs.declared.stop.Stop.TheVariants as stop
