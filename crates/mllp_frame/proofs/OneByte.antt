@@ -1,5 +1,5 @@
 -- A piece of one byte ends at most one block.
-use Rattle.std.proofs.Common.{◌≡◌, ℕ, ◌+◌, ◌≤◌, ◌==◌, true, false, List, [], ◌∷◌, ◌++◌, length, Option, None, Some, ◌⊎◌, inl, inr, refl, sym, ap, ◌∙◌, subst, option_to_list, arith, length-append, append_assoc}
+use Rattle.std.proofs.Common.{◌≡◌, ℕ, ◌+◌, ◌≤◌, ◌==◌, List, [], ◌∷◌, ◌++◌, length, Option, None, Some, inl, inr, ap, ◌∙◌, option_to_list, arith, length-append}
 use Rattle.std.proofs.lemmas.Bool.{cases_Bool}
 use Rattle.mllp_frame.specs.Event.{Event}
 use Rattle.mllp_frame.specs.Framing.{start_block, blocks, open_end, outcome_of}
