@@ -20,3 +20,4 @@ pub mod EditedSegments
 pub mod EditedMessages
 pub mod Editing
 pub mod EditLaws
+pub mod HeaderName

@@ -3,7 +3,6 @@ use Rattle.std.specs.Prelude.{ℕ, ◌+◌, ◌-◌, ◌*◌, ◌/◌, ◌%◌, 
 use Rattle.std.specs.Char.{is_ascii_digit}
 use Rattle.std.specs.List.{find, flat_map, zip}
 use Rattle.std.specs.Option.{option_map_or}
-use Rattle.er7_tree.specs.declared.escapes.TheConstants.{HEXADECIMAL}
 use Rattle.er7_tree.specs.Delims.{Delims, lacks}
 use Rattle.er7_tree.specs.Pieces.{split}
 
@@ -43,11 +42,15 @@ letter_for d b = option_map (λ entry. entry.0) (find (λ entry. entry.1 == b) (
 abbrev pub letter_meaning : Delims → ℕ → List ℕ
 letter_meaning d c = option_map_or (λ b. b ∷ []) (meant_by d c) (sequence d (c ∷ []))
 
+-- the letter X, which begins hexadecimal digits
+abbrev pub hexadecimal : ℕ
+hexadecimal = 88
+
 -- what stands between two escape characters means; what has no meaning is kept as it is written
 abbrev pub meaning : Delims → List ℕ → List ℕ
 meaning d [] = sequence d []
 meaning d (c ∷ []) = letter_meaning d c
-meaning d (c ∷ digits) = if c == HEXADECIMAL then unwrap_or (hex_bytes digits) (sequence d (c ∷ digits)) else sequence d (c ∷ digits)
+meaning d (c ∷ digits) = if c == hexadecimal then unwrap_or (hex_bytes digits) (sequence d (c ∷ digits)) else sequence d (c ∷ digits)
 
 -- of the pieces between escape characters each second one is a sequence, but for one that nothing closes
 abbrev pub plain_pieces : Delims → List (List ℕ) → List ℕ
@@ -73,7 +76,7 @@ hex_digit n = slice_index (codes "0123456789ABCDEF") n
 
 -- a control byte by its digits, any other as it is
 abbrev pub bare_or_digits : Delims → ℕ → List ℕ
-bare_or_digits d b = if lacks b controls then b ∷ [] else sequence d (HEXADECIMAL ∷ hex_digit (b / 16) ∷ hex_digit (b % 16) ∷ [])
+bare_or_digits d b = if lacks b controls then b ∷ [] else sequence d (hexadecimal ∷ hex_digit (b / 16) ∷ hex_digit (b % 16) ∷ [])
 
 -- how a byte is written: a delimiter by its letter, else a control byte by its digits, else as it is
 abbrev pub escaped : Delims → ℕ → List ℕ

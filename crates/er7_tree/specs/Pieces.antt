@@ -2,7 +2,6 @@
 use Rattle.std.specs.Prelude.{ℕ, zero, suc, ◌-◌, Bool, true, false, ◌&&◌, ◌==◌, List, [], ◌∷◌, slice_index_or, Option, None, Some}
 use Rattle.std.specs.Borrow.{Bor}
 use Rattle.std.specs.List.{slice_split, join_with_byte}
-use Rattle.er7_tree.specs.declared.pieces.TheConstants.{QUOTATION_MARK}
 
 -- the pieces between the separators, one more than there are separators
 abbrev pub split : ℕ → List ℕ → List (List ℕ)
@@ -36,8 +35,11 @@ abbrev pub is_empty : List ℕ → Bool
 is_empty [] = true
 is_empty (b ∷ bs) = false
 
+abbrev pub quotation_mark : ℕ
+quotation_mark = 34
+
 -- nothing, or the null value, two quotation marks
 abbrev pub is_vacant : List ℕ → Bool
 is_vacant [] = true
-is_vacant (a ∷ b ∷ []) = a == QUOTATION_MARK && b == QUOTATION_MARK
+is_vacant (a ∷ b ∷ []) = a == quotation_mark && b == quotation_mark
 is_vacant _ = false

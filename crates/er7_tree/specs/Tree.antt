@@ -5,10 +5,19 @@ use Rattle.std.specs.List.{filter, flat_map, starts_with, list_all, position_fro
 use Rattle.std.specs.Option.{ok_or}
 use Rattle.er7_tree.specs.declared.refusal.Refusal.{Refusal}
 use Rattle.er7_tree.specs.declared.refusal.Refusal.TheVariants.{NoHeader, BadDelimiters, BadSegmentName, TooManySegments, NoMemory}
-use Rattle.er7_tree.specs.declared.segments.TheConstants.{CARRIAGE_RETURN, LINE_FEED}
-use Rattle.er7_tree.specs.declared.reading.TheConstants.{MAX_SEGMENTS}
 use Rattle.er7_tree.specs.Pieces.{split, is_empty}
 use Rattle.er7_tree.specs.Delims.{Delims, delims_of, lacks}
+
+-- the byte that ends segments, and the one of which one is dropped behind it
+abbrev pub carriage_return : ℕ
+carriage_return = 13
+
+abbrev pub line_feed : ℕ
+line_feed = 10
+
+-- the most segments of a message
+abbrev pub segments_max : ℕ
+segments_max = 4096
 
 -- A message: the delimiters that it declares, and its segments without the carriage return that ends each.
 pub record Tree : Type 0 where
@@ -18,7 +27,7 @@ pub record Tree : Type 0 where
 -- a piece without one line feed that it begins with
 abbrev pub without_line_feed : List ℕ → List ℕ
 without_line_feed [] = []
-without_line_feed (b ∷ bs) = if b == LINE_FEED then bs else b ∷ bs
+without_line_feed (b ∷ bs) = if b == line_feed then bs else b ∷ bs
 
 -- each piece but the first loses one leading line feed
 abbrev pub without_line_feeds : List (List ℕ) → List (List ℕ)
@@ -27,7 +36,7 @@ without_line_feeds (first ∷ others) = first ∷ map without_line_feed others
 
 -- the segments of a text: its pieces between carriage returns that aren't empty
 abbrev pub segments_of : List ℕ → List (List ℕ)
-segments_of text = filter (λ piece. not (is_empty piece)) (without_line_feeds (split CARRIAGE_RETURN text))
+segments_of text = filter (λ piece. not (is_empty piece)) (without_line_feeds (split carriage_return text))
 
 -- a segment's name: three characters, a capital letter and then capital letters or digits
 abbrev pub is_name : List ℕ → Bool
@@ -73,8 +82,8 @@ pub record IsMessage (t : Tree) : Type 0 where
   pub header : is_header (first_of t.segments) ≡ true
   pub declared : delims_of (first_of t.segments) ≡ Some t.delims
   pub named : list_all (is_body t.delims) (drop 1 t.segments) ≡ true
-  pub few : length t.segments ≤ MAX_SEGMENTS
-  pub unbroken : list_all (lacks CARRIAGE_RETURN) t.segments ≡ true
+  pub few : length t.segments ≤ segments_max
+  pub unbroken : list_all (lacks carriage_return) t.segments ≡ true
 
 -- what follows an answer; a refusal stands
 infixl 10 ◌>>=◌
@@ -98,7 +107,7 @@ unless_bad t (Some place) = Err (BadSegmentName place)
 -- the message, where it has not too many segments and each but the first, the header, may follow it; places count from 1
 abbrev pub checked : Tree → Result Tree Refusal
 checked t =
-    if nat_le (length t.segments) MAX_SEGMENTS then unless_bad t (bad_name_place 2 t.delims (drop 1 t.segments))
+    if nat_le (length t.segments) segments_max then unless_bad t (bad_name_place 2 t.delims (drop 1 t.segments))
     else Err TooManySegments
 
 -- the message of these segments, or the first refusal: no header, bad delimiters, too many segments, the first bad name
@@ -114,7 +123,7 @@ tree text = tree_of (segments_of text)
 
 -- a segment as it is written
 abbrev pub ended : List ℕ → List ℕ
-ended segment = segment ++ CARRIAGE_RETURN ∷ []
+ended segment = segment ++ carriage_return ∷ []
 
 -- segments as they are written, one after another
 abbrev pub written : List (List ℕ) → List ℕ

@@ -129,6 +129,3 @@ impl Message {
         Ok(())
     }
 }
-
-#[cfg(test)]
-mod tests;

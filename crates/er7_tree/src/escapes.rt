@@ -217,6 +217,3 @@ pub fn unescape(alloc: Global, delims: &Delims, text: &[u8]) -> Result<Vec<u8>, 
         rest = next;
     }
 }
-
-#[cfg(test)]
-mod tests;

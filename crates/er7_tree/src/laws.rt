@@ -1,10 +1,14 @@
-ghost use Rattle.std.specs.Prelude.{◌≡◌, ◌≢◌, ℕ, List, Ok, true};
+ghost use Rattle.std.specs.Prelude.{◌≡◌, ◌≢◌, ℕ, List, Ok, codes, true};
 ghost use Rattle.std.specs.List.{list_all};
 ghost use Rattle.er7_tree.specs.Delims.{lacks};
 ghost use Rattle.er7_tree.specs.Path.{Place, raw};
-ghost use Rattle.er7_tree.specs.Tree.{Tree, IsMessage, segments_of, text_of, tree, written};
+ghost use Rattle.er7_tree.specs.Tree.{Tree, IsMessage, carriage_return, segments_of, text_of, tree, written};
 
-use crate::segments::CARRIAGE_RETURN;
+use crate::escapes::HEXADECIMAL;
+use crate::path::NUMBER_MAX;
+use crate::pieces::QUOTATION_MARK;
+use crate::reading::MAX_SEGMENTS;
+use crate::segments::{CARRIAGE_RETURN, LINE_FEED, MSH};
 
 /// Reading and printing undo each other (HL7 v2.5.1, 2.5.2 and 2.5.4).
 pub fn printing_rules()
@@ -28,5 +32,16 @@ pub fn lacking_rules()
 
     // Printing adds the carriage returns alone.
     ensures printed { (b : ℕ) (t : Tree) →
-        b ≢ CARRIAGE_RETURN → list_all (lacks b) t.segments ≡ true → lacks b (text_of t) ≡ true }
+        b ≢ carriage_return → list_all (lacks b) t.segments ≡ true → lacks b (text_of t) ≡ true }
+{}
+
+/// The numbers of the standard, and the limits of this engine, are those of the program.
+pub fn constant_rules()
+    ensures header { MSH ≡ codes "MSH" }
+    ensures carriage_return { CARRIAGE_RETURN ≡ 13 }
+    ensures line_feed { LINE_FEED ≡ 10 }
+    ensures quotation_mark { QUOTATION_MARK ≡ 34 }
+    ensures hexadecimal { HEXADECIMAL ≡ 88 }
+    ensures segments { MAX_SEGMENTS ≡ 4096 }
+    ensures path_number { NUMBER_MAX ≡ 999 }
 {}

@@ -18,7 +18,7 @@ pub use edit_laws::{
     edits_add_no_byte, edits_keep_messages, edits_leave_the_rest, edits_read_back,
 };
 pub use escapes::{escape, unescape};
-pub use laws::{lacking_rules, printing_rules};
+pub use laws::{constant_rules, lacking_rules, printing_rules};
 pub use message::Message;
 pub use path::{Part, Path};
 pub use pieces::is_vacant;

@@ -1,4 +1,4 @@
-ghost use Rattle.std.specs.Prelude.{◌≡◌, ◌<◌, ◌≤◌, ◌-◌, IfOk, IfSome, IfNone, OnOk, OnErr, Some, filter, length, map, not, slice_get, slice_set, true, false};
+ghost use Rattle.std.specs.Prelude.{◌≡◌, ◌<◌, ◌≤◌, ◌-◌, IfOk, IfSome, IfNone, None, OnOk, OnErr, Some, codes, filter, length, map, not, slice_get, slice_set, true, false};
 ghost use Rattle.std.specs.List.{find, flat_map};
 ghost use Rattle.std.specs.Option.{option_copied};
 ghost use Rattle.er7_tree.specs.Path.{header_place, raw, segment_at, value};
@@ -213,7 +213,8 @@ impl Message {
 
     /// The raw part of a field of the segment that is the `occurrence`th of its name, empty where there is none.
     fn raw(&self, name: &[u8], occurrence: u32, field: u32, part: Part) -> &[u8]
-        ensures { result.now ≡ raw self.now (record { segment = name.now; occurrence = occurrence; field = field; part = part }) }
+        ensures value { result.now ≡ raw self.now (record { segment = name.now; occurrence = occurrence; field = field; part = part }) }
+        ensures message { IsMessage self.now }
     {
         let segment = self.nth_segment(name, occurrence);
         let field = if field == 1 && is_header(segment) {
@@ -234,7 +235,8 @@ impl Message {
     /// The raw field of the header, or a component of the field's first repetition; both count from 1, and 0 is taken for
     /// 1, but that field 0 is the name, `MSH`, where field 1 is the field separator.
     pub fn msh(&self, field: u32, component: Option<u32>) -> &[u8]
-        ensures { result.now ≡ raw self.now (header_place field component) }
+        ensures value { result.now ≡ raw self.now (header_place field component) }
+        ensures name { field ≡ 0 → component ≡ None → result.now ≡ codes "MSH" }
     {
         let part = match component {
             None => Part::Whole,
@@ -275,6 +277,3 @@ impl Clone for Message {
         })
     }
 }
-
-#[cfg(test)]
-mod tests;

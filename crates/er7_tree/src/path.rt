@@ -11,7 +11,7 @@ use crate::segments::{is_header, is_name};
 use std::marker::Model;
 
 /// The greatest number that a path may name.
-const NUMBER_MAX: u32 = 999;
+pub(crate) const NUMBER_MAX: u32 = 999;
 
 /// A field with all its repetitions, or a part of a field. Numbers count from 1 to 999.
 #[derive(Clone, Copy, Debug, PartialEq, Eq)]
@@ -241,6 +241,3 @@ impl Path {
         )
     }
 }
-
-#[cfg(test)]
-mod tests;

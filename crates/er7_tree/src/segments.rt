@@ -1,7 +1,7 @@
 ghost use Rattle.std.specs.Prelude.{◌≡◌, ◌≢◌, ◌<◌, ◌≤◌, ◌∷◌, [], length, drop, slice_index, IfSome, MatchOption};
 ghost use Rattle.er7_tree.specs.Spans.{covered, IsBetween};
 ghost use Rattle.er7_tree.specs.Path.{field_place};
-ghost use Rattle.er7_tree.specs.Tree.{is_body, is_header, is_name, segments_of};
+ghost use Rattle.er7_tree.specs.Tree.{carriage_return, is_body, is_header, is_name, segments_of};
 
 use crate::delims::Delims;
 use memchr::memchr;
@@ -52,7 +52,7 @@ fn skip_empty(text: &[u8], from: usize) -> usize
     ensures behind { from ≤ result }
     ensures within { result ≤ length text.now }
     ensures same { segments_of (drop result text.now) ≡ segments_of (drop from text.now) }
-    ensures some { result < length text.now → slice_index text.now result ≢ CARRIAGE_RETURN }
+    ensures some { result < length text.now → slice_index text.now result ≢ carriage_return }
 {
     let mut start = from;
     while start < text.len() && text[start] == CARRIAGE_RETURN {

@@ -1,3 +1,4 @@
+pub mod ByView
 pub mod Condition
 pub mod Same
 pub mod View

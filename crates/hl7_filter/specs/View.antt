@@ -1,8 +1,8 @@
 -- What a `Cond` stands for.
-use Rattle.std.specs.Prelude.{◌≡◌, refl, Bool, List, [], ◌∷◌, map}
-use Rattle.std.proofs.Common.{sym, ◌∙◌}
+use Rattle.std.specs.Prelude.{◌≡◌, Bool, List, [], ◌∷◌, map}
 use Rattle.std.specs.Bool.{Decides}
-use Rattle.std.specs.Cmp.{IsPartialEquivalence, IsEquivalence, both_ways, equiv}
+use Rattle.std.specs.Cmp.{IsPartialEquivalence, IsEquivalence}
+use Rattle.hl7_filter.specs.ByView.{by_view_laws, by_view_equiv}
 use Rattle.hl7_filter.specs.Condition.{Condition, equals, one_of, exists, starts, contains, all, any, negated, Conditions, no_conditions, condition}
 use Rattle.hl7_filter.specs.Same.{same_condition, same_condition-Decides}
 use Rattle.hl7_filter.specs.declared.condition.Cond.{Cond, fold-Cond}
@@ -42,10 +42,7 @@ same-Decides c d = same_condition-Decides (view c) (view d)
 
 -- the laws of `==`
 pub same_laws : IsPartialEquivalence same
-same_laws = record {
-  symm = λ c d. both_ways (same c d) (same d c) (λ h. (same-Decides d c).1 (sym ((same-Decides c d).0 h))) (λ h. (same-Decides c d).1 (sym ((same-Decides d c).0 h)));
-  trans = λ c d e h i. (same-Decides c e).1 ((same-Decides c d).0 h ∙ (same-Decides d e).0 i);
-}
+same_laws = by_view_laws view same same-Decides
 
 pub same_equiv : IsEquivalence same
-same_equiv = equiv same_laws (λ c. (same-Decides c c).1 refl)
+same_equiv = by_view_equiv view same same-Decides

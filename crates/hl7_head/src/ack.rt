@@ -38,7 +38,7 @@ impl AckCode {
 #[derive(Clone, Copy, Debug, PartialEq, Eq)]
 pub enum Cause {
     /// No channel takes messages of this type, MSH-9.
-    UnsupportedType,
+    UnsupportedType = 1,
     /// No message with this processing id, MSH-11, is taken (table 0103).
     UnsupportedProcessing,
     /// No message of this version, MSH-12, is taken.

@@ -29,7 +29,7 @@ pub fn ack_reads_back(part: AckPart, moment: Moment, connection: u32, number: u3
 
 /// The numbers that the definitions write out are those of the code: moments reach to the last second of the year 9998,
 /// a day has 86,400 seconds, an hour 3,600 and a minute 60, the digit 0 is the character 48, and segments end with 13.
-pub fn constants_are()
+pub fn constant_rules()
     ensures last_moment { LAST_MOMENT ≡ 253370764799 }
     ensures day { SECONDS_PER_DAY ≡ 86400 }
     ensures hour { SECONDS_PER_HOUR ≡ 3600 }

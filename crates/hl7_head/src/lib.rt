@@ -13,7 +13,7 @@ mod stamping;
 
 pub use ack::{AckCode, AckPart, Cause};
 pub use header::Header;
-pub use laws::{ack_adds_no_control, ack_reads_back, constants_are};
+pub use laws::{ack_adds_no_control, ack_reads_back, constant_rules};
 pub use moment::{LAST_MOMENT, Moment, MomentRange};
 pub use msa::Msa;
 pub use reply::ack_text;

@@ -1,8 +1,8 @@
 -- What a `Step` does.
-use Rattle.std.specs.Prelude.{◌≡◌, refl, ℕ, Bool, List, map}
-use Rattle.std.proofs.Common.{sym, ◌∙◌}
+use Rattle.std.specs.Prelude.{◌≡◌, ℕ, Bool, List, map}
 use Rattle.std.specs.Bool.{Decides}
-use Rattle.std.specs.Cmp.{IsPartialEquivalence, IsEquivalence, both_ways, equiv}
+use Rattle.std.specs.Cmp.{IsPartialEquivalence, IsEquivalence}
+use Rattle.hl7_filter.specs.ByView.{by_view_laws, by_view_equiv}
 use Rattle.hl7_transform.specs.declared.step.Pair.{Pair}
 use Rattle.hl7_transform.specs.declared.step.Step.{Step}
 use Rattle.hl7_transform.specs.declared.step.Step.TheVariants.{Set, Copy, Clear, Lookup, RemoveSegments}
@@ -35,10 +35,7 @@ same-Decides x y = same_edit-Decides (view x) (view y)
 
 -- the laws of `==`
 pub same_laws : IsPartialEquivalence same
-same_laws = record {
-  symm = λ x y. both_ways (same x y) (same y x) (λ h. (same-Decides y x).1 (sym ((same-Decides x y).0 h))) (λ h. (same-Decides x y).1 (sym ((same-Decides y x).0 h)));
-  trans = λ x y z h i. (same-Decides x z).1 ((same-Decides x y).0 h ∙ (same-Decides y z).0 i);
-}
+same_laws = by_view_laws view same same-Decides
 
 pub same_equiv : IsEquivalence same
-same_equiv = equiv same_laws (λ x. (same-Decides x x).1 refl)
+same_equiv = by_view_equiv view same same-Decides

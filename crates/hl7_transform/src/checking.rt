@@ -8,7 +8,7 @@ use er7_tree::{Path, is_header, is_name};
 use thiserror::Error;
 
 /// The field of MSH that holds the message control id (HL7 v2.5.1, 2.15.9.10).
-const CONTROL_ID: u32 = 10;
+pub const CONTROL_ID: u32 = 10;
 
 /// Why a step may not stand in a transformer.
 #[derive(Clone, Copy, Debug, PartialEq, Eq, Error)]
@@ -32,11 +32,6 @@ impl StepCheck {
         }
     }
 }
-
-/// The field that is protected is MSH-10, as the definitions write out.
-pub fn constants_are()
-    ensures { CONTROL_ID ≡ 10 }
-{}
 
 /// Whether this is MSH-1, MSH-2, MSH-10 or a part of MSH-10.
 fn is_protected(path: &Path) -> bool

@@ -8,8 +8,8 @@ mod running;
 mod step;
 mod stop;
 
-pub use checking::{StepCheck, all_may_stand, check_step, constants_are};
+pub use checking::{StepCheck, all_may_stand, check_step};
 pub use fault::{StepFault, StopCause};
-pub use laws::step_rules;
+pub use laws::{constant_rules, step_rules};
 pub use running::apply;
 pub use step::{Pair, Step};

@@ -3,9 +3,8 @@ use Rattle.std.proofs.Common.{◌≡◌, ℕ, ◌+◌, ◌≤◌, true, false, c
 use Rattle.std.proofs.lemmas.Bool.{cond-false, cases_Bool, cases_lt, lt-leb}
 use Rattle.std.proofs.lemmas.List.{take_all, take-append-le, take-take}
 use Rattle.mllp_frame.specs.declared.Break.TheVariants.{NewStart, BadEnd}
-use Rattle.mllp_frame.specs.declared.TheConstants.{START_BLOCK, CARRIAGE_RETURN, DATA_MAX}
 use Rattle.mllp_frame.specs.Event.{Event, broken}
-use Rattle.mllp_frame.specs.Framing.{data_of, rest_of, ended_block, decision, outcome_of, blocks, shortened, least_too_long, unfinished, open_end}
+use Rattle.mllp_frame.specs.Framing.{start_block, carriage_return, data_max, data_of, rest_of, ended_block, decision, outcome_of, blocks, shortened, least_too_long, unfinished, open_end}
 use Rattle.mllp_frame.proofs.Cuts.{Plain, Stops, cut, data_of-append, rest_of-append, outcome_of-cut, outcome_of-append, NoStart, NoStart-plain, NoStart-append, Plain-take, blocks-quiet, open_end-quiet, data_of-cut, rest_of-cut}
 
 -- what has decided a block isn't undone by more bytes
@@ -13,7 +12,7 @@ decision-more : (d r p : List ℕ) (e : Event) → decision d r ≡ Some e → d
 decision-more d [] p e is = cc
 decision-more d (b ∷ []) [] e is = is
 decision-more d (b ∷ []) (c ∷ p) e is =
-    elim (cases_Bool (b == START_BLOCK)) as (λ _. decision d (b ∷ c ∷ p) ≡ Some e) [
+    elim (cases_Bool (b == start_block)) as (λ _. decision d (b ∷ c ∷ p) ≡ Some e) [
       | inl start ↦ let known = rw start at is in rw start known
       | inr other ↦ let known = rw other at is in cc
     ]
@@ -35,21 +34,21 @@ outcome_of-more s p e is =
 decision-none : (d r : List ℕ) → decision d r ≡ None → NoStart r
 decision-none d [] is = tt
 decision-none d (b ∷ []) is =
-    elim (cases_Bool (b == START_BLOCK)) as (λ _. NoStart (b ∷ [])) [
+    elim (cases_Bool (b == start_block)) as (λ _. NoStart (b ∷ [])) [
       | inl start ↦ let known = rw start at is in cc
       | inr other ↦ (other, tt)
     ]
 decision-none d (b ∷ c ∷ r) is =
-    elim (cases_Bool (b == START_BLOCK)) as (λ _. NoStart (b ∷ c ∷ r)) [
+    elim (cases_Bool (b == start_block)) as (λ _. NoStart (b ∷ c ∷ r)) [
       | inl start ↦ let known = rw start at is in cc
       | inr other ↦
-          elim (cases_Bool (c == CARRIAGE_RETURN)) as (λ _. NoStart (b ∷ c ∷ r)) [
+          elim (cases_Bool (c == carriage_return)) as (λ _. NoStart (b ∷ c ∷ r)) [
             | inl ends ↦ let known = rw (other, ends) at is in cc
             | inr bad ↦ let known = rw (other, bad) at is in cc
           ]
     ]
 
-pub least_too_long_is : least_too_long ≡ DATA_MAX + 1
+pub least_too_long_is : least_too_long ≡ data_max + 1
 unfolding least_too_long
 least_too_long_is = refl
 
@@ -73,8 +72,8 @@ ended_block-shortened d y =
     elim (cases_lt (length d) least_too_long) as (λ _. ended_block (d ++ y) ≡ ended_block (shortened d ++ y)) [
       | inl short ↦ ap (λ l. ended_block (l ++ y)) (sym (take_all least_too_long d (omega arith)))
       | inr long ↦
-          let one : nat_le (length (d ++ y)) DATA_MAX ≡ false = lt-leb _ _ (omega (arith, length-append d y)) in
-          let two : nat_le (length (shortened d ++ y)) DATA_MAX ≡ false = lt-leb _ _ (omega (arith, length-append (shortened d) y, length-take least_too_long d)) in
+          let one : nat_le (length (d ++ y)) data_max ≡ false = lt-leb _ _ (omega (arith, length-append d y)) in
+          let two : nat_le (length (shortened d ++ y)) data_max ≡ false = lt-leb _ _ (omega (arith, length-append (shortened d) y, length-take least_too_long d)) in
           cond-false _ _ _ one ∙ sym (cond-false _ _ _ two)
     ]
 
@@ -82,7 +81,7 @@ decision-shortened : (d y r : List ℕ) → decision (d ++ y) r ≡ decision (sh
 decision-shortened d y [] = refl
 decision-shortened d y (b ∷ []) = refl
 decision-shortened d y (b ∷ c ∷ r) =
-    ap (λ e. cond (b == START_BLOCK) (Some (broken NewStart)) (cond (c == CARRIAGE_RETURN) (Some e) (Some (broken BadEnd)))) (ended_block-shortened d y)
+    ap (λ e. cond (b == start_block) (Some (broken NewStart)) (cond (c == carriage_return) (Some e) (Some (broken BadEnd)))) (ended_block-shortened d y)
 
 pub outcome_of-shortened : (d x : List ℕ) → Plain d → outcome_of (d ++ x) ≡ outcome_of (shortened d ++ x)
 outcome_of-shortened d x plain =
@@ -131,29 +130,29 @@ goes_on s is =
 
 -- ---- one byte at the front of a byte string
 
-pub blocks-other : (b : ℕ) (s : List ℕ) → (b == START_BLOCK) ≡ false → blocks (b ∷ s) ≡ blocks s
+pub blocks-other : (b : ℕ) (s : List ℕ) → (b == start_block) ≡ false → blocks (b ∷ s) ≡ blocks s
 blocks-other b s other = rw other
 
-pub blocks-start : (b : ℕ) (s : List ℕ) → (b == START_BLOCK) ≡ true → blocks (b ∷ s) ≡ option_to_list (outcome_of s) ++ blocks s
+pub blocks-start : (b : ℕ) (s : List ℕ) → (b == start_block) ≡ true → blocks (b ∷ s) ≡ option_to_list (outcome_of s) ++ blocks s
 blocks-start b s start = rw start
 
-pub open_end-other : (b : ℕ) (s : List ℕ) → (b == START_BLOCK) ≡ false → open_end (b ∷ s) ≡ open_end s
+pub open_end-other : (b : ℕ) (s : List ℕ) → (b == start_block) ≡ false → open_end (b ∷ s) ≡ open_end s
 open_end-other b s other = rw other
 
-pub open_end-open : (b : ℕ) (s : List ℕ) → (b == START_BLOCK) ≡ true → outcome_of s ≡ None → open_end (b ∷ s) ≡ b ∷ unfinished s
+pub open_end-open : (b : ℕ) (s : List ℕ) → (b == start_block) ≡ true → outcome_of s ≡ None → open_end (b ∷ s) ≡ b ∷ unfinished s
 open_end-open b s start is = rw (start, is)
 
 pub open_end-closed : (b : ℕ) (s : List ℕ) (e : Event) → outcome_of s ≡ Some e → open_end (b ∷ s) ≡ open_end s
 open_end-closed b s e is =
-    elim (cases_Bool (b == START_BLOCK)) as (λ _. open_end (b ∷ s) ≡ open_end s) [
+    elim (cases_Bool (b == start_block)) as (λ _. open_end (b ∷ s) ≡ open_end s) [
       | inl start ↦ rw (start, is)
       | inr other ↦ rw other
     ]
 
-pub blocks-decided : (b : ℕ) (s : List ℕ) (e : Event) → (b == START_BLOCK) ≡ true → outcome_of s ≡ Some e → blocks (b ∷ s) ≡ e ∷ blocks s
+pub blocks-decided : (b : ℕ) (s : List ℕ) (e : Event) → (b == start_block) ≡ true → outcome_of s ≡ Some e → blocks (b ∷ s) ≡ e ∷ blocks s
 blocks-decided b s e start is = blocks-start b s start ∙ ap (λ o. option_to_list o ++ blocks s) is
 
-pub blocks-open : (b : ℕ) (s : List ℕ) → (b == START_BLOCK) ≡ true → outcome_of s ≡ None → blocks (b ∷ s) ≡ blocks s
+pub blocks-open : (b : ℕ) (s : List ℕ) → (b == start_block) ≡ true → outcome_of s ≡ None → blocks (b ∷ s) ≡ blocks s
 blocks-open b s start is = blocks-start b s start ∙ ap (λ o. option_to_list o ++ blocks s) is
 
 pub blocks-none : (s : List ℕ) → NoStart s → blocks s ≡ []
@@ -169,7 +168,7 @@ option_cases (Some x) = inr (x, refl)
 -- ---- the laws
 
 -- a start byte whose block is open, and what follows
-pub blocks-resumed : (b : ℕ) (s k p : List ℕ) → (b == START_BLOCK) ≡ true → GoesOn s k → blocks (b ∷ (s ++ p)) ≡ blocks (b ∷ (k ++ p))
+pub blocks-resumed : (b : ℕ) (s k p : List ℕ) → (b == start_block) ≡ true → GoesOn s k → blocks (b ∷ (s ++ p)) ≡ blocks (b ∷ (k ++ p))
 blocks-resumed b s k p start same =
     blocks-start b (s ++ p) start
     ∙ ap (λ o. option_to_list o ++ blocks (s ++ p)) (same.decides p)
@@ -182,7 +181,7 @@ blocks-append [] p = refl
 blocks-append (b ∷ s) p =
     let Goal : Type 0 = blocks (b ∷ (s ++ p)) ≡ blocks (b ∷ s) ++ blocks (open_end (b ∷ s) ++ p) in
     let later : blocks (s ++ p) ≡ blocks s ++ blocks (open_end s ++ p) = blocks-append s p in
-    elim (cases_Bool (b == START_BLOCK)) as (λ _. Goal) [
+    elim (cases_Bool (b == start_block)) as (λ _. Goal) [
       | inr other ↦
           blocks-other b (s ++ p) other ∙ later
           ∙ ap (λ l. l ++ blocks (open_end s ++ p)) (sym (blocks-other b s other))
@@ -202,7 +201,7 @@ blocks-append (b ∷ s) p =
           ]
     ]
 
-pub open_end-resumed : (b : ℕ) (s k p : List ℕ) → (b == START_BLOCK) ≡ true → GoesOn s k → open_end (b ∷ (s ++ p)) ≡ open_end (b ∷ (k ++ p))
+pub open_end-resumed : (b : ℕ) (s k p : List ℕ) → (b == start_block) ≡ true → GoesOn s k → open_end (b ∷ (s ++ p)) ≡ open_end (b ∷ (k ++ p))
 open_end-resumed b s k p start same =
     elim (option_cases (outcome_of (s ++ p))) as (λ _. open_end (b ∷ (s ++ p)) ≡ open_end (b ∷ (k ++ p))) [
       | inr found ↦
@@ -219,7 +218,7 @@ open_end-append [] p = refl
 open_end-append (b ∷ s) p =
     let Goal : Type 0 = open_end (b ∷ (s ++ p)) ≡ open_end (open_end (b ∷ s) ++ p) in
     let later : open_end (s ++ p) ≡ open_end (open_end s ++ p) = open_end-append s p in
-    elim (cases_Bool (b == START_BLOCK)) as (λ _. Goal) [
+    elim (cases_Bool (b == start_block)) as (λ _. Goal) [
       | inr other ↦ open_end-other b (s ++ p) other ∙ later ∙ ap (λ l. open_end (l ++ p)) (sym (open_end-other b s other))
       | inl start ↦
           elim (option_cases (outcome_of s)) as (λ _. Goal) [

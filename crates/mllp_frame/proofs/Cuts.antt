@@ -3,8 +3,7 @@ use Rattle.std.proofs.Common.{◌≡◌, ℕ, zero, suc, true, false, ◌==◌, 
 use Rattle.std.proofs.Math.Numerals.{one-add}
 use Rattle.std.proofs.lemmas.Bool.{cases_Bool, or_parts}
 use Rattle.std.specs.List.{AllByRecursion}
-use Rattle.mllp_frame.specs.declared.TheConstants.{START_BLOCK, END_BLOCK}
-use Rattle.mllp_frame.specs.Framing.{is_framing, data_of, rest_of, decision, outcome_of, blocks, open_end}
+use Rattle.mllp_frame.specs.Framing.{start_block, end_block, is_framing, data_of, rest_of, decision, outcome_of, blocks, open_end}
 
 -- data, by recursion
 abbrev pub Plain : List ℕ → Type 0
@@ -75,11 +74,11 @@ outcome_of-append d x plain = ap (λ l. decision l (rest_of (d ++ x))) (data_of-
 
 -- no start byte
 abbrev pub NoStart : List ℕ → Type 0
-NoStart s = AllByRecursion (λ b. (b == START_BLOCK) ≡ false) s
+NoStart s = AllByRecursion (λ b. (b == start_block) ≡ false) s
 
 pub NoStart-plain : (d : List ℕ) → Plain d → NoStart d
 NoStart-plain [] plain = tt
-NoStart-plain (b ∷ d) plain = ((or_parts (b == START_BLOCK) (b == END_BLOCK) plain.0).0, NoStart-plain d plain.1)
+NoStart-plain (b ∷ d) plain = ((or_parts (b == start_block) (b == end_block) plain.0).0, NoStart-plain d plain.1)
 
 pub NoStart-append : (s t : List ℕ) → NoStart s → NoStart t → NoStart (s ++ t)
 NoStart-append [] t one two = two

@@ -4,10 +4,9 @@ use Rattle.std.proofs.lemmas.Bool.{cases_Bool, cases_lt}
 use Rattle.std.proofs.lemmas.List.Elements.{recursion_from_All, All-from_recursion}
 use Rattle.std.specs.List.{AllByRecursion, flat_map}
 use Rattle.mllp_frame.specs.declared.Break.TheVariants.{NewStart, BadEnd}
-use Rattle.mllp_frame.specs.declared.TheConstants.{START_BLOCK, END_BLOCK, CARRIAGE_RETURN, DATA_MAX}
 use Rattle.mllp_frame.specs.Event.{Event, block, broken}
 use Rattle.mllp_frame.specs.Framed.{AddsFront}
-use Rattle.mllp_frame.specs.Framing.{ended_block, decision, outcome_of, blocks, open_end, block_bytes, IsBlockData, HoldsData}
+use Rattle.mllp_frame.specs.Framing.{start_block, end_block, carriage_return, data_max, ended_block, decision, outcome_of, blocks, open_end, block_bytes, IsBlockData, HoldsData}
 use Rattle.mllp_frame.specs.Stage.{Reads}
 use Rattle.mllp_frame.proofs.Cuts.{Plain, NoStart-plain, cut, outcome_of-cut, open_end-quiet}
 use Rattle.mllp_frame.proofs.Appending.{blocks-append, open_end-append, open_end-closed, option_cases, blocks-other, blocks-start}
@@ -28,7 +27,7 @@ AllHoldData-front (e ∷ a) b both = (both.0, AllHoldData-front a b both.1)
 
 ended_data : (d : List ℕ) → Plain d → HoldsData (ended_block d)
 ended_data d plain =
-    elim (cases_lt DATA_MAX (length d)) as (λ _. HoldsData (ended_block d)) [
+    elim (cases_lt data_max (length d)) as (λ _. HoldsData (ended_block d)) [
       | inl long ↦ subst HoldsData (sym (ended_block-long d long)) tt
       | inr fits ↦
           let holds : IsBlockData d = record { plain = All-from_recursion _ d plain; bounded = fits } in
@@ -38,15 +37,15 @@ ended_data d plain =
 decision_data : (d r : List ℕ) (e : Event) → Plain d → decision d r ≡ Some e → HoldsData e
 decision_data d [] e plain is = cc
 decision_data d (b ∷ []) e plain is =
-    elim (cases_Bool (b == START_BLOCK)) as (λ _. HoldsData e) [
+    elim (cases_Bool (b == start_block)) as (λ _. HoldsData e) [
       | inl start ↦ let known : Some (broken NewStart) ≡ Some e = rw start at is in let same : broken NewStart ≡ e = cc in subst HoldsData same tt
       | inr other ↦ let known = rw other at is in cc
     ]
 decision_data d (b ∷ c ∷ r) e plain is =
-    elim (cases_Bool (b == START_BLOCK)) as (λ _. HoldsData e) [
+    elim (cases_Bool (b == start_block)) as (λ _. HoldsData e) [
       | inl start ↦ let known : Some (broken NewStart) ≡ Some e = rw start at is in let same : broken NewStart ≡ e = cc in subst HoldsData same tt
       | inr other ↦
-          elim (cases_Bool (c == CARRIAGE_RETURN)) as (λ _. HoldsData e) [
+          elim (cases_Bool (c == carriage_return)) as (λ _. HoldsData e) [
             | inl ends ↦ let known : Some (ended_block d) ≡ Some e = rw (other, ends) at is in let same : ended_block d ≡ e = cc in subst HoldsData same (ended_data d plain)
             | inr bad ↦ let known : Some (broken BadEnd) ≡ Some e = rw (other, bad) at is in let same : broken BadEnd ≡ e = cc in subst HoldsData same tt
           ]
@@ -61,7 +60,7 @@ pub blocks_data : (s : List ℕ) → AllHoldData (blocks s)
 blocks_data [] = tt
 blocks_data (b ∷ s) =
     let later : AllHoldData (blocks s) = blocks_data s in
-    elim (cases_Bool (b == START_BLOCK)) as (λ _. AllHoldData (blocks (b ∷ s))) [
+    elim (cases_Bool (b == start_block)) as (λ _. AllHoldData (blocks (b ∷ s))) [
       | inr other ↦ subst AllHoldData (sym (blocks-other b s other)) later
       | inl start ↦
           elim (option_cases (outcome_of s)) as (λ _. AllHoldData (blocks (b ∷ s))) [
@@ -96,9 +95,9 @@ module _ (d : List ℕ) (holds : IsBlockData d) where
   pub nothing_open : open_end (block_bytes d) ≡ []
   nothing_open =
       let plain : Plain d = recursion_from_All _ d holds.plain in
-      let tail : List ℕ = END_BLOCK ∷ CARRIAGE_RETURN ∷ [] in
-      open_end-closed START_BLOCK (d ++ END_BLOCK ∷ CARRIAGE_RETURN ∷ []) (ended_block d) (outcome_of-cut d (END_BLOCK ∷ CARRIAGE_RETURN ∷ []) plain refl)
-      ∙ open_end-quiet d (END_BLOCK ∷ CARRIAGE_RETURN ∷ []) (NoStart-plain d plain)
+      let tail : List ℕ = end_block ∷ carriage_return ∷ [] in
+      open_end-closed start_block (d ++ end_block ∷ carriage_return ∷ []) (ended_block d) (outcome_of-cut d (end_block ∷ carriage_return ∷ []) plain refl)
+      ∙ open_end-quiet d (end_block ∷ carriage_return ∷ []) (NoStart-plain d plain)
 
 pub block_behind : (s d : List ℕ) → open_end s ≡ [] → IsBlockData d → blocks (s ++ block_bytes d) ≡ blocks s ++ block d ∷ []
 block_behind s d outside holds =

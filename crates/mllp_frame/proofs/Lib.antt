@@ -9,3 +9,4 @@ pub mod Pieces
 pub mod Bounds
 pub mod DataLaws
 pub mod Rows
+pub mod OneByte

@@ -4,10 +4,9 @@ use Rattle.std.proofs.lemmas.List.{take_all}
 use Rattle.std.proofs.lemmas.List.Elements.{recursion_from_All}
 use Rattle.mllp_frame.specs.declared.reading.Stage.{Stage}
 use Rattle.mllp_frame.specs.declared.reading.Stage.TheVariants.{Outside, Inside, Ended}
-use Rattle.mllp_frame.specs.declared.TheConstants.{START_BLOCK, END_BLOCK}
 use Rattle.mllp_frame.specs.Event.{Event}
 use Rattle.mllp_frame.specs.Framed.{Framed, fed}
-use Rattle.mllp_frame.specs.Framing.{decision, outcome_of, blocks, least_too_long, unfinished, open_end}
+use Rattle.mllp_frame.specs.Framing.{start_block, end_block, decision, outcome_of, blocks, least_too_long, unfinished, open_end}
 use Rattle.mllp_frame.specs.Stage.{Reads, IsShortData, HoldsShortData, open_block}
 use Rattle.mllp_frame.proofs.Cuts.{Plain, Stops, NoStart, NoStart-plain, NoStart-append, outcome_of-cut}
 use Rattle.mllp_frame.proofs.Appending.{unfinished-cut, blocks-open, blocks-none, open_end-open}
@@ -17,20 +16,20 @@ pub record Settled (s : List ℕ) : Type 0 where
   pub silent : blocks s ≡ []
   pub whole : open_end s ≡ s
 
-settled_at : (d r : List ℕ) → IsShortData d → Stops r → NoStart r → decision d r ≡ None → Settled (START_BLOCK ∷ (d ++ r))
+settled_at : (d r : List ℕ) → IsShortData d → Stops r → NoStart r → decision d r ≡ None → Settled (start_block ∷ (d ++ r))
 settled_at d r keeps stops quiet is =
     let plain : Plain d = recursion_from_All _ d keeps.plain in
     let still : outcome_of (d ++ r) ≡ None = outcome_of-cut d r plain stops ∙ is in
     let all : unfinished (d ++ r) ≡ d ++ r = unfinished-cut d r plain stops ∙ ap (λ l. l ++ r) (take_all least_too_long d keeps.bounded) in
     record {
-      silent = blocks-open START_BLOCK (d ++ r) refl still ∙ blocks-none (d ++ r) (NoStart-append d r (NoStart-plain d plain) quiet);
-      whole = open_end-open START_BLOCK (d ++ r) refl still ∙ ap (λ l. START_BLOCK ∷ l) all;
+      silent = blocks-open start_block (d ++ r) refl still ∙ blocks-none (d ++ r) (NoStart-append d r (NoStart-plain d plain) quiet);
+      whole = open_end-open start_block (d ++ r) refl still ∙ ap (λ l. start_block ∷ l) all;
     }
 
 pub settled : (stage : Stage) → HoldsShortData stage → Settled (open_block stage)
 settled Outside keeps = record { silent = refl; whole = refl }
-settled (Inside bytes) keeps = subst (λ l. Settled (START_BLOCK ∷ l)) (append-nil bytes.items) (settled_at bytes.items [] keeps tt tt refl)
-settled (Ended bytes) keeps = settled_at bytes.items (END_BLOCK ∷ []) keeps refl (refl, tt) refl
+settled (Inside bytes) keeps = subst (λ l. Settled (start_block ∷ l)) (append-nil bytes.items) (settled_at bytes.items [] keeps tt tt refl)
+settled (Ended bytes) keeps = settled_at bytes.items (end_block ∷ []) keeps refl (refl, tt) refl
 
 pub fed_is : (old new : List Event) (stage last : Stage) (piece : List ℕ) → HoldsShortData last → Reads old new (open_block stage ++ piece) (open_block last) → let f : Framed = record { to_come = old; open_end = open_block stage; failed = false } in let g : Framed = record { to_come = new; open_end = open_block last; failed = false } in g ≡ fed f piece
 fed_is old new stage last piece keeps reads =

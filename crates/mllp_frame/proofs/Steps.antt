@@ -5,9 +5,8 @@ use Rattle.std.proofs.lemmas.List.{take_rest}
 use Rattle.std.proofs.lemmas.List.Elements.{recursion_from_All, All-from_recursion}
 use Rattle.memchr.specs.Find.{Passes, Nowhere, NoneBefore, is_byte, is_byte2}
 use Rattle.mllp_frame.specs.declared.Break.TheVariants.{NewStart, BadEnd}
-use Rattle.mllp_frame.specs.declared.TheConstants.{START_BLOCK, END_BLOCK, CARRIAGE_RETURN}
 use Rattle.mllp_frame.specs.Event.{Event, broken}
-use Rattle.mllp_frame.specs.Framing.{ended_block, shortened, least_too_long, begun_block, ending_block}
+use Rattle.mllp_frame.specs.Framing.{start_block, end_block, carriage_return, ended_block, shortened, least_too_long, begun_block, ending_block}
 use Rattle.mllp_frame.specs.Stage.{Reads, IsShortData}
 use Rattle.mllp_frame.proofs.Cuts.{Plain, Plain-append, Plain-take}
 use Rattle.mllp_frame.proofs.Searching.{fails_before, fails_all, split_at}
@@ -37,48 +36,48 @@ round piece at b fits is =
     ∙ ap (λ l. take at piece ++ b ∷ l) (sym (take_rest piece (at + 1)))
 
 module _ (old : List Event) (piece : List ℕ) where
-  pub no_start : Nowhere (Passes (is_byte START_BLOCK) piece) 0 (length piece) → Reads old old piece []
-  no_start none = outside_none old piece (fails_all (is_byte START_BLOCK) piece none)
+  pub no_start : Nowhere (Passes (is_byte start_block) piece) 0 (length piece) → Reads old old piece []
+  no_start none = outside_none old piece (fails_all (is_byte start_block) piece none)
 
-  pub some_start : (at : ℕ) → NoneBefore (Passes (is_byte START_BLOCK) piece) 0 (length piece) at → Passes (is_byte START_BLOCK) piece at → Reads old old piece (START_BLOCK ∷ behind piece (at + 1))
+  pub some_start : (at : ℕ) → NoneBefore (Passes (is_byte start_block) piece) 0 (length piece) at → Passes (is_byte start_block) piece at → Reads old old piece (start_block ∷ behind piece (at + 1))
   some_start at first is =
-      let whole : piece ≡ take at piece ++ START_BLOCK ∷ behind piece (at + 1) = round piece at START_BLOCK first.high (eqb-true _ _ is) in
-      subst (λ l. Reads old old l (START_BLOCK ∷ behind piece (at + 1))) (sym whole)
-      (outside_start old (take at piece) (behind piece (at + 1)) (fails_before (is_byte START_BLOCK) piece at (omega (arith, first.high)) first.before))
+      let whole : piece ≡ take at piece ++ start_block ∷ behind piece (at + 1) = round piece at start_block first.high (eqb-true _ _ is) in
+      subst (λ l. Reads old old l (start_block ∷ behind piece (at + 1))) (sym whole)
+      (outside_start old (take at piece) (behind piece (at + 1)) (fails_before (is_byte start_block) piece at (omega (arith, first.high)) first.before))
 
-  pub data_all : (d : List ℕ) → IsShortData d → Nowhere (Passes (is_byte2 START_BLOCK END_BLOCK) piece) 0 (length piece) → Reads old old (begun_block d ++ piece) (begun_block (shortened (d ++ piece)) ++ [])
-  data_all d short none = inside_data old d piece (plain_of d short) (fails_all (is_byte2 START_BLOCK END_BLOCK) piece none)
+  pub data_all : (d : List ℕ) → IsShortData d → Nowhere (Passes (is_byte2 start_block end_block) piece) 0 (length piece) → Reads old old (begun_block d ++ piece) (begun_block (shortened (d ++ piece)) ++ [])
+  data_all d short none = inside_data old d piece (plain_of d short) (fails_all (is_byte2 start_block end_block) piece none)
 
-  pub plain_all : Nowhere (Passes (is_byte2 START_BLOCK END_BLOCK) piece) 0 (length piece) → Plain piece
-  plain_all none = fails_all (is_byte2 START_BLOCK END_BLOCK) piece none
+  pub plain_all : Nowhere (Passes (is_byte2 start_block end_block) piece) 0 (length piece) → Plain piece
+  plain_all none = fails_all (is_byte2 start_block end_block) piece none
 
-  pub plain_before : (at : ℕ) → NoneBefore (Passes (is_byte2 START_BLOCK END_BLOCK) piece) 0 (length piece) at → Plain (take at piece)
-  plain_before at first = fails_before (is_byte2 START_BLOCK END_BLOCK) piece at (omega (arith, first.high)) first.before
+  pub plain_before : (at : ℕ) → NoneBefore (Passes (is_byte2 start_block end_block) piece) 0 (length piece) at → Plain (take at piece)
+  plain_before at first = fails_before (is_byte2 start_block end_block) piece at (omega (arith, first.high)) first.before
 
-  pub data_start : (d : List ℕ) (at : ℕ) → IsShortData d → NoneBefore (Passes (is_byte2 START_BLOCK END_BLOCK) piece) 0 (length piece) at → get_or piece at 0 ≡ START_BLOCK → Reads old (old ++ broken NewStart ∷ []) (begun_block d ++ piece) (START_BLOCK ∷ behind piece (at + 1))
+  pub data_start : (d : List ℕ) (at : ℕ) → IsShortData d → NoneBefore (Passes (is_byte2 start_block end_block) piece) 0 (length piece) at → get_or piece at 0 ≡ start_block → Reads old (old ++ broken NewStart ∷ []) (begun_block d ++ piece) (start_block ∷ behind piece (at + 1))
   data_start d at short first is =
-      let whole : piece ≡ take at piece ++ START_BLOCK ∷ behind piece (at + 1) = round piece at START_BLOCK first.high is in
-      subst (λ l. Reads old (old ++ broken NewStart ∷ []) (begun_block d ++ l) (START_BLOCK ∷ behind piece (at + 1))) (sym whole)
+      let whole : piece ≡ take at piece ++ start_block ∷ behind piece (at + 1) = round piece at start_block first.high is in
+      subst (λ l. Reads old (old ++ broken NewStart ∷ []) (begun_block d ++ l) (start_block ∷ behind piece (at + 1))) (sym whole)
       (inside_start old d (take at piece) (behind piece (at + 1)) (plain_of d short) (plain_before at first))
 
-  other : (b : ℕ) → is_byte2 START_BLOCK END_BLOCK b ≡ true → (b ≡ START_BLOCK → ⊥) → b ≡ END_BLOCK
-  other b is apart = ⊎_elim (λ start. absurd (apart (eqb-true _ _ start))) (λ end. eqb-true _ _ end) (or_cases (b == START_BLOCK) (b == END_BLOCK) is)
+  other : (b : ℕ) → is_byte2 start_block end_block b ≡ true → (b ≡ start_block → ⊥) → b ≡ end_block
+  other b is apart = ⊎_elim (λ start. absurd (apart (eqb-true _ _ start))) (λ end. eqb-true _ _ end) (or_cases (b == start_block) (b == end_block) is)
 
-  pub data_end : (d : List ℕ) (at : ℕ) → IsShortData d → NoneBefore (Passes (is_byte2 START_BLOCK END_BLOCK) piece) 0 (length piece) at → Passes (is_byte2 START_BLOCK END_BLOCK) piece at → (get_or piece at 0 ≡ START_BLOCK → ⊥) → Reads old old (begun_block d ++ piece) (ending_block (shortened (d ++ take at piece)) ++ behind piece (at + 1))
+  pub data_end : (d : List ℕ) (at : ℕ) → IsShortData d → NoneBefore (Passes (is_byte2 start_block end_block) piece) 0 (length piece) at → Passes (is_byte2 start_block end_block) piece at → (get_or piece at 0 ≡ start_block → ⊥) → Reads old old (begun_block d ++ piece) (ending_block (shortened (d ++ take at piece)) ++ behind piece (at + 1))
   data_end d at keeps first is apart =
-      let whole : piece ≡ take at piece ++ END_BLOCK ∷ behind piece (at + 1) = round piece at END_BLOCK first.high (other (get_or piece at 0) is apart) in
+      let whole : piece ≡ take at piece ++ end_block ∷ behind piece (at + 1) = round piece at end_block first.high (other (get_or piece at 0) is apart) in
       subst (λ l. Reads old old (begun_block d ++ l) (ending_block (shortened (d ++ take at piece)) ++ behind piece (at + 1))) (sym whole)
       (inside_end old d (take at piece) (behind piece (at + 1)) (plain_of d keeps) (plain_before at first))
 
   first_of : (b : ℕ) → 0 < length piece → get_or piece 0 0 ≡ b → piece ≡ b ∷ behind piece 1
   first_of b some is = round piece 0 b some is
 
-  pub whole_block : (d : List ℕ) → IsShortData d → 0 < length piece → get_or piece 0 0 ≡ CARRIAGE_RETURN → Reads old (old ++ ended_block d ∷ []) (ending_block d ++ piece) (behind piece 1)
+  pub whole_block : (d : List ℕ) → IsShortData d → 0 < length piece → get_or piece 0 0 ≡ carriage_return → Reads old (old ++ ended_block d ∷ []) (ending_block d ++ piece) (behind piece 1)
   whole_block d short some is =
-      subst (λ l. Reads old (old ++ ended_block d ∷ []) (ending_block d ++ l) (behind piece 1)) (sym (first_of CARRIAGE_RETURN some is))
+      subst (λ l. Reads old (old ++ ended_block d ∷ []) (ending_block d ++ l) (behind piece 1)) (sym (first_of carriage_return some is))
       (ended_whole old d (behind piece 1) (plain_of d short))
 
-  pub bad_end : (d : List ℕ) → IsShortData d → 0 < length piece → (get_or piece 0 0 ≡ CARRIAGE_RETURN → ⊥) → Reads old (old ++ broken BadEnd ∷ []) (ending_block d ++ piece) piece
+  pub bad_end : (d : List ℕ) → IsShortData d → 0 < length piece → (get_or piece 0 0 ≡ carriage_return → ⊥) → Reads old (old ++ broken BadEnd ∷ []) (ending_block d ++ piece) piece
   bad_end d short some apart =
       subst (λ l. Reads old (old ++ broken BadEnd ∷ []) (ending_block d ++ l) l) (sym (first_of (get_or piece 0 0) some refl))
       (ended_bad old d (behind piece 1) (get_or piece 0 0) (plain_of d short) (ne_eqb _ _ apart))

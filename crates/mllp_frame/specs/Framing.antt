@@ -2,12 +2,25 @@
 use Rattle.std.specs.Prelude.{◌≡◌, ◌≢◌, ℕ, Bool, false, ◌+◌, ◌==◌, ◌||◌, ◌&&◌, ◌≤◌, nat_le, if◌then◌else◌, List, [], ◌∷◌, ◌++◌, length, take, drop, Option, Some, None, is_none, option_to_list, All}
 use Rattle.std.specs.List.{before_first, position_or_len}
 use Rattle.mllp_frame.specs.declared.Break.TheVariants.{NewStart, BadEnd, TooLong}
-use Rattle.mllp_frame.specs.declared.TheConstants.{START_BLOCK, END_BLOCK, CARRIAGE_RETURN, DATA_MAX}
 use Rattle.mllp_frame.specs.Event.{Event, block, broken}
+
+-- the start block character, the end block character, and the carriage return that has to follow that one (MLLP Release 1, block format)
+abbrev pub start_block : ℕ
+start_block = 11
+
+abbrev pub end_block : ℕ
+end_block = 28
+
+abbrev pub carriage_return : ℕ
+carriage_return = 13
+
+-- the most data bytes of a block: 1 MiB
+abbrev pub data_max : ℕ
+data_max = 1048576
 
 -- whether a byte is one of the two that no data holds
 abbrev pub is_framing : ℕ → Bool
-is_framing b = b == START_BLOCK || b == END_BLOCK
+is_framing b = b == start_block || b == end_block
 
 -- data, which holds neither of the two
 abbrev pub IsData : List ℕ → Type 0
@@ -15,7 +28,7 @@ IsData bytes = All (λ b. is_framing b ≡ false) bytes
 
 -- a block on the wire: the start block character, the data, the end block character and the carriage return
 abbrev pub block_bytes : List ℕ → List ℕ
-block_bytes bytes = START_BLOCK ∷ bytes ++ END_BLOCK ∷ CARRIAGE_RETURN ∷ []
+block_bytes bytes = start_block ∷ bytes ++ end_block ∷ carriage_return ∷ []
 
 -- the data at the front: the longest prefix that holds neither of the two
 abbrev pub data_of : List ℕ → List ℕ
@@ -27,15 +40,15 @@ rest_of s = drop (position_or_len is_framing s) s
 
 -- the event of a block that has both its end bytes
 abbrev pub ended_block : List ℕ → Event
-ended_block bytes = if nat_le (length bytes) DATA_MAX then block bytes else broken TooLong
+ended_block bytes = if nat_le (length bytes) data_max then block bytes else broken TooLong
 
 -- what becomes of a block with this data, by the bytes after it; none where they do not decide it yet
 abbrev pub decision : List ℕ → List ℕ → Option Event
 decision bytes [] = None
-decision bytes (b ∷ []) = if b == START_BLOCK then Some (broken NewStart) else None
+decision bytes (b ∷ []) = if b == start_block then Some (broken NewStart) else None
 decision bytes (b ∷ c ∷ rest) =
-    if b == START_BLOCK then Some (broken NewStart)
-    else if c == CARRIAGE_RETURN then Some (ended_block bytes) else Some (broken BadEnd)
+    if b == start_block then Some (broken NewStart)
+    else if c == carriage_return then Some (ended_block bytes) else Some (broken BadEnd)
 
 -- what becomes of the block that a start byte opens, by the bytes after that byte
 abbrev pub outcome_of : List ℕ → Option Event
@@ -46,11 +59,11 @@ outcome_of s = decision (data_of s) (rest_of s)
 -- since data holds no start byte; `cutting_rules` says it so, one equation for each way in which a block goes on.
 abbrev pub blocks : List ℕ → List Event
 blocks [] = []
-blocks (b ∷ s) = if b == START_BLOCK then option_to_list (outcome_of s) ++ blocks s else blocks s
+blocks (b ∷ s) = if b == start_block then option_to_list (outcome_of s) ++ blocks s else blocks s
 
 -- the least length of data that is too long
 unfoldable pub least_too_long : ℕ
-least_too_long = DATA_MAX + 1
+least_too_long = data_max + 1
 
 -- data up to the first byte past the limit, by which it is known to be too long
 abbrev pub shortened : List ℕ → List ℕ
@@ -64,24 +77,24 @@ unfinished s = shortened (data_of s) ++ rest_of s
 -- is kept up to the first byte past the limit.
 abbrev pub open_end : List ℕ → List ℕ
 open_end [] = []
-open_end (b ∷ s) = if b == START_BLOCK && is_none (outcome_of s) then b ∷ unfinished s else open_end s
+open_end (b ∷ s) = if b == start_block && is_none (outcome_of s) then b ∷ unfinished s else open_end s
 
 -- a block begun, with this data so far
 abbrev pub begun_block : List ℕ → List ℕ
-begun_block bytes = START_BLOCK ∷ bytes
+begun_block bytes = start_block ∷ bytes
 
 -- the same behind its end byte
 abbrev pub ending_block : List ℕ → List ℕ
-ending_block bytes = START_BLOCK ∷ bytes ++ END_BLOCK ∷ []
+ending_block bytes = start_block ∷ bytes ++ end_block ∷ []
 
 -- bytes that open no block
 abbrev pub HasNoStart : List ℕ → Type 0
-HasNoStart bytes = All (λ b. b ≢ START_BLOCK) bytes
+HasNoStart bytes = All (λ b. b ≢ start_block) bytes
 
 -- what a block can hold: data within the limit
 pub record IsBlockData (bytes : List ℕ) : Type 0 where
   pub plain : IsData bytes
-  pub bounded : length bytes ≤ DATA_MAX
+  pub bounded : length bytes ≤ data_max
 
 -- A block that was read holds what a block can hold.
 abbrev pub HoldsData : Event → Type 0

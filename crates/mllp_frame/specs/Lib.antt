@@ -3,3 +3,4 @@ pub mod Framing
 pub mod Framed
 pub mod Stage
 pub mod Calls
+pub mod Code

@@ -3,7 +3,7 @@ use Rattle.std.specs.Prelude.{◌≡◌, ℕ, ◌+◌, ◌*◌, ◌≤◌, List,
 use Rattle.mllp_frame.specs.declared.reading.Stage.{Stage}
 use Rattle.mllp_frame.specs.declared.reading.Stage.TheVariants.{Outside, Inside, Ended}
 use Rattle.mllp_frame.specs.Event.{Event}
-use Rattle.mllp_frame.specs.Framing.{blocks, open_end, IsData, least_too_long, begun_block, ending_block}
+use Rattle.mllp_frame.specs.Framing.{blocks, open_end, HasNoStart, IsData, least_too_long, begun_block, ending_block}
 
 -- the open end of the stream
 abbrev pub open_block : Stage → List ℕ
@@ -34,3 +34,8 @@ pub record Reads (old new : List Event) (before after : List ℕ) : Type 0 where
   pub events : new ≡ old ++ added
   pub front : blocks before ≡ added ++ blocks after
   pub end : open_end before ≡ open_end after
+
+-- No block is open, and what is left opens none.
+pub record IsQuiet (begun left : List ℕ) : Type 0 where
+  pub none_open : begun ≡ []
+  pub no_start : HasNoStart left

@@ -4,11 +4,19 @@
 ghost use Rattle.std.specs.Prelude.{◌≡◌, ◌≢◌, ℕ, ◌+◌, ◌<◌, ◌≤◌, List, [], ◌∷◌, ◌++◌, length, map};
 ghost use Rattle.std.specs.List.{AllByRecursion, flat_map};
 ghost use Rattle.mllp_frame.specs.Event.{Event, block, broken};
-ghost use Rattle.mllp_frame.specs.Framing.{blocks, open_end, block_bytes, ended_block, IsData, IsBlockData, HoldsData, HasNoStart};
+ghost use Rattle.mllp_frame.specs.Framing.{start_block, end_block, carriage_return, data_max, blocks, open_end, block_bytes, ended_block, IsData, IsBlockData, HoldsData, HasNoStart};
 ghost use Rattle.mllp_frame.specs.Framed.{Framed, AddsFront, IsFront, blank};
 ghost use Rattle.mllp_frame.specs.Calls.{Call, bytes_of, handed_out, after_calls};
 
 use crate::{Break, CARRIAGE_RETURN, DATA_MAX, END_BLOCK, START_BLOCK};
+
+/// The numbers of the standard, and the limit of this engine, are those of the program.
+pub fn constant_rules()
+    ensures start { START_BLOCK ≡ 11 }
+    ensures end { END_BLOCK ≡ 28 }
+    ensures carriage_return { CARRIAGE_RETURN ≡ 13 }
+    ensures data_max { DATA_MAX ≡ 1048576 }
+{}
 
 /// The events of a byte string, from its front on: bytes that open no block are skipped, and what follows the data of a
 /// block decides what becomes of it (MLLP Release 1, block format).
@@ -16,25 +24,25 @@ pub fn cutting_rules()
     // No block is opened, or none is ended or broken yet.
     ensures none { (s : List ℕ) → HasNoStart s → blocks s ≡ [] }
     ensures begun { (skipped bytes : List ℕ) → HasNoStart skipped → IsData bytes →
-        blocks (skipped ++ START_BLOCK ∷ bytes) ≡ [] }
+        blocks (skipped ++ start_block ∷ bytes) ≡ [] }
     ensures ending { (skipped bytes : List ℕ) → HasNoStart skipped → IsData bytes →
-        blocks (skipped ++ START_BLOCK ∷ (bytes ++ END_BLOCK ∷ [])) ≡ [] }
+        blocks (skipped ++ start_block ∷ (bytes ++ end_block ∷ [])) ≡ [] }
 
     // A start byte breaks the block and opens a new one.
     ensures start { (skipped bytes rest : List ℕ) → HasNoStart skipped → IsData bytes →
-        blocks (skipped ++ START_BLOCK ∷ (bytes ++ START_BLOCK ∷ rest)) ≡ broken Break.NewStart ∷ blocks (START_BLOCK ∷ rest) }
+        blocks (skipped ++ start_block ∷ (bytes ++ start_block ∷ rest)) ≡ broken Break.NewStart ∷ blocks (start_block ∷ rest) }
 
     // The two end bytes end it.
     ensures end { (skipped bytes rest : List ℕ) → HasNoStart skipped → IsData bytes →
-        blocks (skipped ++ START_BLOCK ∷ (bytes ++ END_BLOCK ∷ CARRIAGE_RETURN ∷ rest)) ≡ ended_block bytes ∷ blocks rest }
+        blocks (skipped ++ start_block ∷ (bytes ++ end_block ∷ carriage_return ∷ rest)) ≡ ended_block bytes ∷ blocks rest }
 
     // Another byte behind the first of them breaks it, and is read outside.
-    ensures bad { (skipped bytes rest : List ℕ) (b : ℕ) → HasNoStart skipped → IsData bytes → b ≢ CARRIAGE_RETURN →
-        blocks (skipped ++ START_BLOCK ∷ (bytes ++ END_BLOCK ∷ b ∷ rest)) ≡ broken Break.BadEnd ∷ blocks (b ∷ rest) }
+    ensures bad { (skipped bytes rest : List ℕ) (b : ℕ) → HasNoStart skipped → IsData bytes → b ≢ carriage_return →
+        blocks (skipped ++ start_block ∷ (bytes ++ end_block ∷ b ∷ rest)) ≡ broken Break.BadEnd ∷ blocks (b ∷ rest) }
 
     // A block with data up to the limit is whole, and one with a byte more is too long.
-    ensures whole { (bytes : List ℕ) → length bytes ≤ DATA_MAX → ended_block bytes ≡ block bytes }
-    ensures long { (bytes : List ℕ) → DATA_MAX < length bytes → ended_block bytes ≡ broken Break.TooLong }
+    ensures whole { (bytes : List ℕ) → length bytes ≤ data_max → ended_block bytes ≡ block bytes }
+    ensures long { (bytes : List ℕ) → data_max < length bytes → ended_block bytes ≡ broken Break.TooLong }
 {}
 
 /// However a stream is cut, the events handed out and then those still to come are the events of all bytes fed.
@@ -55,9 +63,15 @@ pub fn longer_streams()
     ensures stays { (s more : List ℕ) → IsFront (blocks s) (blocks (s ++ more)) }
 {}
 
+/// One byte brings at most one event: it ends or breaks at most one block.
+pub fn single_bytes()
+    ensures stream { (s : List ℕ) (b : ℕ) → length (blocks (s ++ b ∷ [])) ≤ length (blocks s) + 1 }
+    ensures piece { (s : List ℕ) (b : ℕ) → length (blocks (open_end s ++ b ∷ [])) ≤ 1 }
+{}
+
 /// How much is kept of a stream: at most the start byte, the data up to the first byte past the limit, and an end byte.
 pub fn open_end_is_short()
-    ensures { (s : List ℕ) → length (open_end s) ≤ DATA_MAX + 3 }
+    ensures { (s : List ℕ) → length (open_end s) ≤ data_max + 3 }
 {}
 
 /// Whatever a stream holds, the data of each of its blocks holds neither framing byte and is within the limit. So it can

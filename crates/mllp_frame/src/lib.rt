@@ -8,13 +8,14 @@
 
 ghost use Rattle.std.specs.Prelude.{◌≡◌, ◌≤◌, [], ◌∷◌, ◌++◌, length, OnOk, OnErr};
 ghost use Rattle.mllp_frame.specs.Event.{block};
-ghost use Rattle.mllp_frame.specs.Framing.{blocks, open_end, block_bytes, IsData};
+ghost use Rattle.mllp_frame.specs.Framing.{blocks, data_max, open_end, block_bytes, IsData};
 
 mod laws;
 mod reading;
 
 pub use laws::{
-    any_pieces, blocks_hold_data, cutting_rules, longer_streams, open_end_is_short, reading_back,
+    any_pieces, blocks_hold_data, constant_rules, cutting_rules, longer_streams, open_end_is_short,
+    reading_back, single_bytes,
 };
 use reading::{Stage, read};
 use std::alloc::{AllocError, Global};
@@ -65,6 +66,21 @@ pub enum FrameFault {
     Failed,
 }
 
+impl FrameFault {
+    ghost use Rattle.std.specs.Prelude.{◌≡◌};
+    ghost use Rattle.mllp_frame.specs.Code.{code_of};
+
+    /// The number of the fault, 1 or 2, as it is told in place of its name.
+    pub fn code(&self) -> u8
+        ensures { result ≡ code_of self.now }
+    {
+        match self {
+            FrameFault::NoMemory => 1,
+            FrameFault::Failed => 2,
+        }
+    }
+}
+
 impl From<AllocError> for FrameFault {
     ghost use Rattle.std.specs.Prelude.{◌≡◌};
     ghost use Rattle.mllp_frame.specs.declared.FrameFault.TheVariants.{NoMemory};
@@ -107,10 +123,11 @@ impl Model for Framer {
 }
 
 impl Framer {
-    ghost use Rattle.std.specs.Prelude.{◌≡◌, ◌↔◌, slice_get, true, OnOk, IfSome, IsErrOf, option_map};
+    ghost use Rattle.std.specs.Prelude.{◌≡◌, ◌↔◌, slice_get, false, true, OnOk, IfSome, IsErrOf, IsOk, option_map};
     ghost use Rattle.mllp_frame.specs.Event.{event_of};
     ghost use Rattle.mllp_frame.specs.Framing.{HoldsData};
     ghost use Rattle.mllp_frame.specs.Framed.{blank, fed, taken, GivesUp};
+    ghost use Rattle.mllp_frame.specs.Stage.{IsQuiet};
 
     /// A framer at the start of a stream.
     pub fn new(alloc: Global) -> Self
@@ -136,6 +153,9 @@ impl Framer {
         ensures unchanged { IsErrOf result FrameFault.Failed → self.new ≡ self.old }
 
         ensures gives_up { IsErrOf result FrameFault.NoMemory → GivesUp self.old self.new piece.now }
+
+        // A piece that opens no block where none is open asks for no memory.
+        ensures quiet { self.old.failed ≡ false → IsQuiet self.old.open_end piece.now → IsOk result }
     {
         let Some(stage) = self.stage.take() else {
             return Err(FrameFault::Failed);
@@ -169,7 +189,7 @@ pub fn write_block(text: &[u8], out: &mut Vec<u8>) -> Result<(), AllocError>
     ensures err { OnErr result (out.new.items ≡ out.old.items) }
 
     // Who reads what was written finds the block, with the same data, behind what stood there before.
-    ensures read_back { OnOk result (length text.now ≤ DATA_MAX → open_end out.old.items ≡ [] →
+    ensures read_back { OnOk result (length text.now ≤ data_max → open_end out.old.items ≡ [] →
         blocks out.new.items ≡ blocks out.old.items ++ block text.now ∷ []) }
 {
     out.reserve(text.len() + 3)?;
@@ -179,6 +199,3 @@ pub fn write_block(text: &[u8], out: &mut Vec<u8>) -> Result<(), AllocError>
     out.push_reserved(CARRIAGE_RETURN);
     Ok(())
 }
-
-#[cfg(test)]
-mod tests;

@@ -1,10 +1,10 @@
 //! How a framer reads a piece of its stream: outside of blocks, in a block's data, and behind an end block character.
 
-ghost use Rattle.std.specs.Prelude.{◌≡◌, ◌+◌, ◌*◌, ◌<◌, ◌≤◌, List, ◌++◌, length, map, OnOk, OnErr, IfOk};
+ghost use Rattle.std.specs.Prelude.{◌≡◌, ◌+◌, ◌*◌, ◌<◌, ◌≤◌, List, ◌++◌, length, map, OnOk, OnErr, IfOk, IsOk, IsOkAnd};
 ghost use Rattle.mllp_frame.specs.Event.{Event, event_of};
-ghost use Rattle.mllp_frame.specs.Framing.{blocks, least_too_long, shortened, begun_block, ended_block, ending_block};
+ghost use Rattle.mllp_frame.specs.Framing.{blocks, HasNoStart, least_too_long, shortened, begun_block, ended_block, ending_block};
 ghost use Rattle.mllp_frame.specs.Framed.{AddsFront};
-ghost use Rattle.mllp_frame.specs.Stage.{Reads, HoldsShortData, IsShortData, open_block, work};
+ghost use Rattle.mllp_frame.specs.Stage.{Reads, HoldsShortData, IsQuiet, IsShortData, open_block, work};
 
 use crate::{Break, CARRIAGE_RETURN, DATA_MAX, END_BLOCK, FrameEvent, START_BLOCK};
 use memchr::{memchr, memchr2};
@@ -36,6 +36,7 @@ fn read_outside(alloc: Global, piece: &[u8]) -> (Stage, &[u8])
     ensures reads { (old : List Event) → Reads old old (piece.now) (open_block result.0 ++ result.1.now) }
     ensures short { HoldsShortData result.0 }
     ensures nearer { 0 < length piece.now → work result.0 result.1.now < 2 * length piece.now }
+    ensures quiet { HasNoStart piece.now → IsQuiet (open_block result.0) result.1.now }
 {
     match memchr(START_BLOCK, piece) {
         Some(at) => (Stage::Inside(Vec::new(alloc)), &piece[at + 1..]),
@@ -117,6 +118,7 @@ fn advance<'a>(
     ensures short { IfOk result (λ next. HoldsShortData next.0) }
     ensures nearer { IfOk result (λ next. work next.0 next.1.now < work stage piece.now) }
     ensures err { OnErr result (events.new.items ≡ events.old.items) }
+    ensures quiet { IsQuiet (open_block stage) piece.now → IsOkAnd result (λ next. IsQuiet (open_block next.0) next.1.now) }
 {
     match stage {
         Stage::Outside => Ok(read_outside(alloc, piece)),
@@ -136,6 +138,7 @@ pub fn read(
     ensures reads { IfOk result (λ last. Reads (map event_of events.old.items) (map event_of events.new.items) (open_block start ++ piece.now) (open_block last)) }
     ensures short { IfOk result (λ last. HoldsShortData last) }
     ensures err { OnErr result (AddsFront (map event_of events.old.items) (map event_of events.new.items) (blocks (open_block start ++ piece.now))) }
+    ensures quiet { IsQuiet (open_block start) piece.now → IsOk result }
 {
     let mut stage = start;
     let mut rest = piece;

@@ -1,0 +1,190 @@
+//! The answers to calls on the header of the message and on acknowledgments.
+
+use ack_rule::{AckMode, AckType, Verdictum, parts};
+use anyhow::{Result, anyhow};
+use er7_tree::Message;
+use hl7_head::{Cause, Header, Moment, Msa, ack_text, stamp};
+use play_script::shown;
+use std::alloc::Global;
+
+const CAUSES: [Cause; 11] = [
+    Cause::UnsupportedType,
+    Cause::UnsupportedProcessing,
+    Cause::UnsupportedVersion,
+    Cause::MissingControlId,
+    Cause::BadControlId,
+    Cause::SourceTransform,
+    Cause::RouteTransform,
+    Cause::IdReused,
+    Cause::NoMemory,
+    Cause::Full,
+    Cause::PlanChanged,
+];
+
+/// The cause of a name.
+fn cause_named(name: &str) -> Result<Cause> {
+    for cause in CAUSES {
+        if cause.text() == name.as_bytes() {
+            return Ok(cause);
+        }
+    }
+    Err(anyhow!("{name} is no cause"))
+}
+
+/// The type of acknowledgment of a name.
+fn type_named(name: &str) -> Result<AckType> {
+    Ok(match name {
+        "AL" => AckType::AL,
+        "NE" => AckType::NE,
+        "ER" => AckType::ER,
+        "SU" => AckType::SU,
+        _ => return Err(anyhow!("{name} is no type of acknowledgment")),
+    })
+}
+
+/// What became of a message: success, or a refusal for a cause.
+fn verdictum_named(name: &str) -> Result<Verdictum> {
+    if name == "success" {
+        return Ok(Verdictum::Success);
+    }
+    Ok(Verdictum::of_cause(cause_named(name)?))
+}
+
+/// The codes that are told, each after a space.
+fn codes_told(alloc: Global, mode: AckMode, verdictum: Verdictum) -> Result<String> {
+    let mut told = String::new(alloc);
+    for part in parts(mode, verdictum) {
+        if let Some(part) = part {
+            told = format!(in alloc; "{told} {:?}", part.code)?;
+        }
+    }
+    if told.is_empty() {
+        told.push_str(" none")?;
+    }
+    Ok(told)
+}
+
+/// What is told in enhanced mode: on success, on a rejection and on an error.
+fn pair_told(alloc: Global, accept: &str, application: &str) -> Result<String> {
+    let mode = AckMode::Enhanced {
+        accept: type_named(accept)?,
+        application: type_named(application)?,
+    };
+    let success = codes_told(alloc, mode, Verdictum::Success)?;
+    let rejected = codes_told(alloc, mode, Verdictum::of_cause(Cause::UnsupportedType))?;
+    let erroneous = codes_told(alloc, mode, Verdictum::of_cause(Cause::IdReused))?;
+    Ok(format!(in alloc; "success{success}, rejected{rejected}, erroneous{erroneous}")?)
+}
+
+/// The number of a cause, and by which codes it is told.
+fn cause_told(alloc: Global, name: &str) -> Result<String> {
+    let cause = cause_named(name)?;
+    let always = AckMode::Enhanced {
+        accept: AckType::AL,
+        application: AckType::AL,
+    };
+    let commit = codes_told(alloc, always, Verdictum::of_cause(cause))?;
+    let answer = codes_told(alloc, AckMode::Original, Verdictum::of_cause(cause))?;
+    Ok(format!(in alloc; "{}{commit}{answer}", cause.code())?)
+}
+
+/// The stamp of a moment.
+fn stamped(alloc: Global, seconds: &str) -> Result<String> {
+    match Moment::of_unix(seconds.parse()?) {
+        Ok(moment) => Ok(format!(in alloc;
+            "{} at {}",
+            shown(alloc, &stamp(moment))?,
+            moment.secs()
+        )?),
+        Err(range) => Ok(format!(in alloc; "{range:?}")?),
+    }
+}
+
+/// The fields and components of the header, and the delimiters.
+fn pieces(alloc: Global, header: &Header) -> Result<String> {
+    let delims = header.delims();
+    let declared = [
+        delims.field(),
+        delims.component(),
+        delims.repetition(),
+        delims.escape(),
+        delims.subcomponent(),
+    ];
+    let pieces: [(&str, &[u8]); 14] = [
+        (" 2", header.encoding_characters()),
+        (" 3", header.sending_application()),
+        (" 4", header.sending_facility()),
+        (" 5", header.receiving_application()),
+        (" 6", header.receiving_facility()),
+        (" 9.1", header.message_code()),
+        (" 9.2", header.trigger_event()),
+        (" 10", header.control_id()),
+        (" 11", header.processing_id()),
+        (" 11.1", header.processing_code()),
+        (" 12", header.version_id()),
+        (" 12.1", header.version_code()),
+        (" 15", header.accept_type()),
+        (" 16", header.application_type()),
+    ];
+    let mut told = format!(in alloc; "delimiters={}", shown(alloc, &declared)?)?;
+    for (name, piece) in pieces {
+        told = format!(in alloc; "{told}{name}={}", shown(alloc, piece)?)?;
+    }
+    Ok(told)
+}
+
+/// The acknowledgments of the message, from a number on, each in angle brackets as a block.
+fn acknowledged(
+    alloc: Global,
+    header: &Header,
+    told: &str,
+    seconds: &str,
+    connection: &str,
+    first: &str,
+) -> Result<String> {
+    let moment = Moment::of_unix(seconds.parse()?)?;
+    let connection = connection.parse()?;
+    let mut number = first.parse::<u32>()?;
+    let mut texts = String::new(alloc);
+    for part in parts(AckMode::of(header), verdictum_named(told)?) {
+        if let Some(part) = part {
+            let text = ack_text(alloc, header, &part, moment, connection, number)?;
+            texts = format!(in alloc; "{texts}[{}]", shown(alloc, &text)?)?;
+            number = number.saturating_add(1);
+        }
+    }
+    if texts.is_empty() {
+        texts.push_str("none")?;
+    }
+    Ok(texts)
+}
+
+/// The fields of the message's first MSA.
+fn answered(alloc: Global, message: &Message) -> Result<String> {
+    match Msa::read(alloc, message)? {
+        None => Ok(String::from_str(alloc, "none")?),
+        Some(msa) => {
+            let code = shown(alloc, &msa.code)?;
+            let control_id = shown(alloc, &msa.control_id)?;
+            let text = shown(alloc, &msa.text)?;
+            Ok(format!(in alloc; "1={code} 2={control_id} 3={text}")?)
+        }
+    }
+}
+
+/// The answer to a call on the header or on acknowledgments, where the words are one.
+pub fn play(alloc: Global, message: &Message, words: &[&str]) -> Result<Option<String>> {
+    let header = Header::read(alloc, message)?;
+    Ok(Some(match words {
+        ["fields"] => pieces(alloc, &header)?,
+        ["mode"] => format!(in alloc; "{:?}", AckMode::of(&header))?,
+        ["msa"] => answered(alloc, message)?,
+        ["stamp", seconds] => stamped(alloc, seconds)?,
+        ["cause", name] => cause_told(alloc, name)?,
+        ["pair", accept, application] => pair_told(alloc, accept, application)?,
+        ["ack", told, seconds, connection, first] => {
+            acknowledged(alloc, &header, told, seconds, connection, first)?
+        }
+        _ => return Ok(None),
+    }))
+}

@@ -1,0 +1,26 @@
+//! Plays a script of calls on one message: a line of standard input is a call, and a line of standard output is that line and
+//! its answer. Empty lines and those that begin with `#` are written as they are.
+#![tactic(auto)]
+
+mod text;
+
+use anyhow::{Result, bail};
+use play_script::words_of;
+use text::Text;
+
+fn main(rt: HostRuntime) -> Result<()> {
+    let alloc = rt.alloc();
+    let mut text = Text::new(alloc)?;
+    for line in rt.lines(alloc) {
+        let line = line?;
+        if line.is_empty() || line.starts_with('#') {
+            println!(rt; "{line}")?;
+            continue;
+        }
+        match text.play(&words_of(alloc, line.as_str())?)? {
+            Some(answer) => println!(rt; "{line} => {answer}")?,
+            None => bail!("{line} is no call"),
+        }
+    }
+    Ok(())
+}
