@@ -23,7 +23,7 @@ use Rattle.plan_text.specs.Destinations.{destinations}
 use Rattle.plan_text.specs.Channels.{place_of, leads_to, new_place, way_at, route_to, route, route_keys, routes_at, taken_at, channel, channel_keys, channel_has_name}
 use Rattle.plan_text.specs.Document.{some_within}
 use Rattle.plan_text.proofs.Deep.{filter-levels}
-use Rattle.plan_text.proofs.Laws.{bound, told_Ok, name_is, list_is, passed, each_after-length, each_after-keeps, differs, destinations-are}
+use Rattle.plan_text.proofs.Laws.{bound, told_Ok, kept, name_is, list_is, passed, each_after-length, each_after-keeps, differs, destinations-are}
 
 shallow : (at : List ℕ) (v : Option Data) (filter : Option Condition) → filter_at at v ≡ Ok filter → IsShallow filter
 shallow at v None h = tt
@@ -42,12 +42,6 @@ stands at s u h = by_check (check_step s) h
 abbrev Stands : Result Edit PlanFault → Type 0
 Stands r = (s : Edit) → r ≡ Ok s → may_stand s ≡ true
 
-abbrev edit_as : Edit → Result Edit PlanFault
-edit_as s = Ok s
-
-same_stands : (s t : Edit) → edit_as s ≡ Ok t → may_stand s ≡ true → may_stand t ≡ true
-same_stands s t e h = let same : s ≡ t = cc in subst (λ x. may_stand x ≡ true) same h
-
 step-stands : (at : List ℕ) (d : Data) → Stands (step at d)
 unfolding step
 step-stands at d s h =
@@ -55,7 +49,7 @@ step-stands at d s h =
     let k = bound (step_key at t.0) _ s t.1.1 in
     let r = bound (step_by k.0 at t.0) _ s k.1.1 in
     let u = bound (stands_at (key_path at k.0) r.0) _ s r.1.1 in
-    same_stands r.0 s u.1.1 (stands (key_path at k.0) r.0 u.0 u.1.0)
+    kept (λ x. may_stand x ≡ true) r.0 s u.1.1 (stands (key_path at k.0) r.0 u.0 u.1.0)
 
 steps-stand : (at : List ℕ) (v : Option Data) (steps : List Edit) → steps_at at v ≡ Ok steps → AllStand steps
 unfolding steps_at
@@ -107,21 +101,13 @@ record IsNew (ds : List DestinationEntry) (before : List RouteEntry) (r : RouteE
   pub shallow : IsShallow r.filter
   pub stand : AllStand r.steps
 
-abbrev way_as : Option Condition × List Edit → Result (Option Condition × List Edit) PlanFault
-way_as w = Ok w
-
 way-is : (at : List ℕ) (t : Members) (w : Option Condition × List Edit) → way_at at t ≡ Ok w → IsShallow w.0 × AllStand w.1
 unfolding way_at
 way-is at t w h =
     let filter = bound (filter_at (key_path at (codes "filter")) (get_member (codes "filter") t)) _ w h in
     let steps = bound (steps_at (key_path at (codes "steps")) (get_member (codes "steps") t)) _ w filter.1.1 in
-    same (filter.0, steps.0) steps.1.1 (shallow (key_path at (codes "filter")) (get_member (codes "filter") t) filter.0 filter.1.0, steps-stand (key_path at (codes "steps")) (get_member (codes "steps") t) steps.0 steps.1.0)
-  where
-    same : (v : Option Condition × List Edit) → way_as v ≡ Ok w → IsShallow v.0 × AllStand v.1 → IsShallow w.0 × AllStand w.1
-    same v e is = let e' : v ≡ w = cc in subst (λ (z : Option Condition × List Edit). IsShallow z.0 × AllStand z.1) e' is
-
-abbrev route_as : RouteEntry → Result RouteEntry PlanFault
-route_as r = Ok r
+    kept (λ (z : Option Condition × List Edit). IsShallow z.0 × AllStand z.1) (filter.0, steps.0) w steps.1.1
+    (shallow (key_path at (codes "filter")) (get_member (codes "filter") t) filter.0 filter.1.0, steps-stand (key_path at (codes "steps")) (get_member (codes "steps") t) steps.0 steps.1.0)
 
 route-is : (ds : List DestinationEntry) (before : List RouteEntry) (at : List ℕ) (d : Data) (x : RouteEntry) → route ds before at d ≡ Ok x → IsNew ds before x
 unfolding route
@@ -132,10 +118,7 @@ route-is ds before at d x h =
     let way = bound (way_at at t.0) _ x to.1.1 in
     let is = way-is at t.0 way.0 way.1.0 in
     let place = route_to-is ds before (get_member (codes "to") t.0) to.0 (told_Ok _ _ _ to.1.0) in
-    whole (record { to = to.0; filter = way.0.0; steps = way.0.1 }) way.1.1 (record { leads = place.0; free = place.1; shallow = is.0; stand = is.1 })
-  where
-    whole : (y : RouteEntry) → route_as y ≡ Ok x → IsNew ds before y → IsNew ds before x
-    whole y e is = let same : y ≡ x = cc in subst (IsNew ds before) same is
+    kept (IsNew ds before) (record { to = to.0; filter = way.0.0; steps = way.0.1 }) x way.1.1 (record { leads = place.0; free = place.1; shallow = is.0; stand = is.1 })
 
 no_routes : (ds : List DestinationEntry) → AreRoutes ds []
 no_routes ds = record { lead = All-nil (λ r. r.to < length ds); apart = λ i j d lt in'. absurd (omega arith); shallow = All-nil (λ r. IsShallow r.filter); stand = All-nil (λ r. AllStand r.steps) }
@@ -162,9 +145,6 @@ routes-are ds at (Some d) routes h =
     let items = bound (told at (list d)) (each_after (route ds) at []) routes h in
     each_after-keeps (route ds) at (AreRoutes ds) (another_route ds) [] items.0 routes (no_routes ds) items.1.1
 
-abbrev channel_as : ChannelEntry → Result ChannelEntry PlanFault
-channel_as c = Ok c
-
 channel-is : (ds : List DestinationEntry) (before : List ChannelEntry) (at : List ℕ) (d : Data) (x : ChannelEntry) → channel ds before at d ≡ Ok x → IsChannel ds x × (channel_has_name before x.name ≡ false)
 unfolding channel
 channel-is ds before at d x h =
@@ -177,21 +157,18 @@ channel-is ds before at d x h =
     let is = way-is at t.0 way.0 way.1.0 in
     let routes = bound (routes_at ds (key_path at (codes "route")) (get_member (codes "route") t.0)) _ x way.1.1 in
     let are = routes-are ds (key_path at (codes "route")) (get_member (codes "route") t.0) routes.0 routes.1.0 in
-    whole (record { name = name.0; listen = listen.0; types = taken.0.0; processing = taken.0.1.0; versions = taken.0.1.1; filter = way.0.0; steps = way.0.1; routes = routes.0 }) routes.1.1
-    (record {
-      shallow = is.0;
-      stand = is.1;
-      routes_lead = are.lead;
-      routes_apart = are.apart;
-      routes_shallow = are.shallow;
-      routes_stand = are.stand;
-    })
-    (name_is (channel_has_name before) (get_member (codes "name") t.0) name.0 (told_Ok _ _ _ name.1.0))
-  where
-    whole : (y : ChannelEntry) → channel_as y ≡ Ok x → IsChannel ds y → channel_has_name before y.name ≡ false → IsChannel ds x × (channel_has_name before x.name ≡ false)
-    whole y e is free =
-        let same : y ≡ x = cc in
-        subst (λ z. IsChannel ds z × (channel_has_name before z.name ≡ false)) same (is, free)
+    kept (λ z. IsChannel ds z × (channel_has_name before z.name ≡ false))
+    (record { name = name.0; listen = listen.0; types = taken.0.0; processing = taken.0.1.0; versions = taken.0.1.1; filter = way.0.0; steps = way.0.1; routes = routes.0 }) x routes.1.1 (
+      record {
+        shallow = is.0;
+        stand = is.1;
+        routes_lead = are.lead;
+        routes_apart = are.apart;
+        routes_shallow = are.shallow;
+        routes_stand = are.stand;
+      },
+      name_is (channel_has_name before) (get_member (codes "name") t.0) name.0 (told_Ok _ _ _ name.1.0),
+    )
 
 -- what holds of the channels of every plan
 pub record AreChannels (ds : List DestinationEntry) (cs : List ChannelEntry) : Type 0 where

@@ -30,6 +30,13 @@ pub told_Ok : {A : Type 0} (at : List ℕ) (r : Result A FaultName) (x : A) → 
 told_Ok at (Ok y) x h = let same : y ≡ x = cc in ap Ok same
 told_Ok at (Err n) x h = cc
 
+-- what holds of what a chain ends with holds of what was read
+abbrev as_read : {A : Type 0} → A → Result A PlanFault
+as_read x = Ok x
+
+pub kept : {A : Type 0} (P : A → Type 0) (x y : A) → as_read x ≡ Ok y → P x → P y
+kept P x y e p = let same : x ≡ y = cc in subst P same p
+
 -- what a test that lets a value through says of it
 pub passed : {A : Type 0} (b : Bool) (x y : A) (n : FaultName) (r : Result A FaultName) → r ≡ Ok y → r ≡ (if b then Ok x else Err n) → (b ≡ true) × (x ≡ y)
 passed true x y n r h is = (refl, cc)
@@ -101,9 +108,6 @@ differs f xs s none k d lt same =
     let found : list_any (λ x. bytes_eq (f x) s) xs ≡ true = list_any_at (λ x. bytes_eq (f x) s) xs k d lt ((bytes_eq-Decides (f (get_or xs k d)) s).1 same) in
     let bad : true ≡ false = sym found ∙ none in cc
 
-abbrev sent_as : Sending → Result Sending PlanFault
-sent_as y = Ok y
-
 -- the numbers of a destination are within their bounds
 record IsSent (s : Sending) : Type 0 where
   pub attempts : (1 ≤ s.attempts) × (s.attempts ≤ 100)
@@ -117,17 +121,11 @@ sending-is at t x h =
     let interval = bound (key at t (codes "interval") (or_else 10 (number_within 0 86400))) _ x attempts.1.1 in
     let timeout = bound (key at t (codes "timeout") (or_else 30 (number_within 1 3600))) _ x interval.1.1 in
     let wait = bound (key at t (codes "await") (or_else await.Ack (text_as await_word))) _ x timeout.1.1 in
-    whole (record { attempts = attempts.0; interval = interval.0; timeout = timeout.0; wait = wait.0 }) wait.1.1 (record {
+    kept IsSent (record { attempts = attempts.0; interval = interval.0; timeout = timeout.0; wait = wait.0 }) x wait.1.1 (record {
       attempts = number_is 3 1 100 attempts.0 (get_member (codes "attempts") t) (lit≤ tt) (lit≤ tt) (told_Ok _ _ _ attempts.1.0);
       interval = (number_is 10 0 86400 interval.0 (get_member (codes "interval") t) (lit≤ tt) (lit≤ tt) (told_Ok _ _ _ interval.1.0)).1;
       timeout = number_is 30 1 3600 timeout.0 (get_member (codes "timeout") t) (lit≤ tt) (lit≤ tt) (told_Ok _ _ _ timeout.1.0);
     })
-  where
-    whole : (y : Sending) → sent_as y ≡ Ok x → IsSent y → IsSent x
-    whole y e is = let same : y ≡ x = cc in subst IsSent same is
-
-abbrev read_as : DestinationEntry → Result DestinationEntry PlanFault
-read_as y = Ok y
 
 pub destination-is : (before : List DestinationEntry) (at : List ℕ) (d : Data) (x : DestinationEntry) → destination before at d ≡ Ok x → IsDestination x × (has_name before x.name ≡ false)
 unfolding destination
@@ -139,13 +137,9 @@ destination-is before at d x h =
     let sent = bound (sending at t.0) _ x address.1.1 in
     let is = sending-is at t.0 sent.0 sent.1.0 in
     let free = name_is (has_name before) (get_member (codes "name") t.0) name.0 (told_Ok _ _ _ name.1.0) in
-    whole (record { name = name.0; address = address.0; attempts = sent.0.attempts; interval = sent.0.interval; timeout = sent.0.timeout; wait = sent.0.wait }) sent.1.1
-    (record { tried = is.attempts.0; attempts = is.attempts.1; interval = is.interval; waited = is.timeout.0; timeout = is.timeout.1 }) free
-  where
-    whole : (y : DestinationEntry) → read_as y ≡ Ok x → IsDestination y → has_name before y.name ≡ false → IsDestination x × (has_name before x.name ≡ false)
-    whole y e is free =
-        let same : y ≡ x = cc in
-        subst (λ z. IsDestination z × (has_name before z.name ≡ false)) same (is, free)
+    kept (λ z. IsDestination z × (has_name before z.name ≡ false))
+    (record { name = name.0; address = address.0; attempts = sent.0.attempts; interval = sent.0.interval; timeout = sent.0.timeout; wait = sent.0.wait }) x sent.1.1
+    (record { tried = is.attempts.0; attempts = is.attempts.1; interval = is.interval; waited = is.timeout.0; timeout = is.timeout.1 }, free)
 
 -- what holds of the destinations of every plan
 pub record AreDestinations (ds : List DestinationEntry) : Type 0 where

@@ -14,19 +14,10 @@ use Rattle.plan_text.specs.Keys.{required, item_count}
 use Rattle.plan_text.specs.Conditions.{path_by, path_in, path_and_text, path_and_texts, text_pair, text_and_list, all_texts}
 
 -- a step that fails ends its chain
-pub stops : {A B : Type 0} (e : Stop) (r : Result A PlanFault) (f : A → Result B PlanFault) → Fails e r → Fails e (r >>= f)
-stops stop.NoMemory r f h = tt
-stops (stop.Fault x) r f h = rw h refl
-
--- the same before the fault is told
 pub told_stops : {A B : Type 0} (e : Stop) (at : List ℕ) (r : Result A FaultName) (f : A → Result B FaultName) → Fails e (told at r) → Fails e (told at (r >>= f))
 told_stops stop.NoMemory at r f h = tt
 told_stops (stop.Fault x) at (Ok y) f h = cc
 told_stops (stop.Fault x) at (Err n) f h = let same : fault_at n at ≡ x = cc in ap (λ (g : PlanFault). Err g) same
-
--- a chain goes on behind a step that read something
-pub goes : {A B : Type 0} (e : Stop) (r : Result A PlanFault) (x : A) (f : A → Result B PlanFault) → r ≡ Ok x → Fails e (f x) → Fails e (r >>= f)
-goes e r x f h k = rw h k
 
 pub bad_path : (e : Stop) (at : List ℕ) (text : List ℕ) (r : Refusal) (x : Refusal) → ok_or (path_of text) r ≡ Err x → IsStop e (fault_at name.BadPath at) → Fails e (told at (path_in text))
 bad_path e at text r x h is = by_place e (path_of text) h is
@@ -36,25 +27,20 @@ bad_path e at text r x h is = by_place e (path_of text) h is
     by_place stop.NoMemory None h is = tt
     by_place (stop.Fault f) None h is = ap (λ (g : PlanFault). Err g) (sym is)
 
--- a value that is there
-there : (at : List ℕ) (v : Option Data) (d : Data) → told at (required Ok v) ≡ Ok d → v ≡ Some d
-there at None d h = cc
-there at (Some x) d h = cc
-
-pub path_and_text-fails : (e : Stop) (at : List ℕ) (v : Option Data) (d : Data) (p t : List ℕ) → told at (required Ok v) ≡ Ok d → Some (p, t) ≡ text_pair d
+pub path_and_text-fails : (e : Stop) (at : List ℕ) (v : Option Data) (d : Data) (p t : List ℕ) → v ≡ Some d → Some (p, t) ≡ text_pair d
     → Fails e (told at (path_in p)) → Fails e (told at (required path_and_text v))
-path_and_text-fails e at v d p t h pair bad = rw (there at v d h, ← pair) (told_stops e at (path_in p) _ bad)
+path_and_text-fails e at v d p t h pair bad = rw (h, ← pair) (told_stops e at (path_in p) _ bad)
 
-pub path_and_texts-fails : (e : Stop) (at : List ℕ) (v : Option Data) (d : Data) (p : List ℕ) (ds : Items) (texts : List (List ℕ)) → told at (required Ok v) ≡ Ok d → Some (p, ds) ≡ text_and_list d
+pub path_and_texts-fails : (e : Stop) (at : List ℕ) (v : Option Data) (d : Data) (p : List ℕ) (ds : Items) (texts : List (List ℕ)) → v ≡ Some d → Some (p, ds) ≡ text_and_list d
     → Some texts ≡ all_texts ds → nat_le (item_count ds) 256 ≡ true
     → Fails e (told at (path_in p)) → Fails e (told at (required path_and_texts v))
-path_and_texts-fails e at v d p ds texts h pair all few bad = rw (there at v d h, ← pair, ← all, few) (told_stops e at (path_in p) _ bad)
+path_and_texts-fails e at v d p ds texts h pair all few bad = rw (h, ← pair, ← all, few) (told_stops e at (path_in p) _ bad)
 
 told_goes : {A B : Type 0} (at : List ℕ) (r : Result A FaultName) (x : A) (f : A → Result B FaultName) → told at r ≡ Ok x → told at (r >>= f) ≡ told at (f x)
 told_goes at (Ok y) x f h = let same : y ≡ x = cc in rw same refl
 told_goes at (Err n) x f h = cc
 
-pub path_and_texts-reads : (at : List ℕ) (v : Option Data) (d : Data) (p : List ℕ) (ds : Items) (texts : List (List ℕ)) (place : Place) → told at (required Ok v) ≡ Ok d → Some (p, ds) ≡ text_and_list d
+pub path_and_texts-reads : (at : List ℕ) (v : Option Data) (d : Data) (p : List ℕ) (ds : Items) (texts : List (List ℕ)) (place : Place) → v ≡ Some d → Some (p, ds) ≡ text_and_list d
     → Some texts ≡ all_texts ds → nat_le (item_count ds) 256 ≡ true
     → told at (path_in p) ≡ Ok place → told at (required path_and_texts v) ≡ Ok (place, texts)
-path_and_texts-reads at v d p ds texts place h pair all few is = rw (there at v d h, ← pair, ← all, few) (told_goes at (path_in p) place _ is)
+path_and_texts-reads at v d p ds texts place h pair all few is = rw (h, ← pair, ← all, few) (told_goes at (path_in p) place _ is)

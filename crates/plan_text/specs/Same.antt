@@ -1,7 +1,7 @@
 -- When two plans say the same: the test that `==` is, and that it decides equality.
 use Rattle.std.specs.Prelude.{◌≡◌, refl, List, Option, Some, None, Bool, true, false, ◌&&◌, ◌==◌}
 use Rattle.std.specs.Bool.{Decides}
-use Rattle.std.specs.Cmp.{IsPartialEquivalence}
+use Rattle.std.specs.Cmp.{IsPartialEquivalence, both_ways}
 use Rattle.std.specs.Cmp.Lexicographic.{pointwise}
 use Rattle.std.specs.Option.{option_eq}
 use Rattle.std.specs.Str.{bytes_eq}
@@ -22,14 +22,9 @@ use Rattle.plan_text.specs.declared.channel.VersionId.TheVariants as version
 use Rattle.plan_text.specs.Entries.{DestinationEntry, RouteEntry, ChannelEntry, PlanEntry}
 
 -- a test that decides equality meets the laws of `==`
-as_bool : (a b : Bool) → (a ≡ true → b ≡ true) → (b ≡ true → a ≡ true) → a ≡ b
-as_bool true b f g = sym (f refl)
-as_bool false true f g = g refl
-as_bool false false f g = refl
-
 pub laws_from_Decides : {A : Type 0} (same : A → A → Bool) → ((x y : A) → Decides (same x y) (x ≡ y)) → IsPartialEquivalence same
 laws_from_Decides same d = record {
-  symm = λ x y. as_bool (same x y) (same y x) (λ h. (d y x).1 (sym ((d x y).0 h))) (λ h. (d x y).1 (sym ((d y x).0 h)));
+  symm = λ x y. both_ways (same x y) (same y x) (λ h. (d y x).1 (sym ((d x y).0 h))) (λ h. (d x y).1 (sym ((d y x).0 h)));
   trans = λ x y z h i. (d x z).1 ((d x y).0 h ∙ (d y z).0 i);
 }
 
@@ -73,38 +68,26 @@ same_plan p q = pointwise same_destination p.destinations q.destinations && poin
 
 pub same_wait-Decides : (x y : Await) → Decides (same_wait x y) (x ≡ y)
 same_wait-Decides await.Ack await.Ack = (λ _. refl, λ _. refl)
-same_wait-Decides await.Ack await.None = (λ h. cc, λ h. cc)
-same_wait-Decides await.None await.Ack = (λ h. cc, λ h. cc)
 same_wait-Decides await.None await.None = (λ _. refl, λ _. refl)
+same_wait-Decides x y = (λ h. cc, λ h. cc)
 
 pub same_processing-Decides : (x y : ProcessingId) → Decides (same_processing x y) (x ≡ y)
 same_processing-Decides processing.Production processing.Production = (λ _. refl, λ _. refl)
-same_processing-Decides processing.Production processing.Training = (λ h. cc, λ h. cc)
-same_processing-Decides processing.Production processing.Debugging = (λ h. cc, λ h. cc)
-same_processing-Decides processing.Training processing.Production = (λ h. cc, λ h. cc)
 same_processing-Decides processing.Training processing.Training = (λ _. refl, λ _. refl)
-same_processing-Decides processing.Training processing.Debugging = (λ h. cc, λ h. cc)
-same_processing-Decides processing.Debugging processing.Production = (λ h. cc, λ h. cc)
-same_processing-Decides processing.Debugging processing.Training = (λ h. cc, λ h. cc)
 same_processing-Decides processing.Debugging processing.Debugging = (λ _. refl, λ _. refl)
+same_processing-Decides x y = (λ h. cc, λ h. cc)
 
 pub same_version-Decides : (x y : VersionId) → Decides (same_version x y) (x ≡ y)
 same_version-Decides version.Any version.Any = (λ _. refl, λ _. refl)
-same_version-Decides version.Any (version.Exactly w) = (λ h. cc, λ h. cc)
-same_version-Decides (version.Exactly v) version.Any = (λ h. cc, λ h. cc)
 same_version-Decides (version.Exactly v) (version.Exactly w) = Decides-like _ (λ h. ap version.Exactly h) (λ h. cc) (bytes_eq-Decides v w)
+same_version-Decides x y = (λ h. cc, λ h. cc)
 
 pub same_type-Decides : (x y : MessageType) → Decides (same_type x y) (x ≡ y)
 same_type-Decides type.Any type.Any = (λ _. refl, λ _. refl)
-same_type-Decides type.Any (type.Code d) = (λ h. cc, λ h. cc)
-same_type-Decides type.Any (type.CodeAndEvent d f) = (λ h. cc, λ h. cc)
-same_type-Decides (type.Code c) type.Any = (λ h. cc, λ h. cc)
 same_type-Decides (type.Code c) (type.Code d) = Decides-like _ (λ h. ap type.Code h) (λ h. cc) (bytes_eq-Decides c d)
-same_type-Decides (type.Code c) (type.CodeAndEvent d f) = (λ h. cc, λ h. cc)
-same_type-Decides (type.CodeAndEvent c e) type.Any = (λ h. cc, λ h. cc)
-same_type-Decides (type.CodeAndEvent c e) (type.Code d) = (λ h. cc, λ h. cc)
 same_type-Decides (type.CodeAndEvent c e) (type.CodeAndEvent d f) =
     Decides-like _ (λ h. λ i. type.CodeAndEvent (h.0 i) (h.1 i)) (λ h. (cc, cc)) (Decides-and _ _ (bytes_eq-Decides c d) (bytes_eq-Decides e f))
+same_type-Decides x y = (λ h. cc, λ h. cc)
 
 -- of a list of such
 lists : {A : Type 0} {same : A → A → Bool} → ((x y : A) → Decides (same x y) (x ≡ y)) → (xs ys : List A) → Decides (pointwise same xs ys) (xs ≡ ys)
@@ -143,14 +126,8 @@ same_plan-Decides x y = Decides-like _
     (λ h. (ap (λ p. p.destinations) h, ap (λ p. p.channels) h))
     (Decides-and _ _ (lists same_destination-Decides x.destinations y.destinations) (lists same_channel-Decides x.channels y.channels))
 
-pub wait_laws : IsPartialEquivalence same_wait
-wait_laws = laws_from_Decides same_wait same_wait-Decides
-
 pub type_laws : IsPartialEquivalence same_type
 type_laws = laws_from_Decides same_type same_type-Decides
-
-pub processing_laws : IsPartialEquivalence same_processing
-processing_laws = laws_from_Decides same_processing same_processing-Decides
 
 pub version_laws : IsPartialEquivalence same_version
 version_laws = laws_from_Decides same_version same_version-Decides

@@ -42,9 +42,7 @@ fn route_to(destinations: &[Destination], before: &[Route], key: &Key<'_>) -> Re
     requires { length destinations.now ≤ 32 }
     ensures { Gives (λ n. n) result (at_key key.now (required (route_to destinations.now before.now))) }
 {
-    let Some(value) = key.value else {
-        return Err(key.fault(FaultName::Missing));
-    };
+    let value = key.required()?;
     let Some(name) = value.as_str() else {
         return Err(key.fault(FaultName::BadRange));
     };

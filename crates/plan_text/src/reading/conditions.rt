@@ -67,16 +67,6 @@ fn texts_of(alloc: Global, values: &Array) -> Result<Option<Vec<Bytes>>, AllocEr
 }
 
 impl<'a> Key<'a> {
-    /// What stands at this key.
-    pub(crate) fn required(&self) -> Result<&'a Value, Stop>
-        ensures { Gives (λ v. view v.now) result (at_key self.now (required Ok)) }
-    {
-        match self.value {
-            Some(value) => Ok(value),
-            None => Err(self.fault(FaultName::Missing)),
-        }
-    }
-
     /// The path that a text of this key names.
     pub(crate) fn path_in(&self, text: &str) -> Result<Path, Stop>
         ensures { Gives (λ p. p) result (told (key_at self.now) (path_in text.now)) }

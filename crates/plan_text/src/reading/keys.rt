@@ -2,9 +2,10 @@
 
 ghost use Rattle.std.specs.List.{list_any};
 ghost use Rattle.std.specs.Str.{bytes_eq};
-ghost use Rattle.std.specs.Prelude.{◌≡◌, ℕ, List, map, filter, is_some, option_map, string_bytes, IfOk};
+ghost use Rattle.std.specs.Prelude.{◌≡◌, ℕ, List, map, filter, is_some, option_map, string_bytes, Some, None, IfOk, IfErr};
 ghost use Rattle.toml.specs.Data.{get_member};
 ghost use Rattle.toml.specs.View.{view, table_view, array_view};
+ghost use Rattle.plan_text.specs.declared.fault.FaultName.TheVariants as name;
 ghost use Rattle.plan_text.specs.Fault.{IsStop, Gives, fault_at};
 ghost use Rattle.plan_text.specs.Keys.{key_path, member_path, unknown_key, no_key, only_one, table_at, list_within, required, or_else};
 ghost use Rattle.plan_text.specs.Kinds.{text_within, number_within};
@@ -143,7 +144,7 @@ pub(crate) struct Key<'a> {
 }
 
 impl<'a> Key<'a> {
-    ghost use Rattle.plan_text.specs.AtKey.{at_key, key_at};
+    ghost use Rattle.plan_text.specs.AtKey.{at_key, key_at, value_at};
 
     /// The path to this key.
     pub(crate) fn path(&self) -> Result<String, AllocError>
@@ -159,13 +160,22 @@ impl<'a> Key<'a> {
         stop_at(name, self.path())
     }
 
+    /// What stands at this key.
+    pub(crate) fn required(&self) -> Result<&'a Value, Stop>
+        ensures there { IfOk result (λ v. value_at self.now ≡ Some (view v.now)) }
+        ensures missing { IfErr result (λ e. (value_at self.now ≡ None) × IsStop e (fault_at name.Missing (key_at self.now))) }
+    {
+        match self.value {
+            Some(value) => Ok(value),
+            None => Err(self.fault(FaultName::Missing)),
+        }
+    }
+
     /// A required text of `low` to `high` bytes.
     pub(crate) fn text(&self, low: usize, high: usize) -> Result<&'a str, Stop>
         ensures { Gives (λ s. s.now) result (at_key self.now (required (text_within low high))) }
     {
-        let Some(value) = self.value else {
-            return Err(self.fault(FaultName::Missing));
-        };
+        let value = self.required()?;
         match value.as_str() {
             Some(text) if low <= text.len() && text.len() <= high => Ok(text),
             _ => Err(self.fault(FaultName::BadRange)),
@@ -193,9 +203,7 @@ impl<'a> Key<'a> {
     pub(crate) fn list(&self, most: usize) -> Result<&'a Array, Stop>
         ensures { Gives (λ v. array_view v.now) result (at_key self.now (required (list_within most))) }
     {
-        let Some(value) = self.value else {
-            return Err(self.fault(FaultName::Missing));
-        };
+        let value = self.required()?;
         match value.as_array() {
             Some(values) if values.len() <= most => Ok(values),
             Some(_) => Err(self.fault(FaultName::TooMany)),

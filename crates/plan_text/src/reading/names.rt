@@ -47,9 +47,7 @@ fn is_named<N: Named>(all: &[N], name: &str) -> bool
 pub(crate) fn new_name<'a, N: Named>(key: &Key<'a>, before: &[N]) -> Result<&'a str, Stop>
     ensures { Gives (λ s. s.now) result (at_key key.now (required (new_name (is_named N.named before.now)))) }
 {
-    let Some(value) = key.value else {
-        return Err(key.fault(FaultName::Missing));
-    };
+    let value = key.required()?;
     match value.as_str() {
         Some(name) if is_name(name) => {
             if is_named(before, name) {

@@ -70,9 +70,7 @@ impl<'a> Key<'a> {
     fn any_text(&self) -> Result<&'a str, Stop>
         ensures { Gives (λ s. s.now) result (at_key self.now (required any_text)) }
     {
-        let Some(value) = self.value else {
-            return Err(self.fault(FaultName::Missing));
-        };
+        let value = self.required()?;
         match value.as_str() {
             Some(text) => Ok(text),
             None => Err(self.fault(FaultName::BadRange)),
@@ -83,9 +81,7 @@ impl<'a> Key<'a> {
     fn two_texts(&self) -> Result<(&'a str, &'a str), Stop>
         ensures { Gives (λ p. (p.0.now, p.1.now)) result (at_key self.now (required two_texts)) }
     {
-        let Some(value) = self.value else {
-            return Err(self.fault(FaultName::Missing));
-        };
+        let value = self.required()?;
         match text_pair(value) {
             Some(texts) => Ok(texts),
             None => Err(self.fault(FaultName::BadRange)),

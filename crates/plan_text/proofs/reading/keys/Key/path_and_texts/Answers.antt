@@ -10,9 +10,9 @@ pub returns-in_err-path_in : goal.returns-in_err-path_in
 returns-in_err-path_in c =
     let p = err_from_is_err_and c.from_residual-in_err-path_in.result c.from_residual-in_err-path_in.ensures.1 in
     let few : nat_le (item_count (array_view c.in-Some.values.now)) 256 ≡ true = rw (item_count_view c.in-Some.values.now.items) (le-leb _ _ (omega arith)) in
-    rw (p.1, p.2) (path_and_texts-fails c.in_err-path_in.field-0.0 _ _ _ c.in-Some.path.now (array_view c.in-Some.values.now) c.in-Some-2.texts.items c.in_ok-required.ensures c.in-Some.ensures (search rules) few c.in_err-path_in.ensures)
+    rw (p.1, p.2) (path_and_texts-fails c.in_err-path_in.field-0.0 _ _ _ c.in-Some.path.now (array_view c.in-Some.values.now) c.in-Some-2.texts.items c.in_ok-required.ensures.there c.in-Some.ensures (search rules) few c.in_err-path_in.ensures)
 
 pub returns : goal.returns
 returns c =
     let few : nat_le (item_count (array_view c.in-Some.values.now)) 256 ≡ true = rw (item_count_view c.in-Some.values.now.items) (le-leb _ _ (omega arith)) in
-    path_and_texts-reads _ _ _ c.in-Some.path.now (array_view c.in-Some.values.now) c.in-Some-2.texts.items _ c.in_ok-required.ensures c.in-Some.ensures (search rules) few c.in_ok-path_in.ensures
+    path_and_texts-reads _ _ _ c.in-Some.path.now (array_view c.in-Some.values.now) c.in-Some-2.texts.items _ c.in_ok-required.ensures.there c.in-Some.ensures (search rules) few c.in_ok-path_in.ensures
