@@ -1,0 +1,13 @@
+pub mod Change
+pub mod Chains
+pub mod Closing
+pub mod Enter
+pub mod Entering
+pub mod Found
+pub mod Join
+pub mod Kept
+pub mod LastLinks
+pub mod Leave
+pub mod Listing
+pub mod Store
+pub mod Thread

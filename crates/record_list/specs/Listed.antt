@@ -1,0 +1,22 @@
+-- The rows' numbers, each with the place of its node.
+use Rattle.std.specs.Prelude.{ℕ, ◌==◌, Bool, cond, List, [], ◌∷◌, map}
+use Rattle.std.specs.declared.option.Option.{Option}
+use Rattle.std.specs.declared.option.Option.TheVariants.{None, Some}
+use Rattle.node_heap.specs.Held.{Held}
+use Rattle.node_heap.specs.declared.nodes.Place.{Place}
+use Rattle.record_list.specs.Chain.{place}
+use Rattle.record_list.specs.declared.links.Node.{Node}
+
+-- the place beside that number
+abbrev pub place_of : ℕ → List (ℕ × Place) → Option Place
+place_of number [] = None
+place_of number (e ∷ es) = cond (e.0 == number) (Some e.1) (place_of number es)
+
+-- the list without that number
+abbrev pub without_number : ℕ → List (ℕ × Place) → List (ℕ × Place)
+without_number number [] = []
+without_number number (e ∷ es) = cond (e.0 == number) es (e ∷ without_number number es)
+
+-- the numbers of the nodes' rows, with their places
+abbrev pub listed : {T : Type 0} → List (Held (Node T)) → List (ℕ × Place)
+listed hs = map (λ h. (h.node.row.number, place h.at)) hs

@@ -1,0 +1,66 @@
+//! Where the node of each row lies.
+
+ghost use Rattle.std.specs.Prelude.{◌≡◌, ◌<◌, [], ◌∷◌, ◌++◌, All, OnOk, OnErr, length};
+ghost use Rattle.record_list.specs.Listed.{place_of, without_number};
+
+use node_heap::Place;
+use std::alloc::{AllocError, Global};
+use std::collections::BTreeMap;
+use std::marker::Model;
+
+/// The places of the rows' nodes by the rows' numbers, in rising order.
+#[derive(Drop)]
+pub struct Directory {
+    places: BTreeMap<u32, Place>,
+}
+
+impl Model for Directory {
+    ghost use Rattle.std.specs.Prelude.{ℕ, List};
+    ghost use Rattle.node_heap.specs.declared.nodes.Place.{Place};
+
+    ghost Value = { List (ℕ × Place) };
+
+    ghost view = { λ s. s.places.entries };
+}
+
+impl Directory {
+    /// No row yet.
+    pub(crate) fn new(alloc: Global) -> Directory
+        ensures { result ≡ [] }
+    {
+        Directory {
+            places: BTreeMap::new(alloc),
+        }
+    }
+
+    /// The place of a row's node.
+    pub(crate) fn find(&self, number: u32) -> Option<Place>
+        ensures { result ≡ place_of number self.now }
+    {
+        self.places.get(&number).copied()
+    }
+
+    /// Adds a row whose number is above all others.
+    pub(crate) fn add(&mut self, number: u32, at: Place) -> Result<(), AllocError>
+        requires { All (λ entry. entry.0 < number) self.old }
+        ensures ok { OnOk result (self.new ≡ self.old ++ (number, at) ∷ []) }
+        ensures err { OnErr result (self.new ≡ self.old) }
+    {
+        self.places.insert(number, at)?;
+        Ok(())
+    }
+
+    /// Forgets a row.
+    pub(crate) fn remove(&mut self, number: u32)
+        ensures { self.new ≡ without_number number self.old }
+    {
+        let _place = self.places.remove(&number);
+    }
+
+    /// How many rows there are.
+    pub(crate) fn len(&self) -> usize
+        ensures { result ≡ length self.now }
+    {
+        self.places.len()
+    }
+}

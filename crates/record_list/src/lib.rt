@@ -1,0 +1,21 @@
+//! Rows that stand in up to 32 queues, each row in a block of its own, linked from row to row.
+#![tactic(auto)]
+
+ghost use Rattle.std.specs.Prelude.{◌≡◌, ◌≢◌, ℕ, List};
+ghost use Rattle.row_store.specs.declared.Row.{Row};
+ghost use Rattle.row_store.specs.Rows.{numbers, queue_of, item_at, unlinked};
+
+mod directory;
+mod links;
+mod record_list;
+
+pub use directory::Directory;
+pub use links::{Link, Links, Node};
+pub use record_list::RecordList;
+
+/// The laws of links: what a row that leaves one queue leaves as it was.
+pub fn link_rules<T>()
+    ensures other_queues { (rows : List (Row T)) (number d e : ℕ) → e ≢ d → queue_of e (unlinked number d rows) ≡ queue_of e rows }
+    ensures items { (rows : List (Row T)) (number d other : ℕ) → item_at other (unlinked number d rows) ≡ item_at other rows }
+    ensures all_rows { (rows : List (Row T)) (number d : ℕ) → numbers (unlinked number d rows) ≡ numbers rows }
+{}

@@ -1,0 +1,172 @@
+//! The store of linked rows.
+
+ghost use Rattle.std.specs.Prelude.{ℕ, ◌≡◌, ◌<◌, ◌≤◌, ◌+◌, ◌∷◌, ◌++◌, [], All, IfErr, OnOk, OnErr, OnSome, option_copied};
+ghost use Rattle.std.specs.Borrow.{LendsSo, sem};
+ghost use Rattle.std.specs.Option.{option_copied_mut};
+ghost use Rattle.row_store.specs.declared.Row.{Row};
+ghost use Rattle.row_store.specs.Rows.{front_of, is_linked, unlinked, item_at, removed};
+
+use crate::directory::Directory;
+use crate::links::{Links, Node};
+use row_store::{QUEUES, Row, RowStore};
+use std::alloc::{AllocFailed, Global};
+use std::marker::Model;
+
+/// The rows, each in a node of its own that is linked in each queue where the row stands and in the list of all rows,
+/// and the directory that leads from a number to its node. No call searches.
+pub struct RecordList<T: Drop> {
+    links: Links<T>,
+    directory: Directory,
+    alloc: Global,
+}
+
+impl<T: Drop> Model for RecordList<T> {
+    ghost use Rattle.std.specs.Prelude.{ℕ, List};
+    ghost use Rattle.row_store.specs.declared.Row.{Row};
+    ghost use Rattle.record_list.specs.Chain.{rows_of};
+    ghost use Rattle.record_list.specs.Stands.{IsKept};
+
+    ghost Value = { List (Row T) × ℕ };
+
+    ghost view = { λ s. (rows_of s.links.nodes.held, s.links.visits) };
+
+    ghost invariant = { λ s. IsKept s.links s.directory };
+}
+
+impl<T: Drop> RecordList<T> {
+    /// How many nodes the calls `front`, `unlink`, `push` and `remove` have read. It stays at its greatest value.
+    pub fn visits(&self) -> u64
+        ensures { result ≡ self.now.1 }
+    {
+        self.links.visits
+    }
+}
+
+impl<T: Drop> RowStore<T> for RecordList<T> {
+    ghost rows = { λ s. s.0 };
+
+    ghost room = { λ _. 0 };
+
+    fn make(alloc: Global) -> Self {
+        RecordList {
+            links: Links::new(),
+            directory: Directory::new(alloc),
+            alloc,
+        }
+    }
+
+    fn numbers_rise(&self) {
+        let _links = &self.links;
+    }
+
+    fn push(&mut self, number: u32, item: T, mask: u32) -> Result<(), AllocFailed<T>>
+        requires { All (λ row. row.number < number) self.old.0 }
+        ensures ok { OnOk result (self.new.0 ≡ self.old.0 ++ record { number = number; item = item; mask = mask } ∷ []) }
+        ensures err { OnErr result (self.new.0 ≡ self.old.0) }
+        ensures missing { OnErr result (◌≡◌ {A = ℕ} 0 0) }
+        ensures item_returned { IfErr result (λ failed. failed.value ≡ item) }
+        ensures visits { self.new.1 ≤ self.old.1 + 34 }
+    {
+        let links = &mut self.links;
+        let node = Node {
+            row: Row { number, item, mask },
+            links: links.last_links(mask),
+        };
+        match links.place(self.alloc, node) {
+            Ok(at) => {
+                if self.directory.add(number, at).is_ok() {
+                    self.links.enter_all(at, mask);
+                    Ok(())
+                } else {
+                    let node = self.links.withdraw(at, self.alloc);
+                    Err(AllocFailed {
+                        value: item_of(node),
+                    })
+                }
+            }
+            Err(node) => Err(AllocFailed {
+                value: item_of(node),
+            }),
+        }
+    }
+
+    fn front(&mut self, d: u32) -> Option<u32>
+        ensures first { result ≡ front_of d self.old.0 }
+        ensures unchanged { self.new.0 ≡ self.old.0 }
+        ensures visits { self.new.1 ≤ self.old.1 + 1 }
+    {
+        let links = &mut self.links;
+        if d >= QUEUES {
+            return None;
+        }
+        match links.heads[d as usize] {
+            Some(at) => Some(links.number(at)),
+            None => None,
+        }
+    }
+
+    fn get(&self, number: u32) -> Option<&T> {
+        let at = self.directory.find(number)?;
+        let node = self.links.nodes.get(at);
+        Some(&node.row.item)
+    }
+
+    fn get_mut(&mut self, number: u32) -> Option<&mut T> {
+        let at = self.directory.find(number)?;
+        let node = self.links.nodes.get_mut(at);
+        Some(&mut node.row.item)
+    }
+
+    fn unlink(&mut self, number: u32, d: u32) -> bool
+        ensures stood { result ≡ is_linked number d self.old.0 }
+        ensures unlinked { self.new.0 ≡ unlinked number d self.old.0 }
+        ensures visits { self.new.1 ≤ self.old.1 + 3 }
+    {
+        let Some(at) = self.directory.find(number) else {
+            return false;
+        };
+        if d >= QUEUES {
+            return false;
+        }
+        self.links.leave(d, at)
+    }
+
+    fn remove(&mut self, number: u32) -> Option<T>
+        ensures item { result ≡ item_at number self.old.0 }
+        ensures removed { self.new.0 ≡ removed number self.old.0 }
+        ensures visits { self.new.1 ≤ self.old.1 + 67 }
+    {
+        let at = self.directory.find(number)?;
+        let node = self.links.take_out(at, self.alloc);
+        self.directory.remove(number);
+        Some(item_of(node))
+    }
+
+    fn len(&self) -> usize {
+        self.directory.len()
+    }
+}
+
+/// The item of a node that stands nowhere.
+fn item_of<T>(node: Node<T>) -> T
+    ensures { result ≡ node.row.item }
+{
+    let Node { row, links: _ } = node;
+    let Row {
+        number: _,
+        item,
+        mask: _,
+    } = row;
+    item
+}
+
+impl<T: Drop> Drop for RecordList<T> {
+    fn drop(self) {
+        let RecordList {
+            links,
+            directory: _,
+            alloc,
+        } = self;
+        links.free(alloc);
+    }
+}
