@@ -18,7 +18,7 @@ use Rattle.dest_queue.specs.declared.SlotState.TheVariants.{Waiting}
 use Rattle.event_log.specs.declared.entry.Entry.TheVariants.{Arrival}
 use Rattle.event_log.specs.declared.entry.Told.{Told}
 use Rattle.event_log.specs.declared.entry.Told.TheVariants as told
-use Rattle.event_log.specs.History.{History, accepted, accepted_by, accepted_under, deliveries, followed_by, message_count, named, names, plan_in_force, slot, state}
+use Rattle.event_log.specs.History.{History, accepted, accepted_by, accepted_under, deliveries, followed_by, message_count, names, plan_in_force, slot, state}
 use Rattle.event_log.specs.Answers.{answer, attempts_max, brings, known, told_by}
 use Rattle.event_log.specs.Room.{in_flight, is_full, is_in_flight, message_total, owed, own, own_owed, slot_owed, slots_added, total}
 use Rattle.event_log.specs.Legal.{IsSound, IsWithin, MayArrive}

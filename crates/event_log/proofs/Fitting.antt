@@ -1,7 +1,6 @@
 -- What an entry that may be booked next leaves sound, and the room that it needs.
-use Rattle.std.proofs.Common.{◌≡◌, ℕ, ◌+◌, ◌≤◌, List, [], ◌∷◌, ◌++◌, length, take, None, Some, Ok, refl, sym, ap, subst, arith, suc, zero, length-append}
+use Rattle.std.proofs.Common.{◌≡◌, ℕ, ◌+◌, ◌≤◌, List, [], ◌∷◌, length, take, None, Some, Ok, refl, sym, ap, subst, arith, suc, zero, length-append}
 use Rattle.std.specs.Prelude.{slice_get}
-use Rattle.std.proofs.lemmas.Option.{same_Some}
 use Rattle.plan_text.specs.Entries.{IsPlan}
 use Rattle.dest_queue.specs.declared.SlotState.{SlotState}
 use Rattle.dest_queue.specs.declared.Outcome.{Outcome}

@@ -1,5 +1,5 @@
 -- What single slots and queues say.
-use Rattle.std.proofs.Common.{◌≡◌, ℕ, ◌+◌, ◌<◌, ◌≤◌, ◌⊎◌, inl, inr, Bool, true, false, cond, List, [], ◌∷◌, length, Option, None, Some, refl, ap, arith, suc, zero}
+use Rattle.std.proofs.Common.{◌≡◌, ℕ, ◌+◌, ◌<◌, ◌≤◌, ◌⊎◌, inl, inr, Bool, true, false, cond, List, [], ◌∷◌, Option, None, Some, refl, ap, arith, suc, zero}
 use Rattle.std.specs.Prelude.{slice_get, filter}
 use Rattle.std.specs.List.{AllByRecursion, range_with_len}
 use Rattle.std.specs.List.Sorted.{IsStrictlyIncreasing}

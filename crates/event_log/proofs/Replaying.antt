@@ -157,9 +157,10 @@ pub filtered-is : (h : History) → IsLegal h → (place conn channel : ℕ) (ra
     → (deliveries_of (decided (plan_in_force (before h place)) channel raw) ≡ []) × (accepted (before h (place + 1)) ≡ accepted (before h place))
 filtered-is h legal place conn channel raw got =
     let may = legal.follows place (Arrival conn channel raw told.Filtered) got in
-    let next : place + 1 ≡ suc place = omega arith in
-    (filtered-answer (before h place) channel raw may.answered,
-    rw next (ap (λ es. accepted (record { opening = h.opening; entries = es })) (take-more h.entries place (Arrival conn channel raw told.Filtered) got) ∙ accepted-kept (before h place) (Arrival conn channel raw told.Filtered) refl))
+    let next : place + 1 ≡ suc place = omega arith in (
+      filtered-answer (before h place) channel raw may.answered,
+      rw next (ap (λ es. accepted (record { opening = h.opening; entries = es })) (take-more h.entries place (Arrival conn channel raw told.Filtered) got) ∙ accepted-kept (before h place) (Arrival conn channel raw told.Filtered) refl),
+    )
 
 -- only a message whose key is known is told that it came before
 judged-first : (v : Verdict) (count place : ℕ) → told_by count v ≡ Some (told.Repeat place) → ⊥

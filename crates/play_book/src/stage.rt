@@ -1,0 +1,309 @@
+//! The book of a script, and the answers to its calls.
+
+use crate::call::Call;
+use anyhow::{Result, bail};
+use book_core::{Book, EVENTS_MAX, Letter, NotBooked, Receipt};
+use dest_queue::{Addressed, Outcome};
+use event_log::{Entry, Ticket, Told};
+use hl7_head::Moment;
+use judge_core::{fits_block, judge};
+use plan_text::Plan;
+use row_store::{PlainRows, RowStore};
+use stat_count::{CHANNELS, DESTINATIONS};
+use std::alloc::{AllocError, Global};
+use std::fs;
+use std::hash::RandomState;
+use std::sync::Arc;
+
+/// The number of the connection by which all messages come.
+const CONNECTION: u32 = 3;
+
+/// The bytes 0x0D of a message, as a script writes them.
+const RETURN: &str = "<CR>";
+
+/// The book, and the plan by which messages are judged.
+#[derive(Drop)]
+pub struct Stage {
+    alloc: Global,
+    book: Book<PlainRows<Addressed<Letter>>>,
+    plan: Arc<Plan>,
+}
+
+/// A plan by the name of its file, or the built-in one.
+fn plan_named(rt: &HostRuntime, name: &str) -> Result<Arc<Plan>> {
+    let alloc = rt.alloc();
+    if name == "built-in" {
+        return Ok(Arc::new(alloc, Plan::built_in(alloc)?)?);
+    }
+    let text = fs::read(rt, name)?;
+    match Plan::read(alloc, &text) {
+        Ok(plan) => Ok(Arc::new(alloc, plan)?),
+        Err(fault) => bail!("{fault}"),
+    }
+}
+
+/// The bytes of a text, with 0x0D where it says so, and a number in place of `#`.
+fn bytes_of(alloc: Global, text: &str, number: u32) -> Result<Vec<u8>, AllocError> {
+    let number = format!(in alloc; "{number}")?;
+    let mut bytes = Vec::new(alloc);
+    for (i, line) in text.split(RETURN).enumerate() {
+        if i > 0 {
+            bytes.push(b'\r')?;
+        }
+        for (j, part) in line.split('#').enumerate() {
+            if j > 0 {
+                bytes.extend_from_slice(number.as_bytes())?;
+            }
+            bytes.extend_from_slice(part.as_bytes())?;
+        }
+    }
+    Ok(bytes)
+}
+
+/// A text as a script writes it.
+fn shown(alloc: Global, bytes: &[u8]) -> Result<String, AllocError> {
+    let mut text = String::new(alloc);
+    for (i, line) in String::from_utf8_lossy(alloc, bytes)?
+        .split('\r')
+        .enumerate()
+    {
+        if i > 0 {
+            text.push_str(RETURN)?;
+        }
+        text.push_str(line)?;
+    }
+    Ok(text)
+}
+
+impl Stage {
+    /// An empty book of the built-in plan.
+    pub fn new(rt: &HostRuntime) -> Result<Stage> {
+        let plan = plan_named(rt, "built-in")?;
+        let shared = Arc::try_clone(&plan)?;
+        let alloc = rt.alloc();
+        let book = Book::new(alloc, shared, EVENTS_MAX, RandomState::new(rt)?);
+        Ok(Stage { alloc, book, plan })
+    }
+
+    /// Makes the call that a line says, and gives its answer.
+    pub fn play(&mut self, rt: &HostRuntime, line: &str) -> Result<String> {
+        let alloc = self.alloc;
+        let Some(call) = Call::read(line) else {
+            bail!("no call: {line}");
+        };
+        Ok(match call {
+            Call::Book { plan, events_max } => self.open(rt, plan, events_max)?,
+            Call::Judge { plan } => {
+                self.plan = plan_named(rt, plan)?;
+                format!(in alloc; "ok")?
+            }
+            Call::Arrive { channel, text } => {
+                let bytes = bytes_of(alloc, text, 0)?;
+                self.arrive(channel, bytes)?
+            }
+            Call::Many {
+                count,
+                channel,
+                text,
+            } => self.many(count, channel, text)?,
+            Call::Take { d, now } => self.take(d, now)?,
+            Call::Settle {
+                ticket,
+                outcome,
+                now,
+            } => self.settle(&ticket, outcome, now)?,
+            Call::Cancel { number } => match self.book.cancel(number) {
+                Ok(mask) => format!(in alloc; "mask {mask}")?,
+                Err(refusal) => format!(in alloc; "{refusal:?}, code {}", refusal.code())?,
+            },
+            Call::Drain { d, now } => self.drain(d, now)?,
+            Call::Queue { d } => format!(in alloc; "{}", self.book.queue_len(d))?,
+            Call::Status { number, d } => match self.book.status(number, d) {
+                Some(state) => format!(in alloc; "{state:?}")?,
+                None => format!(in alloc; "no slot")?,
+            },
+            Call::Channel { channel } => self.channel(channel)?,
+            Call::Destination { d } => self.destination(d)?,
+            Call::Entry { place } => self.entry(place)?,
+            Call::Entries => format!(in alloc; "{}", self.book.len())?,
+            Call::Promise => self.promise()?,
+        })
+    }
+
+    /// A new book.
+    fn open(&mut self, rt: &HostRuntime, plan: &str, events_max: u32) -> Result<String> {
+        let plan = plan_named(rt, plan)?;
+        if events_max == 0 || events_max > EVENTS_MAX {
+            bail!("no book has {events_max} entries");
+        }
+        let hasher = RandomState::new(rt)?;
+        self.book = Book::new(self.alloc, Arc::try_clone(&plan)?, events_max, hasher);
+        self.plan = plan;
+        Ok(format!(in self.alloc; "ok")?)
+    }
+
+    /// Judges bytes that come on a channel and books them.
+    fn booked(&mut self, channel: u32, bytes: Vec<u8>) -> Result<Result<Receipt, NotBooked>> {
+        if channel >= self.plan.channels() || !fits_block(&bytes) {
+            bail!("it can't be judged");
+        }
+        let judged = judge(self.alloc, &self.plan, channel, bytes)?;
+        if !judged.bookable() {
+            bail!("it isn't booked");
+        }
+        Ok(self.book.arrive(CONNECTION, &judged))
+    }
+
+    /// The answer to an arrival: what its receipt says, or why there is none.
+    fn arrive(&mut self, channel: u32, bytes: Vec<u8>) -> Result<String> {
+        let alloc = self.alloc;
+        Ok(match self.booked(channel, bytes)? {
+            Ok(receipt) => format!(in alloc;
+                "{:?}, entry {}, connection {}, channel {}, {} bytes",
+                receipt.told,
+                receipt.entry,
+                receipt.conn,
+                receipt.channel,
+                receipt.raw.as_slice().len()
+            )?,
+            Err(refusal) => format!(in alloc; "{refusal:?}, code {}", refusal.code())?,
+        })
+    }
+
+    /// The answer to the last of many arrivals, of which each gets what the first one got.
+    fn many(&mut self, count: u32, channel: u32, text: &str) -> Result<String> {
+        let mut booked = 0_u32;
+        for number in 0..count {
+            let bytes = bytes_of(self.alloc, text, number)?;
+            if let Ok(receipt) = self.booked(channel, bytes)? {
+                if let Told::Accepted(_) = receipt.told {
+                    booked = booked.saturating_add(1);
+                }
+            }
+        }
+        Ok(format!(in self.alloc; "{booked} accepted")?)
+    }
+
+    /// The answer to a take: the job, or why there is none.
+    fn take(&mut self, d: u32, now: u64) -> Result<String> {
+        let alloc = self.alloc;
+        let now = moment_at(now)?;
+        Ok(match self.book.take(d, now) {
+            Ok(job) => {
+                let ticket = job.ticket;
+                let id = shown(alloc, job.control_id.as_slice())?;
+                let payload = shown(alloc, job.payload.as_slice())?;
+                format!(in alloc;
+                    "message {} to {}, attempt {}, control id {id}, answered {}, {payload}",
+                    ticket.number, ticket.destination, ticket.attempt, job.ack
+                )?
+            }
+            Err(refusal) => format!(in alloc; "{refusal:?}, code {}", refusal.code())?,
+        })
+    }
+
+    /// The answer to a settlement: the state of the slot, or why there is none.
+    fn settle(&mut self, ticket: &Ticket, outcome: Outcome, now: u64) -> Result<String> {
+        let alloc = self.alloc;
+        let now = moment_at(now)?;
+        Ok(match self.book.settle(ticket, outcome, now) {
+            Ok(state) => format!(in alloc; "{state:?}")?,
+            Err(refusal) => format!(in alloc; "{refusal:?}, code {}", refusal.code())?,
+        })
+    }
+
+    /// How many messages of a queue are taken and delivered, one after another.
+    fn drain(&mut self, d: u32, now: u64) -> Result<String> {
+        let now = moment_at(now)?;
+        let waiting = self.book.queue_len(d);
+        for _ in 0..waiting {
+            let job = self.book.take(d, now)?;
+            self.book.settle(&job.ticket, Outcome::Delivered, now)?;
+        }
+        Ok(format!(in self.alloc; "{waiting} delivered")?)
+    }
+
+    /// What a book lends with its promise.
+    fn promise(&self) -> Result<String> {
+        let (rows, counts) = self.book.promise();
+        let here = counts.destination(0);
+        Ok(format!(in self.alloc; "{} rows, {} attempts at 0", rows.len(), here.attempts)?)
+    }
+
+    /// What was counted of a channel.
+    fn channel(&self, channel: u32) -> Result<String> {
+        if channel >= CHANNELS {
+            bail!("no book counts channel {channel}");
+        }
+        let counts = self.book.counts().channel(channel);
+        Ok(format!(in self.alloc;
+            "received {} filtered {} accepted {} refused {} repeats {}",
+            counts.received, counts.filtered, counts.accepted, counts.refused, counts.repeats
+        )?)
+    }
+
+    /// What was counted of a destination.
+    fn destination(&self, d: u32) -> Result<String> {
+        if d >= DESTINATIONS {
+            bail!("no book counts destination {d}");
+        }
+        let counts = self.book.counts().destination(d);
+        Ok(format!(in self.alloc;
+            "waiting {} inflight {} delivered {} failed {} attempts {}",
+            counts.waiting, counts.inflight, counts.delivered, counts.failed, counts.attempts
+        )?)
+    }
+
+    /// The entry at a place.
+    fn entry(&self, place: u32) -> Result<String> {
+        let alloc = self.alloc;
+        Ok(match self.book.entry(place as usize) {
+            None => format!(in alloc; "none")?,
+            Some(
+                Entry::Arrival {
+                    conn,
+                    channel,
+                    raw,
+                    told,
+                },
+            ) => {
+                let text = shown(alloc, raw.as_slice())?;
+                format!(in alloc; "arrival by {conn} on {channel}, {told:?}, {text}")?
+            }
+            Some(Entry::Take { ticket, now }) => {
+                format!(in alloc;
+                    "take {} {} {} at {}",
+                    ticket.number,
+                    ticket.destination,
+                    ticket.attempt,
+                    now.secs()
+                )?
+            }
+            Some(
+                Entry::Settle {
+                    ticket,
+                    outcome,
+                    now,
+                    state,
+                },
+            ) => format!(in alloc;
+                "settle {} {} {} {outcome:?} at {}: {state:?}",
+                ticket.number,
+                ticket.destination,
+                ticket.attempt,
+                now.secs()
+            )?,
+            Some(Entry::Cancel { number, mask }) => {
+                format!(in alloc; "cancel {number} where {mask} says")?
+            }
+        })
+    }
+}
+
+/// The moment so many seconds after 1970 began.
+fn moment_at(seconds: u64) -> Result<Moment> {
+    match i64::try_from(seconds) {
+        Ok(seconds) => Ok(Moment::of_unix(seconds)?),
+        Err(_) => bail!("no moment"),
+    }
+}
