@@ -48,8 +48,12 @@ fn serve(rt: &HostRuntime, devices: Devices) -> Result<Served, Fail> {
     let alloc = rt.alloc();
     let stream = both(alloc, &MESSAGES)?;
     let plan = Arc::new(alloc, Plan::built_in(alloc)?)?;
-    let mut book: Book<PlainRows<Addressed<Letter>>> =
-        Book::new(alloc, plan, EVENTS_MAX, RandomState::new(rt)?);
+    let mut book: Book<PlainRows<Addressed<Letter>>> = Book::new(
+        alloc,
+        plan,
+        EVENTS_MAX,
+        RandomState::new(rt)?,
+    );
     let mut reader = Counted::new(Source {
         rest: &stream,
         cut: devices.cut,
@@ -123,7 +127,10 @@ fn a_reader_that_fails(rt: HostRuntime) -> Result<(), Fail> {
             (ServeEnd::End, (0, 0))
         };
         assert!(rt; served.written.as_slice() == due, "call {at}");
-        assert!(rt; served.flushed == due.len() && !served.unflushed, "call {at}");
+        assert!(rt;
+            served.flushed == due.len() && !served.unflushed,
+            "call {at}"
+        );
         assert!(rt;
             (served.end, (served.read_faults, served.write_faults)) == (end, faults),
             "call {at}"
@@ -171,7 +178,10 @@ fn interrupted_devices(rt: HostRuntime) -> Result<(), Fail> {
             writing: Mishap::Interrupts,
         };
         let served = serve(&rt, devices)?;
-        assert!(rt; served.written == replies && served.flushed == replies.len(), "cut {cut:?}");
+        assert!(rt;
+            served.written == replies && served.flushed == replies.len(),
+            "cut {cut:?}"
+        );
         assert!(rt;
             (served.end, served.read_faults, served.write_faults) == (ServeEnd::End, 0, 0),
             "cut {cut:?}"

@@ -85,14 +85,18 @@ impl ServeReport {
         match outcome {
             BlockOutcome::Unreadable => self.unreadable += 1,
             BlockOutcome::Stray => self.strays += 1,
-            BlockOutcome::Message(Booked {
-                outcome: Ok(receipt),
-                whole: _,
-            }) => self.receipts.push_reserved(receipt),
-            BlockOutcome::Message(Booked {
-                outcome: Err(_),
-                whole: _,
-            }) => self.unbooked += 1,
+            BlockOutcome::Message(
+                Booked {
+                    outcome: Ok(receipt),
+                    whole: _,
+                },
+            ) => self.receipts.push_reserved(receipt),
+            BlockOutcome::Message(
+                Booked {
+                    outcome: Err(_),
+                    whole: _,
+                },
+            ) => self.unbooked += 1,
         }
     }
 }

@@ -89,13 +89,9 @@ impl Session {
         let Ok(()) = self.framer.feed(&self.buffer[..len]) else {
             return Err(ServeEnd::NoMemory);
         };
-        let answered = self.dialogue.answer_events(
-            line,
-            book,
-            &mut self.framer,
-            clock,
-            self.events_max,
-        );
+        let answered = self
+            .dialogue
+            .answer_events(line, book, &mut self.framer, clock, self.events_max);
         match write_out(writer, &self.dialogue.replies.bytes, &mut self.turns) {
             Ok(()) => {}
             Err(end) => return Err(end),

@@ -11,10 +11,9 @@ use row_store::PlainRows;
 use stat_count::DESTINATIONS;
 use std::alloc::{AllocError, Global};
 use std::hash::RandomState;
-use std::io;
 use std::io::Read;
-use std::mem;
 use std::sync::Arc;
+use std::{io, mem};
 
 /// The moment of the acknowledgments where no other is asked for: 14 November 2023, 22:13:20 UTC.
 const ANSWERED_AT: u64 = 1_700_000_000;
@@ -59,7 +58,12 @@ impl Exchange {
     /// With an empty book of this plan.
     pub fn new(rt: &HostRuntime, alloc: Global, plan: Plan) -> Result<Self> {
         let plan = Arc::new(alloc, plan)?;
-        let book = Book::new(alloc, Arc::try_clone(&plan)?, EVENTS_MAX, RandomState::new(rt)?);
+        let book = Book::new(
+            alloc,
+            Arc::try_clone(&plan)?,
+            EVENTS_MAX,
+            RandomState::new(rt)?,
+        );
         Ok(Exchange {
             alloc,
             plan,
@@ -142,7 +146,14 @@ impl Exchange {
         };
         self.book.plan().rules();
         let bound = self.bound.min(TURNS_MAX);
-        let report = serve_within(&line, &mut self.book, &mut reader, &mut writer, &mut clock, bound);
+        let report = serve_within(
+            &line,
+            &mut self.book,
+            &mut reader,
+            &mut writer,
+            &mut clock,
+            bound,
+        );
         let replies = writer.into_inner();
         let replies = replies_shown(alloc, &replies)?;
         let told = report_shown(alloc, &report)?;
@@ -200,7 +211,11 @@ fn report_shown(alloc: Global, report: &ServeReport) -> Result<String, AllocErro
     for receipt in &report.receipts {
         let line = format!(in alloc;
             "  entry {}: connection {}, channel {}, {} bytes, {:?}\n",
-            receipt.entry, receipt.conn, receipt.channel, receipt.raw.as_slice().len(), receipt.told
+            receipt.entry,
+            receipt.conn,
+            receipt.channel,
+            receipt.raw.as_slice().len(),
+            receipt.told
         )?;
         text.push_str(line.as_str())?;
     }

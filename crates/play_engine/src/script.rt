@@ -21,7 +21,7 @@ pub enum Call<'a> {
     Clock(u64),
     /// `bound N`: so many reads and so many events are a connection's.
     Bound(u64),
-    /// `admission ID|REST`: an admission of patient 77 comes, with this control id, and this behind its version.
+    /// `admission ID REST`: an admission of patient 77 comes, with this control id, and this behind its version.
     Admission(&'a str, &'a str),
     /// `text TEXT`: a block with this text comes.
     Text(&'a str),
@@ -50,23 +50,24 @@ fn cut_of(name: &str) -> Option<Cut> {
 /// The call that a line is.
 pub fn call_of(line: &str) -> Option<Call<'_>> {
     let (word, rest) = line.split_once(' ').unwrap_or((line, ""));
-    match word {
-        "plan" => Some(Call::Plan(rest)),
-        "events" => rest.parse().ok().map(Call::Events),
-        "clock" => rest.parse().ok().map(Call::Clock),
-        "bound" => rest.parse().ok().map(Call::Bound),
+    let call = match word {
+        "plan" => Call::Plan(rest),
+        "events" => Call::Events(rest.parse().ok()?),
+        "clock" => Call::Clock(rest.parse().ok()?),
+        "bound" => Call::Bound(rest.parse().ok()?),
         "admission" => {
             let (id, more) = rest.split_once(' ').unwrap_or((rest, ""));
-            Some(Call::Admission(id, more))
+            Call::Admission(id, more)
         }
-        "text" => Some(Call::Text(rest)),
-        "bytes" => Some(Call::Bytes(rest)),
-        "letters" => rest.parse().ok().map(Call::Letters),
-        "serve" => cut_of(rest).map(Call::Serve),
-        "exchange" => Some(Call::Exchange),
-        "take" => rest.parse().ok().map(Call::Take),
-        _ => None,
-    }
+        "text" => Call::Text(rest),
+        "bytes" => Call::Bytes(rest),
+        "letters" => Call::Letters(rest.parse().ok()?),
+        "serve" => Call::Serve(cut_of(rest)?),
+        "exchange" => Call::Exchange,
+        "take" => Call::Take(rest.parse().ok()?),
+        _ => return None,
+    };
+    Some(call)
 }
 
 /// The bytes that have a name, and the rest of the name behind its `<`.

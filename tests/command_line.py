@@ -1,0 +1,99 @@
+#!/usr/bin/env python3
+"""Calls the built program with words, and compares its status and its lines. Plain Python 3, no packages.
+
+Usage: tests/command_line.py [PROGRAM]
+
+PROGRAM is the built program, crates/hl7_engine/out/hl7_engine where left out ('rt run' in crates/hl7_engine builds it).
+The exit status is 0 where every call did as it should, else 1; each one that didn't is told on a line.
+"""
+import os
+import subprocess
+import sys
+import tempfile
+
+HERE = os.path.dirname(os.path.abspath(__file__))
+PROGRAM = os.path.join(HERE, '..', 'crates', 'hl7_engine', 'out', 'hl7_engine')
+EXAMPLES = os.path.join(HERE, '..', 'examples')
+ONE = open(os.path.join(EXAMPLES, 'one_destination.toml'), encoding='utf-8').read()
+
+ADMISSION = (b'\x0bMSH|^~\\&|REG|HOSP|ENG|HUB|20231114221300||ADT^A01^ADT_A01|M1|P|2.5.1|||AL|NE\r'
+             b'PID|1||77^^^H\r\x1c\r')
+
+
+def accepted(moment):
+    """The acknowledgment of the admission, with this MSH-7."""
+    return (f'\x0bMSH|^~\\&|ENG|HUB|REG|HOSP|{moment}||ACK^A01^ACK|0.1|P|2.5.1|||NE|NE\r'
+            'MSA|CA|M1\r\x1c\r').encode()
+
+
+def called(program, words, given=b''):
+    ran = subprocess.run([program, *words], input=given, capture_output=True, timeout=60)
+    return ran.returncode, ran.stdout, ran.stderr
+
+
+def wrong(program, folder):
+    """The calls that did otherwise than they should, a line each."""
+    def plan(name, text):
+        path = os.path.join(folder, name)
+        with open(path, 'wb') as file:
+            file.write(text if isinstance(text, bytes) else text.encode())
+        return path
+
+    def example(name):
+        return os.path.join(EXAMPLES, name)
+
+    one = example('one_destination.toml')
+    # Words, what comes on standard input, and what has to come of it: the status, standard output, standard error.
+    exact = [
+        ([], ADMISSION, (0, accepted('20231114221320+0000'), b'')),
+        (['answer', '--now', '951782400'], ADMISSION, (0, accepted('20000229000000+0000'), b'')),
+        (['answer', one, '--now', '253370764799', '--events', '1000000'], ADMISSION,
+         (0, accepted('99981231235959+0000'), b'')),
+        (['answer', '--events=1000000', '--now=0'], ADMISSION, (0, accepted('19700101000000+0000'), b'')),
+        (['answer'], b'', (0, b'', b'')),
+        (['check', one], b'', (0, b'plan ok: 1 channels, 1 destinations\n', b'')),
+        (['check', example('four_destinations.toml')], b'', (0, b'plan ok: 1 channels, 4 destinations\n', b'')),
+        (['check', example('every_key.toml')], b'', (0, b'plan ok: 1 channels, 2 destinations\n', b'')),
+        (['check', 'no/such.toml'], b'', (3, b'', b'file: no/such.toml\n')),
+        (['answer', 'no/such.toml'], b'', (3, b'', b'file: no/such.toml\n')),
+        (['--version'], b'', (0, b'hl7_engine 0.1.0\n', b'')),
+        (['-V'], b'', (0, b'hl7_engine 0.1.0\n', b'')),
+    ]
+    for name, old, new, line in [
+        ('range.toml', 'address = ', 'attempts = 0\naddress = ', b'plan: BadRange at destination[0].attempts\n'),
+        ('name.toml', 'to = "LAB"', 'to = "X"', b'plan: UnknownName at channel[0].route[0].to\n'),
+        ('write.toml', '[[channel.route]]', 'steps = [{ set = ["MSH-10", "1"] }]\n[[channel.route]]',
+         b'plan: ForbiddenWrite at channel[0].steps[0].set\n'),
+        ('toml.toml', '[[channel]]', '[[channel]', b'plan: NotToml\n'),
+    ]:
+        path = plan(name, ONE.replace(old, new, 1))
+        exact += [([command, path], b'', (1, b'', line)) for command in ('check', 'answer')]
+    exact.append((['check', plan('bytes.toml', b'name = "\xff"')], b'', (1, b'', b'plan: NotToml\n')))
+    lines = [f'{words}: {got}, not {wanted}' for words, given, wanted in exact
+             if (got := called(program, words, given)) != wanted]
+
+    for words in [['reply'], ['--now', '5'], ['check'], ['check', 'a', 'b'], ['answer', 'a', 'b'], ['answer', '--now'],
+                  ['answer', '--now=-1'], ['answer', '--now=253370764800'], ['answer', '--now=1', '--now=2'],
+                  ['answer', '--events=0'], ['answer', '--events=1000001'], ['answer', '--events=many']]:
+        status, out, err = called(program, words)
+        if (status, out) != (2, b'') or not err.startswith(b'error: '):
+            lines.append(f'{words}: {(status, out, err)}, not an error of status 2')
+    for words in [['--help'], ['-h'], ['answer', '--help'], ['help', 'check']]:
+        status, out, err = called(program, words)
+        if (status, err) != (0, b'') or b'Usage: hl7_engine' not in out:
+            lines.append(f'{words}: {(status, out, err)}, not the help')
+    return lines
+
+
+def main():
+    program = sys.argv[1] if len(sys.argv) > 1 else PROGRAM
+    with tempfile.TemporaryDirectory() as folder:
+        lines = wrong(os.path.abspath(program), folder)
+    for line in lines:
+        print(line)
+    print('all calls did as they should' if not lines else f'{len(lines)} calls did otherwise')
+    return 1 if lines else 0
+
+
+if __name__ == '__main__':
+    sys.exit(main())
