@@ -1,6 +1,6 @@
 -- What holds of each byte of a text holds of each byte of its header.
 use Rattle.std.proofs.Common.{◌≡◌, ℕ, ◌-◌, true, not, ◌&&◌, codes, List, [], ◌∷◌, length, map, Some, None, Result, Ok, Err, refl, subst, nat_eq, nat_le, inl, inr, ⊎_elim, All}
-use Rattle.std.specs.List.{onto_first, before_first, filter}
+use Rattle.std.specs.List.{onto_first, before_first}
 use Rattle.std.proofs.lemmas.Bool.{cases_Bool, cases_lt}
 use Rattle.std.proofs.lemmas.List.{get_or_past}
 use Rattle.std.proofs.lemmas.List.Elements.{All-nil, All-cons, All-head, All-same, All-tail, All-take, All-filter, All-get_or}
@@ -9,7 +9,7 @@ use Rattle.er7_tree.specs.Delims.{Delims, delims_of, declared_by, are_delimiters
 use Rattle.er7_tree.specs.Path.{segment_at, field_at, field_place, part_of}
 use Rattle.er7_tree.specs.declared.path.Part.TheVariants.{Component}
 use Rattle.er7_tree.specs.Pieces.{split, piece_at, is_empty}
-use Rattle.er7_tree.specs.Tree.{Tree, IsMessage, first_of, has_name, is_header, tree, segments_of, without_line_feed, without_line_feeds}
+use Rattle.er7_tree.specs.Tree.{Tree, IsMessage, first_of, is_header, tree, segments_of, without_line_feed, without_line_feeds}
 use Rattle.er7_tree.proofs.Messages.{tree_is, tree_segments}
 use Rattle.hl7_head.specs.Header.{Msh, header, header_of, header_where}
 
