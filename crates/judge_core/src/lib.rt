@@ -10,4 +10,3 @@ pub use delivery::{Deliveries, Delivery};
 pub use judged::{CONTROL_ID_MAX, Judged, Verdict, judge};
 pub use laws::{constants_are, key_rules, verdict_rules};
 pub use text::{Text, fits_block};
-
