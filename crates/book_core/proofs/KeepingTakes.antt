@@ -19,7 +19,7 @@ use Rattle.event_log.specs.declared.entry.Ticket.{Ticket}
 use Rattle.event_log.specs.declared.entry.Entry.TheVariants.{Take}
 use Rattle.event_log.specs.declared.refusal.TakeRefusal.TheVariants.{Idle}
 use Rattle.event_log.specs.History.{History, accepted, control_id, deliveries, followed_by, names, next_place, plan_in_force, queue, slot}
-use Rattle.event_log.specs.Answers.{attempts_max, take_answer, taken}
+use Rattle.event_log.specs.Answers.{attempts_max, front_answer, take_answer}
 use Rattle.event_log.specs.Room.{owed}
 use Rattle.event_log.specs.Legal.{IsWithin}
 use Rattle.event_log.proofs.Reading.{queue-outside, slot-inside, slot-state}
@@ -60,13 +60,13 @@ module _ (h : History) (rows : List (Row (Addressed Letter))) (index : List Know
   -- an empty queue, or none that is linked
   pub front-none : (d now : ℕ) → d < 32 → front_state d rows ≡ None → take_answer h d now ≡ Err Idle
   front-none d now within none =
-      elim (slice_get (queue h d) 0) as (λ o. option_and_then {U = ℕ × SlotState} (λ n. option_map {U = ℕ × SlotState} (λ state. (n, state)) (slot h n d)) o ≡ None → option_map_or (λ n. taken d now n (slot h n d)) o (Err Idle) ≡ Err Idle) [
+      elim (slice_get (queue h d) 0) as (λ o. option_and_then {U = ℕ × SlotState} (λ n. option_map {U = ℕ × SlotState} (λ state. (n, state)) (slot h n d)) o ≡ None → option_map_or (λ n. front_answer d now n (slot h n d)) o (Err Idle) ≡ Err Idle) [
         | None ↦ λ e. refl
-        | Some n ↦ λ e. elim (slot h n d) as (λ s. option_map {U = ℕ × SlotState} (λ state. (n, state)) s ≡ None → taken d now n s ≡ Err Idle) [ None ↦ λ e. refl | Some s ↦ λ e. absurd cc ] e
+        | Some n ↦ λ e. elim (slot h n d) as (λ s. option_map {U = ℕ × SlotState} (λ state. (n, state)) s ≡ None → front_answer d now n s ≡ Err Idle) [ None ↦ λ e. refl | Some s ↦ λ e. absurd cc ] e
       ] (sym (kept-front_state h rows kept.rows_agree d within) ∙ none)
 
   pub front-outside : (d now : ℕ) → 32 ≤ d → take_answer h d now ≡ Err Idle
-  front-outside d now outside = ap (λ (q : List ℕ). option_map_or (λ n. taken d now n (slot h n d)) (slice_get q 0) (Err Idle)) (queue-outside h kept.sound d outside)
+  front-outside d now outside = ap (λ (q : List ℕ). option_map_or (λ n. front_answer d now n (slot h n d)) (slice_get q 0) (Err Idle)) (queue-outside h kept.sound d outside)
 
   -- the front and its slot
   pub front-is : (d number : ℕ) (state : SlotState) → d < 32 → front_state d rows ≡ Some (number, state) → (slice_get (queue h d) 0 ≡ Some number) × (slot h number d ≡ Some state)
@@ -81,10 +81,10 @@ module _ (h : History) (rows : List (Row (Addressed Letter))) (index : List Know
         ] refl e
       ] (sym (kept-front_state h rows kept.rows_agree d within) ∙ front)
 
-  pub asked-take : (d now number : ℕ) (state : SlotState) → d < 32 → front_state d rows ≡ Some (number, state) → take_answer h d now ≡ taken d now number (Some state)
+  pub asked-take : (d now number : ℕ) (state : SlotState) → d < 32 → front_state d rows ≡ Some (number, state) → take_answer h d now ≡ front_answer d now number (Some state)
   asked-take d now number state within front =
       let is = front-is d number state within front in
-      ap (λ o. option_map_or (λ n. taken d now n (slot h n d)) o (Err Idle)) is.0 ∙ ap (taken d now number) is.1
+      ap (λ o. option_map_or (λ n. front_answer d now n (slot h n d)) o (Err Idle)) is.0 ∙ ap (front_answer d now number) is.1
 
   -- what is sent of a message
   pub kept-letter : (n : ℕ) (message : Addressed Letter) → item_at n rows ≡ Some message → (message.content.control_id ≡ control_id h n) × (message.content.deliveries ≡ deliveries h n)

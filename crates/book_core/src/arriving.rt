@@ -1,6 +1,6 @@
 //! What an arrival is told, and what is kept of it.
 
-ghost use Rattle.std.specs.Prelude.{◌≡◌, ◌≢◌, ◌<◌, ◌≤◌, ◌==◌, ℕ, true, false, [], ◌∷◌, ◌++◌, IfOk, IfSome, OnOk, OnErr, IsTrue, Some, None, MatchOption, All, AllPairs, option_copied};
+ghost use Rattle.std.specs.Prelude.{◌≡◌, ◌≢◌, ◌<◌, ◌≤◌, ◌==◌, ℕ, true, false, [], ◌∷◌, ◌++◌, IfOk, IfSome, OnOk, OnErr, IsTrue, Some, None, MatchOption, All, AllPairs};
 ghost use Rattle.std.specs.Int.{bit_at};
 ghost use Rattle.std.specs.Option.{option_map_or};
 ghost use Rattle.dup_index.specs.Known.{place_of};
@@ -8,7 +8,7 @@ ghost use Rattle.judge_core.specs.Delivering.{destinations_of};
 ghost use Rattle.judge_core.specs.Judging.{is_bookable, is_booked, verdict};
 ghost use Rattle.dest_queue.specs.declared.SlotState.{SlotState};
 ghost use Rattle.dest_queue.specs.SlotsBy.{slots_by};
-ghost use Rattle.event_log.specs.History.{control_id_of, message_count, names, plan_in_force};
+ghost use Rattle.event_log.specs.History.{control_id_of, entry_at, message_count, names, plan_in_force};
 ghost use Rattle.event_log.specs.Answers.{answer, attempts_max, brings, interval, is_kept, told_by};
 ghost use Rattle.event_log.specs.Room.{own, own_owed};
 ghost use Rattle.book_core.specs.Parts.{KeysAgree};
@@ -24,11 +24,11 @@ use plan_text::Plan;
 use row_store::RowStore;
 use std::alloc::{AllocError, Global};
 
-/// Whether an entry is the arrival of these bytes.
-fn brings(entry: Option<&Entry>, raw: &[u8]) -> bool
-    ensures { result ≡ option_map_or (brings raw.now) (option_copied entry.entry) false }
+/// Whether the entry at a place is the arrival of these bytes.
+fn brings(log: &Log, place: usize, raw: &[u8]) -> bool
+    ensures { result ≡ option_map_or (brings raw.now) (entry_at log.now.history place) false }
 {
-    match entry {
+    match log.entry(place) {
         Some(Entry::Arrival { raw: came, .. }) => raw == came.as_slice(),
         _ => false,
     }
@@ -56,7 +56,7 @@ pub fn told(log: &Log, keys: &Keys, messages: u32, judged: &Judged) -> Told
     ensures { answer log.now.history judged.now.channel judged.now.raw ≡ Some result }
 {
     match keys.find(judged.key()) {
-        Some(place) if brings(log.entry(place), judged.raw().as_slice()) => Told::Repeat(place),
+        Some(place) if brings(log, place, judged.raw().as_slice()) => Told::Repeat(place),
         Some(_) => Told::Refused(Cause::IdReused),
         None => told_first(judged.verdict(), messages),
     }

@@ -1,9 +1,9 @@
 //! The book itself.
 
-ghost use Rattle.std.specs.Prelude.{◌≡◌, ◌≢◌, ◌≤◌, ◌<◌, ◌==◌, ◌⊎◌, ◌↔◌, Ok, Err, IsOk, IfOk, IfErr, OnErr, IsErrOf, IsTrue, Some, true, length, slice_get, option_copied};
+ghost use Rattle.std.specs.Prelude.{◌≡◌, ◌≢◌, ◌≤◌, ◌<◌, ◌==◌, ◌⊎◌, ◌↔◌, Ok, Err, IsOk, IfOk, IfErr, OnErr, IsErrOf, IsTrue, Some, true, length, option_copied};
 ghost use Rattle.std.specs.Arc.{arc_value};
 ghost use Rattle.judge_core.specs.Judging.{is_bookable};
-ghost use Rattle.event_log.specs.History.{control_id, deliveries, followed_by, names, next_place, opened_by, payload, plan_in_force, queue, slot};
+ghost use Rattle.event_log.specs.History.{control_id, deliveries, entry_at, followed_by, message_count, names, next_place, opened_by, payload, plan_in_force, queue, slot};
 ghost use Rattle.event_log.specs.Answers.{answer, cancel_answer, settle_answer, take_answer};
 ghost use Rattle.event_log.specs.Room.{is_full};
 ghost use Rattle.book_core.specs.Counting.{counted};
@@ -91,16 +91,23 @@ impl<S: RowStore<Addressed<Letter>>> Book<S> {
         self.log.len()
     }
 
+    /// How many messages were accepted: the number of the next.
+    pub fn message_count(&self) -> u32
+        ensures { result ≡ message_count self.now }
+    {
+        self.rows.len() as u32
+    }
+
     /// Whether nothing is booked.
     pub fn is_empty(&self) -> bool
-        ensures { result ≡ (next_place self.now == 0) }
+        ensures { result ≡ (length self.now.entries == 0) }
     {
         self.log.is_empty()
     }
 
     /// The entry at this place, counted from 0.
     pub fn entry(&self, place: usize) -> Option<&Entry>
-        ensures { option_copied result ≡ slice_get self.now.entries place }
+        ensures { option_copied result ≡ entry_at self.now place }
     {
         self.log.entry(place)
     }
@@ -143,11 +150,10 @@ impl<S: RowStore<Addressed<Letter>>> Book<S> {
     ///
     /// # Errors
     ///
-    /// `Full` where there is no room for it and its deliveries, and `NoMemory` where a growth was refused. A refusal
-    /// leaves the book as it was.
+    /// `PlanChanged` where it was judged by another plan than the one in force, then `Full` where there is no room for it
+    /// and its deliveries, and then `NoMemory` where a growth was refused. A refusal leaves the book as it was.
     pub fn arrive(&mut self, conn: u32, judged: &Judged) -> Result<Receipt, NotBooked>
         requires bookable { IsTrue (is_bookable judged.now.raw) }
-        requires same_plan { judged.now.plan ≡ plan_in_force self.old }
 
         // The receipt says what the entry says, and where it stands.
         ensures entry { IfOk result (λ receipt. receipt.entry ≡ next_place self.old) }
@@ -157,11 +163,32 @@ impl<S: RowStore<Addressed<Letter>>> Book<S> {
         ensures told { IfOk result (λ receipt. answer self.old judged.now.channel judged.now.raw ≡ Some receipt.told) }
         ensures booked { IfOk result (λ receipt. self.new ≡ followed_by self.old (Entry.Arrival conn judged.now.channel judged.now.raw receipt.told)) }
 
+        // It is judged by the plan in force, and there is room for it.
+        ensures plan { IsErrOf result NotBooked.PlanChanged ↔ judged.now.plan ≢ plan_in_force self.old }
+        ensures full { IsErrOf result NotBooked.Full ↔ (judged.now.plan ≡ plan_in_force self.old) × IsTrue (is_full self.old judged.now.channel judged.now.raw) }
+        ensures err { OnErr result (self.new ≡ self.old) }
+    {
+        if !judged.plan().same(self.log.plan()) {
+            return Err(NotBooked::PlanChanged);
+        }
+        self.book_arrival(conn, judged)
+    }
+
+    /// Books a message that was judged by the plan in force.
+    fn book_arrival(&mut self, conn: u32, judged: &Judged) -> Result<Receipt, NotBooked>
+        requires bookable { IsTrue (is_bookable judged.now.raw) }
+        requires same_plan { judged.now.plan ≡ plan_in_force self.old }
+        ensures entry { IfOk result (λ receipt. receipt.entry ≡ next_place self.old) }
+        ensures conn { IfOk result (λ receipt. receipt.conn ≡ conn) }
+        ensures channel { IfOk result (λ receipt. receipt.channel ≡ judged.now.channel) }
+        ensures raw { IfOk result (λ receipt. receipt.raw ≡ judged.now.raw) }
+        ensures told { IfOk result (λ receipt. answer self.old judged.now.channel judged.now.raw ≡ Some receipt.told) }
+        ensures booked { IfOk result (λ receipt. self.new ≡ followed_by self.old (Entry.Arrival conn judged.now.channel judged.now.raw receipt.told)) }
         ensures full { IsErrOf result NotBooked.Full ↔ IsTrue (is_full self.old judged.now.channel judged.now.raw) }
         ensures plan { result ≢ Err NotBooked.PlanChanged }
         ensures err { OnErr result (self.new ≡ self.old) }
     {
-        let told = told(&self.log, &self.keys, self.rows.len() as u32, judged);
+        let told = told(&self.log, &self.keys, self.message_count(), judged);
         let own = own_of(&self.log, told, judged);
         if !self.log.room(own) {
             return Err(NotBooked::Full);

@@ -4,7 +4,7 @@ ghost use Rattle.std.specs.Prelude.{◌≡◌, ◌<◌, ◌==◌, Some, false, f
 ghost use Rattle.std.specs.Option.{option_map, option_map_or};
 ghost use Rattle.dest_queue.specs.States.{is_waiting};
 ghost use Rattle.dest_queue.specs.Slots.{state_at};
-ghost use Rattle.event_log.specs.Answers.{mask_where, taken};
+ghost use Rattle.event_log.specs.Answers.{front_answer, mask_where};
 ghost use Rattle.event_log.specs.Legal.{IsWithin};
 ghost use Rattle.book_core.specs.Sending.{awaits_ack, owed_waiting};
 
@@ -18,7 +18,7 @@ use row_store::QUEUES;
 /// The ticket for the front of queue d, if it may be taken now, by its slot.
 pub fn ticket_for(number: u32, d: u32, state: SlotState, now: u64) -> Result<Ticket, TakeRefusal>
     requires { IsWithin ATTEMPTS_MAX state }
-    ensures { result ≡ taken d now number (Some state) }
+    ensures { result ≡ front_answer d now number (Some state) }
 {
     match state {
         SlotState::Waiting { due, .. } if now < due => Err(TakeRefusal::NotDue(due)),

@@ -23,7 +23,7 @@ use Rattle.event_log.specs.Answers.{answer, attempts_max, brings, known, told_by
 use Rattle.event_log.specs.Room.{in_flight, is_full, is_in_flight, message_total, owed, own, own_owed, slot_owed, slots_added, total}
 use Rattle.event_log.specs.Legal.{IsSound, IsWithin, MayArrive}
 use Rattle.event_log.proofs.Adding.{fresh, fresh-in_flight, fresh-owed}
-use Rattle.event_log.proofs.Following.{accepted-followed_by, accepted-kept, deliveries-same, funext, get-last, known-followed_by, legal-followed_by, message_count-same, named-same, slot-same, state-followed_by}
+use Rattle.event_log.proofs.Following.{accepted-followed_by, accepted-kept, deliveries-same, funext, get-last, known-followed_by, legal-followed_by, message_count-same, slot-same, state-followed_by}
 use Rattle.event_log.proofs.Steps.{ArrivalStep, IsNumbered}
 use Rattle.event_log.proofs.Totals.{total-grown, total-same}
 
@@ -110,19 +110,17 @@ module _ (h : History) (sound : IsSound h) (conn channel : ℕ) (raw : List ℕ)
   -- what an arrival changes, by what it does to the messages
   step-when : IsNumbered (message_count h) reply
       → ((n : ℕ) → AreDeliveries (deliveries (followed_by h (Arrival conn channel raw reply)) n))
-      → ((n : ℕ) → All (λ d. d < length (plan_in_force h).destinations) (named (followed_by h (Arrival conn channel raw reply)) n))
       → ((n d : ℕ) → IfSome (slot (followed_by h (Arrival conn channel raw reply)) n d) (IsWithin (attempts_max (plan_in_force h) d)))
       → message_count h ≤ message_count (followed_by h (Arrival conn channel raw reply))
       → owed (followed_by h (Arrival conn channel raw reply)) ≡ owed h + own h channel raw
       → in_flight (followed_by h (Arrival conn channel raw reply)) ≡ in_flight h
       → ArrivalStep h conn channel raw reply
-  step-when numbered goes lead within more owes flight = record {
+  step-when numbered goes within more owes flight = record {
     numbered = numbered;
     sound = record {
       plan = sound.plan;
       legal = legal-followed_by h (Arrival conn channel raw reply) sound.legal may;
       deliveries = goes;
-      lead = lead;
       attempts = within;
       to_come = λ n d beyond. state-after n d ∙ sound.to_come n d (omega arith);
       room = room-after owes;
@@ -165,7 +163,6 @@ module _ (h : History) (sound : IsSound h) (conn channel : ℕ) (raw : List ℕ)
     step-kept numbered =
         step-when numbered
         (λ n. subst AreDeliveries (sym (deliveries-same h (followed_by h (Arrival conn channel raw reply)) same-messages n)) (sound.deliveries n))
-        (λ n. subst (All (λ d. d < length (plan_in_force h).destinations)) (sym (named-same h (followed_by h (Arrival conn channel raw reply)) same-messages n)) (sound.lead n))
         (λ n d. subst (λ o. IfSome o (IsWithin (attempts_max (plan_in_force h) d))) (sym (slot-kept n d)) (sound.attempts n d))
         (omega (arith, same-count)) owed-kept (total-kept (λ d state. if is_in_flight state then 1 else 0))
 
@@ -247,7 +244,6 @@ module _ (h : History) (sound : IsSound h) (conn channel : ℕ) (raw : List ℕ)
     step-more : IsNumbered (message_count h) reply → ArrivalStep h conn channel raw reply
     step-more numbered =
         step-when numbered (each AreDeliveries sound.deliveries new-goes)
-        (each (λ ds. All (λ d. d < length (plan_in_force h).destinations) (destinations_of ds)) sound.lead new-lead)
         within-more (omega (arith, more-count)) owed-more flight-more
 
 -- an arrival that may be booked next

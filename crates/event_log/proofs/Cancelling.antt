@@ -19,7 +19,7 @@ use Rattle.event_log.specs.History.{History, accepted, deliveries, followed_by, 
 use Rattle.event_log.specs.Answers.{attempts_max, cancel_answer, mask_where, waits}
 use Rattle.event_log.specs.Room.{in_flight, is_in_flight, message_total, owed, slot_owed}
 use Rattle.event_log.specs.Legal.{IsSound, IsWithin}
-use Rattle.event_log.proofs.Following.{accepted-kept, known-kept, legal-followed_by, message_count-same, deliveries-same, named-same, slot-same, state-followed_by}
+use Rattle.event_log.proofs.Following.{accepted-kept, known-kept, legal-followed_by, message_count-same, deliveries-same, slot-same, state-followed_by}
 use Rattle.event_log.proofs.Masks.{mask_where-bits, mask_where-beyond}
 use Rattle.event_log.proofs.Reading.{slot-outside}
 use Rattle.event_log.proofs.Steps.{CancelStep, waiting_owed}
@@ -219,7 +219,6 @@ module _ (h : History) (sound : IsSound h) (n mask : ℕ) (is : cancel_answer h 
     plan = sound.plan;
     legal = legal-followed_by h (Cancel n mask) sound.legal is;
     deliveries = λ m. subst AreDeliveries (sym (deliveries-same h (followed_by h (Cancel n mask)) same-messages m)) (sound.deliveries m);
-    lead = λ m. subst (All (λ d. d < length (plan_in_force h).destinations)) (sym (named-same h (followed_by h (Cancel n mask)) same-messages m)) (sound.lead m);
     attempts = within-after;
     to_come = to_come-after;
     room = room-left (length h.entries) (length (h.entries ++ Cancel n mask ∷ [])) h.opening.events_max (owed (followed_by h (Cancel n mask))) (owed h) (waiting_owed h n)

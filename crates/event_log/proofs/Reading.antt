@@ -118,7 +118,6 @@ opened-sound plan events_max good = record {
   plan = good;
   legal = record { follows = λ place e got. absurd cc };
   deliveries = λ n. record { within = All-nil (λ x. x.destination < 32); once = λ i j d before inside. absurd (omega arith); plain = λ k d inside. absurd (omega arith) };
-  lead = λ n. All-nil (λ d. d < length plan.destinations);
   attempts = λ n d. tt;
   to_come = λ n d beyond. refl;
   room = rw (opened-owed plan events_max) (omega arith);

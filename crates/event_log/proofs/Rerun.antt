@@ -1,4 +1,4 @@
--- A legal history is what the sequential engine gives of its events.
+-- A legal history is what the sequential engine gives of its requests.
 use Rattle.std.proofs.Common.{◌≡◌, cond, List, [], ◌∷◌, ◌++◌, length, take, map, None, Some, refl, sym, ◌∙◌, ap, subst, arith}
 use Rattle.std.specs.Prelude.{slice_get}
 use Rattle.std.specs.Option.{option_map, option_map_or}
@@ -6,10 +6,10 @@ use Rattle.std.specs.Result.{result_ok}
 use Rattle.std.proofs.lemmas.List.{append-nil, append_assoc}
 use Rattle.event_log.specs.declared.entry.Entry.{Entry}
 use Rattle.event_log.specs.declared.entry.Entry.TheVariants.{Arrival, Take, Settle, Cancel}
-use Rattle.event_log.specs.History.{History, followed_by, opened_by, plan_in_force}
+use Rattle.event_log.specs.History.{History, before, followed_by}
 use Rattle.event_log.specs.Answers.{answer}
 use Rattle.event_log.specs.Legal.{IsLegal, MayFollow}
-use Rattle.event_log.specs.Replay.{booked_by, event_of, replay, run}
+use Rattle.event_log.specs.Replay.{answered_by, request_of, replay, run}
 use Rattle.event_log.proofs.Following.{take-below, take-whole}
 
 -- the item after the first ones
@@ -21,28 +21,28 @@ get-after (z ∷ xs) ys x = get-after xs ys x
 take-before : {A : Type 0} (xs ys : List A) → take (length xs) (xs ++ ys) ≡ xs
 take-before xs ys = take-below xs ys (length xs) (omega arith) ∙ take-whole xs
 
--- an entry that may follow is what is booked of its event
-booked-again : (h : History) (e : Entry) → MayFollow h e → booked_by h (event_of e) ≡ Some e
-booked-again h (Arrival conn channel raw told) may =
+-- an entry that may follow is what is booked of its request
+answered-again : (h : History) (e : Entry) → MayFollow h e → answered_by h (request_of e) ≡ Some e
+answered-again h (Arrival conn channel raw told) may =
     ap (λ b. cond b None (option_map (λ t. Arrival conn channel raw t) (answer h channel raw))) may.room ∙ ap (λ o. option_map (λ t. Arrival conn channel raw t) o) may.answered
-booked-again h (Take ticket now) may = ap (λ r. option_map (λ t. Take t now) (result_ok r)) may
-booked-again h (Settle ticket outcome now state) may = ap (λ r. option_map (λ s. Settle ticket outcome now s) (result_ok r)) may
-booked-again h (Cancel number mask) may = ap (λ r. option_map (λ m. Cancel number m) (result_ok r)) may
+answered-again h (Take ticket now) may = ap (λ r. option_map (λ t. Take t now) (result_ok r)) may
+answered-again h (Settle ticket outcome now state) may = ap (λ r. option_map (λ s. Settle ticket outcome now s) (result_ok r)) may
+answered-again h (Cancel number mask) may = ap (λ r. option_map (λ m. Cancel number m) (result_ok r)) may
 
 -- a history with these entries more
 abbrev continued : History → List Entry → History
 continued h es = record { opening = h.opening; entries = h.entries ++ es }
 
--- the run over the events of the entries that follow gives them
-run-again : (h : History) (es : List Entry) → IsLegal (continued h es) → run h (map event_of es) ≡ continued h es
+-- the run over the requests of the entries that follow gives them
+run-again : (h : History) (es : List Entry) → IsLegal (continued h es) → run h (map request_of es) ≡ continued h es
 run-again h [] legal = ap (λ xs. record { opening = h.opening; entries = xs }) (sym (append-nil h.entries))
 run-again h (e ∷ es) legal =
     let may : MayFollow h e = subst (λ xs. MayFollow (record { opening = h.opening; entries = xs }) e) (take-before h.entries (e ∷ es)) (legal.follows (length h.entries) e (get-after h.entries es e)) in
     let joined : h.entries ++ e ∷ [] ++ es ≡ h.entries ++ (e ∷ es) = append_assoc h.entries (e ∷ []) es in
-    ap (λ o. run (option_map_or (λ x. followed_by h x) o h) (map event_of es)) (booked-again h e may)
+    ap (λ o. run (option_map_or (λ x. followed_by h x) o h) (map request_of es)) (answered-again h e may)
     ∙ (run-again (followed_by h e) es (subst (λ xs. IsLegal (record { opening = h.opening; entries = xs })) (sym joined) legal)
     ∙ ap (λ xs. record { opening = h.opening; entries = xs }) joined)
 
 -- a legal history is its own replay
 pub replay-same : (h : History) → IsLegal h → replay h ≡ h
-replay-same h legal = run-again (opened_by (plan_in_force h) h.opening.events_max) h.entries legal
+replay-same h legal = run-again (before h 0) h.entries legal

@@ -8,7 +8,7 @@ use Rattle.event_log.specs.declared.entry.Ticket.{Ticket}
 use Rattle.event_log.specs.declared.entry.Entry.TheVariants.{Take}
 use Rattle.event_log.specs.declared.refusal.TakeRefusal.TheVariants.{Idle, NotDue}
 use Rattle.event_log.specs.History.{History, followed_by, is_for, plan_in_force, queue, slot, state}
-use Rattle.event_log.specs.Answers.{attempts_max, take_answer, taken}
+use Rattle.event_log.specs.Answers.{attempts_max, front_answer, take_answer}
 use Rattle.event_log.specs.Room.{in_flight, is_in_flight, owed}
 use Rattle.event_log.specs.Legal.{IsSound, IsWithin}
 use Rattle.event_log.proofs.Following.{state-followed_by}
@@ -24,7 +24,7 @@ record IsTaken (d n : ℕ) (o : Option SlotState) (ticket : Ticket) : Type 0 whe
   pub is : record { number = n; destination = d; attempt = attempts + 1 } ≡ ticket
 
 -- only a slot that waits is taken
-taken-waited : (d now n : ℕ) (o : Option SlotState) (ticket : Ticket) → taken d now n o ≡ Ok ticket → IsTaken d n o ticket
+taken-waited : (d now n : ℕ) (o : Option SlotState) (ticket : Ticket) → front_answer d now n o ≡ Ok ticket → IsTaken d n o ticket
 taken-waited d now n None ticket e = absurd cc
 taken-waited d now n (Some (Waiting attempts due)) ticket e = elim (nat_lt now due) as (λ b. cond b (Err (NotDue due)) (Ok (record { number = n; destination = d; attempt = attempts + 1 })) ≡ Ok ticket → IsTaken d n (Some (Waiting attempts due)) ticket) [
   | true ↦ λ f. absurd cc
@@ -87,7 +87,7 @@ module _ (h : History) (sound : IsSound h) (now : ℕ) (ticket : Ticket) (attemp
 pub take-step : (h : History) → IsSound h → (d now : ℕ) (ticket : Ticket) → take_answer h d now ≡ Ok ticket → (ticket.destination ≡ d) × TakeStep h now ticket
 take-step h sound d now ticket answered = by (slice_get (queue h d) 0) refl answered
   where
-    by : (front : Option ℕ) → slice_get (queue h d) 0 ≡ front → option_map_or (λ n. taken d now n (slot h n d)) front (Err Idle) ≡ Ok ticket → (ticket.destination ≡ d) × TakeStep h now ticket
+    by : (front : Option ℕ) → slice_get (queue h d) 0 ≡ front → option_map_or (λ n. front_answer d now n (slot h n d)) front (Err Idle) ≡ Ok ticket → (ticket.destination ≡ d) × TakeStep h now ticket
     by None front e = absurd cc
     by (Some n) front e =
         let one = taken-waited d now n (slot h n d) ticket e in

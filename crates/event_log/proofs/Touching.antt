@@ -12,7 +12,7 @@ use Rattle.event_log.specs.History.{History, accepted, accepted_by, deliveries, 
 use Rattle.event_log.specs.Answers.{attempts_max, keeps}
 use Rattle.event_log.specs.Room.{message_total, owed, slot_owed, total}
 use Rattle.event_log.specs.Legal.{IsSound, IsWithin, MayFollow}
-use Rattle.event_log.proofs.Following.{accepted-kept, known-kept, legal-followed_by, message_count-same, deliveries-same, named-same, slot-same, state-followed_by}
+use Rattle.event_log.proofs.Following.{accepted-kept, known-kept, legal-followed_by, message_count-same, deliveries-same, slot-same, state-followed_by}
 use Rattle.event_log.proofs.Reading.{slot-exists, slot-inside, slot-state}
 use Rattle.event_log.proofs.Steps.{BringsNothing}
 use Rattle.event_log.proofs.Totals.{message-changed, total-changed}
@@ -95,7 +95,6 @@ module _ (h : History) (e : Entry) (n d : ℕ) (was is : SlotState) (touches : T
       plan = sound.plan;
       legal = legal-followed_by h e sound.legal may;
       deliveries = λ m. subst AreDeliveries (sym (deliveries-same h (followed_by h e) same m)) (sound.deliveries m);
-      lead = λ m. subst (All (λ k. k < length (plan_in_force h).destinations)) (sym (named-same h (followed_by h e) same m)) (sound.lead m);
       attempts = λ m k. elim (eqb_tells m n) [
         | inl v ↦ elim (eqb_tells k d) [
           | inl w ↦

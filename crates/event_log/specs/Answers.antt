@@ -22,7 +22,7 @@ use Rattle.event_log.specs.declared.refusal.TakeRefusal.{TakeRefusal}
 use Rattle.event_log.specs.declared.refusal.TakeRefusal.TheVariants.{Idle, InFlightNow, NotDue}
 use Rattle.event_log.specs.declared.refusal.CancelRefusal.{CancelRefusal}
 use Rattle.event_log.specs.declared.refusal.CancelRefusal.TheVariants.{NoSuchMessage, NothingWaiting}
-use Rattle.event_log.specs.History.{History, message_count, plan_in_force, queue, slot}
+use Rattle.event_log.specs.History.{History, entry_at, message_count, plan_in_force, queue, slot}
 
 -- whether a message is kept by its key: it was accepted or filtered
 abbrev pub is_kept : Told → Bool
@@ -51,7 +51,7 @@ brings raw (Cancel number mask) = false
 
 -- what the sender is told of a message whose key is known: the same bytes are a repeat, others a control id used again
 abbrev pub told_again : History → List ℕ → ℕ → Told
-told_again h raw place = if option_map_or (brings raw) (slice_get h.entries place) false then told.Repeat place else told.Refused IdReused
+told_again h raw place = if option_map_or (brings raw) (entry_at h place) false then told.Repeat place else told.Refused IdReused
 
 -- what the sender is told of a text with this verdict, where the next message gets this number;
 -- nothing of a text that is no message, or an acknowledgment
@@ -69,16 +69,16 @@ answer h channel raw =
     else None
 
 -- the answer to a take at d, by the front's slot; a settled slot has left the queue
-abbrev pub taken : ℕ → ℕ → ℕ → Option SlotState → Result Ticket TakeRefusal
-taken d now n (Some (Waiting attempts due)) = if nat_lt now due then Err (NotDue due) else Ok (record { number = n; destination = d; attempt = attempts + 1 })
-taken d now n (Some (InFlight attempt)) = Err (InFlightNow n)
-taken d now n (Some Delivered) = Err Idle
-taken d now n (Some (Failed cause)) = Err Idle
-taken d now n None = Err Idle
+abbrev pub front_answer : ℕ → ℕ → ℕ → Option SlotState → Result Ticket TakeRefusal
+front_answer d now n (Some (Waiting attempts due)) = if nat_lt now due then Err (NotDue due) else Ok (record { number = n; destination = d; attempt = attempts + 1 })
+front_answer d now n (Some (InFlight attempt)) = Err (InFlightNow n)
+front_answer d now n (Some Delivered) = Err Idle
+front_answer d now n (Some (Failed cause)) = Err Idle
+front_answer d now n None = Err Idle
 
 -- the answer to a take at d
 abbrev pub take_answer : History → ℕ → ℕ → Result Ticket TakeRefusal
-take_answer h d now = option_map_or (λ n. taken d now n (slot h n d)) (slice_get (queue h d) 0) (Err Idle)
+take_answer h d now = option_map_or (λ n. front_answer d now n (slot h n d)) (slice_get (queue h d) 0) (Err Idle)
 
 -- how often a message is sent to d at most; a message goes to destinations of the plan alone
 abbrev pub attempts_max : PlanEntry → ℕ → ℕ

@@ -51,6 +51,10 @@ plan_in_force h = h.opening.plan
 abbrev pub next_place : History → ℕ
 next_place h = length h.entries
 
+-- the entry at this place
+abbrev pub entry_at : History → ℕ → Option Entry
+entry_at h place = slice_get h.entries place
+
 -- an accepted message: the channel and the bytes that came, and where it goes
 pub record Accepted : Type 0 where
   pub channel : ℕ
@@ -79,13 +83,17 @@ accepted h = filter_map (accepted_by h.opening.plan) h.entries
 abbrev pub message_count : History → ℕ
 message_count h = length (accepted h)
 
+-- message n
+abbrev pub message_at : History → ℕ → Option Accepted
+message_at h n = slice_get (accepted h) n
+
 -- the numbers of the messages
 abbrev pub numbers : History → List ℕ
 numbers h = range_with_len 0 (message_count h)
 
 -- where message n goes; nowhere where there is no such message
 abbrev pub deliveries : History → ℕ → List Delivery
-deliveries h n = option_map_or (λ m. m.deliveries) (slice_get (accepted h) n) []
+deliveries h n = option_map_or (λ m. m.deliveries) (message_at h n) []
 
 -- the control id (MSH-10, raw) of a text; empty where it is no message
 abbrev pub control_id_of : List ℕ → List ℕ
@@ -93,7 +101,7 @@ control_id_of raw = option_map_or (λ header. header.control_id) (header_of raw)
 
 -- the control id of message n
 abbrev pub control_id : History → ℕ → List ℕ
-control_id h n = option_map_or (λ m. control_id_of m.raw) (slice_get (accepted h) n) []
+control_id h n = option_map_or (λ m. control_id_of m.raw) (message_at h n) []
 
 -- the text that message n has for d
 abbrev pub payload : History → ℕ → ℕ → List ℕ

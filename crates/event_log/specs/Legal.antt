@@ -1,5 +1,5 @@
 -- Histories that a sequential engine gives.
-use Rattle.std.specs.Prelude.{◌≡◌, ◌<◌, ◌≤◌, ◌+◌, ℕ, false, List, length, slice_get, Some, Ok, IfSome, All}
+use Rattle.std.specs.Prelude.{◌≡◌, ◌<◌, ◌≤◌, ◌+◌, ℕ, false, List, length, Some, Ok, IfSome}
 use Rattle.mllp_frame.specs.Framing.{IsBlockData}
 use Rattle.plan_text.specs.Entries.{IsPlan}
 use Rattle.judge_core.specs.Delivering.{AreDeliveries}
@@ -8,7 +8,7 @@ use Rattle.dest_queue.specs.declared.SlotState.TheVariants.{Waiting, InFlight, D
 use Rattle.event_log.specs.declared.entry.Told.{Told}
 use Rattle.event_log.specs.declared.entry.Entry.{Entry}
 use Rattle.event_log.specs.declared.entry.Entry.TheVariants.{Arrival, Take, Settle, Cancel}
-use Rattle.event_log.specs.History.{History, before, deliveries, message_count, named, plan_in_force, slot, state}
+use Rattle.event_log.specs.History.{History, before, deliveries, entry_at, message_count, plan_in_force, slot, state}
 use Rattle.event_log.specs.Answers.{answer, attempts_max, take_answer, settle_answer, cancel_answer}
 use Rattle.event_log.specs.Room.{is_full, owed}
 
@@ -27,7 +27,7 @@ MayFollow h (Cancel number mask) = cancel_answer h number ≡ Ok mask
 
 -- each entry might be booked after those before it
 pub record IsLegal (h : History) : Type 0 where
-  pub follows : (place : ℕ) (e : Entry) → slice_get h.entries place ≡ Some e → MayFollow (before h place) e
+  pub follows : (place : ℕ) (e : Entry) → entry_at h place ≡ Some e → MayFollow (before h place) e
 
 -- no attempt is past the last that is allowed, and a slot that waits has one left
 abbrev pub IsWithin : ℕ → SlotState → Type 0
@@ -36,13 +36,12 @@ IsWithin max (InFlight attempt) = attempt ≤ max
 IsWithin max Delivered = Unit {0}
 IsWithin max (Failed cause) = Unit {0}
 
--- what follows of a legal history under a plan: each message goes to destinations of the plan, to each once, its attempts
--- are within the plan's bound, no entry speaks of a message to come, and the entries with those owed are within the book's
+-- what follows of a legal history under a plan: each message goes to each destination once, its attempts are within the plan's
+-- bound, no entry speaks of a message to come, and the entries with those owed are within the book's
 pub record IsSound (h : History) : Type 0 where
   pub plan : IsPlan (plan_in_force h)
   pub legal : IsLegal h
   pub deliveries : (n : ℕ) → AreDeliveries (deliveries h n)
-  pub lead : (n : ℕ) → All (λ d. d < length (plan_in_force h).destinations) (named h n)
   pub attempts : (n d : ℕ) → IfSome (slot h n d) (IsWithin (attempts_max (plan_in_force h) d))
   pub to_come : (n d : ℕ) → message_count h ≤ n → state h n d ≡ Waiting 0 0
   pub room : length h.entries + owed h ≤ h.opening.events_max

@@ -1,8 +1,8 @@
 //! The history, with room for more of it.
 
-ghost use Rattle.std.specs.Prelude.{◌≡◌, ◌<◌, ◌≤◌, ◌+◌, ◌*◌, ◌==◌, OnOk, OnErr, length, not, slice_get, option_copied};
+ghost use Rattle.std.specs.Prelude.{◌≡◌, ◌<◌, ◌≤◌, ◌+◌, ◌*◌, ◌==◌, OnOk, OnErr, length, not, option_copied};
 ghost use Rattle.std.specs.Arc.{arc_value};
-ghost use Rattle.event_log.specs.History.{opened_by, followed_by, next_place, plan_in_force};
+ghost use Rattle.event_log.specs.History.{entry_at, followed_by, next_place, opened_by, plan_in_force};
 ghost use Rattle.event_log.specs.Room.{exceeds, owed, slot_owed};
 
 use crate::entry::Entry;
@@ -88,14 +88,14 @@ impl Log {
 
     /// Whether there is no entry.
     pub fn is_empty(&self) -> bool
-        ensures { result ≡ (next_place self.now.history == 0) }
+        ensures { result ≡ (length self.now.history.entries == 0) }
     {
         self.entries.is_empty()
     }
 
     /// The entry at this place, counted from 0.
     pub fn entry(&self, place: usize) -> Option<&Entry>
-        ensures { option_copied result ≡ slice_get self.now.history.entries place }
+        ensures { option_copied result ≡ entry_at self.now.history place }
     {
         self.entries.get(place)
     }
@@ -130,7 +130,7 @@ impl Log {
     pub fn push(&mut self, entry: Entry, still_owed: u32)
         requires reserved { 0 < self.old.room }
         requires owed { still_owed ≡ owed (followed_by self.old.history entry) }
-        requires within { next_place self.old.history + 1 + still_owed ≤ self.old.history.opening.events_max }
+        requires within { length self.old.history.entries + 1 + still_owed ≤ self.old.history.opening.events_max }
         ensures history { self.new.history ≡ followed_by self.old.history entry }
         ensures room { self.old.room ≤ self.new.room + 1 }
     {

@@ -10,7 +10,7 @@ use Rattle.event_log.specs.declared.entry.Ticket.{Ticket}
 use Rattle.event_log.specs.declared.entry.Told.{Told}
 use Rattle.event_log.specs.declared.refusal.TakeRefusal.TheVariants.{Idle, NotDue}
 use Rattle.event_log.specs.History.{History, message_count, plan_in_force, queue, slot}
-use Rattle.event_log.specs.Answers.{answer, attempts_max, known, take_answer, taken, told_again, told_by}
+use Rattle.event_log.specs.Answers.{answer, attempts_max, front_answer, known, take_answer, told_again, told_by}
 use Rattle.event_log.specs.Legal.{IsSound, IsWithin}
 use Rattle.event_log.specs.Room.{exceeds, is_full, own_owed, slots_added}
 use Rattle.plain_book.proofs.Messages.{found-holds}
@@ -66,13 +66,13 @@ ticket-destination h d now ticket is = front (slice_get (queue h d) 0) is
     due-or-not true attempts due n e = absurd cc
     due-or-not false attempts due n e = let same : record { number = n; destination = d; attempt = attempts + 1 } ≡ ticket = cc in ap (λ (t : Ticket). t.destination) (sym same)
 
-    by : (n : ℕ) (o : Option SlotState) → taken d now n o ≡ Ok ticket → ticket.destination ≡ d
+    by : (n : ℕ) (o : Option SlotState) → front_answer d now n o ≡ Ok ticket → ticket.destination ≡ d
     by n None e = absurd cc
     by n (Some (Waiting attempts due)) e = due-or-not (nat_lt now due) attempts due n e
     by n (Some (InFlight attempt)) e = absurd cc
     by n (Some Delivered) e = absurd cc
     by n (Some (Failed cause)) e = absurd cc
 
-    front : (o : Option ℕ) → option_map_or (λ n. taken d now n (slot h n d)) o (Err Idle) ≡ Ok ticket → ticket.destination ≡ d
+    front : (o : Option ℕ) → option_map_or (λ n. front_answer d now n (slot h n d)) o (Err Idle) ≡ Ok ticket → ticket.destination ≡ d
     front None e = absurd cc
     front (Some n) e = by n (slot h n d) e

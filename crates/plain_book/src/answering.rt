@@ -4,7 +4,7 @@ ghost use Rattle.std.specs.Prelude.{◌≡◌, ◌≢◌, ◌<◌, ◌≤◌, �
 ghost use Rattle.judge_core.specs.Delivering.{destinations_of};
 ghost use Rattle.judge_core.specs.Judging.{is_booked, verdict as decided};
 ghost use Rattle.dest_queue.specs.States.{settle_answer, state_after};
-ghost use Rattle.event_log.specs.Answers.{attempts_max, interval, taken, told_by};
+ghost use Rattle.event_log.specs.Answers.{attempts_max, front_answer, interval, told_by};
 ghost use Rattle.event_log.specs.Legal.{IsWithin};
 ghost use Rattle.event_log.specs.Room.{own_owed, slots_added};
 
@@ -27,14 +27,14 @@ pub(crate) fn told_first(verdict: &Verdict, number: u32) -> Told
 }
 
 /// The answer to a take at d, whose front has this slot there.
-pub(crate) fn taken(
+pub(crate) fn front_answer(
     d: u32,
     now: u64,
     number: u32,
     slot: Option<SlotState>,
 ) -> Result<Ticket, TakeRefusal>
     requires { IfSome slot (IsWithin ATTEMPTS_MAX) }
-    ensures { result ≡ taken d now number slot }
+    ensures { result ≡ front_answer d now number slot }
 {
     match slot {
         Some(SlotState::Waiting { due, .. }) if now < due => Err(TakeRefusal::NotDue(due)),

@@ -6,7 +6,7 @@ ghost use Rattle.event_log.specs.History.{plan_in_force};
 ghost use Rattle.event_log.specs.Answers.{answer, cancel_answer, settle_answer, take_answer};
 ghost use Rattle.event_log.specs.Room.{exceeds, is_full};
 
-use crate::answering::{attempts_max, interval, own_owed, settled, taken, told_first};
+use crate::answering::{attempts_max, front_answer, interval, own_owed, settled, told_first};
 use crate::engine::PlainBook;
 use crate::reading::{known, told_again};
 use dest_queue::{Outcome, SettleRefusal, SlotState};
@@ -58,7 +58,7 @@ impl PlainBook {
     {
         self.rules();
         match self.queue(d)?.first() {
-            Some(number) => Ok(taken(d, now.secs(), *number, self.slot(*number, d)?)),
+            Some(number) => Ok(front_answer(d, now.secs(), *number, self.slot(*number, d)?)),
             None => Ok(Err(TakeRefusal::Idle)),
         }
     }

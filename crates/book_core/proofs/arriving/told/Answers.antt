@@ -1,4 +1,4 @@
-use Rattle.std.proofs.Common.{Some, None, ap, sym, ◌∙◌, option_copied}
+use Rattle.std.proofs.Common.{Some, None, ap, sym, ◌∙◌}
 use Rattle.judge_core.specs.Judging.{key_of, verdict}
 use Rattle.event_log.specs.History.{plan_in_force}
 use Rattle.event_log.specs.Answers.{told_by}
@@ -11,7 +11,7 @@ returns-in-Some c =
     let judged = c.args.judged.now in
     told-repeat h judged.channel judged.raw c.requires.bookable c.in-Some.place
     (found-known h c.args.keys.now.known (key_of judged.channel judged.raw) c.key.result.now c.find.result (Some c.in-Some.place) c.requires.keys c.key.ensures c.find.ensures c.in-Some.is)
-    (brought h judged.raw c.as_slice.result.now c.in-Some.place (option_copied c.entry.result) c.brings.result _ (c.as_slice.ensures ∙ c.raw.ensures.value) c.entry.ensures c.brings.ensures c.if-brings.true)
+    (brought h judged.raw c.as_slice.result.now c.in-Some.place c.brings.result _ (c.as_slice.ensures ∙ c.raw.ensures.value) c.brings.ensures c.if-brings.true)
 
 pub returns-in-Some-2 : goal.returns-in-Some-2
 returns-in-Some-2 c =
@@ -19,7 +19,7 @@ returns-in-Some-2 c =
     let judged = c.args.judged.now in
     told-reused h judged.channel judged.raw c.requires.bookable c.in-Some.place
     (found-known h c.args.keys.now.known (key_of judged.channel judged.raw) c.key.result.now c.find.result (Some c.in-Some.place) c.requires.keys c.key.ensures c.find.ensures c.in-Some.is)
-    (brought h judged.raw c.as_slice.result.now c.in-Some.place (option_copied c.entry.result) c.brings.result _ (c.as_slice.ensures ∙ c.raw.ensures.value) c.entry.ensures c.brings.ensures c.if-brings.false)
+    (brought h judged.raw c.as_slice.result.now c.in-Some.place c.brings.result _ (c.as_slice.ensures ∙ c.raw.ensures.value) c.brings.ensures c.if-brings.false)
 
 pub returns-in-None : goal.returns-in-None
 returns-in-None c =

@@ -1,16 +1,13 @@
 use Rattle.std.proofs.Common.{◌≡◌, ◌<◌, false, refl, ap, sym, ◌∙◌, arith}
 use Rattle.mllp_frame.specs.Framing.{IsBlockData}
-use Rattle.event_log.specs.History.{plan_in_force}
+use Rattle.event_log.specs.History.{message_count, plan_in_force}
 use Rattle.event_log.specs.Room.{is_full, owed}
 use Rattle.book_core.proofs.Answering.{asked-full, never-full, refused-memory, then-full, told-accepting, told-added}
-use Rattle.book_core.proofs.KeepingArrivals.{arrived-next, arrived-owed, few-rows, few-slots, kept-arrived, key-unknown, keys-arrived, rows-length}
-use Rattle.book_core.proofs.book.Book.arrive.Goals as goal
-
-pub overflow_cast-len : goal.overflow_cast-len
-overflow_cast-len g c = omega (arith, few-rows _ _ _ _ _ _ c.self.invariant, c.len.ensures)
+use Rattle.book_core.proofs.KeepingArrivals.{arrived-next, arrived-owed, few-slots, kept-arrived, key-unknown, keys-arrived}
+use Rattle.book_core.proofs.book.Book.book_arrival.Goals as goal
 
 pub told-told-requires-clause-messages : goal.told-told-requires-clause-messages
-told-told-requires-clause-messages g c = c.len.ensures ∙ rows-length _ _ _ _ _ _ c.self.invariant
+told-told-requires-clause-messages g c = c.message_count.ensures ∙ ap message_count (sym c.self.view_is)
 
 pub returns-then-not-room-clause-full : goal.returns-then-not-room-clause-full
 returns-then-not-room-clause-full g c = then-full _ _ _ _ c.self.view_is (asked-full _ _ _ _ _ _ c.own_of-own.ensures c.room.ensures c.if-not-room.true) refl
