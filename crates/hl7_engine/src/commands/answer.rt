@@ -104,6 +104,8 @@ fn serve<'a, R: Read + Drop, W: Write + Drop, C: Clock>(
     let mut reader = Counted::new(reader);
     let mut writer = Counted::new(writer);
     let report = answer_stream(alloc, &mut book, &mut reader, &mut writer, clock);
+    // What the book holds once it has served keeps its promise.
+    let (_rows, _counts) = book.promise();
     outcome(report.end)
 }
 
