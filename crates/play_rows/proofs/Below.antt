@@ -1,5 +1,5 @@
 -- Numbers stay below a bound.
-use Rattle.std.proofs.Common.{◌≡◌, ℕ, ◌<◌, ◌≤◌, ◌+◌, Bool, true, false, cond, not, List, [], ◌∷◌, ◌++◌, refl, arith, zero, suc}
+use Rattle.std.proofs.Common.{◌≡◌, ℕ, ◌<◌, ◌+◌, true, false, cond, not, List, [], ◌∷◌, ◌++◌, arith, zero, suc}
 use Rattle.std.specs.Prelude.{All}
 use Rattle.row_store.specs.declared.Row.{Row}
 use Rattle.row_store.specs.Rows.{is_row, changed_at, removed}

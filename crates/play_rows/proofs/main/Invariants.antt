@@ -1,4 +1,3 @@
-use Rattle.std.proofs.Common.{◌≤◌}
 use Rattle.play_rows.proofs.Below.{AreBelow}
 use Rattle.play_rows.proofs.main.Given as goal
 
