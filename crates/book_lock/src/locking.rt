@@ -14,8 +14,10 @@ ghost use Rattle.book_lock.specs.Rises.{AddsUp, with_book};
 ghost use Rattle.book_lock.specs.Shares.{with_settlement, with_take};
 
 use crate::desks::{Desk, Station, audit_desks, audit_stations, made_by, settled_at, taken_at};
-use crate::sums::{arrivals, settlements, takes, three_sums};
-use book_core::{Book, CancelRefusal, Entry, Job, Letter, NotBooked, Receipt, TakeRefusal, Ticket};
+use crate::sums::{arrivals, settlements, takes};
+use book_core::{
+    Book, CancelRefusal, Entry, Job, Letter, NotBooked, Receipt, TakeRefusal, Ticket, three_sums,
+};
 use dest_queue::{Addressed, Outcome, SettleRefusal, SlotState};
 use hl7_head::Moment;
 use judge_core::Judged;
@@ -30,10 +32,10 @@ use std::sync::ledger::{Ledger, Share};
 /// The ledger of a shared book's arrivals, with what the book had when it was shared.
 pub trait Opening: Ledger {
     ghost use Rattle.std.specs.Prelude.{ℕ};
-    ghost use Rattle.stat_count.specs.Tally.{Tally};
+    ghost use Rattle.stat_count.specs.Statistics.{Statistics};
 
     /// Its statistics.
-    ghost counts: { Tally };
+    ghost counts: { Statistics };
 
     /// Its next place.
     ghost first: { ℕ };
@@ -43,7 +45,7 @@ pub trait Opening: Ledger {
 }
 
 impl Opening for Brand {
-    ghost use Rattle.stat_count.specs.Tally.{empty};
+    ghost use Rattle.stat_count.specs.Statistics.{empty};
 
     ghost counts = { empty };
 
@@ -234,10 +236,9 @@ impl<A: Opening, T: Ledger, U: Ledger, S: RowStore<Addressed<Letter>>> Locked<A,
         ensures err { OnErr result ((self.new ≡ self.old) × (desk.new ≡ desk.old)) }
     {
         three_sums();
+        self.book.rules();
         let _channel = judged.channel();
         let receipt = self.book.arrive(conn, judged)?;
-        let _promise = self.book.promise();
-        let _len = self.book.len();
         desk.count(&mut self.arrivals);
         Ok(receipt)
     }
@@ -263,9 +264,8 @@ impl<A: Opening, T: Ledger, U: Ledger, S: RowStore<Addressed<Letter>>> Locked<A,
         ensures err { OnErr result ((self.new ≡ self.old) × (station.new ≡ station.old)) }
     {
         three_sums();
+        self.book.rules();
         let job = self.book.take(d, now)?;
-        let _promise = self.book.promise();
-        let _len = self.book.len();
         station.count_take(&mut self.takes);
         Ok(job)
     }
@@ -288,9 +288,8 @@ impl<A: Opening, T: Ledger, U: Ledger, S: RowStore<Addressed<Letter>>> Locked<A,
         ensures err { OnErr result ((self.new ≡ self.old) × (station.new ≡ station.old)) }
     {
         three_sums();
+        self.book.rules();
         let state = self.book.settle(ticket, outcome, now)?;
-        let _promise = self.book.promise();
-        let _len = self.book.len();
         station.count_settlement(&mut self.settlements);
         Ok(state)
     }
@@ -307,8 +306,8 @@ impl<A: Opening, T: Ledger, U: Ledger, S: RowStore<Addressed<Letter>>> Locked<A,
         ensures err { OnErr result (self.new ≡ self.old) }
     {
         three_sums();
+        self.book.rules();
         let mask = self.book.cancel(number)?;
-        let _promise = self.book.promise();
         Ok(mask)
     }
 
