@@ -110,3 +110,14 @@ opened_now book opening at counts first channels m t s is here known firsts are 
   where
     at_most : (a b : ℕ) → a ≡ b → a ≤ b
     at_most a b e = omega (arith, e)
+
+-- a desk made no more than is shown
+pub shown : (opening opened now result made total : ℕ) → opening ≡ opened → now ≡ result → now ≡ opening + total → made ≤ total → opened + made ≤ result
+shown opening opened now result made total p q r few = omega (arith, p, q, r, few)
+
+-- a rise is a difference
+pub rise_fits : (now opening total r q a : ℕ) → now ≡ a → now ≡ opening + total → r ≡ a → q ≡ opening → q ≤ r
+rise_fits now opening total r q a p s t u = omega (arith, p, s, t, u)
+
+pub rise_is : (now opening r q a : ℕ) → now ≡ a → r ≡ a → q ≡ opening → r - q ≡ now - opening
+rise_is now opening r q a p t u = omega (arith, p, t, u)

@@ -10,7 +10,7 @@ ghost use Rattle.event_log.specs.Room.{is_full};
 ghost use Rattle.book_core.specs.Counting.{counted};
 ghost use Rattle.book_core.specs.Headline.{KeepsItsPromise};
 ghost use Rattle.book_core.specs.Sending.{awaits_ack};
-ghost use Rattle.book_lock.specs.Rises.{AddsUp, with_book};
+ghost use Rattle.book_lock.specs.Rises.{AddsUp, arrivals_rise, settlements_rise, takes_rise, with_book};
 ghost use Rattle.book_lock.specs.Shares.{with_settlement, with_take};
 
 use crate::desks::{Desk, Station, audit_desks, audit_stations, made_by, settled_at, taken_at};
@@ -331,6 +331,27 @@ impl<A: Opening, T: Ledger, U: Ledger, S: RowStore<Addressed<Letter>>> Locked<A,
         rung & here != 0
     }
 
+    /// The arrivals since the book was shared, by its statistics.
+    fn came(&self) -> u128
+        ensures { result ≡ arrivals_rise self.now }
+    {
+        arrivals(self.book.counts()) - arrivals(&self.opening)
+    }
+
+    /// The takes since.
+    fn begun(&self) -> u128
+        ensures { result ≡ takes_rise self.now }
+    {
+        takes(self.book.counts()) - takes(&self.opening)
+    }
+
+    /// The settlements since.
+    fn ended(&self) -> u128
+        ensures { result ≡ settlements_rise self.now }
+    {
+        settlements(self.book.counts()) - settlements(&self.opening)
+    }
+
     /// Whether the shares of these desks and stations add up. Where all their parts are here, they do.
     pub fn reckon(&mut self, desks: &mut [Desk<A>], stations: &mut [Station<T, U>]) -> bool
         ensures same { (self.new ≡ self.old) × (desks.new ≡ desks.old) × (stations.new ≡ stations.old) }
@@ -375,9 +396,7 @@ pub fn add_up<A: Opening, T: Ledger, U: Ledger, S: RowStore<Addressed<Letter>>>(
 ) -> bool
     ensures { IsTrue result ↔ AddsUp locked.now desks.now stations.now }
 {
-    let now = locked.book.counts();
-    let opening = &locked.opening;
-    made_by(desks) == arrivals(now) - arrivals(opening)
-        && taken_at(stations) == takes(now) - takes(opening)
-        && settled_at(stations) == settlements(now) - settlements(opening)
+    made_by(desks) == locked.came()
+        && taken_at(stations) == locked.begun()
+        && settled_at(stations) == locked.ended()
 }

@@ -1,5 +1,8 @@
 use Rattle.std.proofs.Common.{◌≡◌, sym, ap, refl, ◌∙◌, arith}
 use Rattle.event_log.specs.declared.entry.Entry.TheVariants.{Settle}
+use Rattle.std.proofs.Common.{rules}
+use Rattle.event_log.specs.Answers.{settle_answer}
+use Rattle.event_log.specs.History.{History}
 use Rattle.book_lock.specs.Rises.{Held}
 use Rattle.book_lock.proofs.Following.{few_entries, next, settlements_fit}
 use Rattle.book_lock.proofs.locking.Locked.settle.Goals as goal
@@ -20,3 +23,14 @@ invariant_of-self-2 g c =
     c.self.inside.arrivals.total c.self.inside.takes.total c.self.inside.settlements.total 0 0 1 c.self.inside.arrivals.total c.self.inside.takes.total c.count_settlement.new.book.total
     c.in_ok-state.ensures.booked c.self.invariant.0 c.self.invariant.1 rise (omega arith) (omega arith) c.count_settlement.ensures.total in
     (n.0, n.1, c.self.invariant.2, c.self.invariant.3, c.self.invariant.4)
+
+pub returns-in_err-state-clause-answer : goal.returns-in_err-state-clause-answer
+returns-in_err-state-clause-answer g c =
+    let b : c.self.inside.book ≡ c.args.self.now.book = ap (λ (h : Held). h.book) c.self.view_is in
+    let there : c.from_residual.result ≡ settle_answer c.self.inside.book c.args.ticket.now c.args.outcome c.args.now = search rules in
+    there ∙ ap (λ (h : History). settle_answer h c.args.ticket.now c.args.outcome c.args.now) b
+
+pub returns-clause-answer : goal.returns-clause-answer
+returns-clause-answer g c =
+    let b : c.self.inside.book ≡ c.args.self.now.book = ap (λ (h : Held). h.book) c.self.view_is in
+    c.in_ok-state.ensures.answer ∙ ap (λ (h : History). settle_answer h c.args.ticket.now c.args.outcome c.args.now) b
