@@ -1,5 +1,5 @@
 -- What rose with an entry.
-use Rattle.std.proofs.Common.{◌≡◌, ◌≢◌, ℕ, ◌+◌, ◌-◌, ◌<◌, ◌≤◌, ◌^◌, length, ltb, inl, inr, refl, sym, ap, subst, ◌∙◌, arith, length-append, List, [], ◌∷◌, ◌++◌}
+use Rattle.std.proofs.Common.{◌≡◌, ◌≢◌, ℕ, ◌+◌, ◌-◌, ◌<◌, ◌≤◌, ◌^◌, length, ltb, inl, inr, refl, sym, ap, subst, ◌∙◌, arith, length-append, [], ◌∷◌}
 use Rattle.std.proofs.lemmas.List.FromFn.{length-map-range_with_len}
 use Rattle.plan_text.specs.Entries.{PlanEntry}
 use Rattle.stat_count.specs.Statistics.{Statistics}

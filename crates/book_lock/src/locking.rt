@@ -25,9 +25,8 @@ use plan_text::Plan;
 use row_store::RowStore;
 use stat_count::Counts;
 use std::marker::{Brand, Model};
-use std::sync::Arc;
-use std::sync::ledger;
 use std::sync::ledger::{Ledger, Share};
+use std::sync::{Arc, ledger};
 
 /// The ledger of a shared book's arrivals, with what the book had when it was shared.
 pub trait Opening: Ledger {
@@ -70,8 +69,7 @@ pub struct Locked<A: Opening, T: Ledger, U: Ledger, S: RowStore<Addressed<Letter
 }
 
 impl<A: Opening, T: Ledger, U: Ledger, S: RowStore<Addressed<Letter>>> Model
-    for Locked<A, T, U, S>
-{
+    for Locked<A, T, U, S> {
     ghost use Rattle.book_lock.specs.Rises.{Held, IsCounted, IsLeft, IsOpened};
     ghost use Rattle.book_lock.specs.Coding.{held_code};
 

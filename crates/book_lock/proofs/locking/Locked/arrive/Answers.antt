@@ -1,4 +1,4 @@
-use Rattle.std.proofs.Common.{◌≡◌, sym, ap, refl, ◌∙◌, arith}
+use Rattle.std.proofs.Common.{arith}
 use Rattle.event_log.specs.History.{plan_in_force}
 use Rattle.event_log.specs.declared.entry.Entry.TheVariants.{Arrival}
 use Rattle.book_lock.specs.Rises.{Held}

@@ -1,4 +1,4 @@
-use Rattle.std.proofs.Common.{◌≡◌, length, ap, ◌∙◌}
+use Rattle.std.proofs.Common.{length, ap, ◌∙◌}
 use Rattle.stat_count.specs.Statistics.{Statistics}
 use Rattle.stat_count.specs.Sums.{arrivals}
 use Rattle.book_core.specs.Counting.{counted}

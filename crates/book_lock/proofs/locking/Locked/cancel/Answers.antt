@@ -1,6 +1,6 @@
-use Rattle.std.proofs.Common.{◌≡◌, sym, ap, refl, ◌∙◌, arith}
+use Rattle.std.proofs.Common.{◌≡◌, sym, ap, ◌∙◌, arith}
 use Rattle.event_log.specs.declared.entry.Entry.TheVariants.{Cancel}
-use Rattle.std.specs.Prelude.{Err, IfErr, IsOk, Ok, ◌⊎◌}
+use Rattle.std.specs.Prelude.{Err, IfErr, IsOk, ◌⊎◌}
 use Rattle.std.proofs.Common.{rules, subst}
 use Rattle.event_log.specs.Answers.{cancel_answer}
 use Rattle.event_log.specs.History.{History}

@@ -1,7 +1,4 @@
-use Rattle.std.proofs.Common.{◌≡◌, length, sym, ap, ◌∙◌, arith}
-use Rattle.stat_count.specs.Statistics.{Statistics}
-use Rattle.stat_count.specs.Sums.{arrivals, settlements, takes}
-use Rattle.book_lock.proofs.Following.{counted_channels, counted_destinations, opened_now}
+use Rattle.book_lock.proofs.Following.{opened_now}
 use Rattle.book_lock.proofs.locking.Locked.new.Goals as goal
 
 pub invariant_of-result : goal.invariant_of-result

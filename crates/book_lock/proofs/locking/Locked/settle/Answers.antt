@@ -1,4 +1,4 @@
-use Rattle.std.proofs.Common.{◌≡◌, sym, ap, refl, ◌∙◌, arith}
+use Rattle.std.proofs.Common.{◌≡◌, sym, ap, ◌∙◌, arith}
 use Rattle.event_log.specs.declared.entry.Entry.TheVariants.{Settle}
 use Rattle.std.proofs.Common.{rules}
 use Rattle.event_log.specs.Answers.{settle_answer}
