@@ -4,8 +4,9 @@ use ack_rule::{AckMode, AckType, Verdictum, parts};
 use anyhow::{Result, anyhow};
 use er7_tree::Message;
 use hl7_head::{Cause, Header, Moment, Msa, ack_text, stamp};
-use play_script::shown;
+use play_script::{first_word, shown};
 use std::alloc::Global;
+use std::fmt::Write;
 
 const CAUSES: [Cause; 11] = [
     Cause::UnsupportedType,
@@ -55,7 +56,7 @@ fn codes_told(alloc: Global, mode: AckMode, verdictum: Verdictum) -> Result<Stri
     let mut told = String::new(alloc);
     for part in parts(mode, verdictum) {
         if let Some(part) = part {
-            told = format!(in alloc; "{told} {:?}", part.code)?;
+            write!(told, " {:?}", part.code)?;
         }
     }
     if told.is_empty() {
@@ -65,7 +66,8 @@ fn codes_told(alloc: Global, mode: AckMode, verdictum: Verdictum) -> Result<Stri
 }
 
 /// What is told in enhanced mode: on success, on a rejection and on an error.
-fn pair_told(alloc: Global, accept: &str, application: &str) -> Result<String> {
+pub fn pair_told(alloc: Global, words: &str) -> Result<String> {
+    let (accept, application) = first_word(words);
     let mode = AckMode::Enhanced {
         accept: type_named(accept)?,
         application: type_named(application)?,
@@ -77,7 +79,7 @@ fn pair_told(alloc: Global, accept: &str, application: &str) -> Result<String> {
 }
 
 /// The number of a cause, and by which codes it is told.
-fn cause_told(alloc: Global, name: &str) -> Result<String> {
+pub fn cause_told(alloc: Global, name: &str) -> Result<String> {
     let cause = cause_named(name)?;
     let always = AckMode::Enhanced {
         accept: AckType::AL,
@@ -89,28 +91,31 @@ fn cause_told(alloc: Global, name: &str) -> Result<String> {
 }
 
 /// The stamp of a moment.
-fn stamped(alloc: Global, seconds: &str) -> Result<String> {
+pub fn stamped(alloc: Global, seconds: &str) -> Result<String> {
     match Moment::of_unix(seconds.parse()?) {
-        Ok(moment) => Ok(format!(in alloc;
-            "{} at {}",
-            shown(alloc, &stamp(moment))?,
-            moment.secs()
-        )?),
+        Ok(moment) => {
+            let stamp = shown(alloc, &stamp(moment))?;
+            Ok(format!(in alloc; "{stamp} at {}", moment.secs())?)
+        }
         Err(range) => Ok(format!(in alloc; "{range:?}")?),
     }
 }
 
-/// The fields and components of the header, and the delimiters.
-fn pieces(alloc: Global, header: &Header) -> Result<String> {
+/// The delimiters that the header declares.
+fn delimiters(header: &Header) -> [u8; 5] {
     let delims = header.delims();
-    let declared = [
+    [
         delims.field(),
         delims.component(),
         delims.repetition(),
         delims.escape(),
         delims.subcomponent(),
-    ];
-    let pieces: [(&str, &[u8]); 14] = [
+    ]
+}
+
+/// The fields and components of the header, each with its number.
+fn pieces(header: &Header) -> [(&str, &[u8]); 14] {
+    [
         (" 2", header.encoding_characters()),
         (" 3", header.sending_application()),
         (" 4", header.sending_facility()),
@@ -125,31 +130,44 @@ fn pieces(alloc: Global, header: &Header) -> Result<String> {
         (" 12.1", header.version_code()),
         (" 15", header.accept_type()),
         (" 16", header.application_type()),
-    ];
-    let mut told = format!(in alloc; "delimiters={}", shown(alloc, &declared)?)?;
-    for (name, piece) in pieces {
-        told = format!(in alloc; "{told}{name}={}", shown(alloc, piece)?)?;
+    ]
+}
+
+/// The delimiters, fields and components of the header.
+pub fn fields(alloc: Global, message: &Message) -> Result<String> {
+    let header = Header::read(alloc, message)?;
+    let mut told = format!(in alloc; "delimiters={}", shown(alloc, &delimiters(&header))?)?;
+    for (name, piece) in pieces(&header) {
+        told.push_str(name)?;
+        told.push_str("=")?;
+        told.push_str(shown(alloc, piece)?.as_str())?;
     }
     Ok(told)
 }
 
-/// The acknowledgments of the message, from a number on, each in angle brackets as a block.
+/// The mode of acknowledgment that the header asks for.
+pub fn mode(alloc: Global, message: &Message) -> Result<String> {
+    let mode = AckMode::of(&Header::read(alloc, message)?);
+    Ok(format!(in alloc; "{mode:?}")?)
+}
+
+/// The acknowledgments of the message, from a number on, each in brackets.
 fn acknowledged(
     alloc: Global,
     header: &Header,
-    told: &str,
-    seconds: &str,
-    connection: &str,
-    first: &str,
+    verdictum: Verdictum,
+    moment: Moment,
+    connection: u32,
+    first: u32,
 ) -> Result<String> {
-    let moment = Moment::of_unix(seconds.parse()?)?;
-    let connection = connection.parse()?;
-    let mut number = first.parse::<u32>()?;
+    let mut number = first;
     let mut texts = String::new(alloc);
-    for part in parts(AckMode::of(header), verdictum_named(told)?) {
+    for part in parts(AckMode::of(header), verdictum) {
         if let Some(part) = part {
             let text = ack_text(alloc, header, &part, moment, connection, number)?;
-            texts = format!(in alloc; "{texts}[{}]", shown(alloc, &text)?)?;
+            texts.push_str("[")?;
+            texts.push_str(shown(alloc, &text)?.as_str())?;
+            texts.push_str("]")?;
             number = number.saturating_add(1);
         }
     }
@@ -159,8 +177,19 @@ fn acknowledged(
     Ok(texts)
 }
 
+/// What is told of the message, where the words say what became of it, the moment, the connection and the first number.
+pub fn ack(alloc: Global, message: &Message, words: &str) -> Result<String> {
+    let (told, words) = first_word(words);
+    let (seconds, words) = first_word(words);
+    let (connection, first) = first_word(words);
+    let header = Header::read(alloc, message)?;
+    let verdictum = verdictum_named(told)?;
+    let moment = Moment::of_unix(seconds.parse()?)?;
+    acknowledged(alloc, &header, verdictum, moment, connection.parse()?, first.parse()?)
+}
+
 /// The fields of the message's first MSA.
-fn answered(alloc: Global, message: &Message) -> Result<String> {
+pub fn answered(alloc: Global, message: &Message) -> Result<String> {
     match Msa::read(alloc, message)? {
         None => Ok(String::from_str(alloc, "none")?),
         Some(msa) => {
@@ -170,21 +199,4 @@ fn answered(alloc: Global, message: &Message) -> Result<String> {
             Ok(format!(in alloc; "1={code} 2={control_id} 3={text}")?)
         }
     }
-}
-
-/// The answer to a call on the header or on acknowledgments, where the words are one.
-pub fn play(alloc: Global, message: &Message, words: &[&str]) -> Result<Option<String>> {
-    let header = Header::read(alloc, message)?;
-    Ok(Some(match words {
-        ["fields"] => pieces(alloc, &header)?,
-        ["mode"] => format!(in alloc; "{:?}", AckMode::of(&header))?,
-        ["msa"] => answered(alloc, message)?,
-        ["stamp", seconds] => stamped(alloc, seconds)?,
-        ["cause", name] => cause_told(alloc, name)?,
-        ["pair", accept, application] => pair_told(alloc, accept, application)?,
-        ["ack", told, seconds, connection, first] => {
-            acknowledged(alloc, &header, told, seconds, connection, first)?
-        }
-        _ => return Ok(None),
-    }))
 }

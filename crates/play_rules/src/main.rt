@@ -8,23 +8,38 @@ mod rules;
 
 use anyhow::{Result, bail};
 use er7_tree::Message;
-use play_script::{bytes_of, words_of};
+use play_script::{bytes_of, first_word};
 use rules::Rules;
 use std::alloc::Global;
 
+/// Reads the message that the next calls speak of.
+fn read(alloc: Global, message: &mut Message, text: &str) -> Result<String> {
+    *message = Message::parse(alloc, &bytes_of(alloc, text)?)?;
+    Ok(String::from_str(alloc, "ok")?)
+}
+
 /// The answer to a call.
 fn answer(alloc: Global, message: &mut Message, rules: &mut Rules, line: &str) -> Result<String> {
-    let words = words_of(alloc, line)?;
-    if let ["parse", text] = words.as_slice() {
-        *message = Message::parse(alloc, &bytes_of(alloc, text)?)?;
-        return Ok(String::from_str(alloc, "ok")?);
-    }
-    if let Some(answer) = acks::play(alloc, message, &words)? {
-        return Ok(answer);
-    }
-    match rules.play(message, &words)? {
-        Some(answer) => Ok(answer),
-        None => bail!("{line} is no call"),
+    let (call, words) = first_word(line);
+    match call {
+        "parse" => read(alloc, message, words),
+        "fields" => acks::fields(alloc, message),
+        "mode" => acks::mode(alloc, message),
+        "msa" => acks::answered(alloc, message),
+        "stamp" => acks::stamped(alloc, words),
+        "cause" => acks::cause_told(alloc, words),
+        "pair" => acks::pair_told(alloc, words),
+        "ack" => acks::ack(alloc, message, words),
+        "cond" => rules.cond(message, words),
+        "all" => rules.all(message, words),
+        "any" => rules.any(message, words),
+        "not" => rules.negated(message),
+        "within" => rules.within(words),
+        "alike" => rules.alike(),
+        "step" => rules.step(words),
+        "apply" => rules.applied(message),
+        "drop" => rules.clear(),
+        _ => bail!("{call} is no call"),
     }
 }
 

@@ -4,7 +4,7 @@ use anyhow::{Result, bail};
 use er7_tree::{Message, Path};
 use hl7_filter::{Bytes, Cond};
 use hl7_transform::{Pair, Step, StepFault, all_may_stand, apply, check_step};
-use play_script::{bytes_of, shown};
+use play_script::{bytes_of, first_word, shown, words_of};
 use std::alloc::{AllocError, Global};
 use std::mem;
 
@@ -22,61 +22,119 @@ fn text_of(alloc: Global, word: &str) -> Result<Bytes, AllocError> {
 }
 
 /// The texts of words.
-fn texts_of(alloc: Global, words: &[&str]) -> Result<Vec<Bytes>, AllocError> {
+fn texts_of(alloc: Global, words: &str) -> Result<Vec<Bytes>, AllocError> {
     let mut texts = Vec::new(alloc);
-    for word in words {
+    for word in words.split(' ') {
         texts.push(text_of(alloc, word)?)?;
     }
     Ok(texts)
 }
 
-/// The condition on a piece that words say.
-fn cond_of(alloc: Global, words: &[&str]) -> Result<Cond> {
-    Ok(match words {
-        ["equals", path, text] => Cond::Equals(Path::parse(path)?, text_of(alloc, text)?),
-        ["one_of", path, texts @ ..] => Cond::OneOf(Path::parse(path)?, texts_of(alloc, texts)?),
-        ["exists", path] => Cond::Exists(Path::parse(path)?),
-        ["starts", path, text] => Cond::Starts(Path::parse(path)?, text_of(alloc, text)?),
-        ["contains", path, text] => Cond::Contains(Path::parse(path)?, text_of(alloc, text)?),
-        _ => bail!("no condition"),
-    })
+/// The condition of a kind on a piece.
+fn cond_on(alloc: Global, kind: &str, path: Path, words: &str) -> Result<Cond> {
+    match kind {
+        "exists" => Ok(Cond::Exists(path)),
+        "equals" => Ok(Cond::Equals(path, text_of(alloc, words)?)),
+        "starts" => Ok(Cond::Starts(path, text_of(alloc, words)?)),
+        "contains" => Ok(Cond::Contains(path, text_of(alloc, words)?)),
+        "one_of" => Ok(Cond::OneOf(path, texts_of(alloc, words)?)),
+        _ => bail!("{kind} is no condition"),
+    }
+}
+
+/// The condition that words say: its kind, the piece, and texts.
+fn cond_of(alloc: Global, words: &str) -> Result<Cond> {
+    let (kind, words) = first_word(words);
+    let (path, words) = first_word(words);
+    cond_on(alloc, kind, Path::parse(path)?, words)
 }
 
 /// The table of words that come in pairs.
-fn table_of(alloc: Global, words: &[&str]) -> Result<Vec<Pair>, AllocError> {
+fn table_of(alloc: Global, words: &str) -> Result<Vec<Pair>, AllocError> {
     let mut table = Vec::new(alloc);
-    for pair in words.chunks_exact(2) {
+    for pair in words_of(alloc, words)?.chunks_exact(2) {
         if let [from, to] = pair {
-            table.push(Pair {
-                from: text_of(alloc, from)?,
-                to: text_of(alloc, to)?,
-            })?;
+            let from = text_of(alloc, from)?;
+            let to = text_of(alloc, to)?;
+            table.push(Pair { from, to })?;
         }
     }
     Ok(table)
 }
 
-/// The step that words say. A lookup has its default before its table, or `-` for none.
-fn step_of(alloc: Global, words: &[&str]) -> Result<Step> {
-    Ok(match words {
-        ["set", path, text] => Step::Set(Path::parse(path)?, text_of(alloc, text)?),
-        ["copy", from, to] => Step::Copy {
-            from: Path::parse(from)?,
-            to: Path::parse(to)?,
-        },
-        ["clear", path] => Step::Clear(Path::parse(path)?),
-        ["lookup", path, default, table @ ..] => Step::Lookup {
-            path: Path::parse(path)?,
-            table: table_of(alloc, table)?,
-            default: if *default == "-" {
-                None
-            } else {
-                Some(text_of(alloc, default)?)
-            },
-        },
-        ["remove", name] => Step::RemoveSegments(text_of(alloc, name)?),
-        _ => bail!("no step"),
+/// The lookup that words say: the piece, the default or `-` for none, and the table.
+fn lookup_of(alloc: Global, words: &str) -> Result<Step> {
+    let (path, words) = first_word(words);
+    let (default, table) = first_word(words);
+    let path = Path::parse(path)?;
+    let table = table_of(alloc, table)?;
+    let default = match default {
+        "-" => None,
+        text => Some(text_of(alloc, text)?),
+    };
+    Ok(Step::Lookup {
+        path,
+        table,
+        default,
     })
+}
+
+/// The copy that words say.
+fn copy_of(words: &str) -> Result<Step> {
+    let (from, to) = first_word(words);
+    let from = Path::parse(from)?;
+    let to = Path::parse(to)?;
+    Ok(Step::Copy { from, to })
+}
+
+/// The setting of a value that words say.
+fn set_of(alloc: Global, words: &str) -> Result<Step> {
+    let (path, text) = first_word(words);
+    let path = Path::parse(path)?;
+    Ok(Step::Set(path, text_of(alloc, text)?))
+}
+
+/// The step that words say.
+fn step_of(alloc: Global, words: &str) -> Result<Step> {
+    let (kind, words) = first_word(words);
+    match kind {
+        "set" => set_of(alloc, words),
+        "copy" => copy_of(words),
+        "clear" => Ok(Step::Clear(Path::parse(words)?)),
+        "lookup" => lookup_of(alloc, words),
+        "remove" => Ok(Step::RemoveSegments(text_of(alloc, words)?)),
+        _ => bail!("{kind} is no step"),
+    }
+}
+
+/// Whether a step may stand among others.
+fn may_stand(alloc: Global, step: &Step) -> Result<String, AllocError> {
+    match check_step(step) {
+        Ok(()) => String::from_str(alloc, "ok"),
+        Err(check) => format!(in alloc; "refused {} {check:?}", check.code()),
+    }
+}
+
+/// The message after steps.
+fn after(alloc: Global, steps: &[Step], message: &Message) -> Result<String> {
+    if !all_may_stand(steps) {
+        return Ok(String::from_str(alloc, "they may not stand")?);
+    }
+    match apply(steps, message.clone()?) {
+        Ok(changed) => Ok(shown(alloc, &changed.print()?)?),
+        Err(StepFault::Stopped { place, cause }) => Ok(format!(in alloc;
+            "stopped {place} {cause:?}"
+        )?),
+        Err(StepFault::NoMemory) => bail!("out of memory"),
+    }
+}
+
+/// Whether the last two of a list are the same.
+fn last_alike<T: PartialEq>(list: &[T]) -> bool {
+    match list {
+        [.., first, last] => first == last,
+        _ => false,
+    }
 }
 
 impl Rules {
@@ -100,6 +158,24 @@ impl Rules {
         Ok(members)
     }
 
+    /// Whether the condition that words say is true of the message. It is kept.
+    pub fn cond(&mut self, message: &Message, words: &str) -> Result<String> {
+        let cond = cond_of(self.alloc, words)?;
+        self.holds(message, cond)
+    }
+
+    /// Whether so many of the last conditions are all true.
+    pub fn all(&mut self, message: &Message, count: &str) -> Result<String> {
+        let cond = Cond::All(self.members(count)?);
+        self.holds(message, cond)
+    }
+
+    /// Whether any of so many of the last conditions is true.
+    pub fn any(&mut self, message: &Message, count: &str) -> Result<String> {
+        let cond = Cond::Any(self.members(count)?);
+        self.holds(message, cond)
+    }
+
     /// Whether a condition is true of the message. It is kept.
     fn holds(&mut self, message: &Message, cond: Cond) -> Result<String> {
         let truth = cond.holds(message)?;
@@ -107,55 +183,41 @@ impl Rules {
         Ok(format!(in self.alloc; "{truth}")?)
     }
 
-    /// The negation of the last condition.
-    fn negated(&mut self) -> Result<Cond> {
+    /// Whether the last condition is false.
+    pub fn negated(&mut self, message: &Message) -> Result<String> {
         match self.conds.pop() {
-            Some(cond) => Ok(Cond::Not(Box::new(self.alloc, cond)?)),
+            Some(cond) => {
+                let cond = Cond::Not(Box::new(self.alloc, cond)?);
+                self.holds(message, cond)
+            }
             None => bail!("no condition to negate"),
         }
     }
 
-    /// Whether a step may stand among others. It is kept.
-    fn check(&mut self, step: Step) -> Result<String> {
-        let answer = match check_step(&step) {
-            Ok(()) => String::from_str(self.alloc, "ok")?,
-            Err(check) => format!(in self.alloc; "refused {} {check:?}", check.code())?,
-        };
+    /// Whether the step that words say may stand among others. It is kept.
+    pub fn step(&mut self, words: &str) -> Result<String> {
+        let step = step_of(self.alloc, words)?;
+        let answer = may_stand(self.alloc, &step)?;
         self.steps.push(step)?;
         Ok(answer)
     }
 
     /// The message after the steps, which are then gone.
-    fn applied(&mut self, message: &Message) -> Result<String> {
+    pub fn applied(&mut self, message: &Message) -> Result<String> {
         let alloc = self.alloc;
         let steps = mem::replace(&mut self.steps, Vec::new(alloc));
-        if !all_may_stand(&steps) {
-            return Ok(String::from_str(alloc, "they may not stand")?);
-        }
-        match apply(&steps, message.clone()?) {
-            Ok(changed) => Ok(shown(alloc, &changed.print()?)?),
-            Err(StepFault::Stopped { place, cause }) => Ok(format!(in alloc;
-                "stopped {place} {cause:?}"
-            )?),
-            Err(StepFault::NoMemory) => bail!("out of memory"),
-        }
+        after(alloc, &steps, message)
     }
 
     /// Whether the last two conditions say the same, and the last two steps.
-    fn alike(&self) -> Result<String> {
-        let conds = match self.conds.as_slice() {
-            [.., first, last] => first == last,
-            _ => false,
-        };
-        let steps = match self.steps.as_slice() {
-            [.., first, last] => first == last,
-            _ => false,
-        };
+    pub fn alike(&self) -> Result<String> {
+        let conds = last_alike(&self.conds);
+        let steps = last_alike(&self.steps);
         Ok(format!(in self.alloc; "conditions {conds}, steps {steps}")?)
     }
 
     /// Whether the last condition has at most so many levels.
-    fn within(&self, levels: &str) -> Result<String> {
+    pub fn within(&self, levels: &str) -> Result<String> {
         let levels = levels.parse()?;
         match self.conds.last() {
             Some(cond) => Ok(format!(in self.alloc; "{}", cond.is_within(levels))?),
@@ -163,38 +225,10 @@ impl Rules {
         }
     }
 
-    /// The answer to a call on conditions and steps, where the words are one.
-    pub fn play(&mut self, message: &Message, words: &[&str]) -> Result<Option<String>> {
-        Ok(Some(match words {
-            ["cond", cond @ ..] => {
-                let cond = cond_of(self.alloc, cond)?;
-                self.holds(message, cond)?
-            }
-            ["all", count] => {
-                let cond = Cond::All(self.members(count)?);
-                self.holds(message, cond)?
-            }
-            ["any", count] => {
-                let cond = Cond::Any(self.members(count)?);
-                self.holds(message, cond)?
-            }
-            ["not"] => {
-                let cond = self.negated()?;
-                self.holds(message, cond)?
-            }
-            ["within", levels] => self.within(levels)?,
-            ["alike"] => self.alike()?,
-            ["step", step @ ..] => {
-                let step = step_of(self.alloc, step)?;
-                self.check(step)?
-            }
-            ["apply"] => self.applied(message)?,
-            ["drop"] => {
-                self.conds.clear();
-                self.steps.clear();
-                String::from_str(self.alloc, "ok")?
-            }
-            _ => return Ok(None),
-        }))
+    /// Lets the conditions and steps go.
+    pub fn clear(&mut self) -> Result<String> {
+        self.conds.clear();
+        self.steps.clear();
+        Ok(String::from_str(self.alloc, "ok")?)
     }
 }

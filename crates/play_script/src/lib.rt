@@ -14,6 +14,11 @@ const NAMED: [(u8, &str); 6] = [
     (b' ', "SP>"),
 ];
 
+/// The first word of a line, and what follows the space behind it.
+pub fn first_word(line: &str) -> (&str, &str) {
+    line.split_once(' ').unwrap_or((line, ""))
+}
+
 /// The words of a line, between spaces.
 pub fn words_of(alloc: Global, line: &str) -> Result<Vec<&str>, AllocError> {
     let mut words = Vec::new(alloc);

@@ -4,8 +4,7 @@
 
 mod text;
 
-use anyhow::{Result, bail};
-use play_script::words_of;
+use anyhow::Result;
 use text::Text;
 
 fn main(rt: HostRuntime) -> Result<()> {
@@ -17,10 +16,8 @@ fn main(rt: HostRuntime) -> Result<()> {
             println!(rt; "{line}")?;
             continue;
         }
-        match text.play(&words_of(alloc, line.as_str())?)? {
-            Some(answer) => println!(rt; "{line} => {answer}")?,
-            None => bail!("{line} is no call"),
-        }
+        let answer = text.play(line.as_str())?;
+        println!(rt; "{line} => {answer}")?;
     }
     Ok(())
 }

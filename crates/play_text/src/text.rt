@@ -2,7 +2,7 @@
 
 use anyhow::{Result, bail};
 use er7_tree::{Message, Path, Refusal, escape, is_vacant, unescape};
-use play_script::{bytes_of, shown};
+use play_script::{bytes_of, first_word, shown};
 use std::alloc::{AllocError, Global};
 
 /// The message that calls speak of.
@@ -18,19 +18,26 @@ fn refused(alloc: Global, refusal: &Refusal) -> Result<String, AllocError> {
 }
 
 /// What an edit answers.
-fn edited(alloc: Global, edit: &Result<(), Refusal>) -> Result<String, AllocError> {
-    match edit {
-        Ok(()) => String::from_str(alloc, "ok"),
-        Err(refusal) => refused(alloc, refusal),
-    }
+fn edited(alloc: Global, edit: &Result<(), Refusal>) -> Result<String> {
+    Ok(match edit {
+        Ok(()) => String::from_str(alloc, "ok")?,
+        Err(refusal) => refused(alloc, refusal)?,
+    })
 }
 
-/// What a path names.
-fn named(alloc: Global, path: &str) -> Result<String> {
-    let path = match Path::parse(if path == "<>" { "" } else { path }) {
-        Ok(path) => path,
-        Err(refusal) => return Ok(refused(alloc, &refusal)?),
-    };
+/// Whether a text is vacant.
+fn vacant(alloc: Global, text: &str) -> Result<String> {
+    let vacant = is_vacant(&bytes_of(alloc, text)?);
+    Ok(format!(in alloc; "{vacant}")?)
+}
+
+/// The answer of bytes that a call makes.
+fn made(alloc: Global, bytes: Result<Vec<u8>, AllocError>) -> Result<String> {
+    Ok(shown(alloc, &bytes?)?)
+}
+
+/// What a path is.
+fn told(alloc: Global, path: &Path) -> Result<String> {
     let segment = shown(alloc, path.segment())?;
     let fixed = if path.is_fixed() { " fixed" } else { "" };
     Ok(format!(in alloc;
@@ -41,14 +48,47 @@ fn named(alloc: Global, path: &str) -> Result<String> {
     )?)
 }
 
+/// What a text names as a path.
+fn named(alloc: Global, path: &str) -> Result<String> {
+    match Path::parse(if path == "<>" { "" } else { path }) {
+        Ok(path) => told(alloc, &path),
+        Err(refusal) => Ok(refused(alloc, &refusal)?),
+    }
+}
+
 /// Whether two paths name one piece, and whether they are of one level.
-fn compared(alloc: Global, path: &str, other: &str) -> Result<String> {
+fn compared(alloc: Global, paths: &str) -> Result<String> {
+    let (path, other) = first_word(paths);
     let (path, other) = (Path::parse(path)?, Path::parse(other)?);
-    Ok(format!(in alloc;
-        "same {}, level {}",
-        path == other,
-        path.is_level_with(&other)
-    )?)
+    let same = path == other;
+    let level = path.is_level_with(&other);
+    Ok(format!(in alloc; "same {same}, level {level}")?)
+}
+
+/// A first text, so many times another one, and a last one.
+fn repeated(alloc: Global, words: &str) -> Result<Vec<u8>> {
+    let (count, words) = first_word(words);
+    let (first, words) = first_word(words);
+    let (other, last) = first_word(words);
+    let mut text = bytes_of(alloc, first)?;
+    let other = bytes_of(alloc, other)?;
+    for _ in 0..count.parse::<u32>()? {
+        text.extend_from_slice(&other)?;
+    }
+    text.extend_from_slice(&bytes_of(alloc, last)?)?;
+    Ok(text)
+}
+
+/// Reads a message of repeated text. It is told how many bytes it prints as.
+fn parse_many(alloc: Global, words: &str) -> Result<String> {
+    let text = repeated(alloc, words)?;
+    match Message::parse(alloc, &text) {
+        Ok(message) => {
+            let printed = message.print()?;
+            Ok(format!(in alloc; "{} of {} bytes", printed.len(), text.len())?)
+        }
+        Err(refusal) => Ok(refused(alloc, &refusal)?),
+    }
 }
 
 impl Text {
@@ -59,30 +99,12 @@ impl Text {
     }
 
     /// Reads a message. Where it is refused, the one before stays.
-    fn parse(&mut self, text: &[u8]) -> Result<String> {
-        match Message::parse(self.alloc, text) {
+    fn parse(&mut self, text: &str) -> Result<String> {
+        match Message::parse(self.alloc, &bytes_of(self.alloc, text)?) {
             Ok(message) => {
                 self.message = message;
-                Ok(String::from_str(self.alloc, "ok")?)
+                edited(self.alloc, &Ok(()))
             }
-            Err(refusal) => Ok(refused(self.alloc, &refusal)?),
-        }
-    }
-
-    /// Reads a message of a first text, so many times another one, and a last one. It is told how many bytes it prints as.
-    fn parse_many(&mut self, count: &str, first: &str, other: &str, last: &str) -> Result<String> {
-        let mut text = bytes_of(self.alloc, first)?;
-        let other = bytes_of(self.alloc, other)?;
-        for _ in 0..count.parse::<u32>()? {
-            text.extend_from_slice(&other)?;
-        }
-        text.extend_from_slice(&bytes_of(self.alloc, last)?)?;
-        match Message::parse(self.alloc, &text) {
-            Ok(message) => Ok(format!(in self.alloc;
-                "{} of {} bytes",
-                message.print()?.len(),
-                text.len()
-            )?),
             Err(refusal) => Ok(refused(self.alloc, &refusal)?),
         }
     }
@@ -95,46 +117,38 @@ impl Text {
         Ok(format!(in self.alloc; "same {same}")?)
     }
 
-    /// The answer to an edit, where the words are one.
-    fn edit(&mut self, words: &[&str]) -> Result<Option<String>> {
-        let alloc = self.alloc;
-        let edit = match words {
-            ["set", path, value] => {
-                let value = bytes_of(alloc, value)?;
-                self.message.set(&Path::parse(path)?, &value)
-            }
-            ["copy", from, to] => self.message.copy(&Path::parse(from)?, &Path::parse(to)?),
-            ["clear", path] => self.message.clear(&Path::parse(path)?),
-            ["remove", name] => self.message.remove_segments(name.as_bytes()),
-            _ => return Ok(None),
+    /// Sets a piece to a value.
+    fn set(&mut self, words: &str) -> Result<String> {
+        let (path, value) = first_word(words);
+        let value = bytes_of(self.alloc, value)?;
+        edited(self.alloc, &self.message.set(&Path::parse(path)?, &value))
+    }
+
+    /// Copies a piece to another place.
+    fn copy(&mut self, words: &str) -> Result<String> {
+        let (from, to) = first_word(words);
+        let (from, to) = (Path::parse(from)?, Path::parse(to)?);
+        edited(self.alloc, &self.message.copy(&from, &to))
+    }
+
+    /// Clears a piece.
+    fn clear(&mut self, path: &str) -> Result<String> {
+        edited(self.alloc, &self.message.clear(&Path::parse(path)?))
+    }
+
+    /// Removes all segments of a name.
+    fn remove(&mut self, name: &str) -> Result<String> {
+        edited(self.alloc, &self.message.remove_segments(name.as_bytes()))
+    }
+
+    /// A raw field of the header, or a component of it.
+    fn msh(&self, words: &str) -> Result<String> {
+        let (field, component) = first_word(words);
+        let component = match component {
+            "" => None,
+            number => Some(number.parse()?),
         };
-        Ok(Some(edited(alloc, &edit)?))
-    }
-
-    /// The raw field or component of the header, or the first segment of a name.
-    fn found(&self, words: &[&str]) -> Result<Option<&[u8]>> {
-        Ok(match words {
-            ["raw", path] => Some(self.message.get_raw(&Path::parse(path)?)),
-            ["msh", field] => Some(self.message.msh(field.parse()?, None)),
-            ["msh", field, component] => Some(
-                self.message.msh(field.parse()?, Some(component.parse()?)),
-            ),
-            ["header"] => Some(self.message.header()),
-            _ => None,
-        })
-    }
-
-    /// Bytes that a call makes, where the words are one.
-    fn made(&self, words: &[&str]) -> Result<Option<Vec<u8>>> {
-        let alloc = self.alloc;
-        let delims = self.message.delims();
-        Ok(Some(match words {
-            ["print"] => self.message.print()?,
-            ["get", path] => self.message.get(&Path::parse(path)?)?,
-            ["escape", value] => escape(alloc, &delims, &bytes_of(alloc, value)?)?,
-            ["unescape", text] => unescape(alloc, &delims, &bytes_of(alloc, text)?)?,
-            _ => return Ok(None),
-        }))
+        Ok(shown(self.alloc, self.message.msh(field.parse()?, component))?)
     }
 
     /// The first segment of a name.
@@ -148,27 +162,61 @@ impl Text {
         })
     }
 
-    /// The answer to a call on the message, where the words are one.
-    pub fn play(&mut self, words: &[&str]) -> Result<Option<String>> {
-        let alloc = self.alloc;
-        if let Some(answer) = self.edit(words)? {
-            return Ok(Some(answer));
+    /// The value of a piece.
+    fn value(&self, path: &str) -> Result<String> {
+        made(self.alloc, self.message.get(&Path::parse(path)?))
+    }
+
+    /// A piece as it stands.
+    fn raw(&self, path: &str) -> Result<String> {
+        Ok(shown(self.alloc, self.message.get_raw(&Path::parse(path)?))?)
+    }
+
+    /// A value with the message's delimiters escaped.
+    fn escaped(&self, value: &str) -> Result<String> {
+        let value = bytes_of(self.alloc, value)?;
+        made(self.alloc, escape(self.alloc, &self.message.delims(), &value))
+    }
+
+    /// The value of an escaped text.
+    fn unescaped(&self, text: &str) -> Result<String> {
+        let text = bytes_of(self.alloc, text)?;
+        made(self.alloc, unescape(self.alloc, &self.message.delims(), &text))
+    }
+
+    /// The message as it is printed.
+    fn print(&self) -> Result<String> {
+        made(self.alloc, self.message.print())
+    }
+
+    /// The header as it stands.
+    fn header(&self) -> Result<String> {
+        Ok(shown(self.alloc, self.message.header())?)
+    }
+
+    /// The answer to a call.
+    pub fn play(&mut self, line: &str) -> Result<String> {
+        let (call, words) = first_word(line);
+        match call {
+            "parse" => self.parse(words),
+            "many" => parse_many(self.alloc, words),
+            "print" => self.print(),
+            "clone" => self.copy_all(),
+            "header" => self.header(),
+            "msh" => self.msh(words),
+            "segment" => self.segment(words),
+            "raw" => self.raw(words),
+            "get" => self.value(words),
+            "set" => self.set(words),
+            "copy" => self.copy(words),
+            "clear" => self.clear(words),
+            "remove" => self.remove(words),
+            "escape" => self.escaped(words),
+            "unescape" => self.unescaped(words),
+            "vacant" => vacant(self.alloc, words),
+            "path" => named(self.alloc, words),
+            "paths" => compared(self.alloc, words),
+            _ => bail!("{call} is no call"),
         }
-        if let Some(bytes) = self.found(words)? {
-            return Ok(Some(shown(alloc, bytes)?));
-        }
-        if let Some(bytes) = self.made(words)? {
-            return Ok(Some(shown(alloc, &bytes)?));
-        }
-        Ok(Some(match words {
-            ["parse", text] => self.parse(&bytes_of(alloc, text)?)?,
-            ["many", count, first, other, last] => self.parse_many(count, first, other, last)?,
-            ["clone"] => self.copy_all()?,
-            ["segment", name] => self.segment(name)?,
-            ["vacant", text] => format!(in alloc; "{}", is_vacant(&bytes_of(alloc, text)?))?,
-            ["path", path] => named(alloc, path)?,
-            ["paths", path, other] => compared(alloc, path, other)?,
-            _ => return Ok(None),
-        }))
     }
 }
