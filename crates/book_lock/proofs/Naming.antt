@@ -1,5 +1,5 @@
 -- Which receipts of a history name a place.
-use Rattle.std.proofs.Common.{◌≡◌, ◌≢◌, ℕ, ◌+◌, ◌<◌, ◌≤◌, zero, suc, Bool, true, false, cond, eqb, ltb, List, [], ◌∷◌, ◌++◌, Option, Some, None, length, get_or, map, slice_index, All, sym, ap, subst, refl, ◌∙◌, arith, option_to_list, drop, length-drop, ◌-◌, ◌⊎◌, ◌↔◌, inl, inr, Result, Ok, Err, OnOk, IfErr, IsOk}
+use Rattle.std.proofs.Common.{◌≡◌, ◌≢◌, ℕ, ◌+◌, ◌<◌, ◌≤◌, zero, suc, Bool, true, false, eqb, ltb, List, [], ◌∷◌, Option, Some, None, length, get_or, map, slice_index, All, sym, ap, refl, ◌∙◌, arith, option_to_list, ◌-◌, ◌⊎◌, ◌↔◌, inl, inr, Result, Ok, Err, OnOk, IfErr, IsOk}
 use Rattle.std.specs.Prelude.{IsTrue, is_some, option_and_then}
 use Rattle.std.specs.List.{filter_map, cons_option, range_with_len}
 use Rattle.std.specs.List.Sorted.{IsPermutation}

@@ -4,4 +4,3 @@ pub mod Coding
 pub mod Closing
 pub mod Auditing
 pub mod Windows
-pub mod Moving

@@ -1,6 +1,6 @@
 -- What rose since the book was shared.
 use Rattle.std.specs.Prelude.{◌≡◌, ℕ, ◌+◌, ◌-◌, ◌≤◌, List, length, sum, sum_by}
-use Rattle.stat_count.specs.Tally.{Tally}
+use Rattle.stat_count.specs.Statistics.{Statistics}
 use Rattle.stat_count.specs.Sums.{arrivals, settlements, takes}
 use Rattle.event_log.specs.History.{History, next_place, plan_in_force}
 use Rattle.book_core.specs.Counting.{counted}
@@ -21,7 +21,7 @@ settled h = settlements (counted h)
 -- a shared book: the book, and the statistics and the next place that it had when it was shared
 pub record Held : Type 0 where
   pub book : History
-  pub opening : Tally
+  pub opening : Statistics
   pub first : ℕ
 
 -- the arrivals, the takes and the settlements since the book was shared
@@ -45,8 +45,10 @@ abbrev pub with_book : Held → History → Held
 with_book h book = record h { book = book }
 
 -- a book shared with these statistics, at this place, with so many channels
-pub record IsOpened (h : Held) (counts : Tally) (first channels : ℕ) : Type 0 where
+pub record IsOpened (h : Held) (counts : Statistics) (first channels : ℕ) : Type 0 where
   pub opening : h.opening ≡ counts
+  pub all_channels : length h.opening.channels ≡ 64
+  pub all_destinations : length h.opening.destinations ≡ 32
   pub first_is : h.first ≡ first
   pub channels_are : length (plan_in_force h.book).channels ≡ channels
 

@@ -10,12 +10,14 @@ ghost use Rattle.event_log.specs.Room.{is_full};
 ghost use Rattle.book_core.specs.Counting.{counted};
 ghost use Rattle.book_core.specs.Headline.{KeepsItsPromise};
 ghost use Rattle.book_core.specs.Sending.{awaits_ack};
-ghost use Rattle.book_lock.specs.Rises.{AddsUp, with_book};
+ghost use Rattle.book_lock.specs.Rises.{AddsUp, arrivals_rise, settlements_rise, takes_rise, with_book};
 ghost use Rattle.book_lock.specs.Shares.{with_settlement, with_take};
 
 use crate::desks::{Desk, Station, audit_desks, audit_stations, made_by, settled_at, taken_at};
-use crate::sums::{arrivals, settlements, takes, three_sums};
-use book_core::{Book, CancelRefusal, Entry, Job, Letter, NotBooked, Receipt, TakeRefusal, Ticket};
+use crate::sums::{arrivals, settlements, takes};
+use book_core::{
+    Book, CancelRefusal, Entry, Job, Letter, NotBooked, Receipt, TakeRefusal, Ticket, three_sums,
+};
 use dest_queue::{Addressed, Outcome, SettleRefusal, SlotState};
 use hl7_head::Moment;
 use judge_core::Judged;
@@ -23,17 +25,16 @@ use plan_text::Plan;
 use row_store::RowStore;
 use stat_count::Counts;
 use std::marker::{Brand, Model};
-use std::sync::Arc;
-use std::sync::ledger;
 use std::sync::ledger::{Ledger, Share};
+use std::sync::{Arc, ledger};
 
 /// The ledger of a shared book's arrivals, with what the book had when it was shared.
 pub trait Opening: Ledger {
     ghost use Rattle.std.specs.Prelude.{ℕ};
-    ghost use Rattle.stat_count.specs.Tally.{Tally};
+    ghost use Rattle.stat_count.specs.Statistics.{Statistics};
 
     /// Its statistics.
-    ghost counts: { Tally };
+    ghost counts: { Statistics };
 
     /// Its next place.
     ghost first: { ℕ };
@@ -43,7 +44,7 @@ pub trait Opening: Ledger {
 }
 
 impl Opening for Brand {
-    ghost use Rattle.stat_count.specs.Tally.{empty};
+    ghost use Rattle.stat_count.specs.Statistics.{empty};
 
     ghost counts = { empty };
 
@@ -68,8 +69,7 @@ pub struct Locked<A: Opening, T: Ledger, U: Ledger, S: RowStore<Addressed<Letter
 }
 
 impl<A: Opening, T: Ledger, U: Ledger, S: RowStore<Addressed<Letter>>> Model
-    for Locked<A, T, U, S>
-{
+    for Locked<A, T, U, S> {
     ghost use Rattle.book_lock.specs.Rises.{Held, IsCounted, IsLeft, IsOpened};
     ghost use Rattle.book_lock.specs.Coding.{held_code};
 
@@ -234,10 +234,9 @@ impl<A: Opening, T: Ledger, U: Ledger, S: RowStore<Addressed<Letter>>> Locked<A,
         ensures err { OnErr result ((self.new ≡ self.old) × (desk.new ≡ desk.old)) }
     {
         three_sums();
+        self.book.rules();
         let _channel = judged.channel();
         let receipt = self.book.arrive(conn, judged)?;
-        let _promise = self.book.promise();
-        let _len = self.book.len();
         desk.count(&mut self.arrivals);
         Ok(receipt)
     }
@@ -263,9 +262,8 @@ impl<A: Opening, T: Ledger, U: Ledger, S: RowStore<Addressed<Letter>>> Locked<A,
         ensures err { OnErr result ((self.new ≡ self.old) × (station.new ≡ station.old)) }
     {
         three_sums();
+        self.book.rules();
         let job = self.book.take(d, now)?;
-        let _promise = self.book.promise();
-        let _len = self.book.len();
         station.count_take(&mut self.takes);
         Ok(job)
     }
@@ -288,9 +286,8 @@ impl<A: Opening, T: Ledger, U: Ledger, S: RowStore<Addressed<Letter>>> Locked<A,
         ensures err { OnErr result ((self.new ≡ self.old) × (station.new ≡ station.old)) }
     {
         three_sums();
+        self.book.rules();
         let state = self.book.settle(ticket, outcome, now)?;
-        let _promise = self.book.promise();
-        let _len = self.book.len();
         station.count_settlement(&mut self.settlements);
         Ok(state)
     }
@@ -307,8 +304,8 @@ impl<A: Opening, T: Ledger, U: Ledger, S: RowStore<Addressed<Letter>>> Locked<A,
         ensures err { OnErr result (self.new ≡ self.old) }
     {
         three_sums();
+        self.book.rules();
         let mask = self.book.cancel(number)?;
-        let _promise = self.book.promise();
         Ok(mask)
     }
 
@@ -330,6 +327,27 @@ impl<A: Opening, T: Ledger, U: Ledger, S: RowStore<Addressed<Letter>>> Locked<A,
         let here = 1 << d;
         self.rung = rung & !here;
         rung & here != 0
+    }
+
+    /// The arrivals since the book was shared, by its statistics.
+    fn came(&self) -> u128
+        ensures { result ≡ arrivals_rise self.now }
+    {
+        arrivals(self.book.counts()) - arrivals(&self.opening)
+    }
+
+    /// The takes since.
+    fn begun(&self) -> u128
+        ensures { result ≡ takes_rise self.now }
+    {
+        takes(self.book.counts()) - takes(&self.opening)
+    }
+
+    /// The settlements since.
+    fn ended(&self) -> u128
+        ensures { result ≡ settlements_rise self.now }
+    {
+        settlements(self.book.counts()) - settlements(&self.opening)
     }
 
     /// Whether the shares of these desks and stations add up. Where all their parts are here, they do.
@@ -376,9 +394,7 @@ pub fn add_up<A: Opening, T: Ledger, U: Ledger, S: RowStore<Addressed<Letter>>>(
 ) -> bool
     ensures { IsTrue result ↔ AddsUp locked.now desks.now stations.now }
 {
-    let now = locked.book.counts();
-    let opening = &locked.opening;
-    made_by(desks) == arrivals(now) - arrivals(opening)
-        && taken_at(stations) == takes(now) - takes(opening)
-        && settled_at(stations) == settlements(now) - settlements(opening)
+    made_by(desks) == locked.came()
+        && taken_at(stations) == locked.begun()
+        && settled_at(stations) == locked.ended()
 }

@@ -1,13 +1,13 @@
 //! The statistics, added up over all channels and all destinations.
 
-ghost use Rattle.std.specs.Prelude.{◌≡◌};
+ghost use Rattle.std.specs.Prelude.{◌≡◌, length};
 ghost use Rattle.stat_count.specs.Sums.{arrivals, settlements, takes};
-ghost use Rattle.book_lock.specs.Moving.{ArrivalRises, CancelRises, SettlementRises, SumsAreFew, TakeRises};
 
 use stat_count::{CHANNELS, Counts, DESTINATIONS};
 
 /// The messages that came, repeats among them.
 pub fn arrivals(counts: &Counts) -> u128
+    requires { length counts.now.channels ≡ 64 }
     ensures { result ≡ arrivals counts.now }
 {
     let mut sum: u128 = 0;
@@ -20,6 +20,7 @@ pub fn arrivals(counts: &Counts) -> u128
 
 /// The attempts that were begun.
 pub fn takes(counts: &Counts) -> u128
+    requires { length counts.now.destinations ≡ 32 }
     ensures { result ≡ takes counts.now }
 {
     let mut sum: u128 = 0;
@@ -31,6 +32,7 @@ pub fn takes(counts: &Counts) -> u128
 
 /// The attempts that were settled.
 pub fn settlements(counts: &Counts) -> u128
+    requires { length counts.now.destinations ≡ 32 }
     ensures { result ≡ settlements counts.now }
 {
     let mut sum: u128 = 0;
@@ -40,12 +42,3 @@ pub fn settlements(counts: &Counts) -> u128
     }
     sum
 }
-
-/// The laws of the three sums.
-pub fn three_sums()
-    ensures arrival { ArrivalRises }
-    ensures take { TakeRises }
-    ensures settlement { SettlementRises }
-    ensures cancel { CancelRises }
-    ensures few { SumsAreFew }
-{}

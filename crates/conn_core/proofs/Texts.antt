@@ -5,8 +5,7 @@ use Rattle.std.specs.Option.{option_map_or}
 use Rattle.hl7_head.specs.Header.{Msh, header_of}
 use Rattle.hl7_head.specs.Laws.{AreControl}
 use Rattle.judge_core.specs.Judging.{is_acknowledgment, is_bookable, is_unreadable, is_stray}
-use Rattle.mllp_frame.specs.declared.TheConstants.{START_BLOCK, END_BLOCK}
-use Rattle.mllp_frame.specs.Framing.{is_framing}
+use Rattle.mllp_frame.specs.Framing.{end_block, is_framing, start_block}
 
 -- a text without a header
 pub record IsNoMessage (raw : List ℕ) : Type 0 where
@@ -59,8 +58,8 @@ message_text raw h is bookable =
 -- the two framing bytes are control bytes
 pub framing_bytes_are_controls : AreControl is_framing
 framing_bytes_are_controls b is =
-    ⊎_elim (λ start. at b START_BLOCK (eqb-true b START_BLOCK start) (lit< tt) (λ e. cc)) (λ end. at b END_BLOCK (eqb-true b END_BLOCK end) (lit< tt) (λ e. cc))
-    (or_cases (b == START_BLOCK) (b == END_BLOCK) is)
+    ⊎_elim (λ start. at b start_block (eqb-true b start_block start) (lit< tt) (λ e. cc)) (λ end. at b end_block (eqb-true b end_block end) (lit< tt) (λ e. cc))
+    (or_cases (b == start_block) (b == end_block) is)
   where
     at : (b n : ℕ) → b ≡ n → n < 32 → (n ≡ 13 → ⊥) → (b < 32) × (b ≡ 13 → ⊥)
     at b n is small other = (omega (arith, is, small), λ e. other (sym is ∙ e))

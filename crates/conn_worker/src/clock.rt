@@ -3,7 +3,7 @@
 ghost use Rattle.std.specs.Prelude.{◌≡◌, ◌/◌, min};
 ghost use Rattle.std.specs.Time.{system_time_nanos};
 
-use hl7_head::Moment;
+use hl7_head::{LAST_MOMENT, Moment};
 use std::time;
 use std::time::{SystemTime, UNIX_EPOCH};
 
@@ -11,9 +11,6 @@ use std::time::{SystemTime, UNIX_EPOCH};
 pub trait Clock {
     fn now(&mut self) -> Moment;
 }
-
-/// The last moment, in seconds since the year 1970 began: the last second of the year 9998.
-pub const LAST_MOMENT: u64 = 253_370_764_799;
 
 /// The moment that many seconds after the year 1970 began, or the last one.
 pub fn nearest(seconds: u64) -> Moment

@@ -1,5 +1,5 @@
 -- What a changed link does to its own chain, and to the others.
-use Rattle.std.proofs.Common.{◌≡◌, ℕ, zero, suc, Bool, true, false, cond, List, [], ◌∷◌, ◌++◌, map, slice_index_or, slice_set, refl, sym, ap, ◌∙◌, subst, ◌≢◌}
+use Rattle.std.proofs.Common.{◌≡◌, ℕ, Bool, true, false, cond, List, [], ◌∷◌, ◌++◌, map, slice_index_or, slice_set, refl, sym, ap, ◌∙◌, subst, ◌≢◌}
 use Rattle.std.proofs.lemmas.List.{get_or-set_other}
 use Rattle.std.specs.declared.option.Option.{Option}
 use Rattle.std.specs.declared.option.Option.TheVariants.{None, Some}

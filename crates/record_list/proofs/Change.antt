@@ -1,6 +1,6 @@
 -- One node is changed: what becomes of the chains.
-use Rattle.std.proofs.Common.{◌≡◌, ℕ, zero, suc, Bool, true, false, cond, List, [], ◌∷◌, ◌++◌, map, slice_index_or, slice_set, refl, sym, ap, ◌∙◌, subst}
-use Rattle.std.proofs.lemmas.List.{set-get_or, get_or-set_other}
+use Rattle.std.proofs.Common.{◌≡◌, ℕ, zero, suc, Bool, true, false, cond, List, [], ◌∷◌, slice_index_or, slice_set, refl, sym, ap, ◌∙◌, subst}
+use Rattle.std.proofs.lemmas.List.{set-get_or}
 use Rattle.std.specs.declared.option.Option.{Option}
 use Rattle.std.specs.declared.option.Option.TheVariants.{None, Some}
 use denote.RawPtr.{Ptr}
@@ -9,7 +9,7 @@ use Rattle.node_heap.specs.declared.nodes.Place.{Place}
 use Rattle.node_heap.proofs.Cut.{same_ptr_eq}
 use Rattle.record_list.specs.declared.links.Link.{Link}
 use Rattle.record_list.specs.declared.links.Node.{Node}
-use Rattle.record_list.specs.Chain.{place, link, chain, entry_of, entries, members, link_at, next_is, prev_is, with_next, with_prev, change_node, change_at, items_at}
+use Rattle.record_list.specs.Chain.{link, link_at, next_is, prev_is, with_next, with_prev, change_node, change_at}
 
 -- the changed place of a list is the new value, where the old one was there
 pub set_some : {X : Type 0} (xs : List (Option X)) (i : ℕ) (x : X) (y : Option X) → slice_index_or xs i None ≡ Some x → slice_index_or (slice_set xs i y) i None ≡ y

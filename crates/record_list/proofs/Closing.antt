@@ -4,14 +4,13 @@ use Rattle.std.specs.declared.option.Option.{Option}
 use Rattle.std.specs.declared.option.Option.TheVariants.{None, Some}
 use denote.RawPtr.{Ptr}
 use Rattle.node_heap.specs.Held.{Held, same_ptr, find_node, drop_node}
-use Rattle.node_heap.specs.declared.nodes.Place.{Place}
 use Rattle.node_heap.proofs.Cut.{same_ptr_eq}
 use Rattle.record_list.specs.declared.links.Link.{Link}
 use Rattle.record_list.specs.declared.links.Node.{Node}
 use Rattle.record_list.specs.declared.links.Links.{Links}
-use Rattle.record_list.specs.Chain.{place, first_or, last_or, chain, entry_of, entries, members, link_at, items_at}
-use Rattle.record_list.specs.Linked.{IsAway, IsApart, places, head_at, tail_at, IsLinked, IsOpen, Gap, IsSameChain}
-use Rattle.record_list.proofs.Chains.{keys, away_members}
+use Rattle.record_list.specs.Chain.{place, first_or, last_or, entry_of, entries, members, link_at, items_at}
+use Rattle.record_list.specs.Linked.{IsAway, IsApart, places, head_at, tail_at, IsLinked, IsOpen, IsSameChain}
+use Rattle.record_list.proofs.Chains.{away_members}
 use Rattle.record_list.proofs.Join.{apart_like}
 use Rattle.record_list.proofs.Leave.{drop_entry, find_entry, drop_away, cut_chain, first_again, last_again, entry_found, same_then}
 use Rattle.record_list.proofs.Enter.{same_linked}

@@ -1,15 +1,12 @@
 -- A node at the end of a chain is made known to the chain.
-use Rattle.std.proofs.Common.{◌≡◌, ◌≢◌, ℕ, ◌<◌, List, [], ◌∷◌, ◌++◌, length, slice_index_or, slice_set, refl, sym, ap, ◌∙◌, subst, IfSome}
+use Rattle.std.proofs.Common.{◌≡◌, ◌≢◌, ℕ, ◌<◌, List, [], ◌∷◌, ◌++◌, length, slice_index_or, slice_set, refl, sym, ap, ◌∙◌, IfSome}
 use Rattle.std.proofs.lemmas.List.{get_or-set_other, get_or-set_same}
-use Rattle.std.specs.declared.option.Option.{Option}
 use Rattle.std.specs.declared.option.Option.TheVariants.{None, Some}
 use denote.RawPtr.{Ptr}
 use Rattle.node_heap.specs.Held.{IsHeld}
 use Rattle.node_heap.specs.declared.nodes.Place.{Place}
-use Rattle.record_list.specs.declared.links.Link.{Link}
-use Rattle.record_list.specs.declared.links.Node.{Node}
 use Rattle.record_list.specs.declared.links.Links.{Links}
-use Rattle.record_list.specs.Chain.{place, link, first_or, last_or, chain, entries, members, with_next, change_at, end_after, items_at}
+use Rattle.record_list.specs.Chain.{link, first_or, last_or, chain, entries, members, with_next, change_at, end_after, items_at}
 use Rattle.record_list.specs.Linked.{IsApart, places, head_at, tail_at, IsLinked, Hangs, IsSameChain}
 use Rattle.record_list.proofs.Chains.{keys, keys_chain, keys_only, chain_append, points_on, others_on, items_on}
 use Rattle.record_list.proofs.Join.{before_held, head_after, end_kept, last_append, first_append}

@@ -1,5 +1,5 @@
 -- The chains below d have their new last node.
-use Rattle.std.proofs.Common.{◌≡◌, ◌≢◌, ◌≤◌, ◌<◌, ◌+◌, ◌==◌, ℕ, Bool, true, false, refl, sym, ap, ◌∙◌, subst, arith, eqb→eq, T}
+use Rattle.std.proofs.Common.{◌≡◌, ◌≢◌, ◌≤◌, ◌<◌, ◌+◌, ◌==◌, ℕ, true, false, refl, sym, ap, ◌∙◌, subst, arith, eqb→eq, T}
 use lib.Dec.{eqb_refl}
 use Rattle.record_list.proofs.Chains.{keys}
 use Rattle.record_list.specs.declared.links.Links.{Links}

@@ -1,19 +1,17 @@
 -- The row of a number: its node, and what a change there does to the rows.
-use Rattle.std.proofs.Common.{◌≡◌, ◌≢◌, ℕ, ◌<◌, ◌+◌, ◌==◌, ◌||◌, ◌&&◌, Bool, true, false, cond, not, List, [], ◌∷◌, map, slice_index_or, refl, sym, ap, ◌∙◌, subst, arith, suc}
-use Rattle.std.specs.Prelude.{find, filter}
-use Rattle.std.specs.List.{list_any}
+use Rattle.std.proofs.Common.{◌≡◌, ℕ, ◌+◌, ◌||◌, Bool, true, false, cond, List, [], ◌∷◌, refl, ap, subst, arith, suc}
+use Rattle.std.specs.Prelude.{find}
 use Rattle.std.proofs.lemmas.Bool.Decides.{nat_tests}
-use Rattle.std.specs.declared.option.Option.{Option}
 use Rattle.std.specs.declared.option.Option.TheVariants.{None, Some}
 use denote.RawPtr.{Ptr}
-use Rattle.node_heap.specs.Held.{Held, held_at, same_ptr, find_node, drop_node}
+use Rattle.node_heap.specs.Held.{Held, same_ptr, find_node, drop_node}
 use Rattle.node_heap.specs.declared.nodes.Place.{Place}
 use Rattle.node_heap.proofs.Cut.{same_ptr_refl, same_ptr_eq}
 use Rattle.row_store.specs.declared.Row.{Row}
 use Rattle.row_store.specs.Rows.{NumbersRise, is_row, stands_in, is_linked, changed_at, removed}
-use Rattle.row_store.proofs.Places.{is_row-yes, IsMissing, only_at, rest-missing, changed_at-missing, removed-missing, is_linked-missing}
+use Rattle.row_store.proofs.Places.{IsMissing, only_at, rest-missing, changed_at-missing, removed-missing, is_linked-missing}
 use Rattle.record_list.specs.declared.links.Node.{Node}
-use Rattle.record_list.specs.Chain.{place, row_of, rows_of, change_node}
+use Rattle.record_list.specs.Chain.{place, rows_of, change_node}
 use Rattle.record_list.specs.Linked.{IsAway, IsApart, places}
 use Rattle.record_list.specs.Listed.{place_of, without_number, listed}
 

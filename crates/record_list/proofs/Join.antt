@@ -5,14 +5,14 @@ use Rattle.std.specs.declared.option.Option.{Option}
 use Rattle.std.specs.declared.option.Option.TheVariants.{None, Some}
 use denote.RawPtr.{Ptr}
 use Rattle.row_store.specs.declared.Row.{Row}
-use Rattle.node_heap.specs.Held.{Held, held_at, same_ptr, find_node, IsHeld}
+use Rattle.node_heap.specs.Held.{Held, same_ptr, find_node, IsHeld}
 use Rattle.node_heap.specs.declared.nodes.Place.{Place}
 use Rattle.node_heap.proofs.Cut.{same_ptr_refl}
 use Rattle.record_list.specs.declared.links.Link.{Link}
 use Rattle.record_list.specs.declared.links.Node.{Node}
 use Rattle.record_list.specs.declared.links.Links.{Links}
-use Rattle.record_list.specs.Chain.{place, link, first_or, last_or, chain, entry_of, entries, members, link_at, with_next, with_prev, change_at, end_after, items_at}
-use Rattle.record_list.specs.Linked.{IsAway, IsApart, places, head_at, tail_at, IsLinked, Gap, IsSameChain}
+use Rattle.record_list.specs.Chain.{place, first_or, last_or, chain, entry_of, entries, members, link_at, with_next, with_prev, change_at, end_after, items_at}
+use Rattle.record_list.specs.Linked.{IsApart, places, head_at, tail_at, IsLinked, Gap, IsSameChain}
 use Rattle.record_list.proofs.Chains.{keys, keys_chain, keys_only, keys_front, last_is, chain_append, points_on, points_back, others_on, others_back, items_on, items_back, places_of_items}
 
 last_cut : (x : Ptr) (xs : List Ptr) → (us : List Ptr) × (p : Ptr) × ((x ∷ xs ≡ us ++ p ∷ []) × (last_or (Some (place x)) xs ≡ Some (place p)))

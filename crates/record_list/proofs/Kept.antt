@@ -1,29 +1,27 @@
 -- A store of linked rows stays whole: what each change does to marks, places, rows and the directory.
-use Rattle.std.proofs.Common.{◌≡◌, ◌≢◌, ◌≤◌, ◌<◌, ◌+◌, ◌^◌, ◌==◌, ◌||◌, ◌&&◌, ℕ, zero, suc, Bool, true, false, cond, List, [], ◌∷◌, ◌++◌, map, length, slice_index_or, slice_set, replicate, refl, sym, ap, ◌∙◌, subst, arith}
-use Rattle.std.specs.Prelude.{find, All}
-use Rattle.std.specs.Option.{is_some, option_map}
+use Rattle.std.proofs.Common.{◌≡◌, ◌≤◌, ◌<◌, ◌^◌, ◌==◌, ◌||◌, ◌&&◌, ℕ, zero, suc, Bool, true, false, cond, List, [], ◌∷◌, ◌++◌, map, slice_index_or, replicate, refl, sym, ap, ◌∙◌, subst, arith}
+use Rattle.std.specs.Prelude.{All}
+use Rattle.std.specs.Option.{is_some}
 use Rattle.std.specs.Int.{bit_at}
 use Rattle.std.proofs.lemmas.Bool.Decides.{nat_tests}
-use Rattle.std.proofs.lemmas.List.{map-append, get_or-set_other, get_or-set_same}
 use Rattle.std.specs.declared.option.Option.{Option}
 use Rattle.std.specs.declared.option.Option.TheVariants.{None, Some}
 use denote.RawPtr.{Ptr}
-use Rattle.node_heap.specs.Held.{Held, held_at, same_ptr, find_node, drop_node, set_node, IsHeld}
+use Rattle.node_heap.specs.Held.{Held, held_at, same_ptr, find_node, drop_node}
 use Rattle.node_heap.specs.declared.nodes.Place.{Place}
-use Rattle.node_heap.proofs.Cut.{same_ptr_refl, same_ptr_eq, same_ptr_symm}
+use Rattle.node_heap.proofs.Cut.{same_ptr_refl, same_ptr_symm}
 use Rattle.row_store.specs.declared.Row.{Row}
-use Rattle.row_store.specs.Rows.{NumbersRise, is_row, stands_in, without, front_of, is_linked, unlinked}
-use Rattle.row_store.proofs.Bits.{beyond_width, bit_at-without_same, bit_at-without_other}
+use Rattle.row_store.specs.Rows.{NumbersRise, is_row, stands_in, front_of, is_linked, unlinked}
+use Rattle.row_store.proofs.Bits.{beyond_width}
 use Rattle.record_list.specs.declared.links.Link.{Link}
 use Rattle.record_list.specs.declared.links.Node.{Node}
 use Rattle.record_list.specs.declared.links.Links.{Links}
-use Rattle.record_list.specs.Chain.{place, link, first_or, last_or, chain, entry_of, entries, members, link_at, without_link, change_node, row_of, rows_of, items_at}
-use Rattle.record_list.specs.Linked.{IsAway, IsApart, places, head_at, tail_at, IsLinked, IsThreaded, Hangs}
+use Rattle.record_list.specs.Chain.{place, link, first_or, last_or, chain, entry_of, entries, members, link_at, change_node, row_of, rows_of, items_at}
+use Rattle.record_list.specs.Linked.{IsAway, IsApart, places, IsLinked, IsThreaded}
 use Rattle.record_list.specs.Listed.{listed}
-use Rattle.record_list.specs.Stands.{stands, new_link, AreMarked, IsWhole, IsKept}
-use Rattle.record_list.proofs.Chains.{keys, away_members, places_of_items}
+use Rattle.record_list.specs.Stands.{stands, AreMarked, IsWhole, IsKept}
+use Rattle.record_list.proofs.Chains.{keys, away_members}
 use Rattle.record_list.proofs.Join.{apart_like}
-use Rattle.record_list.proofs.LastLinks.{is_new}
 
 pub is_some_at : {X : Type 0} (xs : List (Option X)) (d : ℕ) → slice_index_or (map is_some xs) d false ≡ is_some (slice_index_or xs d None)
 is_some_at [] d = refl

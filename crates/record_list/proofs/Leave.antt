@@ -1,6 +1,6 @@
 -- A node leaves a chain: a gap opens.
-use Rattle.std.proofs.Common.{◌≡◌, ◌≢◌, ℕ, Bool, true, false, cond, List, [], ◌∷◌, ◌++◌, map, slice_index_or, slice_set, refl, sym, ap, ◌∙◌, subst}
-use Rattle.std.proofs.lemmas.List.{get_or-set_other, set-get_or}
+use Rattle.std.proofs.Common.{◌≡◌, ◌≢◌, ℕ, Bool, true, false, cond, List, [], ◌∷◌, ◌++◌, slice_index_or, slice_set, refl, sym, ap, ◌∙◌, subst}
+use Rattle.std.proofs.lemmas.List.{get_or-set_other}
 use Rattle.std.specs.declared.option.Option.{Option}
 use Rattle.std.specs.declared.option.Option.TheVariants.{None, Some}
 use denote.RawPtr.{Ptr}
@@ -10,11 +10,11 @@ use Rattle.node_heap.proofs.Cut.{same_ptr_eq}
 use Rattle.record_list.specs.declared.links.Link.{Link}
 use Rattle.record_list.specs.declared.links.Node.{Node}
 use Rattle.record_list.specs.declared.links.Links.{Links}
-use Rattle.record_list.specs.Chain.{place, link, first_or, last_or, chain, entry_of, entries, members, link_at, without_link, change_node, items_at}
+use Rattle.record_list.specs.Chain.{place, link, first_or, last_or, chain, entry_of, entries, members, link_at, without_link, change_node}
 use Rattle.record_list.specs.Linked.{IsAway, IsApart, places, head_at, tail_at, IsLinked, Gap, IsSameChain}
 use Rattle.record_list.proofs.Change.{set_change, set_some}
-use Rattle.record_list.proofs.Chains.{keys, away_members, entries_kept, items_kept}
-use Rattle.record_list.proofs.Join.{last_append, apart_like}
+use Rattle.record_list.proofs.Chains.{keys, away_members, entries_kept}
+use Rattle.record_list.proofs.Join.{last_append}
 
 abbrev pub drop_entry : Ptr → List (Ptr × Link) → List (Ptr × Link)
 drop_entry p [] = []

@@ -10,17 +10,17 @@ use Rattle.std.specs.declared.option.Option.TheVariants.{None, Some}
 use denote.RawPtr.{Ptr}
 use Rattle.node_heap.specs.Held.{Held, held_at, same_ptr, find_node, drop_node}
 use Rattle.node_heap.specs.declared.nodes.Place.{Place}
-use Rattle.node_heap.proofs.Cut.{same_ptr_eq, same_ptr_symm}
+use Rattle.node_heap.proofs.Cut.{same_ptr_symm}
 use Rattle.row_store.specs.declared.Row.{Row}
-use Rattle.row_store.specs.Rows.{NumbersRise, stands_in, without, changed_at, removed}
+use Rattle.row_store.specs.Rows.{without}
 use Rattle.row_store.proofs.Bits.{bit_at-without_same, bit_at-without_other}
 use Rattle.row_store.proofs.Places.{numbers-changed_at, NumbersRise-removed, NumbersRise-push}
 use Rattle.record_list.specs.declared.links.Link.{Link}
 use Rattle.record_list.specs.declared.links.Node.{Node}
 use Rattle.record_list.specs.declared.links.Links.{Links}
 use Rattle.record_list.specs.Chain.{place, link, first_or, last_or, chain, entry_of, entries, members, link_at, without_link, change_node, row_of, rows_of, items_at}
-use Rattle.record_list.specs.Linked.{IsAway, IsApart, places, head_at, tail_at, IsLinked, Hangs, IsSameChain}
-use Rattle.record_list.specs.Listed.{place_of, without_number, listed}
+use Rattle.record_list.specs.Linked.{IsAway, IsApart, places, tail_at, IsLinked, Hangs, IsSameChain}
+use Rattle.record_list.specs.Listed.{place_of, without_number}
 use Rattle.record_list.specs.Stands.{stands, new_link, AreMarked, IsWhole, IsKept}
 use Rattle.record_list.proofs.Change.{set_change, set_none}
 use Rattle.record_list.proofs.Chains.{keys}

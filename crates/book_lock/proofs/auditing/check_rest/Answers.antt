@@ -1,4 +1,4 @@
-use Rattle.std.proofs.Common.{◌≡◌, ◌<◌, ◌≤◌, ℕ, All, length, ap, sym, subst, ◌∙◌, arith}
+use Rattle.std.proofs.Common.{◌≡◌, ◌<◌, ◌≤◌, ℕ, All, length, ap, subst, ◌∙◌, arith}
 use Rattle.event_log.specs.History.{next_place}
 use Rattle.book_core.specs.declared.receipt.Receipt.{Receipt}
 use Rattle.book_lock.specs.Auditing.{naming}
@@ -19,7 +19,7 @@ returns-in-Some-clause-fault g c =
     let end : c.len.result ≡ next_place h.book = c.len.ensures ∙ ap next_place c.book.ensures in (
       omega arith,
       right_before h c.args.receipts.now place (omega (arith, c.first-first.ensures.first, c.first-first.ensures.within)) c.requires
-      (subst (λ (n : ℕ). All (λ (r : Receipt). n ≤ r.entry → place ≤ r.entry) c.args.receipts.now) end c.in-Some.ensures.least),
+          (subst (λ (n : ℕ). All (λ (r : Receipt). n ≤ r.entry → place ≤ r.entry) c.args.receipts.now) end c.in-Some.ensures.least),
     )
 
 pub returns-in-Some-2-clause-fault : goal.returns-in-Some-2-clause-fault
@@ -34,5 +34,5 @@ returns-in-Some-2-clause-fault g c =
         stray h c.args.receipts.now place within (omega (arith, end, c.in-Some.ensures.from)) some,
       ),
       right_before h c.args.receipts.now place within c.requires
-      (subst (λ (n : ℕ). All (λ (r : Receipt). n ≤ r.entry → place ≤ r.entry) c.args.receipts.now) end c.in-Some.ensures.least),
+          (subst (λ (n : ℕ). All (λ (r : Receipt). n ≤ r.entry → place ≤ r.entry) c.args.receipts.now) end c.in-Some.ensures.least),
     )

@@ -1,4 +1,4 @@
-use Rattle.std.proofs.Common.{◌≡◌, ℕ, ◌+◌, ◌-◌, ◌<◌, List, length, map, slice_index, ap, arith}
+use Rattle.std.proofs.Common.{◌≡◌, ℕ, ◌+◌, ◌-◌, List, map, slice_index, ap, arith}
 use Rattle.std.proofs.lemmas.Bool.{false≢true}
 use Rattle.book_core.specs.declared.receipt.Receipt.{Receipt}
 use Rattle.std.proofs.Math.ListN.{length-map}

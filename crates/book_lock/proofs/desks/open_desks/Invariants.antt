@@ -1,4 +1,4 @@
-use Rattle.std.proofs.Common.{◌≡◌, ◌+◌, ◌≤◌, All, vec_len, vec_capacity}
+use Rattle.std.proofs.Common.{◌≡◌, ◌+◌, All, vec_len, vec_capacity}
 use Rattle.book_lock.proofs.desks.open_desks.Given as goal
 
 abbrev pub invariant-loop : goal.invariant-loop

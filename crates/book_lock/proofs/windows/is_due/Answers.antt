@@ -1,5 +1,5 @@
-use Rattle.std.proofs.Common.{◌≡◌, ◌≤◌, Some, None, ap, sym, ◌∙◌, arith}
-use Rattle.event_log.specs.History.{entry_at, next_place}
+use Rattle.std.proofs.Common.{ap, sym, ◌∙◌, arith}
+use Rattle.event_log.specs.History.{entry_at}
 use Rattle.book_lock.proofs.Naming.{due_before, due_if, due_none, not_due}
 use Rattle.book_lock.proofs.windows.is_due.Goals as goal
 

@@ -1,7 +1,6 @@
-use Rattle.std.proofs.Common.{rules, ap, ◌∙◌, refl, slice_set, length, ◌<◌}
+use Rattle.std.proofs.Common.{rules, refl, slice_set}
 use Rattle.std.specs.declared.option.Option.TheVariants.{Some}
 use Rattle.record_list.proofs.Enter.{last_held, linked_entered, members_entered, others_entered, items_entered}
-use Rattle.record_list.specs.Linked.{tail_at}
 use Rattle.record_list.proofs.links.Links.enter.Goals as goal
 
 pub point_on-requires-clause-held : goal.point_on-requires-clause-held

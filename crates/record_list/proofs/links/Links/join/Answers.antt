@@ -1,4 +1,4 @@
-use Rattle.std.proofs.Common.{rules, ap, ◌∙◌, ◌<◌, length}
+use Rattle.std.proofs.Common.{rules}
 use Rattle.record_list.specs.Chain.{chain}
 use Rattle.record_list.proofs.Join.{before_held, after_is_held, linked_joined, members_joined, others_joined, items_joined}
 use Rattle.std.specs.declared.option.Option.TheVariants.{None}

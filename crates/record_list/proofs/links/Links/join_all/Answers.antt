@@ -1,4 +1,4 @@
-use Rattle.std.proofs.Common.{rules, ap, ◌∙◌, sym, subst, ◌+◌}
+use Rattle.std.proofs.Common.{rules, sym, subst, ◌+◌}
 use Rattle.std.specs.declared.option.Option.TheVariants.{Some}
 use Rattle.record_list.specs.Linked.{IsOpen}
 use Rattle.record_list.proofs.Closing.{Closed, same_open, step_closed, skip_closed}

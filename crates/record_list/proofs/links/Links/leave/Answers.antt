@@ -1,4 +1,4 @@
-use Rattle.std.proofs.Common.{◌≡◌, slice_set, min, ◌+◌, ◌-◌, ◌^◌, refl, sym, ap, ◌∙◌}
+use Rattle.std.proofs.Common.{◌≡◌, slice_set, min, ◌+◌, ◌-◌, ◌^◌, refl, ap, ◌∙◌}
 use Rattle.node_heap.specs.Held.{set_node}
 use Rattle.std.specs.declared.option.Option.TheVariants.{None}
 use Rattle.record_list.specs.Chain.{items_at, change_node, without_link}

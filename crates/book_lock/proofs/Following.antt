@@ -1,0 +1,123 @@
+-- What rose with an entry.
+use Rattle.std.proofs.Common.{◌≡◌, ◌≢◌, ℕ, ◌+◌, ◌-◌, ◌<◌, ◌≤◌, ◌^◌, length, ltb, inl, inr, refl, sym, ap, subst, ◌∙◌, arith, length-append, [], ◌∷◌}
+use Rattle.std.proofs.lemmas.List.FromFn.{length-map-range_with_len}
+use Rattle.plan_text.specs.Entries.{PlanEntry}
+use Rattle.stat_count.specs.Statistics.{Statistics}
+use Rattle.stat_count.specs.Sums.{arrivals, settlements, takes}
+use Rattle.event_log.specs.declared.entry.Entry.{Entry}
+use Rattle.event_log.specs.History.{History, followed_by, next_place, plan_in_force}
+use Rattle.event_log.specs.Legal.{IsSound}
+use Rattle.book_core.specs.Counting.{SumsRise, channel_counts, counted, destination_counts}
+use Rattle.book_lock.specs.Rises.{Held, IsCounted, IsOpened, arrived, settled, taken, with_book}
+use Rattle.book_lock.proofs.Naming.{split_by}
+
+pub arrived-is : (h : History) → arrived h ≡ arrivals (counted h)
+unfolding arrived
+arrived-is h = refl
+
+pub taken-is : (h : History) → taken h ≡ takes (counted h)
+unfolding taken
+taken-is h = refl
+
+pub settled-is : (h : History) → settled h ≡ settlements (counted h)
+unfolding settled
+settled-is h = refl
+
+sum_more : (old new opening m x a b : ℕ) → old ≡ a → new ≡ b → old ≡ opening + m → b ≡ a + x → new ≡ opening + (m + x)
+sum_more old new opening m x a b p q r t = omega (arith, p, q, r, t)
+
+sum_fits : (old opening m a bound : ℕ) → old ≡ a → old ≡ opening + m → a ≤ bound → bound ≤ 128000000 → m + 1 < 2 ^ 64
+sum_fits old opening m a bound p r few small = omega (arith, p, r, few, small)
+
+since_more : (h : History) (e : Entry) (first : ℕ) → first ≤ next_place h → first ≤ next_place (followed_by h e)
+since_more h e first since = omega (arith, since, length-append h.entries (e ∷ []))
+
+-- the statistics of a book are of 64 channels and 32 destinations
+pub counted_channels : (h : History) → length (counted h).channels ≡ 64
+counted_channels h = length-map-range_with_len (channel_counts h) 0 64
+
+pub counted_destinations : (h : History) → length (counted h).destinations ≡ 32
+counted_destinations h = length-map-range_with_len (destination_counts h) 0 32
+
+-- the ledgers follow an entry
+counted_more : (h : Held) (e : Entry) (m t s x y z : ℕ) → IsCounted h m t s → SumsRise x y z (counted h.book) (counted (followed_by h.book e)) → IsCounted (with_book h (followed_by h.book e)) (m + x) (t + y) (s + z)
+counted_more h e m t s x y z known rise = record {
+  arrivals_are = sum_more (arrived h.book) (arrived (followed_by h.book e)) (arrivals h.opening) m x (arrivals (counted h.book)) (arrivals (counted (followed_by h.book e))) (arrived-is h.book) (arrived-is (followed_by h.book e)) known.arrivals_are rise.arrivals;
+  takes_are = sum_more (taken h.book) (taken (followed_by h.book e)) (takes h.opening) t y (takes (counted h.book)) (takes (counted (followed_by h.book e))) (taken-is h.book) (taken-is (followed_by h.book e)) known.takes_are rise.takes;
+  settlements_are = sum_more (settled h.book) (settled (followed_by h.book e)) (settlements h.opening) s z (settlements (counted h.book)) (settlements (counted (followed_by h.book e))) (settled-is h.book) (settled-is (followed_by h.book e)) known.settlements_are rise.settlements;
+  since = since_more h.book e h.first known.since;
+}
+
+-- the entries of a sound history are few
+pub few_entries : (h : History) → IsSound h → h.opening.events_max ≤ 1000000 → length h.entries ≤ 1000000
+few_entries h sound few = omega (arith, sound.room, few)
+
+-- one more can be counted
+pub arrivals_fit : (h : Held) (m t s : ℕ) → IsCounted h m t s → arrivals (counted h.book) ≤ 128000000 → m + 1 < 2 ^ 64
+arrivals_fit h m t s known few = sum_fits (arrived h.book) (arrivals h.opening) m (arrivals (counted h.book)) 128000000 (arrived-is h.book) known.arrivals_are few (omega arith)
+
+pub takes_fit : (h : Held) (m t s : ℕ) → IsCounted h m t s → takes (counted h.book) ≤ 32000000 → t + 1 < 2 ^ 64
+takes_fit h m t s known few = sum_fits (taken h.book) (takes h.opening) t (takes (counted h.book)) 32000000 (taken-is h.book) known.takes_are few (omega arith)
+
+pub settlements_fit : (h : Held) (m t s : ℕ) → IsCounted h m t s → settlements (counted h.book) ≤ 32000000 → s + 1 < 2 ^ 64
+settlements_fit h m t s known few = sum_fits (settled h.book) (settlements h.opening) s (settlements (counted h.book)) 32000000 (settled-is h.book) known.settlements_are few (omega arith)
+
+-- a channel of the one plan is one of the other, where they don't differ
+pub known_channel : (p q : PlanEntry) (channel : ℕ) → (p ≢ q → ⊥) → channel < length p.channels → channel < length q.channels
+known_channel p q channel same known =
+    elim (split_by (length q.channels) channel (ltb channel (length q.channels)) refl) [
+      | inl past ↦ absurd (same (λ e. omega (arith, past, known, ap (λ (w : PlanEntry). length w.channels) e)))
+      | inr inside ↦ inside
+    ]
+
+-- the book behind the lock after one more entry
+pub next : (h : Held) (e : Entry) (new : History) (counts : Statistics) (first channels m t s x y z m' t' s' : ℕ) → new ≡ followed_by h.book e
+    → IsOpened h counts first channels → IsCounted h m t s → SumsRise x y z (counted h.book) (counted (followed_by h.book e))
+    → m' ≡ m + x → t' ≡ t + y → s' ≡ s + z
+    → IsOpened (with_book h new) counts first channels × IsCounted (with_book h new) m' t' s'
+next h e new counts first channels m t s x y z m' t' s' booked opened known rise ms ts ss =
+    let now : IsCounted (with_book h (followed_by h.book e)) m' t' s' =
+    subst (λ w. IsCounted (with_book h (followed_by h.book e)) w t' s') (sym ms)
+    (subst (λ w. IsCounted (with_book h (followed_by h.book e)) (m + x) w s') (sym ts)
+    (subst (λ w. IsCounted (with_book h (followed_by h.book e)) (m + x) (t + y) w) (sym ss) (counted_more h e m t s x y z known rise))) in
+    let there : IsOpened (with_book h (followed_by h.book e)) counts first channels = record { opening = opened.opening; all_channels = opened.all_channels; all_destinations = opened.all_destinations; first_is = opened.first_is; channels_are = opened.channels_are } in (
+      subst (λ (b : History). IsOpened (with_book h b) counts first channels) (sym booked) there,
+      subst (λ (b : History). IsCounted (with_book h b) m' t' s') (sym booked) now,
+    )
+
+none_yet : (now opening made a : ℕ) → now ≡ a → opening ≡ a → made ≡ 0 → now ≡ opening + made
+none_yet now opening made a p q r = omega (arith, p, q, r)
+
+-- the book behind the lock at first
+pub opened_now : (book : History) (opening : Statistics) (at : ℕ) (counts : Statistics) (first channels m t s : ℕ) → opening ≡ counted book → at ≡ next_place book
+    → counted book ≡ counts → next_place book ≡ first → length (plan_in_force book).channels ≡ channels → (m ≡ 0) × (t ≡ 0) × (s ≡ 0)
+    → IsOpened (record { book = book; opening = opening; first = at }) counts first channels × IsCounted (record { book = book; opening = opening; first = at }) m t s
+opened_now book opening at counts first channels m t s is here known firsts are none = (
+  record {
+    opening = is ∙ known;
+    all_channels = ap (λ (w : Statistics). length w.channels) is ∙ counted_channels book;
+    all_destinations = ap (λ (w : Statistics). length w.destinations) is ∙ counted_destinations book;
+    first_is = here ∙ firsts;
+    channels_are = are;
+  },
+  record {
+    arrivals_are = none_yet (arrived book) (arrivals opening) m (arrivals (counted book)) (arrived-is book) (ap arrivals is) none.0;
+    takes_are = none_yet (taken book) (takes opening) t (takes (counted book)) (taken-is book) (ap takes is) none.1;
+    settlements_are = none_yet (settled book) (settlements opening) s (settlements (counted book)) (settled-is book) (ap settlements is) none.2;
+    since = at_most at (next_place book) here;
+  },
+)
+  where
+    at_most : (a b : ℕ) → a ≡ b → a ≤ b
+    at_most a b e = omega (arith, e)
+
+-- a desk made no more than is shown
+pub shown : (opening opened now result made total : ℕ) → opening ≡ opened → now ≡ result → now ≡ opening + total → made ≤ total → opened + made ≤ result
+shown opening opened now result made total p q r few = omega (arith, p, q, r, few)
+
+-- a rise is a difference
+pub rise_fits : (now opening total r q a : ℕ) → now ≡ a → now ≡ opening + total → r ≡ a → q ≡ opening → q ≤ r
+rise_fits now opening total r q a p s t u = omega (arith, p, s, t, u)
+
+pub rise_is : (now opening r q a : ℕ) → now ≡ a → r ≡ a → q ≡ opening → r - q ≡ now - opening
+rise_is now opening r q a p t u = omega (arith, p, t, u)
