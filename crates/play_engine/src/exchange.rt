@@ -1,44 +1,35 @@
 //! The book that connections are served from, what comes by the next one, and what came of it.
 
-use crate::script::{Call, Cut, extend_with, shown};
-use anyhow::Result;
+use crate::pieces::Pieces;
+use crate::script::{Call, Cut};
+use crate::shown::{replies_shown, report_shown};
+use anyhow::{Result, bail};
 use book_core::{Book, EVENTS_MAX, Letter};
 use conn_core::Line;
-use conn_worker::{Counted, ServeReport, Still, TURNS_MAX, nearest, serve_within};
+use conn_worker::{Counted, Still, TURNS_MAX, nearest, serve_within};
 use dest_queue::Addressed;
 use plan_text::Plan;
+use play_script::{bytes_of, shown};
 use row_store::PlainRows;
 use stat_count::DESTINATIONS;
 use std::alloc::{AllocError, Global};
 use std::hash::RandomState;
-use std::io::Read;
 use std::sync::Arc;
-use std::{io, mem};
+use std::{fs, mem};
 
 /// The moment of the acknowledgments where no other is asked for: 14 November 2023, 22:13:20 UTC.
 const ANSWERED_AT: u64 = 1_700_000_000;
 
-/// A reader of a stream in pieces.
-#[derive(Drop)]
-struct Pieces<'a> {
-    rest: &'a [u8],
-    cut: Cut,
-}
-
-impl Read for Pieces<'_> {
-    fn read(&mut self, buf: &mut [u8]) -> io::Result<usize> {
-        let piece = match self.cut {
-            Cut::Nowhere => self.rest.len(),
-            Cut::AtEachByte => 1,
-            Cut::BehindEachEnd => match self.rest.iter().position(|b| *b == 0x1C) {
-                Some(at) => at + 1,
-                None => self.rest.len(),
-            },
-        };
-        let len = piece.min(self.rest.len()).min(buf.len());
-        buf[..len].copy_from_slice(&self.rest[..len]);
-        self.rest = &self.rest[len..];
-        Ok(len)
+/// The plan of this name: the built-in one, or that in a file.
+fn plan_named(rt: &HostRuntime, name: &str) -> Result<Plan> {
+    let alloc = rt.alloc();
+    if name == "built-in" {
+        return Ok(Plan::built_in(alloc)?);
+    }
+    let text = fs::read(rt, name)?;
+    match Plan::read(alloc, &text) {
+        Ok(plan) => Ok(plan),
+        Err(fault) => bail!("{name}: {fault}"),
     }
 }
 
@@ -55,15 +46,12 @@ pub struct Exchange {
 }
 
 impl Exchange {
-    /// With an empty book of this plan.
-    pub fn new(rt: &HostRuntime, alloc: Global, plan: Plan) -> Result<Self> {
-        let plan = Arc::new(alloc, plan)?;
-        let book = Book::new(
-            alloc,
-            Arc::try_clone(&plan)?,
-            EVENTS_MAX,
-            RandomState::new(rt)?,
-        );
+    /// With an empty book of the plan of this name.
+    pub fn new(rt: &HostRuntime, name: &str) -> Result<Exchange> {
+        let alloc = rt.alloc();
+        let plan = Arc::new(alloc, plan_named(rt, name)?)?;
+        let shared = Arc::try_clone(&plan)?;
+        let book = Book::new(alloc, shared, EVENTS_MAX, RandomState::new(rt)?);
         Ok(Exchange {
             alloc,
             plan,
@@ -84,82 +72,109 @@ impl Exchange {
     }
 
     /// Does what a call asks, and gives what came of it as lines of text.
-    pub fn play(&mut self, rt: &HostRuntime, call: &Call) -> Result<String> {
+    pub fn play(&mut self, rt: &HostRuntime, call: Call<'_>) -> Result<String> {
         match call {
-            Call::Plan(_) => {}
+            Call::Serve(cut) => return self.served(cut),
+            Call::Exchange => return self.exchanged(rt),
+            Call::Take(destination) => return self.taken(destination),
+            Call::Plan(name) => *self = Exchange::new(rt, name)?,
             Call::Events(events) => {
-                self.events = *events;
+                self.events = events;
                 self.begin_anew(rt)?;
             }
-            Call::Clock(seconds) => self.clock = *seconds,
-            Call::Bound(bound) => self.bound = *bound,
-            Call::Admission(id, rest) => {
-                let text = format!(in self.alloc;
-                    "<VT>MSH|^~\\&|REG|HOSP|ENG|HUB|20231114221300||ADT^A01^ADT_A01|{id}|P|2.5.1{rest}<CR>PID|1||77^^^H<CR><FS><CR>"
-                )?;
-                extend_with(&mut self.stream, text.as_str())?;
-            }
-            Call::Text(text) => {
-                let block = format!(in self.alloc; "<VT>{text}<FS><CR>")?;
-                extend_with(&mut self.stream, block.as_str())?;
-            }
-            Call::Bytes(text) => extend_with(&mut self.stream, text)?,
-            Call::Letters(count) => {
-                for _ in 0..*count {
-                    self.stream.push(b'A')?;
-                }
-            }
-            Call::Serve(cut) => return self.served(*cut),
-            Call::Exchange => return self.exchanged(rt),
-            Call::Take(destination) => return self.taken(*destination),
+            Call::Clock(seconds) => self.clock = seconds,
+            Call::Bound(bound) => self.bound = bound,
+            Call::Admission(id, rest) => self.admit(id, rest)?,
+            Call::Text(text) => self.come_block(text)?,
+            Call::Bytes(text) => self.come(text)?,
+            Call::Letters(count) => self.come_letters(count)?,
         }
         Ok(String::new(self.alloc))
+    }
+
+    /// These bytes come.
+    fn come(&mut self, text: &str) -> Result<(), AllocError> {
+        let bytes = bytes_of(self.alloc, text)?;
+        self.stream.extend_from_slice(&bytes)
+    }
+
+    /// A block with this text comes.
+    fn come_block(&mut self, text: &str) -> Result<(), AllocError> {
+        let block = format!(in self.alloc; "<VT>{text}<FS><CR>")?;
+        self.come(block.as_str())
+    }
+
+    /// An admission of patient 77 comes, with this control id, and this behind its version.
+    fn admit(&mut self, id: &str, rest: &str) -> Result<(), AllocError> {
+        let text = format!(in self.alloc;
+            "MSH|^~\\&|REG|HOSP|ENG|HUB|20231114221300||ADT^A01^ADT_A01|{id}|P|2.5.1{rest}<CR>PID|1||77^^^H<CR>"
+        )?;
+        self.come_block(text.as_str())
+    }
+
+    /// So many letters come.
+    fn come_letters(&mut self, count: u32) -> Result<(), AllocError> {
+        for _ in 0..count {
+            self.stream.push(b'A')?;
+        }
+        Ok(())
+    }
+
+    /// What comes of a stream that is cut so, in a new book.
+    fn served_anew(&mut self, rt: &HostRuntime, cut: Cut, stream: Vec<u8>) -> Result<String> {
+        self.stream = stream;
+        self.begin_anew(rt)?;
+        self.served(cut)
     }
 
     /// What comes of the stream however it is cut, each time in a new book.
     fn exchanged(&mut self, rt: &HostRuntime) -> Result<String> {
         let stream = self.stream.clone()?;
-        self.begin_anew(rt)?;
-        let whole = self.served(Cut::Nowhere)?;
-        for cut in [Cut::AtEachByte, Cut::BehindEachEnd] {
-            self.stream = stream.clone()?;
-            self.begin_anew(rt)?;
-            let pieces = self.served(cut)?;
-            if pieces != whole {
-                return Ok(format!(in self.alloc; "{whole}cut {cut:?} otherwise:\n{pieces}")?);
-            }
+        let bytes = self.served_anew(rt, Cut::AtEachByte, stream.clone()?)?;
+        let ends = self.served_anew(rt, Cut::BehindEachEnd, stream.clone()?)?;
+        let whole = self.served_anew(rt, Cut::Nowhere, stream)?;
+        if bytes != whole {
+            bail!("cut at each byte otherwise:\n{bytes}");
+        }
+        if ends != whole {
+            bail!("cut behind each end otherwise:\n{ends}");
         }
         Ok(whole)
     }
 
     /// Serves the stream, and gives the replies, the report, the channel's counts and the slots of message 0.
     fn served(&mut self, cut: Cut) -> Result<String> {
+        let told = self.told(cut)?;
+        let counts = self.counts_shown()?;
+        let slots = self.slots_shown()?;
+        Ok(format!(in self.alloc; "{told}{counts}{slots}")?)
+    }
+
+    /// Serves the stream, and gives the replies and the report.
+    fn told(&mut self, cut: Cut) -> Result<String, AllocError> {
         let alloc = self.alloc;
         let stream = mem::replace(&mut self.stream, Vec::new(alloc));
         let mut reader = Counted::new(Pieces { rest: &stream, cut });
         let mut writer = Counted::new(Vec::new(alloc));
         let mut clock = Still(nearest(self.clock));
-        let line = Line {
-            alloc,
-            conn: 0,
-            channel: 0,
-        };
-        self.book.plan().rules();
         let bound = self.bound.min(TURNS_MAX);
+        let (conn, channel) = (0, 0);
+        self.book.plan().rules();
         let report = serve_within(
-            &line,
+            &Line {
+                alloc,
+                conn,
+                channel,
+            },
             &mut self.book,
             &mut reader,
             &mut writer,
             &mut clock,
             bound,
         );
-        let replies = writer.into_inner();
-        let replies = replies_shown(alloc, &replies)?;
-        let told = report_shown(alloc, &report)?;
-        let counts = self.counts_shown()?;
-        let slots = self.slots_shown()?;
-        Ok(format!(in alloc; "{replies}{told}{counts}{slots}")?)
+        let replies = replies_shown(alloc, &writer.into_inner())?;
+        let report = report_shown(alloc, &report)?;
+        format!(in alloc; "{replies}{report}")
     }
 
     /// What the channel counts.
@@ -193,36 +208,4 @@ impl Exchange {
             Err(refusal) => Ok(format!(in self.alloc; "  {refusal:?}\n")?),
         }
     }
-}
-
-/// Replies, a block a line.
-fn replies_shown(alloc: Global, bytes: &[u8]) -> Result<String, AllocError> {
-    if bytes.is_empty() {
-        return Ok(String::new(alloc));
-    }
-    let blocks = shown(alloc, bytes)?;
-    let lines = blocks.replace(alloc, "<FS><CR><VT>", "<FS><CR>\n  <VT>")?;
-    format!(in alloc; "  {lines}\n")
-}
-
-/// What a report tells: the entries and what was told, and what the blocks and their end were.
-fn report_shown(alloc: Global, report: &ServeReport) -> Result<String, AllocError> {
-    let mut text = String::new(alloc);
-    for receipt in &report.receipts {
-        let line = format!(in alloc;
-            "  entry {}: connection {}, channel {}, {} bytes, {:?}\n",
-            receipt.entry,
-            receipt.conn,
-            receipt.channel,
-            receipt.raw.as_slice().len(),
-            receipt.told
-        )?;
-        text.push_str(line.as_str())?;
-    }
-    let line = format!(in alloc;
-        "  unreadable {}, strays {}, breaks {}, unbooked {}, end {:?}\n",
-        report.unreadable, report.strays, report.breaks, report.unbooked, report.end
-    )?;
-    text.push_str(line.as_str())?;
-    Ok(text)
 }

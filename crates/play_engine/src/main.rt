@@ -3,30 +3,17 @@
 #![tactic(auto)]
 
 mod exchange;
+mod pieces;
 mod script;
+mod shown;
 
 use anyhow::{Result, bail};
 use exchange::Exchange;
-use plan_text::Plan;
-use script::{Call, call_of};
-use std::fs;
-
-/// The plan of this name: the built-in one, or that in a file.
-fn plan_named(rt: &HostRuntime, name: &str) -> Result<Plan> {
-    let alloc = rt.alloc();
-    if name == "built-in" {
-        return Ok(Plan::built_in(alloc)?);
-    }
-    let text = fs::read(rt, name)?;
-    match Plan::read(alloc, &text) {
-        Ok(plan) => Ok(plan),
-        Err(fault) => bail!("{name}: {fault}"),
-    }
-}
+use script::call_of;
 
 fn main(rt: HostRuntime) -> Result<()> {
     let alloc = rt.alloc();
-    let mut exchange = Exchange::new(&rt, alloc, Plan::built_in(alloc)?)?;
+    let mut exchange = Exchange::new(&rt, "built-in")?;
     for line in rt.lines(alloc) {
         let line = line?;
         println!(rt; "{line}")?;
@@ -36,10 +23,7 @@ fn main(rt: HostRuntime) -> Result<()> {
         let Some(call) = call_of(line.as_str()) else {
             bail!("it is no call");
         };
-        match call {
-            Call::Plan(name) => exchange = Exchange::new(&rt, alloc, plan_named(&rt, name)?)?,
-            call => print!(rt; "{}", exchange.play(&rt, &call)?)?,
-        }
+        print!(rt; "{}", exchange.play(&rt, call)?)?;
     }
     Ok(())
 }

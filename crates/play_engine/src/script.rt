@@ -1,6 +1,4 @@
-//! The calls of a script, and how it writes bytes.
-
-use std::alloc::{AllocError, Global};
+//! The calls of a script.
 
 /// Where a stream is cut into the pieces that a reader gives.
 #[derive(Clone, Copy, Debug, PartialEq, Eq)]
@@ -37,77 +35,60 @@ pub enum Call<'a> {
     Take(u32),
 }
 
-/// The cut of this name.
-fn cut_of(name: &str) -> Option<Cut> {
-    match name {
-        "whole" => Some(Cut::Nowhere),
-        "bytes" => Some(Cut::AtEachByte),
-        "ends" => Some(Cut::BehindEachEnd),
+/// The call that a line is.
+pub fn call_of(line: &str) -> Option<Call<'_>> {
+    match line.split_once(' ') {
+        Some((word, rest)) => call_with(word, rest),
+        None if line == "exchange" => Some(Call::Exchange),
+        None => None,
+    }
+}
+
+/// The call of this word about a text.
+fn call_with<'a>(word: &str, rest: &'a str) -> Option<Call<'a>> {
+    match word {
+        "plan" => Some(Call::Plan(rest)),
+        "text" => Some(Call::Text(rest)),
+        "bytes" => Some(Call::Bytes(rest)),
+        "admission" => Some(admission(rest)),
+        "serve" => served(rest),
+        _ => numbered(word, rest.parse().ok()?),
+    }
+}
+
+/// The admission of this control id, with what follows it.
+fn admission(text: &str) -> Call<'_> {
+    match text.split_once(' ') {
+        Some((id, rest)) => Call::Admission(id, rest),
+        None => Call::Admission(text, ""),
+    }
+}
+
+/// What came is served, cut as this word says.
+fn served(cut: &str) -> Option<Call<'static>> {
+    match cut {
+        "whole" => Some(Call::Serve(Cut::Nowhere)),
+        "bytes" => Some(Call::Serve(Cut::AtEachByte)),
+        "ends" => Some(Call::Serve(Cut::BehindEachEnd)),
         _ => None,
     }
 }
 
-/// The call that a line is.
-pub fn call_of(line: &str) -> Option<Call<'_>> {
-    let (word, rest) = line.split_once(' ').unwrap_or((line, ""));
-    let call = match word {
-        "plan" => Call::Plan(rest),
-        "events" => Call::Events(rest.parse().ok()?),
-        "clock" => Call::Clock(rest.parse().ok()?),
-        "bound" => Call::Bound(rest.parse().ok()?),
-        "admission" => {
-            let (id, more) = rest.split_once(' ').unwrap_or((rest, ""));
-            Call::Admission(id, more)
-        }
-        "text" => Call::Text(rest),
-        "bytes" => Call::Bytes(rest),
-        "letters" => Call::Letters(rest.parse().ok()?),
-        "serve" => Call::Serve(cut_of(rest)?),
-        "exchange" => Call::Exchange,
-        "take" => Call::Take(rest.parse().ok()?),
-        _ => return None,
-    };
-    Some(call)
+/// The call of this word about a number.
+fn numbered(word: &str, number: u64) -> Option<Call<'static>> {
+    match word {
+        "clock" => Some(Call::Clock(number)),
+        "bound" => Some(Call::Bound(number)),
+        _ => counted(word, u32::try_from(number).ok()?),
+    }
 }
 
-/// The bytes that have a name, and the rest of the name behind its `<`.
-const NAMED: [(u8, &str); 3] = [(b'\r', "CR>"), (0x0B, "VT>"), (0x1C, "FS>")];
-
-/// The byte whose name a text begins with behind a `<`, and what follows; else the `<` itself.
-fn unnamed(text: &str) -> (u8, &str) {
-    for (byte, name) in NAMED {
-        if let Some(rest) = text.strip_prefix(name) {
-            return (byte, rest);
-        }
+/// The call of this word about a number of entries, of letters or of a destination.
+fn counted(word: &str, number: u32) -> Option<Call<'static>> {
+    match word {
+        "events" => Some(Call::Events(number)),
+        "letters" => Some(Call::Letters(number)),
+        "take" => Some(Call::Take(number)),
+        _ => None,
     }
-    (b'<', text)
-}
-
-/// Appends the bytes that a text stands for.
-pub fn extend_with(bytes: &mut Vec<u8>, text: &str) -> Result<(), AllocError> {
-    for (place, part) in text.split('<').enumerate() {
-        if place == 0 {
-            bytes.extend_from_slice(part.as_bytes())?;
-        } else {
-            let (byte, rest) = unnamed(part);
-            bytes.push(byte)?;
-            bytes.extend_from_slice(rest.as_bytes())?;
-        }
-    }
-    Ok(())
-}
-
-/// Bytes as a script writes them.
-pub fn shown(alloc: Global, bytes: &[u8]) -> Result<String, AllocError> {
-    let mut text = Vec::new(alloc);
-    for byte in bytes {
-        match NAMED.iter().find(|(named, _)| named == byte) {
-            Some((_, name)) => {
-                text.push(b'<')?;
-                text.extend_from_slice(name.as_bytes())?;
-            }
-            None => text.push(*byte)?,
-        }
-    }
-    String::from_utf8_lossy(alloc, &text)
 }
