@@ -29,12 +29,12 @@ pub record Books (old new : History) (receipts : List Receipt) : Type 0 where
   pub history : new ≡ record old { entries = old.entries ++ map arrival_by receipts }
   pub places : map (λ r. r.entry) receipts ≡ range_with_len (next_place old) (length receipts)
 
--- What becomes of a message that is judged by the plan in force: it is told the answer of the history, or not booked for
--- want of room, exactly where there is none, or of memory.
+-- What becomes of a message: it is told the answer of the history, or not booked: because it was judged by another plan
+-- than the one in force, exactly where it was; then for want of room, exactly where there is none; or of memory.
 pub record BookAnswers (book : History) (judged : Judgement) (outcome : Result Told NotBooked) : Type 0 where
   pub told : IfOk outcome (λ told. answer book judged.channel judged.raw ≡ Some told)
-  pub full : IsErrOf outcome Full ↔ IsTrue (is_full book judged.channel judged.raw)
-  pub same_plan : outcome ≢ Err PlanChanged
+  pub plan : IsErrOf outcome PlanChanged ↔ judged.plan ≢ plan_in_force book
+  pub full : IsErrOf outcome Full ↔ (judged.plan ≡ plan_in_force book) × IsTrue (is_full book judged.channel judged.raw)
 
 range-append : (a m n : ℕ) → range_with_len a (m + n) ≡ range_with_len a m ++ range_with_len (a + m) n
 range-append a zero n = ap (range_with_len a) (omega arith) ∙ ap (λ b. range_with_len b n) (omega arith)

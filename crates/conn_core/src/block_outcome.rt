@@ -65,7 +65,6 @@ pub fn book_and_reply<B: Booking>(
     now: Moment,
     replies: &mut Replies,
 ) -> Booked
-    requires plan { B.admits book.old judged.now.plan }
     requires bookable { IsTrue (is_bookable judged.now.raw) }
     requires few { replies.old.made + 2 ≤ u32.MAX }
 

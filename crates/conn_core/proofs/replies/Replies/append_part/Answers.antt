@@ -7,4 +7,4 @@ pub write_block-requires : goal.write_block-requires
 write_block-requires c =
     let came = c.requires.framed in
     subst IsData (sym (c.deref.ensures.value ∙ c.in_ok-text.ensures))
-    (c.ack_adds_no_control.ensures is_framing framing_bytes_are_controls came.raw c.args.header.now came.header_is came.plain)
+    (c.ack_adds_no_control.ensures.text is_framing framing_bytes_are_controls came.raw c.args.header.now came.header_is came.plain)

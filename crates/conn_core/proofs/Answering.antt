@@ -1,0 +1,50 @@
+-- What becomes of a message, as the book says it.
+use Rattle.std.proofs.Common.{◌≡◌, ◌≢◌, List, [], ◌∷◌, Result, Ok, Err, IfOk, IfErr, OnErr, Some, IsTrue, refl}
+use Rattle.std.specs.Prelude.{IsErrOf, ◌↔◌}
+use Rattle.book_core.specs.declared.receipt.NotBooked.{NotBooked}
+use Rattle.book_core.specs.declared.receipt.NotBooked.TheVariants.{Full, PlanChanged}
+use Rattle.book_core.specs.declared.receipt.Receipt.{Receipt}
+use Rattle.event_log.specs.declared.entry.Told.{Told}
+use Rattle.event_log.specs.Answers.{answer}
+use Rattle.event_log.specs.History.{History, plan_in_force}
+use Rattle.event_log.specs.Room.{is_full}
+use Rattle.judge_core.specs.Judging.{Judgement}
+use Rattle.conn_core.specs.Booking.{BookAnswers, receipts_of}
+use Rattle.conn_core.specs.Replies.{told_by}
+
+-- the same refusal, of what was told
+to_told : (r : Result Receipt NotBooked) (e : NotBooked) → IsErrOf r e → IsErrOf (told_by r) e
+to_told (Ok receipt) e h = cc
+to_told (Err refusal) e h = let same : refusal ≡ e = cc in rw same refl
+
+of_told : (r : Result Receipt NotBooked) (e : NotBooked) → IsErrOf (told_by r) e → IsErrOf r e
+of_told (Ok receipt) e h = cc
+of_told (Err refusal) e h = let same : refusal ≡ e = cc in rw same refl
+
+exactly_told : {P : Type 0} (r : Result Receipt NotBooked) (e : NotBooked) → (IsErrOf r e ↔ P) → (IsErrOf (told_by r) e ↔ P)
+exactly_told r e both = (λ h. both.0 (of_told r e h), λ p. to_told r e (both.1 p))
+
+module _ (book : History) (judged : Judgement) where
+  -- a message that was booked
+  pub answers_told : (r : Result Receipt NotBooked) → IfOk r (λ receipt. answer book judged.channel judged.raw ≡ Some receipt.told)
+      → (IsErrOf r PlanChanged ↔ judged.plan ≢ plan_in_force book) → (IsErrOf r Full ↔ (judged.plan ≡ plan_in_force book) × IsTrue (is_full book judged.channel judged.raw))
+      → IfOk r (λ receipt. BookAnswers book judged (Ok receipt.told))
+  answers_told (Ok receipt) told plan full = record { told = told; plan = exactly_told (Ok receipt) PlanChanged plan; full = exactly_told (Ok receipt) Full full }
+  answers_told (Err refusal) told plan full = tt
+
+  -- one that was not
+  pub answers_refused : (r : Result Receipt NotBooked)
+      → (IsErrOf r PlanChanged ↔ judged.plan ≢ plan_in_force book) → (IsErrOf r Full ↔ (judged.plan ≡ plan_in_force book) × IsTrue (is_full book judged.channel judged.raw))
+      → IfErr r (λ refusal. BookAnswers book judged (Err refusal))
+  answers_refused (Ok receipt) plan full = tt
+  answers_refused (Err refusal) plan full = record { told = tt; plan = exactly_told (Err refusal) PlanChanged plan; full = exactly_told (Err refusal) Full full }
+
+-- what holds of the one receipt, or of none, holds of the receipts that an outcome brings
+pub booked_in : (P : List Receipt → Type 0) (o : Result Receipt NotBooked) → IfOk o (λ r. P (r ∷ [])) → OnErr o (P []) → P (receipts_of o)
+booked_in P (Ok r) booked none = booked
+booked_in P (Err refusal) booked none = none
+
+-- and of what is told of a receipt, or of a refusal, of what is told of either
+pub told_either : (P : Result Told NotBooked → Type 0) (o : Result Receipt NotBooked) → IfOk o (λ r. P (Ok r.told)) → IfErr o (λ refusal. P (Err refusal)) → P (told_by o)
+told_either P (Ok r) told refused = told
+told_either P (Err refusal) told refused = refused
