@@ -1,0 +1,5 @@
+pub mod Turn
+pub mod Run
+pub mod Steps
+pub mod Promise
+pub mod Converse
