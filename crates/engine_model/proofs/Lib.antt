@@ -5,3 +5,8 @@ pub mod Hearing
 pub mod Stepping
 pub mod Reaching
 pub mod Determined
+pub mod Amidst
+pub mod Handled
+pub mod PieceRead
+pub mod Worlds
+pub mod Conversely

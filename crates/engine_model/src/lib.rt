@@ -3,6 +3,14 @@
 //! connection is sent the acknowledgments of its messages in order, each once.
 #![tactic(auto)]
 
+mod connection;
+mod converse;
 mod laws;
+mod step;
+mod world;
 
+pub use connection::FRAME_EVENTS_MAX;
+pub use converse::steps_of;
 pub use laws::run_rules;
+pub use step::Step;
+pub use world::World;
