@@ -1,14 +1,15 @@
 -- What becomes of a message, as the book says it.
-use Rattle.std.proofs.Common.{◌≡◌, ◌≢◌, Result, Ok, Err, IfOk, IfErr, Some, IsTrue, refl}
+use Rattle.std.proofs.Common.{◌≡◌, ◌≢◌, List, [], ◌∷◌, Result, Ok, Err, IfOk, IfErr, OnErr, Some, IsTrue, refl}
 use Rattle.std.specs.Prelude.{IsErrOf, ◌↔◌}
 use Rattle.book_core.specs.declared.receipt.NotBooked.{NotBooked}
 use Rattle.book_core.specs.declared.receipt.NotBooked.TheVariants.{Full, PlanChanged}
 use Rattle.book_core.specs.declared.receipt.Receipt.{Receipt}
+use Rattle.event_log.specs.declared.entry.Told.{Told}
 use Rattle.event_log.specs.Answers.{answer}
 use Rattle.event_log.specs.History.{History, plan_in_force}
 use Rattle.event_log.specs.Room.{is_full}
 use Rattle.judge_core.specs.Judging.{Judgement}
-use Rattle.conn_core.specs.Booking.{BookAnswers}
+use Rattle.conn_core.specs.Booking.{BookAnswers, receipts_of}
 use Rattle.conn_core.specs.Replies.{told_by}
 
 -- the same refusal, of what was told
@@ -37,3 +38,13 @@ module _ (book : History) (judged : Judgement) where
       → IfErr r (λ refusal. BookAnswers book judged (Err refusal))
   answers_refused (Ok receipt) plan full = tt
   answers_refused (Err refusal) plan full = record { told = tt; plan = exactly_told (Err refusal) PlanChanged plan; full = exactly_told (Err refusal) Full full }
+
+-- what holds of the one receipt, or of none, holds of the receipts that an outcome brings
+pub booked_in : (P : List Receipt → Type 0) (o : Result Receipt NotBooked) → IfOk o (λ r. P (r ∷ [])) → OnErr o (P []) → P (receipts_of o)
+booked_in P (Ok r) booked none = booked
+booked_in P (Err refusal) booked none = none
+
+-- and of what is told of a receipt, or of a refusal, of what is told of either
+pub told_either : (P : Result Told NotBooked → Type 0) (o : Result Receipt NotBooked) → IfOk o (λ r. P (Ok r.told)) → IfErr o (λ refusal. P (Err refusal)) → P (told_by o)
+told_either P (Ok r) told refused = told
+told_either P (Err refusal) told refused = refused

@@ -1,0 +1,12 @@
+pub mod Duly
+pub mod Places
+pub mod Booking
+pub mod Hearing
+pub mod Stepping
+pub mod Reaching
+pub mod Determined
+pub mod Amidst
+pub mod Handled
+pub mod PieceRead
+pub mod Worlds
+pub mod Conversely

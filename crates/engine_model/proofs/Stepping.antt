@@ -1,0 +1,67 @@
+-- What a step keeps, and a run of steps.
+use Rattle.std.proofs.Common.{◌≡◌, ℕ, false, zero, suc, List, [], ◌∷◌, ◌++◌, map, slice_get, Option, None, Some, ◌⊎◌, inl, inr, refl, sym, ap, ◌∙◌, subst}
+use Rattle.std.specs.Option.{option_map_or}
+use Rattle.plan_text.specs.Entries.{PlanEntry}
+use Rattle.event_log.specs.History.{History}
+use Rattle.event_log.specs.Replay.{next, asked, ended, revoked}
+use Rattle.conn_core.specs.Messages.{booked}
+use Rattle.engine_model.specs.Run.{Connection, Run, opened, silent}
+use Rattle.engine_model.specs.Turn.{Turn, chunk, taking, settling, cancelling}
+use Rattle.engine_model.specs.Steps.{Runs, Steps, with_history}
+use Rattle.engine_model.specs.Promise.{AreRead, AreWritten, KeepsItsWord}
+use Rattle.engine_model.proofs.Booking.{BringsNone, cancelling-keeps, settling-keeps, taking-keeps}
+use Rattle.engine_model.proofs.Hearing.{hears_at}
+
+-- an event that brings no arrival
+quiet : (r : Run) (h' : History) → BringsNone r.history h' → KeepsItsWord r → KeepsItsWord (with_history r h')
+quiet r h' none word =
+    record {
+      legal = none.legal;
+      read = word.read;
+      written = word.written;
+      booked = λ conn. none.arrivals conn ∙ word.booked conn;
+    }
+
+pub step-keeps : (step : Turn) (r r' : Run) → KeepsItsWord r → Steps step r r' → KeepsItsWord r'
+step-keeps (chunk conn bytes now) r r' word does = hears_at (slice_get r.connections conn) conn bytes now r r' refl does word
+step-keeps (taking d now) r r' word does =
+    elim does [
+      | inl is ↦ subst KeepsItsWord (sym is) (quiet r (next r.history (asked d now)) (taking-keeps r.history d now word.legal) word)
+      | inr is ↦ subst KeepsItsWord (sym is) word
+    ]
+step-keeps (settling ticket outcome now) r r' word does =
+    subst KeepsItsWord (sym does) (quiet r (next r.history (ended ticket outcome now)) (settling-keeps r.history ticket outcome now word.legal) word)
+step-keeps (cancelling number) r r' word does =
+    elim does [
+      | inl is ↦ subst KeepsItsWord (sym is) (quiet r (next r.history (revoked number)) (cancelling-keeps r.history number word.legal) word)
+      | inr is ↦ subst KeepsItsWord (sym is) word
+    ]
+
+pub runs-keep : (steps : List Turn) (r r' : Run) → KeepsItsWord r → Runs steps r r' → KeepsItsWord r'
+runs-keep [] r r' word runs = subst KeepsItsWord (sym runs) word
+runs-keep (step ∷ steps) r r' word runs = runs-keep steps runs.0 r' (step-keeps step r runs.0 word runs.1) runs.2
+
+-- one run behind another
+pub runs-append : (xs ys : List Turn) (r between r' : Run) → Runs xs r between → Runs ys between r' → Runs (xs ++ ys) r r'
+runs-append [] ys r between r' one two = subst (λ (x : Run). Runs ys x r') one two
+runs-append (x ∷ xs) ys r between r' one two = (one.0, one.1, runs-append xs ys one.0 between r' one.2 two)
+
+-- a connection of the opened run is silent
+silent_at : (channels : List ℕ) (k : ℕ) (c : Connection) → slice_get (map silent channels) k ≡ Some c → (channel : ℕ) × (silent channel ≡ c)
+silent_at [] k c is = absurd cc
+silent_at (channel ∷ channels) zero c is = (channel, cc)
+silent_at (channel ∷ channels) (suc k) c is = silent_at channels k c is
+
+none_booked : (conn : ℕ) (channels : List ℕ) (k : ℕ) → option_map_or (λ (c : Connection). booked conn c.channel c.answers) (slice_get (map silent channels) k) [] ≡ []
+none_booked conn [] k = refl
+none_booked conn (channel ∷ channels) zero = refl
+none_booked conn (channel ∷ channels) (suc k) = none_booked conn channels k
+
+pub opened-keeps : (plan : PlanEntry) (events_max : ℕ) (channels : List ℕ) → KeepsItsWord (opened plan events_max channels)
+opened-keeps plan events_max channels =
+    record {
+      legal = record { follows = λ place e is. absurd cc };
+      read = λ conn c is. let one = silent_at channels conn c is in subst (λ (c : Connection). AreRead c.ended c.stream c.answers) one.1 refl;
+      written = λ conn c is. let one = silent_at channels conn c is in subst (λ (c : Connection). AreWritten c.ended conn c.answers c.output) one.1 refl;
+      booked = λ conn. sym (none_booked conn channels conn);
+    }

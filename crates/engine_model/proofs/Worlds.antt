@@ -1,0 +1,167 @@
+-- What the calls of a world are, as steps of a run.
+use Rattle.std.proofs.Common.{◌≡◌, ℕ, zero, suc, ◌+◌, ◌<◌, true, false, Bool, List, [], ◌∷◌, ◌++◌, All, length, map, take, set, get_or, slice_get, Option, None, Some, Result, Ok, Err, OnErr, IfOk, ◌⊎◌, inl, inr, refl, sym, ap, ◌∙◌, subst, append-nil, arith}
+use Rattle.std.specs.List.{AllByRecursion}
+use Rattle.std.specs.Option.{option_map, option_map_or}
+use Rattle.std.specs.Result.{result_ok}
+use Rattle.std.proofs.lemmas.List.{map-append, take_more}
+use Rattle.std.proofs.lemmas.List.Elements.{recursion_from_All}
+use Rattle.plan_text.specs.Entries.{PlanEntry}
+use Rattle.book_core.specs.declared.letter.Job.{Job}
+use Rattle.dest_queue.specs.declared.Outcome.{Outcome}
+use Rattle.dest_queue.specs.declared.SettleRefusal.{SettleRefusal}
+use Rattle.dest_queue.specs.declared.SlotState.{SlotState}
+use Rattle.event_log.specs.declared.entry.Entry.{Entry}
+use Rattle.event_log.specs.declared.entry.Entry.TheVariants.{Cancel, Settle, Take}
+use Rattle.event_log.specs.declared.entry.Ticket.{Ticket}
+use Rattle.event_log.specs.declared.refusal.CancelRefusal.{CancelRefusal}
+use Rattle.event_log.specs.declared.refusal.TakeRefusal.{TakeRefusal}
+use Rattle.event_log.specs.Answers.{cancel_answer, settle_answer, take_answer}
+use Rattle.event_log.specs.History.{History, followed_by, opened_by, plan_in_force}
+use Rattle.event_log.specs.Replay.{next, asked, ended, revoked}
+use Rattle.engine_model.specs.declared.connection.Connected.{Connected}
+use Rattle.engine_model.specs.Handling.{HearsOn}
+use Rattle.engine_model.specs.Promise.{KeepsItsWord}
+use Rattle.engine_model.specs.Run.{Connection, Run, opened, silent}
+use Rattle.engine_model.specs.Steps.{Hears, HearsAt, HearsIf, Runs, Steps, with_history}
+use Rattle.engine_model.specs.Turn.{Turn, chunk, taking, settling, cancelling}
+use Rattle.engine_model.specs.View.{IsFit, IsOpen, IsWorld, connection_of, run_of}
+use Rattle.engine_model.proofs.Stepping.{opened-keeps, runs-append, step-keeps}
+
+-- a loop over steps
+pub runs-more : {A : Type 0} (f : A → Turn) (xs : List A) (i : ℕ) (x : A) (r between r' : Run) → i < length xs → x ≡ get_or xs i x
+    → Runs (map f (take i xs)) r between → Steps (f x) between r' → Runs (map f (take (i + 1) xs)) r r'
+runs-more f xs i x r between r' inside is one two =
+    let grown : map f (take (i + 1) xs) ≡ map f (take i xs) ++ f x ∷ [] = ap (map f) (take_more xs i x inside) ∙ map-append f (take i xs) (get_or xs i x ∷ []) ∙ ap (λ y. map f (take i xs) ++ f y ∷ []) (sym is) in
+    subst (λ l. Runs l r r') (sym grown) (runs-append (map f (take i xs)) (f x ∷ []) r between r' one (r', two, refl))
+
+-- ---- take, settle and cancel
+
+-- what a book makes of a take
+pub took : (h h' : History) (cs : List Connected) (d now : ℕ) (o : Result Job TakeRefusal) → IfOk o (λ job. take_answer h d now ≡ Ok job.ticket) → IfOk o (λ job. h' ≡ followed_by h (Take job.ticket now)) → OnErr o (h' ≡ h)
+    → Steps (taking d now) (run_of h cs) (run_of h' cs)
+took h h' cs d now (Ok job) answered booked left =
+    inl (ap (λ g. run_of g cs) (booked ∙ ap (λ o. option_map_or (λ e. followed_by h e) (option_map (λ t. Take t now) (result_ok o)) h) (sym answered)))
+took h h' cs d now (Err e) answered booked left = inr (ap (λ g. run_of g cs) left)
+
+-- of a settlement
+pub settled : (h h' : History) (cs : List Connected) (ticket : Ticket) (outcome : Outcome) (now : ℕ) (o : Result SlotState SettleRefusal) → o ≡ settle_answer h ticket outcome now
+    → IfOk o (λ state. h' ≡ followed_by h (Settle ticket outcome now state)) → OnErr o (h' ≡ h) → Steps (settling ticket outcome now) (run_of h cs) (run_of h' cs)
+settled h h' cs ticket outcome now (Ok state) answered booked left =
+    ap (λ g. run_of g cs) (booked ∙ ap (λ o. option_map_or (λ e. followed_by h e) (option_map (λ s. Settle ticket outcome now s) (result_ok o)) h) answered)
+settled h h' cs ticket outcome now (Err e) answered booked left =
+    ap (λ g. run_of g cs) (left ∙ ap (λ o. option_map_or (λ e. followed_by h e) (option_map (λ s. Settle ticket outcome now s) (result_ok o)) h) answered)
+
+-- of a cancellation
+pub cancelled : (h h' : History) (cs : List Connected) (number : ℕ) (o : Result ℕ CancelRefusal) → IfOk o (λ mask. cancel_answer h number ≡ Ok mask) → IfOk o (λ mask. h' ≡ followed_by h (Cancel number mask)) → OnErr o (h' ≡ h)
+    → Steps (cancelling number) (run_of h cs) (run_of h' cs)
+cancelled h h' cs number (Ok mask) answered booked left =
+    inl (ap (λ g. run_of g cs) (booked ∙ ap (λ o. option_map_or (λ e. followed_by h e) (option_map (λ m. Cancel number m) (result_ok o)) h) (sym answered)))
+cancelled h h' cs number (Err e) answered booked left = inr (ap (λ g. run_of g cs) left)
+
+-- the plan stays with each of them
+pub same-plan : {T E : Type 0} (h h' : History) (f : T → Entry) (o : Result T E) → IfOk o (λ x. h' ≡ followed_by h (f x)) → OnErr o (h' ≡ h) → plan_in_force h' ≡ plan_in_force h
+same-plan h h' f (Ok x) booked left = ap plan_in_force booked
+same-plan h h' f (Err e) booked left = ap plan_in_force left
+
+-- ---- a chunk
+
+set-same : {A : Type 0} (xs : List A) (i : ℕ) (x : A) → slice_get xs i ≡ Some x → set xs i x ≡ xs
+set-same [] i x is = refl
+set-same (y ∷ xs) zero x is = let same : y ≡ x = cc in ap (λ z. z ∷ xs) (sym same)
+set-same (y ∷ xs) (suc i) x is = ap (λ l. y ∷ l) (set-same xs i x is)
+
+map-set : {A B : Type 0} (f : A → B) (xs : List A) (i : ℕ) (x : A) → map f (set xs i x) ≡ set (map f xs) i (f x)
+map-set f [] i x = refl
+map-set f (y ∷ xs) zero x = refl
+map-set f (y ∷ xs) (suc i) x = ap (λ l. f y ∷ l) (map-set f xs i x)
+
+get-map : {A B : Type 0} (f : A → B) (xs : List A) (i : ℕ) → slice_get (map f xs) i ≡ option_map f (slice_get xs i)
+get-map f [] i = refl
+get-map f (y ∷ xs) zero = refl
+get-map f (y ∷ xs) (suc i) = get-map f xs i
+
+hears-if : (b : Bool) (conn : ℕ) (bytes : List ℕ) (now : ℕ) (h h' : History) (cs : List Connection) (c c' : Connection) → slice_get cs conn ≡ Some c → HearsOn b conn bytes now h h' c c'
+    → HearsIf b conn bytes now (record { history = h; connections = cs }) (record { history = h'; connections = set cs conn c' }) c
+hears-if true conn bytes now h h' cs c c' at heard =
+    ap (λ g. record { history = g; connections = set cs conn c' }) heard.0 ∙ ap (λ l. record { history = h; connections = l }) (ap (λ d. set cs conn d) heard.1 ∙ set-same cs conn c at)
+hears-if false conn bytes now h h' cs c c' at heard = record { to = c'; only = refl; does = heard }
+
+-- the connection of that number hears it
+pub heard-by : (conn : ℕ) (bytes : List ℕ) (now : ℕ) (h h' : History) (cs : List Connected) (c c' : Connected) → slice_get cs conn ≡ Some c → HearsOn c.ended conn bytes now h h' (connection_of c) (connection_of c')
+    → Steps (chunk conn bytes now) (run_of h cs) (run_of h' (set cs conn c'))
+heard-by conn bytes now h h' cs c c' at heard =
+    let there : slice_get (map connection_of cs) conn ≡ Some (connection_of c) = get-map connection_of cs conn ∙ ap (option_map connection_of) at in
+    subst (λ l. HearsAt (slice_get (map connection_of cs) conn) conn bytes now (run_of h cs) (record { history = h'; connections = l })) (sym (map-set connection_of cs conn c'))
+    (subst (λ o. HearsAt o conn bytes now (run_of h cs) (record { history = h'; connections = set (map connection_of cs) conn (connection_of c') })) (sym there)
+    (hears-if c.ended conn bytes now h h' (map connection_of cs) (connection_of c) (connection_of c') there heard))
+
+-- there is none
+pub heard-nowhere : (conn : ℕ) (bytes : List ℕ) (now : ℕ) (h : History) (cs : List Connected) → slice_get cs conn ≡ None → Steps (chunk conn bytes now) (run_of h cs) (run_of h cs)
+heard-nowhere conn bytes now h cs at =
+    let there : slice_get (map connection_of cs) conn ≡ None = get-map connection_of cs conn ∙ ap (option_map connection_of) at in
+    subst (λ o. HearsAt o conn bytes now (run_of h cs) (run_of h cs)) (sym there) refl
+
+-- ---- a world stays one
+
+fit-at : (n : ℕ) (cs : List Connected) (i : ℕ) (c : Connected) → AllByRecursion (IsFit n) cs → slice_get cs i ≡ Some c → IsFit n c
+fit-at n [] i c all at = absurd cc
+fit-at n (x ∷ cs) zero c all at = let same : x ≡ c = cc in subst (IsFit n) same all.0
+fit-at n (x ∷ cs) (suc i) c all at = fit-at n cs i c all.1 at
+
+-- one of its connections
+pub world-at : (h : History) (cs : List Connected) (i : ℕ) (c : Connected) → IsWorld h cs → slice_get cs i ≡ Some c → IsFit (length (plan_in_force h).channels) c
+world-at h cs i c w at = fit-at (length (plan_in_force h).channels) cs i c w.fit at
+
+fit-set : (n : ℕ) (cs : List Connected) (i : ℕ) (c : Connected) → AllByRecursion (IsFit n) cs → IsFit n c → AllByRecursion (IsFit n) (set cs i c)
+fit-set n [] i c all one = tt
+fit-set n (x ∷ cs) zero c all one = (one, all.1)
+fit-set n (x ∷ cs) (suc i) c all one = (all.0, fit-set n cs i c all.1 one)
+
+-- after an event that is no chunk
+pub world-on : (turn : Turn) (h h' : History) (cs : List Connected) → IsWorld h cs → Steps turn (run_of h cs) (run_of h' cs) → plan_in_force h' ≡ plan_in_force h → IsWorld h' cs
+world-on turn h h' cs w does same =
+    record { fit = subst (λ p. AllByRecursion (IsFit (length p.channels)) cs) (sym same) w.fit; word = step-keeps turn (run_of h cs) (run_of h' cs) w.word does }
+
+-- after a chunk
+pub world-heard : (turn : Turn) (h h' : History) (cs : List Connected) (i : ℕ) (c : Connected) → IsWorld h cs → Steps turn (run_of h cs) (run_of h' (set cs i c)) → plan_in_force h' ≡ plan_in_force h → IsFit (length (plan_in_force h).channels) c
+    → IsWorld h' (set cs i c)
+world-heard turn h h' cs i c w does same one =
+    record {
+      fit = subst (λ p. AllByRecursion (IsFit (length p.channels)) (set cs i c)) (sym same) (fit-set (length (plan_in_force h).channels) cs i c w.fit one);
+      word = step-keeps turn (run_of h cs) (run_of h' (set cs i c)) w.word does;
+    }
+
+-- ---- the opened world
+
+fit-open : (n : ℕ) (cs : List Connected) (channels : List ℕ) → map connection_of cs ≡ map silent channels → AllByRecursion (λ m. m < n) channels → AllByRecursion IsOpen cs → AllByRecursion (IsFit n) cs
+fit-open n [] channels same known open_ones = tt
+fit-open n (c ∷ cs) [] same known open_ones = absurd cc
+fit-open n (c ∷ cs) (m ∷ channels) same known open_ones =
+    let first : connection_of c ≡ silent m = cc in
+    let rest : map connection_of cs ≡ map silent channels = cc in
+    let channel : c.channel ≡ m = ap (λ (d : Connection). d.channel) first in
+    (record { known = subst (λ k. k < n) (sym channel) known.0; stands = λ _. open_ones.0 }, fit-open n cs channels rest known.1 open_ones.1)
+
+-- a world at first
+pub world-opened : (plan : PlanEntry) (events_max : ℕ) (h : History) (channels : List ℕ) (cs : List Connected) → h ≡ opened_by plan events_max → map connection_of cs ≡ map silent channels
+    → All (λ m. m < length plan.channels) channels → All IsOpen cs → IsWorld h cs
+world-opened plan events_max h channels cs fresh same known open_ones =
+    let is : run_of h cs ≡ opened plan events_max channels = ap (λ g. run_of g cs) fresh ∙ ap (λ l. record { history = opened_by plan events_max; connections = l }) same in
+    record {
+      fit =
+          subst (λ (g : History). AllByRecursion (IsFit (length (plan_in_force g).channels)) cs) (sym fresh)
+          (fit-open (length plan.channels) cs channels same (recursion_from_All (λ m. m < length plan.channels) channels known) (recursion_from_All IsOpen cs open_ones));
+      word = subst KeepsItsWord (sym is) (opened-keeps plan events_max channels);
+    }
+
+-- ---- where a connection stands
+
+pub get-of : (xs : List Connected) (i : ℕ) (x : Connected) → i < length xs → x ≡ get_or xs i x → slice_get xs i ≡ Some x
+get-of [] i x inside is = absurd (omega arith)
+get-of (y ∷ ys) zero x inside is = ap (λ z. Some z) (sym is)
+get-of (y ∷ ys) (suc i) x inside is = get-of ys i x (omega arith) is
+
+pub none-at : (xs : List Connected) (i : ℕ) → (i < length xs → ⊥) → slice_get xs i ≡ None
+none-at [] i past = refl
+none-at (y ∷ ys) zero past = absurd (past (omega arith))
+none-at (y ∷ ys) (suc i) past = none-at ys i (λ inside. past (omega arith))

@@ -1,0 +1,9 @@
+pub mod Turn
+pub mod Run
+pub mod Steps
+pub mod Promise
+pub mod Converse
+pub mod Amid
+pub mod Coding
+pub mod Handling
+pub mod View

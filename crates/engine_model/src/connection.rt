@@ -1,0 +1,267 @@
+//! A connection that hears a piece of its stream.
+
+ghost use Rattle.std.specs.Prelude.{◌≡◌, ◌+◌, ◌*◌, ◌<◌, ◌≤◌, ◌∷◌, [], true, IsTrue, OnOk, OnErr, length};
+ghost use Rattle.event_log.specs.History.{plan_in_force};
+ghost use Rattle.judge_core.specs.Judging.{is_bookable};
+ghost use Rattle.mllp_frame.specs.Event.{block, event_of};
+ghost use Rattle.mllp_frame.specs.Framing.{HoldsData, IsBlockData};
+ghost use Rattle.conn_core.specs.Replies.{told_by};
+ghost use Rattle.engine_model.specs.Handling.{Handles, HandlesFront, HearsOn, IsCounted};
+ghost use Rattle.engine_model.specs.Run.{silent};
+ghost use Rattle.engine_model.specs.Steps.{EndsWithin, ReadsOn};
+ghost use Rattle.engine_model.specs.View.{IsFit, IsOpen, connection_of};
+
+use book_core::{Book, Letter, NotBooked, Receipt};
+use conn_core::{Line, Replies, book_and_reply};
+use dest_queue::Addressed;
+use event_log::Told;
+use hl7_head::Moment;
+use judge_core::{Judged, Text, judge};
+use mllp_frame::{FrameEvent, Framer, longer_streams};
+use row_store::RowStore;
+use std::alloc::{AllocError, Global};
+
+/// The most frame events of a connection, whole and broken blocks: having had so many it ends.
+pub const FRAME_EVENTS_MAX: u64 = 1_000_000_000;
+
+/// A message that was answered.
+#[derive(Drop)]
+pub struct Answered {
+    /// Its text.
+    pub raw: Text,
+    /// What its sender is told, or why it was not booked.
+    pub outcome: Result<Told, NotBooked>,
+    /// When it came.
+    pub moment: Moment,
+}
+
+/// What a connection was told, and all that it was sent.
+#[derive(Drop)]
+pub struct Words {
+    pub answers: Vec<Answered>,
+    pub replies: Replies,
+}
+
+/// A connection.
+#[derive(Drop)]
+pub struct Connected {
+    /// Its channel, by its place in the plan.
+    pub channel: u32,
+    /// Where its stream stands.
+    pub framer: Framer,
+    /// How many whole and broken blocks came.
+    pub events: u64,
+    /// All bytes that came.
+    pub stream: Vec<u8>,
+    pub words: Words,
+    /// Whether it has ended.
+    pub ended: bool,
+}
+
+/// What its sender is told of a message.
+fn told_by(outcome: &Result<Receipt, NotBooked>) -> Result<Told, NotBooked>
+    ensures { result ≡ told_by outcome.now }
+{
+    match outcome {
+        Ok(receipt) => Ok(receipt.told),
+        Err(refusal) => Err(*refusal),
+    }
+}
+
+/// Books a message that was judged by the plan in force, keeps its answer, for which room is made first, and sends its
+/// acknowledgments: whole, or none of them where one was refused memory.
+fn answer_message<S: RowStore<Addressed<Letter>>>(
+    line: &Line,
+    book: &mut Book<S>,
+    judged: &Judged,
+    now: Moment,
+    words: &mut Words,
+) -> Result<(), AllocError>
+    requires same_plan { judged.now.plan ≡ plan_in_force book.old }
+    requires bookable { IsTrue (is_bookable judged.now.raw) }
+    requires counted { IsCounted words.old }
+    requires few { words.old.replies.made + 2 ≤ u32.MAX }
+    ensures ok { OnOk result (Handles line.now.conn judged.now.channel now (block judged.now.raw ∷ []) book.old book.new words.old words.new) }
+    ensures err { OnErr result (HandlesFront line.now.conn judged.now.channel now (block judged.now.raw ∷ []) book.old book.new words.old words.new) }
+    ensures counted { OnOk result (IsCounted words.new) }
+    ensures few { words.new.replies.made ≤ words.old.replies.made + 2 }
+    ensures plan { plan_in_force book.new ≡ plan_in_force book.old }
+{
+    words.answers.reserve(1)?;
+    let raw = judged.raw().share()?;
+    let sent = words.replies.bytes.len();
+    let booked = book_and_reply(line, book, judged, now, &mut words.replies);
+    words.answers.push_reserved(Answered {
+        raw,
+        outcome: told_by(&booked.outcome),
+        moment: now,
+    });
+    if !booked.whole {
+        words.replies.bytes.truncate(sent);
+        return Err(AllocError);
+    }
+    Ok(())
+}
+
+/// Answers a block, if it is a message.
+fn answer_text<S: RowStore<Addressed<Letter>>>(
+    line: &Line,
+    book: &mut Book<S>,
+    raw: Vec<u8>,
+    now: Moment,
+    words: &mut Words,
+) -> Result<(), AllocError>
+    requires known { line.now.channel < length (plan_in_force book.old).channels }
+    requires data { IsBlockData raw.items }
+    requires counted { IsCounted words.old }
+    requires few { words.old.replies.made + 2 ≤ u32.MAX }
+    ensures ok { OnOk result (Handles line.now.conn line.now.channel now (block raw.items ∷ []) book.old book.new words.old words.new) }
+    ensures err { OnErr result (HandlesFront line.now.conn line.now.channel now (block raw.items ∷ []) book.old book.new words.old words.new) }
+    ensures counted { OnOk result (IsCounted words.new) }
+    ensures few { words.new.replies.made ≤ words.old.replies.made + 2 }
+    ensures plan { plan_in_force book.new ≡ plan_in_force book.old }
+{
+    let judged = judge(line.alloc, book.plan(), line.channel, raw)?;
+    if !judged.bookable() {
+        return Ok(());
+    }
+    answer_message(line, book, &judged, now, words)
+}
+
+/// Handles an event: a broken block asks for no answer.
+fn answer_event<S: RowStore<Addressed<Letter>>>(
+    line: &Line,
+    book: &mut Book<S>,
+    event: FrameEvent,
+    now: Moment,
+    words: &mut Words,
+) -> Result<(), AllocError>
+    requires known { line.now.channel < length (plan_in_force book.old).channels }
+    requires data { HoldsData (event_of event) }
+    requires counted { IsCounted words.old }
+    requires few { words.old.replies.made + 2 ≤ u32.MAX }
+    ensures ok { OnOk result (Handles line.now.conn line.now.channel now (event_of event ∷ []) book.old book.new words.old words.new) }
+    ensures err { OnErr result (HandlesFront line.now.conn line.now.channel now (event_of event ∷ []) book.old book.new words.old words.new) }
+    ensures counted { OnOk result (IsCounted words.new) }
+    ensures few { words.new.replies.made ≤ words.old.replies.made + 2 }
+    ensures plan { plan_in_force book.new ≡ plan_in_force book.old }
+{
+    match event {
+        FrameEvent::Broken(_) => Ok(()),
+        FrameEvent::Block(raw) => answer_text(line, book, raw, now, words),
+    }
+}
+
+/// Handles all events to come, up to so many over the whole connection.
+fn answer_events<S: RowStore<Addressed<Letter>>>(
+    line: &Line,
+    book: &mut Book<S>,
+    framer: &mut Framer,
+    events: &mut u64,
+    now: Moment,
+    words: &mut Words,
+) -> Result<(), AllocError>
+    requires known { line.now.channel < length (plan_in_force book.old).channels }
+    requires counted { IsCounted words.old }
+    requires few { events.old ≤ FRAME_EVENTS_MAX }
+    requires made { words.old.replies.made ≤ 2 * events.old }
+    ensures ok { OnOk result (Handles line.now.conn line.now.channel now framer.old.to_come book.old book.new words.old words.new) }
+    ensures err { OnErr result (HandlesFront line.now.conn line.now.channel now framer.old.to_come book.old book.new words.old words.new) }
+    ensures left { OnOk result (framer.new ≡ record framer.old { to_come = [] }) }
+    ensures counted { OnOk result (IsCounted words.new) }
+    ensures events { OnOk result (events.new ≡ events.old + length framer.old.to_come) }
+    ensures few { OnOk result (events.new < FRAME_EVENTS_MAX) }
+    ensures made { OnOk result (words.new.replies.made ≤ 2 * events.new) }
+    ensures plan { plan_in_force book.new ≡ plan_in_force book.old }
+{
+    while let Some(event) = framer.next() {
+        if *events >= FRAME_EVENTS_MAX {
+            return Err(AllocError);
+        }
+        *events += 1;
+        answer_event(line, book, event, now, words)?;
+    }
+    if *events >= FRAME_EVENTS_MAX {
+        return Err(AllocError);
+    }
+    Ok(())
+}
+
+impl Connected {
+    /// On this channel, with nothing read yet.
+    pub fn new(alloc: Global, channel: u32) -> Self
+        ensures silent { connection_of result ≡ silent channel }
+        ensures stands { IsOpen result }
+    {
+        Connected {
+            channel,
+            framer: Framer::new(alloc),
+            events: 0,
+            stream: Vec::new(alloc),
+            words: Words {
+                answers: Vec::new(alloc),
+                replies: Replies::new(alloc),
+            },
+            ended: false,
+        }
+    }
+
+    /// Reads a piece. The connection has to end where this fails.
+    fn read<S: RowStore<Addressed<Letter>>>(
+        &mut self,
+        alloc: Global,
+        conn: u32,
+        book: &mut Book<S>,
+        bytes: &[u8],
+        now: Moment,
+    ) -> Result<(), AllocError>
+        requires known { self.old.channel < length (plan_in_force book.old).channels }
+        requires stands { IsOpen self.old }
+        ensures ok { OnOk result (ReadsOn conn bytes.now now book.old book.new (connection_of self.old) (connection_of self.new)) }
+        ensures stands { OnOk result (IsOpen self.new) }
+        ensures err { OnErr result (EndsWithin conn bytes.now now book.old book.new (connection_of self.old) (record (connection_of self.new) { ended = true })) }
+        ensures channel { self.new.channel ≡ self.old.channel }
+        ensures plan { plan_in_force book.new ≡ plan_in_force book.old }
+    {
+        longer_streams();
+        let line = Line {
+            alloc,
+            conn,
+            channel: self.channel,
+        };
+        self.stream.extend_from_slice(bytes)?;
+        let Ok(()) = self.framer.feed(bytes) else {
+            return Err(AllocError);
+        };
+        answer_events(
+            &line,
+            book,
+            &mut self.framer,
+            &mut self.events,
+            now,
+            &mut self.words,
+        )
+    }
+
+    /// Hears a piece of its stream. A connection that has ended hears nothing.
+    pub fn hear<S: RowStore<Addressed<Letter>>>(
+        &mut self,
+        alloc: Global,
+        conn: u32,
+        book: &mut Book<S>,
+        bytes: &[u8],
+        now: Moment,
+    )
+        requires fit { IsFit (length (plan_in_force book.old).channels) self.old }
+        ensures heard { HearsOn self.old.ended conn bytes.now now book.old book.new (connection_of self.old) (connection_of self.new) }
+        ensures fit { IsFit (length (plan_in_force book.old).channels) self.new }
+        ensures plan { plan_in_force book.new ≡ plan_in_force book.old }
+    {
+        if self.ended {
+            return;
+        }
+        if self.read(alloc, conn, book, bytes, now).is_err() {
+            self.ended = true;
+        }
+    }
+}

@@ -1,0 +1,70 @@
+//! The steps by which a history comes.
+
+ghost use Rattle.std.specs.Prelude.{◌≡◌, ◌≤◌, List, ℕ, IfOk, map};
+ghost use Rattle.engine_model.specs.Converse.{CameInBlock, IsRunOf, KeepsTo, step_of, steps_of};
+ghost use Rattle.engine_model.specs.View.{turn_by};
+
+use crate::step::Step;
+use book_core::{Book, Entry, Letter};
+use dest_queue::Addressed;
+use hl7_head::Moment;
+use mllp_frame::write_block;
+use row_store::RowStore;
+use std::alloc::{AllocError, Global};
+
+/// The step of an entry: an arrival comes as one whole block, at the first moment.
+fn step_of(alloc: Global, entry: &Entry, first: Moment) -> Result<Step, AllocError>
+    requires framed { CameInBlock entry.now }
+    requires first { first ≡ 0 }
+    ensures { IfOk result (λ step. turn_by step ≡ step_of entry.now) }
+{
+    match entry {
+        Entry::Arrival { conn, raw, .. } => {
+            let mut bytes = Vec::new(alloc);
+            write_block(raw.as_slice(), &mut bytes)?;
+            Ok(Step::Chunk {
+                conn: *conn,
+                bytes,
+                now: first,
+            })
+        }
+        Entry::Take { ticket, now } => Ok(Step::Take {
+            d: ticket.destination,
+            now: *now,
+        }),
+        Entry::Settle {
+            ticket,
+            outcome,
+            now,
+            ..
+        } => Ok(Step::Settle {
+            ticket: *ticket,
+            outcome: *outcome,
+            now: *now,
+        }),
+        Entry::Cancel { number, .. } => Ok(Step::Cancel { number: *number }),
+    }
+}
+
+/// The steps by which the history of a book comes, one an entry: a run of them, from a world of the same plan and bound,
+/// has this history, if each connection keeps to the channel that it has there.
+pub fn steps_of<S: RowStore<Addressed<Letter>>>(
+    alloc: Global,
+    book: &Book<S>,
+) -> Result<Vec<Step>, AllocError>
+    ensures steps { IfOk result (λ steps. map turn_by steps.items ≡ steps_of book.now) }
+    ensures reached { IfOk result (λ steps. (channels : List ℕ) → KeepsTo channels book.now.entries → IsRunOf (map turn_by steps.items) book.now channels) }
+{
+    book.rules();
+    let Ok(first) = Moment::of_unix(0) else {
+        unreachable!();
+    };
+    let mut steps = Vec::with_capacity(alloc, book.len())?;
+    for place in 0..book.len() {
+        let Some(entry) = book.entry(place) else {
+            unreachable!();
+        };
+        steps.push_reserved(step_of(alloc, entry, first)?);
+    }
+    Ok(steps)
+}

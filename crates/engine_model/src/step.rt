@@ -1,0 +1,31 @@
+//! The steps of a run.
+
+use dest_queue::Outcome;
+use event_log::Ticket;
+use hl7_head::Moment;
+
+/// A step of a run of the engine.
+#[derive(Drop)]
+pub enum Step {
+    /// A piece of its stream comes on a connection.
+    Chunk {
+        conn: u32,
+        bytes: Vec<u8>,
+        now: Moment,
+    },
+    /// The front of a destination's queue is taken, to be sent.
+    Take {
+        d: u32,
+        now: Moment,
+    },
+    /// An attempt is settled.
+    Settle {
+        ticket: Ticket,
+        outcome: Outcome,
+        now: Moment,
+    },
+    /// A message is cancelled.
+    Cancel {
+        number: u32,
+    },
+}
