@@ -1,5 +1,6 @@
-//! The conditions and steps of a script, and the answers to calls on them.
+//! The message, conditions and steps of a script, and the answers to calls on them.
 
+use crate::acks;
 use anyhow::{Result, bail};
 use er7_tree::{Message, Path};
 use hl7_filter::{Bytes, Cond};
@@ -8,10 +9,11 @@ use play_script::{bytes_of, first_word, shown, words_of};
 use std::alloc::{AllocError, Global};
 use std::mem;
 
-/// The conditions and steps that calls speak of.
+/// The message, conditions and steps that calls speak of.
 #[derive(Drop)]
 pub struct Rules {
     alloc: Global,
+    message: Message,
     conds: Vec<Cond>,
     steps: Vec<Step>,
 }
@@ -138,13 +140,21 @@ fn last_alike<T: PartialEq>(list: &[T]) -> bool {
 }
 
 impl Rules {
-    /// No conditions and no steps.
-    pub fn new(alloc: Global) -> Rules {
-        Rules {
+    /// A message that is a header alone, no conditions and no steps.
+    pub fn new(alloc: Global) -> Result<Rules> {
+        let message = Message::parse(alloc, b"MSH|^~\\&")?;
+        Ok(Rules {
             alloc,
+            message,
             conds: Vec::new(alloc),
             steps: Vec::new(alloc),
-        }
+        })
+    }
+
+    /// Reads the message that the next calls speak of.
+    fn read(&mut self, text: &str) -> Result<String> {
+        self.message = Message::parse(self.alloc, &bytes_of(self.alloc, text)?)?;
+        Ok(String::from_str(self.alloc, "ok")?)
     }
 
     /// So many of the last conditions, which are then gone.
@@ -159,43 +169,43 @@ impl Rules {
     }
 
     /// Whether the condition that words say is true of the message. It is kept.
-    pub fn cond(&mut self, message: &Message, words: &str) -> Result<String> {
+    fn cond(&mut self, words: &str) -> Result<String> {
         let cond = cond_of(self.alloc, words)?;
-        self.holds(message, cond)
+        self.holds(cond)
     }
 
     /// Whether so many of the last conditions are all true.
-    pub fn all(&mut self, message: &Message, count: &str) -> Result<String> {
+    fn all(&mut self, count: &str) -> Result<String> {
         let cond = Cond::All(self.members(count)?);
-        self.holds(message, cond)
+        self.holds(cond)
     }
 
     /// Whether any of so many of the last conditions is true.
-    pub fn any(&mut self, message: &Message, count: &str) -> Result<String> {
+    fn any(&mut self, count: &str) -> Result<String> {
         let cond = Cond::Any(self.members(count)?);
-        self.holds(message, cond)
+        self.holds(cond)
     }
 
     /// Whether a condition is true of the message. It is kept.
-    fn holds(&mut self, message: &Message, cond: Cond) -> Result<String> {
-        let truth = cond.holds(message)?;
+    fn holds(&mut self, cond: Cond) -> Result<String> {
+        let truth = cond.holds(&self.message)?;
         self.conds.push(cond)?;
         Ok(format!(in self.alloc; "{truth}")?)
     }
 
     /// Whether the last condition is false.
-    pub fn negated(&mut self, message: &Message) -> Result<String> {
+    fn negated(&mut self) -> Result<String> {
         match self.conds.pop() {
             Some(cond) => {
                 let cond = Cond::Not(Box::new(self.alloc, cond)?);
-                self.holds(message, cond)
+                self.holds(cond)
             }
             None => bail!("no condition to negate"),
         }
     }
 
     /// Whether the step that words say may stand among others. It is kept.
-    pub fn step(&mut self, words: &str) -> Result<String> {
+    fn step(&mut self, words: &str) -> Result<String> {
         let step = step_of(self.alloc, words)?;
         let answer = may_stand(self.alloc, &step)?;
         self.steps.push(step)?;
@@ -203,21 +213,21 @@ impl Rules {
     }
 
     /// The message after the steps, which are then gone.
-    pub fn applied(&mut self, message: &Message) -> Result<String> {
+    fn applied(&mut self) -> Result<String> {
         let alloc = self.alloc;
         let steps = mem::replace(&mut self.steps, Vec::new(alloc));
-        after(alloc, &steps, message)
+        after(alloc, &steps, &self.message)
     }
 
     /// Whether the last two conditions say the same, and the last two steps.
-    pub fn alike(&self) -> Result<String> {
+    fn alike(&self) -> Result<String> {
         let conds = last_alike(&self.conds);
         let steps = last_alike(&self.steps);
         Ok(format!(in self.alloc; "conditions {conds}, steps {steps}")?)
     }
 
     /// Whether the last condition has at most so many levels.
-    pub fn within(&self, levels: &str) -> Result<String> {
+    fn within(&self, levels: &str) -> Result<String> {
         let levels = levels.parse()?;
         match self.conds.last() {
             Some(cond) => Ok(format!(in self.alloc; "{}", cond.is_within(levels))?),
@@ -226,9 +236,34 @@ impl Rules {
     }
 
     /// Lets the conditions and steps go.
-    pub fn clear(&mut self) -> Result<String> {
+    fn clear(&mut self) -> Result<String> {
         self.conds.clear();
         self.steps.clear();
         Ok(String::from_str(self.alloc, "ok")?)
+    }
+
+    /// The answer to a call.
+    pub fn play(&mut self, line: &str) -> Result<String> {
+        let (call, words) = first_word(line);
+        match call {
+            "parse" => self.read(words),
+            "fields" => acks::fields(self.alloc, &self.message),
+            "mode" => acks::mode(self.alloc, &self.message),
+            "msa" => acks::answered(self.alloc, &self.message),
+            "stamp" => acks::stamped(self.alloc, words),
+            "cause" => acks::cause_told(self.alloc, words),
+            "pair" => acks::pair_told(self.alloc, words),
+            "ack" => acks::ack(self.alloc, &self.message, words),
+            "cond" => self.cond(words),
+            "all" => self.all(words),
+            "any" => self.any(words),
+            "not" => self.negated(),
+            "within" => self.within(words),
+            "alike" => self.alike(),
+            "step" => self.step(words),
+            "apply" => self.applied(),
+            "drop" => self.clear(),
+            _ => bail!("{call} is no call"),
+        }
     }
 }
