@@ -1,5 +1,6 @@
 //! Readers and writers that fail, are interrupted, or take little.
 
+use std::alloc::Global;
 use std::io;
 use std::io::{ErrorKind, Read, Write};
 
@@ -35,6 +36,30 @@ pub struct Source<'a> {
     pub calls: u32,
 }
 
+impl<'a> Source<'a> {
+    /// A reader of this stream that was not called yet.
+    pub fn new(rest: &'a [u8], devices: Devices) -> Source<'a> {
+        Source {
+            rest,
+            cut: devices.cut,
+            mishap: devices.reading,
+            calls: 0,
+        }
+    }
+
+    /// The most bytes that the next piece has.
+    fn piece_len(&self) -> usize {
+        match self.cut {
+            Cut::Nowhere => self.rest.len(),
+            Cut::AtEachByte => 1,
+            Cut::BehindEachEnd => match self.rest.iter().position(|b| *b == 0x1C) {
+                Some(at) => at + 1,
+                None => self.rest.len(),
+            },
+        }
+    }
+}
+
 impl Read for Source<'_> {
     fn read(&mut self, buf: &mut [u8]) -> io::Result<usize> {
         self.calls = self.calls.saturating_add(1);
@@ -44,17 +69,10 @@ impl Read for Source<'_> {
         if self.mishap == Mishap::Interrupts && self.calls % 2 == 1 {
             return Err(io::Error::from(ErrorKind::Interrupted));
         }
-        let piece = match self.cut {
-            Cut::Nowhere => self.rest.len(),
-            Cut::AtEachByte => 1,
-            Cut::BehindEachEnd => match self.rest.iter().position(|b| *b == 0x1C) {
-                Some(at) => at + 1,
-                None => self.rest.len(),
-            },
-        };
-        let len = piece.min(self.rest.len()).min(buf.len());
-        buf[..len].copy_from_slice(&self.rest[..len]);
-        self.rest = &self.rest[len..];
+        let len = self.piece_len().min(self.rest.len()).min(buf.len());
+        let (piece, rest) = self.rest.split_at(len);
+        buf[..len].copy_from_slice(piece);
+        self.rest = rest;
         Ok(len)
     }
 }
@@ -67,6 +85,19 @@ pub struct Sink {
     pub flushed: usize,
     pub mishap: Mishap,
     pub calls: u32,
+}
+
+impl Sink {
+    /// A writer that was not called yet.
+    pub fn new(alloc: Global, devices: Devices) -> Sink {
+        Sink {
+            bytes: Vec::new(alloc),
+            most: devices.most,
+            flushed: 0,
+            mishap: devices.writing,
+            calls: 0,
+        }
+    }
 }
 
 impl Write for Sink {

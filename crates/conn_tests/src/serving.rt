@@ -43,49 +43,41 @@ struct Served {
     write_faults: u64,
 }
 
-/// Serves the conversation over these devices, by the built-in plan, at 14 November 2023, 22:13:20 UTC.
-fn serve(rt: &HostRuntime, devices: Devices) -> Result<Served, Fail> {
+/// An empty book of the built-in plan.
+fn empty_book(rt: &HostRuntime) -> Result<Book<PlainRows<Addressed<Letter>>>, Fail> {
     let alloc = rt.alloc();
-    let stream = both(alloc, &MESSAGES)?;
     let plan = Arc::new(alloc, Plan::built_in(alloc)?)?;
-    let mut book: Book<PlainRows<Addressed<Letter>>> = Book::new(
-        alloc,
-        plan,
-        EVENTS_MAX,
-        RandomState::new(rt)?,
-    );
-    let mut reader = Counted::new(Source {
-        rest: &stream,
-        cut: devices.cut,
-        mishap: devices.reading,
-        calls: 0,
-    });
-    let mut writer = Counted::new(Sink {
-        bytes: Vec::new(alloc),
-        most: devices.most,
-        flushed: 0,
-        mishap: devices.writing,
-        calls: 0,
-    });
-    let line = Line {
-        alloc,
-        conn: 0,
-        channel: 0,
-    };
+    let hasher = RandomState::new(rt)?;
+    Ok(Book::new(alloc, plan, EVENTS_MAX, hasher))
+}
+
+/// Serves a stream from a book over these devices, at 14 November 2023, 22:13:20 UTC.
+fn serve_from(
+    alloc: Global,
+    book: &mut Book<PlainRows<Addressed<Letter>>>,
+    stream: &[u8],
+    devices: Devices,
+) -> Served {
+    let mut reader = Counted::new(Source::new(stream, devices));
+    let mut writer = Counted::new(Sink::new(alloc, devices));
+    let (conn, channel) = (0, 0);
     book.plan().rules();
-    let mut clock = Still(nearest(1_700_000_000));
     let report = serve_within(
-        &line,
-        &mut book,
+        &Line {
+            alloc,
+            conn,
+            channel,
+        },
+        book,
         &mut reader,
         &mut writer,
-        &mut clock,
+        &mut Still(nearest(1_700_000_000)),
         TURNS_MAX,
     );
     let (read_faults, write_faults) = (reader.faults(), writer.faults());
     let unflushed = writer.unflushed();
     let sink = writer.into_inner();
-    Ok(Served {
+    Served {
         end: report.end,
         receipts: report.receipts.len(),
         flushed: sink.flushed,
@@ -93,7 +85,14 @@ fn serve(rt: &HostRuntime, devices: Devices) -> Result<Served, Fail> {
         unflushed,
         read_faults,
         write_faults,
-    })
+    }
+}
+
+/// Serves the conversation over these devices, by the built-in plan.
+fn serve(rt: &HostRuntime, devices: Devices) -> Result<Served, Fail> {
+    let stream = both(rt.alloc(), &MESSAGES)?;
+    let mut book = empty_book(rt)?;
+    Ok(serve_from(rt.alloc(), &mut book, &stream, devices))
 }
 
 /// What is written once so many bytes were read.
