@@ -185,7 +185,14 @@ pub fn ack(alloc: Global, message: &Message, words: &str) -> Result<String> {
     let header = Header::read(alloc, message)?;
     let verdictum = verdictum_named(told)?;
     let moment = Moment::of_unix(seconds.parse()?)?;
-    acknowledged(alloc, &header, verdictum, moment, connection.parse()?, first.parse()?)
+    acknowledged(
+        alloc,
+        &header,
+        verdictum,
+        moment,
+        connection.parse()?,
+        first.parse()?,
+    )
 }
 
 /// The fields of the message's first MSA.

@@ -175,13 +175,19 @@ impl Text {
     /// A value with the message's delimiters escaped.
     fn escaped(&self, value: &str) -> Result<String> {
         let value = bytes_of(self.alloc, value)?;
-        made(self.alloc, escape(self.alloc, &self.message.delims(), &value))
+        made(
+            self.alloc,
+            escape(self.alloc, &self.message.delims(), &value),
+        )
     }
 
     /// The value of an escaped text.
     fn unescaped(&self, text: &str) -> Result<String> {
         let text = bytes_of(self.alloc, text)?;
-        made(self.alloc, unescape(self.alloc, &self.message.delims(), &text))
+        made(
+            self.alloc,
+            unescape(self.alloc, &self.message.delims(), &text),
+        )
     }
 
     /// The message as it is printed.
