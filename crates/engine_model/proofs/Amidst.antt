@@ -1,5 +1,5 @@
 -- Event after event of a piece.
-use Rattle.std.proofs.Common.{◌≡◌, ℕ, ◌+◌, ◌<◌, ◌≤◌, true, false, List, [], ◌∷◌, ◌++◌, length, map, Option, None, Some, Result, refl, sym, ap, ◌∙◌, subst, append_assoc, append-nil, length-append, arith}
+use Rattle.std.proofs.Common.{◌≡◌, ℕ, ◌+◌, ◌<◌, true, false, List, [], ◌∷◌, ◌++◌, length, map, None, Some, Result, refl, sym, ap, ◌∙◌, subst, append_assoc, append-nil, length-append, arith}
 use Rattle.std.specs.List.{cons_option}
 use Rattle.std.proofs.lemmas.List.{map-append}
 use Rattle.std.proofs.lemmas.List.Elements.{filter_map-append}
@@ -14,7 +14,7 @@ use Rattle.conn_core.proofs.Numbering.{numbered-append}
 use Rattle.engine_model.proofs.Duly.{dues-append}
 use Rattle.engine_model.specs.Run.{Connection}
 use Rattle.engine_model.specs.Amid.{Amid}
-use Rattle.engine_model.specs.Steps.{AreAnswered, EndsWithin, MayBeTold, ReadsOn, RepliesFront, after_answer, after_answers, frame_events_max, history_with}
+use Rattle.engine_model.specs.Steps.{AreAnswered, EndsWithin, MayBeTold, ReadsOn, after_answer, after_answers, frame_events_max, history_with}
 
 abbrev raws : List Answer → List (List ℕ)
 raws answers = map (λ (a : Answer). a.raw) answers
@@ -37,7 +37,7 @@ module _ (conn : ℕ) (c : Connection) (new : List Answer) where
   next_number : (d : Connection) → d.answers ≡ c.answers ++ new → 1 + length (dues d.answers) ≡ first + length (dues new)
   next_number d grown =
       let size : length (dues d.answers) ≡ length (dues c.answers) + length (dues new) =
-        ap (λ l. length (dues l)) grown ∙ ap length (dues-append c.answers new) ∙ length-append (dues c.answers) (dues new) in
+      ap (λ l. length (dues l)) grown ∙ ap length (dues-append c.answers new) ∙ length-append (dues c.answers) (dues new) in
       omega arith
 
   sent_more : (d : Connection) (ds : List Due) → d.answers ≡ c.answers ++ new → d.output ≡ c.output ++ numbered conn first (dues new)

@@ -1,6 +1,5 @@
 -- Apart from want of memory a piece does one thing.
-use Rattle.std.proofs.Common.{◌≡◌, ◌≢◌, ℕ, ◌+◌, Bool, List, [], ◌∷◌, ◌++◌, length, map, Some, Result, Ok, Err, refl, sym, ap, ◌∙◌, subst, append_assoc}
-use Rattle.std.specs.List.{AllByRecursion}
+use Rattle.std.proofs.Common.{◌≡◌, ◌≢◌, ℕ, ◌+◌, List, [], ◌∷◌, ◌++◌, length, map, Result, Ok, Err, refl, sym, ap, ◌∙◌, subst, append_assoc}
 use Rattle.std.proofs.lemmas.List.{append_cancel_left}
 use Rattle.std.proofs.lemmas.Option.{same_Some}
 use Rattle.book_core.specs.declared.receipt.NotBooked.{NotBooked}
@@ -61,12 +60,13 @@ pub reads_on-same : (conn : ℕ) (bytes : List ℕ) (now : ℕ) (h g g' : Histor
 reads_on-same conn bytes now h g g' c d d' s t some some' =
     let stream : d.stream ≡ d'.stream = s.stream ∙ sym t.stream in
     let texts : raws s.new ≡ raws t.new = append_cancel_left (messages c.stream) (raws s.new) (raws t.new) (sym s.each_once ∙ ap messages stream ∙ t.each_once) in
-    let same : s.new ≡ t.new = answers-same conn c.channel now h s.new t.new texts s.answered t.answered some some' in
-    (s.booked ∙ ap (after_answers conn c.channel h) same ∙ sym t.booked,
-    connection-same d d' (s.channel ∙ sym t.channel) stream
-    (s.answers ∙ ap (λ l. c.answers ++ l) same ∙ sym t.answers)
-    (s.output ∙ ap (λ l. c.output ++ numbered conn (1 + length (dues c.answers)) (dues l)) same ∙ sym t.output)
-    (s.stays ∙ sym t.stays))
+    let same : s.new ≡ t.new = answers-same conn c.channel now h s.new t.new texts s.answered t.answered some some' in (
+      s.booked ∙ ap (after_answers conn c.channel h) same ∙ sym t.booked,
+      connection-same d d' (s.channel ∙ sym t.channel) stream
+          (s.answers ∙ ap (λ l. c.answers ++ l) same ∙ sym t.answers)
+          (s.output ∙ ap (λ l. c.output ++ numbered conn (1 + length (dues c.answers)) (dues l)) same ∙ sym t.output)
+          (s.stays ∙ sym t.stays),
+    )
 
 -- what a connection that has ended was sent is the front of its replies
 pub front-replies : (conn : ℕ) (answers : List Answer) (text : List ℕ) → RepliesFront conn 1 answers text → IsFrontOf text (replies conn answers)
@@ -74,7 +74,7 @@ front-replies conn answers text x =
     record {
       rest = numbered conn (1 + length (dues x.replied ++ x.sent)) x.unsent;
       goes_on = ap (replies conn) x.all
-    ∙ ap (numbered conn 1) (dues-append x.replied x.last ∙ ap (λ l. dues x.replied ++ l) x.due ∙ sym (append_assoc (dues x.replied) x.sent x.unsent))
-    ∙ numbered-append conn 1 (dues x.replied ++ x.sent) x.unsent
-    ∙ ap (λ l. l ++ numbered conn (1 + length (dues x.replied ++ x.sent)) x.unsent) (sym x.text_is);
+          ∙ ap (numbered conn 1) (dues-append x.replied x.last ∙ ap (λ l. dues x.replied ++ l) x.due ∙ sym (append_assoc (dues x.replied) x.sent x.unsent))
+          ∙ numbered-append conn 1 (dues x.replied ++ x.sent) x.unsent
+          ∙ ap (λ l. l ++ numbered conn (1 + length (dues x.replied ++ x.sent)) x.unsent) (sym x.text_is);
     }

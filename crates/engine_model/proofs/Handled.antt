@@ -1,5 +1,5 @@
 -- What handling one event does.
-use Rattle.std.proofs.Common.{◌≡◌, ℕ, ◌+◌, Bool, true, false, List, [], ◌∷◌, ◌++◌, length, map, take, drop, Option, None, Some, Result, Ok, Err, OnOk, OnErr, IfOk, IfErr, refl, sym, ap, ◌∙◌, subst, append_assoc, append-nil, length-append, arith}
+use Rattle.std.proofs.Common.{◌≡◌, ℕ, ◌+◌, Bool, true, false, List, [], ◌∷◌, ◌++◌, length, map, take, drop, None, Some, Result, Ok, Err, OnOk, OnErr, IfOk, IfErr, refl, sym, ap, ◌∙◌, subst, append_assoc, append-nil, length-append, arith}
 use Rattle.std.specs.Prelude.{slice_get}
 use Rattle.std.proofs.lemmas.List.{map-append}
 use Rattle.book_core.specs.declared.receipt.NotBooked.{NotBooked}
@@ -7,19 +7,17 @@ use Rattle.book_core.specs.declared.receipt.NotBooked.TheVariants.{NoMemory, Ful
 use Rattle.book_core.specs.declared.receipt.Receipt.{Receipt}
 use Rattle.event_log.specs.declared.entry.Entry.TheVariants.{Arrival}
 use Rattle.event_log.specs.declared.entry.Told.{Told}
-use Rattle.event_log.specs.Answers.{answer}
 use Rattle.event_log.specs.History.{History, followed_by, plan_in_force}
 use Rattle.event_log.specs.Room.{is_full}
 use Rattle.judge_core.specs.Judging.{Judgement, is_bookable}
-use Rattle.mllp_frame.specs.Event.{Event, block, broken}
+use Rattle.mllp_frame.specs.Event.{Event, block}
 use Rattle.mllp_frame.specs.Framing.{IsBlockData, blocks}
 use Rattle.conn_core.specs.Booking.{BookAnswers, Books}
 use Rattle.conn_core.specs.Messages.{message_of}
-use Rattle.conn_core.specs.Replies.{Answer, Due, answer_to, dues, dues_of, numbered, told_by}
+use Rattle.conn_core.specs.Replies.{Answer, answer_to, dues, dues_of, numbered, told_by}
 use Rattle.engine_model.proofs.Duly.{dues-append}
 use Rattle.engine_model.specs.declared.connection.Answered.{Answered}
 use Rattle.engine_model.specs.declared.connection.Words.{Words}
-use Rattle.engine_model.specs.Run.{Connection}
 use Rattle.engine_model.specs.Steps.{MayBeTold, EndsWithin, history_with}
 use Rattle.engine_model.specs.Amid.{Amid}
 use Rattle.engine_model.specs.Handling.{Handles, HandlesFront, IsBooked, IsCounted, answer_of, answer_with, said}
@@ -35,7 +33,6 @@ handles-stop conn channel now events h w w' answers output handled later from c 
     subst (λ l. EndsWithin conn l now from h c (said channel (c.stream ++ bytes) true w')) (append-nil bytes)
     (amid-ends conn now handled from h c (said channel (c.stream ++ bytes) false w) amid bytes [] (events ++ later) (said channel (c.stream ++ bytes) true w')
     refl refl (ap (map answer_of) answers) output refl (are ∙ ap (λ l. blocks c.stream ++ l) (append_assoc handled events later)))
-
 
 brings : (raw : List ℕ) → is_bookable raw ≡ true → message_of (block raw) ≡ Some raw
 brings raw is = rw is refl
@@ -153,8 +150,8 @@ counted-on raw now o w w' counted kept made =
     let before : List Answer = map answer_of w.answers.items in
     let one : Answer = answer_to raw o now in
     let sizes : length (dues (map answer_of w'.answers.items)) ≡ length (dues (map answer_of w.answers.items)) + length (dues_of (answer_to raw o now)) =
-      ap (λ l. length (dues l)) kept ∙ ap length (dues-append before (one ∷ [])) ∙ length-append (dues before) (dues (one ∷ []))
-      ∙ ap (λ l. length (dues before) + length l) (append-nil (dues_of one)) in
+    ap (λ l. length (dues l)) kept ∙ ap length (dues-append before (one ∷ [])) ∙ length-append (dues before) (dues (one ∷ []))
+    ∙ ap (λ l. length (dues before) + length l) (append-nil (dues_of one)) in
     record { made = omega (arith, made, sizes, counted.made) }
 
 -- one answer more is kept
@@ -162,7 +159,7 @@ pub kept-on : (old reserved new : List Answered) (a : Answered) (raw : List ℕ)
     → map answer_of new ≡ map answer_of old ++ answer_with raw outcome now ∷ []
 kept-on old reserved new a raw outcome now same grown one two three =
     let is : answer_of a ≡ answer_with raw outcome now =
-      ap (λ l. record { raw = l; outcome = a.outcome; moment = a.moment }) one ∙ ap (λ o. record { raw = raw; outcome = o; moment = a.moment }) two ∙ ap (λ m. record { raw = raw; outcome = outcome; moment = m }) three in
+    ap (λ l. record { raw = l; outcome = a.outcome; moment = a.moment }) one ∙ ap (λ o. record { raw = raw; outcome = o; moment = a.moment }) two ∙ ap (λ m. record { raw = raw; outcome = outcome; moment = m }) three in
     ap (map answer_of) (grown ∙ ap (λ l. l ++ a ∷ []) same) ∙ map-append answer_of old (a ∷ []) ∙ ap (λ x. map answer_of old ++ x ∷ []) is
 
 -- what stood before is left when the rest is cut off

@@ -1,5 +1,5 @@
 -- What a piece of a stream does.
-use Rattle.std.proofs.Common.{◌≡◌, ℕ, ◌+◌, Bool, true, false, List, [], ◌∷◌, ◌++◌, length, map, set, slice_get, Option, None, Some, ◌⊎◌, inl, inr, refl, sym, ap, ◌∙◌, subst, append_assoc}
+use Rattle.std.proofs.Common.{◌≡◌, ℕ, ◌+◌, Bool, true, false, List, [], ◌++◌, length, map, set, slice_get, Option, None, Some, inl, inr, refl, sym, ap, ◌∙◌, subst, append_assoc}
 use Rattle.std.specs.Option.{option_map_or}
 use Rattle.std.proofs.lemmas.List.{map-append}
 use Rattle.std.proofs.lemmas.List.Elements.{filter_map-append}
@@ -46,7 +46,7 @@ module _ (conn : ℕ) (bytes : List ℕ) (now : ℕ) (h h' : History) (c to : Co
   reads_on s =
       let all : messages to.stream ≡ raws to.answers = s.each_once ∙ raws-more s.new s.answers in
       let sent : to.output ≡ replies conn to.answers =
-          s.output ∙ replies-more (dues s.new) ∙ ap (numbered conn 1) (sym (dues-append c.answers s.new)) ∙ ap (replies conn) (sym s.answers) in
+      s.output ∙ replies-more (dues s.new) ∙ ap (numbered conn 1) (sym (dues-append c.answers s.new)) ∙ ap (replies conn) (sym s.answers) in
       record {
         new = s.new;
         now = now;

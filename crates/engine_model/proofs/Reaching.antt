@@ -1,25 +1,25 @@
 -- A legal history comes of the steps made of its entries.
-use Rattle.std.proofs.Common.{◌≡◌, ℕ, ◌+◌, ◌<◌, ◌≤◌, Bool, true, false, cond, zero, suc, List, [], ◌∷◌, ◌++◌, length, map, take, set, slice_get, Option, None, Some, Ok, ◌⊎◌, inl, inr, refl, sym, ap, ◌∙◌, subst, append_assoc, append-nil, length-append, arith, lit<}
-use Rattle.std.specs.List.{filter_map, cons_option}
+use Rattle.std.proofs.Common.{◌≡◌, ℕ, ◌+◌, ◌<◌, ◌≤◌, Bool, true, false, cond, zero, suc, List, [], ◌∷◌, ◌++◌, length, map, take, set, slice_get, Option, None, Some, Ok, inl, inr, refl, sym, ap, ◌∙◌, subst, append_assoc, append-nil, length-append, arith}
+use Rattle.std.specs.List.{cons_option}
 use Rattle.std.specs.Option.{option_map, option_map_or}
 use Rattle.std.specs.Result.{result_ok}
 use Rattle.std.proofs.lemmas.List.Elements.{filter_map-append}
 use Rattle.mllp_frame.specs.Event.{block}
-use Rattle.mllp_frame.specs.Framing.{IsBlockData, block_bytes, blocks, open_end}
+use Rattle.mllp_frame.specs.Framing.{block_bytes, blocks, open_end}
 use Rattle.mllp_frame.proofs.DataLaws.{block_behind, nothing_open_behind}
 use Rattle.judge_core.specs.Judging.{is_bookable}
 use Rattle.event_log.specs.declared.entry.Entry.{Entry}
 use Rattle.event_log.specs.declared.entry.Entry.TheVariants.{Arrival, Take, Settle, Cancel}
 use Rattle.event_log.specs.declared.entry.Told.{Told}
 use Rattle.event_log.specs.Answers.{answer}
-use Rattle.event_log.specs.History.{History, followed_by, opened_by, plan_in_force}
+use Rattle.event_log.specs.History.{History, followed_by, plan_in_force}
 use Rattle.event_log.specs.Legal.{IsLegal, MayArrive, MayFollow}
 use Rattle.event_log.proofs.Following.{take-below, take-whole}
 use Rattle.conn_core.specs.Messages.{message_of, messages, messages_of}
 use Rattle.conn_core.specs.Replies.{Answer, dues, numbered}
 use Rattle.engine_model.specs.Run.{Connection, Run, opened, silent}
 use Rattle.engine_model.specs.Turn.{Turn}
-use Rattle.engine_model.specs.Steps.{Hears, HearsAt, HearsIf, ReadsOn, Runs, Steps, frame_events_max, with_history}
+use Rattle.engine_model.specs.Steps.{HearsAt, HearsIf, ReadsOn, Runs, Steps, frame_events_max, with_history}
 use Rattle.engine_model.specs.Converse.{IsRunOf, KeepsTo, step_of, steps_of}
 use Rattle.engine_model.proofs.Places.{get-set_other, get-set_same, same_or_apart}
 

@@ -1,5 +1,5 @@
 -- What a step keeps, and a run of steps.
-use Rattle.std.proofs.Common.{◌≡◌, ℕ, false, zero, suc, List, [], ◌∷◌, ◌++◌, map, slice_get, Option, None, Some, ◌⊎◌, inl, inr, refl, sym, ap, ◌∙◌, subst}
+use Rattle.std.proofs.Common.{◌≡◌, ℕ, zero, suc, List, [], ◌∷◌, ◌++◌, map, slice_get, Some, inl, inr, refl, sym, ◌∙◌, subst}
 use Rattle.std.specs.Option.{option_map_or}
 use Rattle.plan_text.specs.Entries.{PlanEntry}
 use Rattle.event_log.specs.History.{History}

@@ -1,5 +1,5 @@
 -- What the calls of a world are, as steps of a run.
-use Rattle.std.proofs.Common.{◌≡◌, ℕ, zero, suc, ◌+◌, ◌<◌, true, false, Bool, List, [], ◌∷◌, ◌++◌, All, length, map, take, set, get_or, slice_get, Option, None, Some, Result, Ok, Err, OnErr, IfOk, ◌⊎◌, inl, inr, refl, sym, ap, ◌∙◌, subst, append-nil, arith}
+use Rattle.std.proofs.Common.{◌≡◌, ℕ, zero, suc, ◌+◌, ◌<◌, true, false, Bool, List, [], ◌∷◌, ◌++◌, All, length, map, take, set, get_or, slice_get, None, Some, Result, Ok, Err, OnErr, IfOk, inl, inr, refl, sym, ap, ◌∙◌, subst, arith}
 use Rattle.std.specs.List.{AllByRecursion}
 use Rattle.std.specs.Option.{option_map, option_map_or}
 use Rattle.std.specs.Result.{result_ok}
@@ -17,12 +17,11 @@ use Rattle.event_log.specs.declared.refusal.CancelRefusal.{CancelRefusal}
 use Rattle.event_log.specs.declared.refusal.TakeRefusal.{TakeRefusal}
 use Rattle.event_log.specs.Answers.{cancel_answer, settle_answer, take_answer}
 use Rattle.event_log.specs.History.{History, followed_by, opened_by, plan_in_force}
-use Rattle.event_log.specs.Replay.{next, asked, ended, revoked}
 use Rattle.engine_model.specs.declared.connection.Connected.{Connected}
 use Rattle.engine_model.specs.Handling.{HearsOn}
 use Rattle.engine_model.specs.Promise.{KeepsItsWord}
 use Rattle.engine_model.specs.Run.{Connection, Run, opened, silent}
-use Rattle.engine_model.specs.Steps.{Hears, HearsAt, HearsIf, Runs, Steps, with_history}
+use Rattle.engine_model.specs.Steps.{HearsAt, HearsIf, Runs, Steps}
 use Rattle.engine_model.specs.Turn.{Turn, chunk, taking, settling, cancelling}
 use Rattle.engine_model.specs.View.{IsFit, IsOpen, IsWorld, connection_of, run_of}
 use Rattle.engine_model.proofs.Stepping.{opened-keeps, runs-append, step-keeps}

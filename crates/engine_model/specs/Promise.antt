@@ -1,10 +1,9 @@
 -- What holds of every run, whatever the steps and their order.
-use Rattle.std.specs.Prelude.{◌≡◌, Bool, true, false, List, [], ◌∷◌, ◌++◌, map, slice_get, Some, ◌≢◌, ℕ, Err}
+use Rattle.std.specs.Prelude.{◌≡◌, Bool, true, false, List, [], ◌++◌, map, slice_get, Some, ◌≢◌, ℕ, Err}
 use Rattle.std.specs.List.{AllByRecursion}
 use Rattle.std.specs.Option.{option_map_or}
 use Rattle.book_core.specs.declared.receipt.NotBooked.TheVariants.{NoMemory}
 use Rattle.event_log.specs.Legal.{IsLegal}
-use Rattle.mllp_frame.specs.Framing.{blocks}
 use Rattle.conn_core.specs.Messages.{booked, messages}
 use Rattle.conn_core.specs.Replies.{Answer, replies}
 use Rattle.engine_model.specs.Run.{Connection, Run, arrivals}

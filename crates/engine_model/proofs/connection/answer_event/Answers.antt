@@ -1,4 +1,4 @@
-use Rattle.std.proofs.Common.{◌≡◌, [], ◌∷◌, refl, sym, ap, ◌∙◌, subst}
+use Rattle.std.proofs.Common.{[], ◌∷◌, refl, sym, subst}
 use Rattle.mllp_frame.specs.Event.{broken, event_of}
 use Rattle.mllp_frame.specs.declared.FrameEvent.{FrameEvent}
 use Rattle.engine_model.specs.Handling.{Handles, HandlesFront}

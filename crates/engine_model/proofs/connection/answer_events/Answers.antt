@@ -1,4 +1,4 @@
-use Rattle.std.proofs.Common.{◌≡◌, ◌+◌, ◌∷◌, [], ◌++◌, List, drop, length, refl, sym, ap, ◌∙◌, append_assoc, append-nil, length-append, arith}
+use Rattle.std.proofs.Common.{◌≡◌, ◌+◌, ◌∷◌, [], ◌++◌, List, drop, length, refl, sym, ap, ◌∙◌, append_assoc, length-append, arith}
 use Rattle.mllp_frame.specs.Event.{Event, event_of}
 use Rattle.mllp_frame.specs.Framed.{Framed}
 use Rattle.engine_model.proofs.Handled.{first_event, front-more, handles-more, handles-nothing, handles-stop, on_err_always}

@@ -1,8 +1,7 @@
-use Rattle.std.proofs.Common.{◌≡◌, length, take, true, false, refl, sym, ap, ◌∙◌, subst}
+use Rattle.std.proofs.Common.{◌≡◌, take, true, false, refl, ap, ◌∙◌, subst}
 use Rattle.mllp_frame.specs.Framing.{IsBlockData}
 use Rattle.conn_core.specs.Replies.{told_by}
-use Rattle.engine_model.specs.declared.connection.Words.{Words}
-use Rattle.engine_model.proofs.Handled.{counted-on, cut-back, handles-cut, handles-left, handles-message, is_booked, kept-on, on_err_always, plan-kept}
+use Rattle.engine_model.proofs.Handled.{cut-back, handles-cut, handles-left, handles-message, is_booked, kept-on, on_err_always}
 use Rattle.engine_model.proofs.connection.answer_message.Goals as goal
 
 pub returns-in_err-reserve-clause-err : goal.returns-in_err-reserve-clause-err

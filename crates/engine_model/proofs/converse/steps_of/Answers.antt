@@ -7,10 +7,11 @@ pub step_of-requires-clause-framed : goal.step_of-requires-clause-framed
 step_of-requires-clause-framed g c = came c.args.book.now c.loop-place.place c.in-Some.entry.now c.rules.ensures.sound.legal c.in-Some.ensures
 
 pub loop-place-preserved : goal.loop-place-preserved
-loop-place-preserved g c =
-    (omega (arith, c.push_reserved.ensures.len, c.loop-place.invariant.0),
-    omega (arith, c.push_reserved.ensures.capacity, c.loop-place.invariant.1),
-    steps-more c.args.book.now.entries c.loop-place.place c.in-Some.entry.now c.loop-place.steps.items c.push_reserved.new.self.items c.in_ok-step_of.field-0 c.in-Some.ensures c.loop-place.invariant.2 c.push_reserved.ensures.items c.in_ok-step_of.ensures)
+loop-place-preserved g c = (
+  omega (arith, c.push_reserved.ensures.len, c.loop-place.invariant.0),
+  omega (arith, c.push_reserved.ensures.capacity, c.loop-place.invariant.1),
+  steps-more c.args.book.now.entries c.loop-place.place c.in-Some.entry.now c.loop-place.steps.items c.push_reserved.new.self.items c.in_ok-step_of.field-0 c.in-Some.ensures c.loop-place.invariant.2 c.push_reserved.ensures.items c.in_ok-step_of.ensures,
+)
 
 pub returns-clause-reached : goal.returns-clause-reached
 returns-clause-reached g c =

@@ -1,5 +1,4 @@
-use Rattle.std.proofs.Common.{◌≡◌, ◌++◌, ◌<◌, ◌∙◌, List, ap, arith, refl, sym}
-use Rattle.mllp_frame.specs.Event.{Event}
+use Rattle.std.proofs.Common.{◌≡◌, ◌++◌, ◌∙◌, ap}
 use Rattle.mllp_frame.specs.Framed.{Framed}
 use Rattle.mllp_frame.specs.Framing.{blocks, open_end}
 use Rattle.engine_model.specs.Steps.{frame_events_max}
