@@ -3,7 +3,6 @@ use Rattle.std.specs.Prelude.{◌≡◌, ◌<◌, ◌≤◌, ◌*◌, ℕ, false
 use Rattle.std.specs.List.{AllByRecursion}
 use Rattle.event_log.specs.History.{History, plan_in_force}
 use Rattle.mllp_frame.specs.Framing.{blocks, open_end}
-use Rattle.engine_model.specs.declared.connection.TheConstants.{FRAME_EVENTS_MAX}
 use Rattle.engine_model.specs.Handling.{IsCounted, said}
 use Rattle.engine_model.specs.declared.connection.Connected.{Connected}
 use Rattle.engine_model.specs.declared.step.Step.{Step}
@@ -22,7 +21,7 @@ pub record IsOpen (c : Connected) : Type 0 where
   pub left_open : c.framer.open_end ≡ open_end c.stream.items
   pub counted : IsCounted c.words
   pub events : c.events ≡ length (blocks c.stream.items)
-  pub few : c.events < FRAME_EVENTS_MAX
+  pub few : c.events < 1_000_000_000
   pub made : c.words.replies.made ≤ 2 * c.events
 
 -- a connection is on one of so many channels, and has ended or is open
