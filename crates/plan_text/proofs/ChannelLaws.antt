@@ -11,14 +11,14 @@ use Rattle.plan_text.specs.declared.fault.FaultName.TheVariants as name
 use Rattle.plan_text.specs.declared.fault.PlanFault.{PlanFault}
 use Rattle.plan_text.specs.Fault.{told}
 use Rattle.plan_text.specs.Entries.{DestinationEntry, RouteEntry, ChannelEntry, IsShallow, AllStand, IsChannel, IsPlan}
-use Rattle.plan_text.specs.Keys.{key, key_path, required, or_else, table_at, only_keys, list, list_within, item_count, each, each_after}
-use Rattle.plan_text.specs.Kinds.{new_name, text_within, message_type, processing_id, version_id}
-use Rattle.plan_text.specs.Conditions.{path, path_in, path_and_text, filter_at}
+use Rattle.plan_text.specs.Keys.{key, key_path, required, table_at, only_keys, list, list_within, item_count, each, each_after}
+use Rattle.plan_text.specs.Kinds.{new_name, text_within}
+use Rattle.plan_text.specs.Conditions.{path, filter_at}
 use Rattle.plan_text.specs.Steps.{checked, stands_at, step_key, step_by, step, steps_at}
 use Rattle.hl7_transform.specs.declared.checking.StepCheck.{StepCheck}
 use Rattle.hl7_transform.specs.declared.checking.StepCheck.TheVariants as check
 use Rattle.hl7_transform.specs.Check.{check_step, may_stand}
-use Rattle.hl7_transform.specs.Step.{Edit, set, copy, clear, lookup, remove}
+use Rattle.hl7_transform.specs.Step.{Edit}
 use Rattle.plan_text.specs.Destinations.{destinations}
 use Rattle.plan_text.specs.Channels.{place_of, leads_to, new_place, way_at, route_to, route, route_keys, routes_at, taken_at, channel, channel_keys, channel_has_name}
 use Rattle.plan_text.specs.Document.{some_within}
