@@ -5,7 +5,7 @@ use event_log::Ticket;
 use std::str::SplitWhitespace;
 
 /// A call of the book.
-#[derive(Clone, Copy, Debug)]
+#[derive(Clone, Copy)]
 pub enum Call<'a> {
     /// A new book of a plan, which may hold so many entries. Messages are judged by that plan from now on.
     Book {
@@ -103,59 +103,106 @@ fn outcome(words: &mut SplitWhitespace<'_>) -> Option<Outcome> {
     }
 }
 
+/// A new book.
+fn book<'a>(words: &mut SplitWhitespace<'a>) -> Option<Call<'a>> {
+    Some(Call::Book {
+        plan: words.next()?,
+        events_max: number(words)?,
+    })
+}
+
+/// An arrival.
+fn arrive<'a>(words: &mut SplitWhitespace<'a>) -> Option<Call<'a>> {
+    Some(Call::Arrive {
+        channel: number(words)?,
+        text: words.next()?,
+    })
+}
+
+/// Many arrivals.
+fn many<'a>(words: &mut SplitWhitespace<'a>) -> Option<Call<'a>> {
+    Some(Call::Many {
+        count: number(words)?,
+        channel: number(words)?,
+        text: words.next()?,
+    })
+}
+
+/// A take.
+fn take<'a>(words: &mut SplitWhitespace<'a>) -> Option<Call<'a>> {
+    Some(Call::Take {
+        d: number(words)?,
+        now: moment(words)?,
+    })
+}
+
+/// A settlement.
+fn settle<'a>(words: &mut SplitWhitespace<'a>) -> Option<Call<'a>> {
+    Some(Call::Settle {
+        ticket: ticket(words)?,
+        outcome: outcome(words)?,
+        now: moment(words)?,
+    })
+}
+
+/// A queue that is emptied.
+fn drain<'a>(words: &mut SplitWhitespace<'a>) -> Option<Call<'a>> {
+    Some(Call::Drain {
+        d: number(words)?,
+        now: moment(words)?,
+    })
+}
+
+/// A slot that is asked for.
+fn status<'a>(words: &mut SplitWhitespace<'a>) -> Option<Call<'a>> {
+    Some(Call::Status {
+        number: number(words)?,
+        d: number(words)?,
+    })
+}
+
+/// The call of a name that changes the book or its plan, if the name is of one.
+fn changing<'a>(name: &str, words: &mut SplitWhitespace<'a>) -> Option<Call<'a>> {
+    match name {
+        "book" => book(words),
+        "arrive" => arrive(words),
+        "many" => many(words),
+        "take" => take(words),
+        "settle" => settle(words),
+        "drain" => drain(words),
+        "judge" => Some(Call::Judge {
+            plan: words.next()?,
+        }),
+        "cancel" => Some(Call::Cancel {
+            number: number(words)?,
+        }),
+        _ => asking(name, words),
+    }
+}
+
+/// The call of a name that only asks, if the name is of one.
+fn asking<'a>(name: &str, words: &mut SplitWhitespace<'a>) -> Option<Call<'a>> {
+    match name {
+        "status" => status(words),
+        "entries" => Some(Call::Entries),
+        "promise" => Some(Call::Promise),
+        "queue" => Some(Call::Queue { d: number(words)? }),
+        "channel" => Some(Call::Channel {
+            channel: number(words)?,
+        }),
+        "destination" => Some(Call::Destination { d: number(words)? }),
+        "entry" => Some(Call::Entry {
+            place: number(words)?,
+        }),
+        _ => None,
+    }
+}
+
 impl<'a> Call<'a> {
     /// The call that a line says, if it says one.
     pub fn read(line: &'a str) -> Option<Call<'a>> {
         let mut words = line.split_whitespace();
-        let words = &mut words;
-        Some(match words.next()? {
-            "book" => Call::Book {
-                plan: words.next()?,
-                events_max: number(words)?,
-            },
-            "judge" => Call::Judge {
-                plan: words.next()?,
-            },
-            "arrive" => Call::Arrive {
-                channel: number(words)?,
-                text: words.next()?,
-            },
-            "many" => Call::Many {
-                count: number(words)?,
-                channel: number(words)?,
-                text: words.next()?,
-            },
-            "take" => Call::Take {
-                d: number(words)?,
-                now: moment(words)?,
-            },
-            "settle" => Call::Settle {
-                ticket: ticket(words)?,
-                outcome: outcome(words)?,
-                now: moment(words)?,
-            },
-            "cancel" => Call::Cancel {
-                number: number(words)?,
-            },
-            "drain" => Call::Drain {
-                d: number(words)?,
-                now: moment(words)?,
-            },
-            "queue" => Call::Queue { d: number(words)? },
-            "status" => Call::Status {
-                number: number(words)?,
-                d: number(words)?,
-            },
-            "channel" => Call::Channel {
-                channel: number(words)?,
-            },
-            "destination" => Call::Destination { d: number(words)? },
-            "entry" => Call::Entry {
-                place: number(words)?,
-            },
-            "entries" => Call::Entries,
-            "promise" => Call::Promise,
-            _ => return None,
-        })
+        let name = words.next()?;
+        changing(name, &mut words)
     }
 }

@@ -42,6 +42,17 @@ fn plan_named(rt: &HostRuntime, name: &str) -> Result<Arc<Plan>> {
     }
 }
 
+/// Appends a text, with a number in place of `#`.
+fn push_numbered(bytes: &mut Vec<u8>, text: &str, number: &str) -> Result<(), AllocError> {
+    for (i, part) in text.split('#').enumerate() {
+        if i > 0 {
+            bytes.extend_from_slice(number.as_bytes())?;
+        }
+        bytes.extend_from_slice(part.as_bytes())?;
+    }
+    Ok(())
+}
+
 /// The bytes of a text, with 0x0D where it says so, and a number in place of `#`.
 fn bytes_of(alloc: Global, text: &str, number: u32) -> Result<Vec<u8>, AllocError> {
     let number = format!(in alloc; "{number}")?;
@@ -50,12 +61,7 @@ fn bytes_of(alloc: Global, text: &str, number: u32) -> Result<Vec<u8>, AllocErro
         if i > 0 {
             bytes.push(b'\r')?;
         }
-        for (j, part) in line.split('#').enumerate() {
-            if j > 0 {
-                bytes.extend_from_slice(number.as_bytes())?;
-            }
-            bytes.extend_from_slice(part.as_bytes())?;
-        }
+        push_numbered(&mut bytes, line, number.as_str())?;
     }
     Ok(bytes)
 }
@@ -87,47 +93,72 @@ impl Stage {
 
     /// Makes the call that a line says, and gives its answer.
     pub fn play(&mut self, rt: &HostRuntime, line: &str) -> Result<String> {
-        let alloc = self.alloc;
-        let Some(call) = Call::read(line) else {
-            bail!("no call: {line}");
-        };
-        Ok(match call {
-            Call::Book { plan, events_max } => self.open(rt, plan, events_max)?,
-            Call::Judge { plan } => {
-                self.plan = plan_named(rt, plan)?;
-                format!(in alloc; "ok")?
-            }
-            Call::Arrive { channel, text } => {
-                let bytes = bytes_of(alloc, text, 0)?;
-                self.arrive(channel, bytes)?
-            }
+        match Call::read(line) {
+            Some(call) => self.answer(rt, call),
+            None => bail!("no call: {line}"),
+        }
+    }
+
+    /// The answer to a call.
+    fn answer(&mut self, rt: &HostRuntime, call: Call<'_>) -> Result<String> {
+        match call {
+            Call::Book { plan, events_max } => self.open(rt, plan, events_max),
+            Call::Judge { plan } => self.judge_by(rt, plan),
+            Call::Arrive { channel, text } => self.arrive(channel, text),
             Call::Many {
                 count,
                 channel,
                 text,
-            } => self.many(count, channel, text)?,
-            Call::Take { d, now } => self.take(d, now)?,
+            } => self.many(count, channel, text),
+            Call::Take { d, now } => self.take(d, now),
             Call::Settle {
                 ticket,
                 outcome,
                 now,
-            } => self.settle(&ticket, outcome, now)?,
-            Call::Cancel { number } => match self.book.cancel(number) {
-                Ok(mask) => format!(in alloc; "mask {mask}")?,
-                Err(refusal) => format!(in alloc; "{refusal:?}, code {}", refusal.code())?,
-            },
-            Call::Drain { d, now } => self.drain(d, now)?,
-            Call::Queue { d } => format!(in alloc; "{}", self.book.queue_len(d))?,
-            Call::Status { number, d } => match self.book.status(number, d) {
-                Some(state) => format!(in alloc; "{state:?}")?,
-                None => format!(in alloc; "no slot")?,
-            },
-            Call::Channel { channel } => self.channel(channel)?,
-            Call::Destination { d } => self.destination(d)?,
-            Call::Entry { place } => self.entry(place)?,
-            Call::Entries => format!(in alloc; "{}", self.book.len())?,
-            Call::Promise => self.promise()?,
-        })
+            } => self.settle(&ticket, outcome, now),
+            Call::Cancel { number } => self.cancel(number),
+            Call::Drain { d, now } => self.drain(d, now),
+            Call::Queue { d } => self.queue(d),
+            Call::Status { number, d } => self.status(number, d),
+            Call::Channel { channel } => self.channel(channel),
+            Call::Destination { d } => self.destination(d),
+            Call::Entry { place } => self.entry(place),
+            Call::Entries => self.entries(),
+            Call::Promise => self.promise(),
+        }
+    }
+
+    /// Another plan by which messages are judged.
+    fn judge_by(&mut self, rt: &HostRuntime, plan: &str) -> Result<String> {
+        self.plan = plan_named(rt, plan)?;
+        Ok(format!(in self.alloc; "ok")?)
+    }
+
+    /// The answer to a cancellation: where the message waited, or why it is none.
+    fn cancel(&mut self, number: u32) -> Result<String> {
+        let alloc = self.alloc;
+        match self.book.cancel(number) {
+            Ok(mask) => Ok(format!(in alloc; "mask {mask}")?),
+            Err(refusal) => Ok(format!(in alloc; "{refusal:?}, code {}", refusal.code())?),
+        }
+    }
+
+    /// How many messages a queue has.
+    fn queue(&self, d: u32) -> Result<String> {
+        Ok(format!(in self.alloc; "{}", self.book.queue_len(d))?)
+    }
+
+    /// The slot of a message.
+    fn status(&self, number: u32, d: u32) -> Result<String> {
+        match self.book.status(number, d) {
+            Some(state) => Ok(format!(in self.alloc; "{state:?}")?),
+            None => Ok(format!(in self.alloc; "no slot")?),
+        }
+    }
+
+    /// How many entries there are.
+    fn entries(&self) -> Result<String> {
+        Ok(format!(in self.alloc; "{}", self.book.len())?)
     }
 
     /// A new book.
@@ -155,8 +186,9 @@ impl Stage {
     }
 
     /// The answer to an arrival: what its receipt says, or why there is none.
-    fn arrive(&mut self, channel: u32, bytes: Vec<u8>) -> Result<String> {
+    fn arrive(&mut self, channel: u32, text: &str) -> Result<String> {
         let alloc = self.alloc;
+        let bytes = bytes_of(alloc, text, 0)?;
         Ok(match self.booked(channel, bytes)? {
             Ok(receipt) => format!(in alloc;
                 "{:?}, entry {}, connection {}, channel {}, {} bytes",
