@@ -10,9 +10,7 @@ use crate::commands::read_plan;
 use crate::fault::Fault;
 use book_core::{Book, EVENTS_MAX, Letter};
 use conn_core::Line;
-use conn_worker::{
-    Clock, Counted, Running, ServeEnd, ServeReport, Still, TURNS_MAX, serve_within,
-};
+use conn_worker::{Clock, Counted, Running, ServeEnd, ServeReport, Still, TURNS_MAX, serve_within};
 use dest_queue::Addressed;
 use hl7_head::Moment;
 use plan_text::Plan;
