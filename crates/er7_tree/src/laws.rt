@@ -10,8 +10,8 @@ ghost use Rattle.er7_tree.specs.Tree.{Tree, IsMessage, carriage_return, segments
 use crate::escapes::HEXADECIMAL;
 use crate::path::NUMBER_MAX;
 use crate::pieces::QUOTATION_MARK;
-use crate::reading::MAX_SEGMENTS;
 use crate::segments::{CARRIAGE_RETURN, LINE_FEED, MSH};
+use crate::text_walk::MAX_SEGMENTS;
 
 /// Reading and printing undo each other (HL7 v2.5.1, 2.5.2 and 2.5.4).
 pub fn printing_rules()

@@ -9,9 +9,9 @@ mod laws;
 mod message;
 mod path;
 mod pieces;
-mod reading;
 mod refusal;
 mod segments;
+mod text_walk;
 
 pub use delims::Delims;
 pub use edit_laws::{
@@ -22,6 +22,6 @@ pub use laws::{constant_rules, lacking_rules, printing_rules};
 pub use message::Message;
 pub use path::{Part, Path};
 pub use pieces::is_vacant;
-pub use reading::MAX_SEGMENTS;
 pub use refusal::Refusal;
 pub use segments::{CARRIAGE_RETURN, LINE_FEED, MSH, Span, is_header, is_name};
+pub use text_walk::MAX_SEGMENTS;

@@ -12,9 +12,9 @@ use crate::delims::Delims;
 use crate::escapes::unescape;
 use crate::path::{Part, Path};
 use crate::pieces::{part_of, piece};
-use crate::reading::{read_header, read_spans};
 use crate::refusal::Refusal;
 use crate::segments::{CARRIAGE_RETURN, MSH, Span, field_place, is_header};
+use crate::text_walk::{read_header, read_spans};
 use std::alloc::{AllocError, Global};
 use std::marker::Model;
 

@@ -34,7 +34,7 @@ impl Refusal {
     ghost use Rattle.er7_tree.specs.Code.{code_of};
 
     /// The number of the refusal, 1 to 7, as it is told in place of its name.
-    pub fn code(&self) -> u8
+    pub fn code(&self) -> u32
         ensures { result ≡ code_of self.now }
     {
         match self {

@@ -63,7 +63,7 @@ pub enum Cause {
 
 impl Cause {
     /// The number of the cause, 1 to 11.
-    pub fn code(self) -> u8
+    pub fn code(self) -> u32
         ensures { result ≡ cause_code self }
     {
         match self {

@@ -6,7 +6,7 @@ ghost use Rattle.hl7_head.specs.Laws.{AreControl, answer_back, header_back, msa_
 
 use crate::ack::AckPart;
 use crate::moment::{LAST_MOMENT, Moment};
-use crate::stamping::{SECONDS_PER_DAY, SECONDS_PER_HOUR, SECONDS_PER_MINUTE, ZERO};
+use crate::time_stamp::{SECONDS_PER_DAY, SECONDS_PER_HOUR, SECONDS_PER_MINUTE, ZERO};
 use er7_tree::CARRIAGE_RETURN;
 
 /// A control byte other than the carriage return that the header segment of a message lacks, its acknowledgment lacks too;

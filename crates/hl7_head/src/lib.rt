@@ -9,7 +9,7 @@ mod moment;
 mod msa;
 mod places;
 mod reply;
-mod stamping;
+mod time_stamp;
 
 pub use ack::{AckCode, AckPart, Cause};
 pub use header::Header;
@@ -17,4 +17,4 @@ pub use laws::{ack_adds_no_control, ack_reads_back, constant_rules};
 pub use moment::{LAST_MOMENT, Moment, MomentRange};
 pub use msa::Msa;
 pub use reply::ack_text;
-pub use stamping::stamp;
+pub use time_stamp::stamp;

@@ -4,7 +4,7 @@ ghost use Rattle.hl7_head.specs.Ack.{ack, fields_text, reply_answer, reply_heade
 use crate::ack::AckPart;
 use crate::header::Header;
 use crate::moment::Moment;
-use crate::stamping::stamp;
+use crate::time_stamp::stamp;
 use er7_tree::{CARRIAGE_RETURN, is_vacant};
 use itoa::Buffer;
 use std::alloc::{AllocError, Global};

@@ -4,7 +4,7 @@ use Rattle.er7_tree.specs.declared.path.Part.{Part}
 use Rattle.er7_tree.specs.declared.path.Part.TheVariants.{Whole, Component}
 use Rattle.er7_tree.specs.Path.{Place}
 use Rattle.er7_tree.specs.Tree.{Tree}
-use Rattle.hl7_transform.specs.declared.checking.StepCheck.TheVariants.{BadPath, ForbiddenWrite}
+use Rattle.hl7_transform.specs.declared.step_check.StepCheck.TheVariants.{BadPath, ForbiddenWrite}
 use Rattle.hl7_transform.specs.declared.fault.StepFault.TheVariants.{Stopped}
 use Rattle.hl7_transform.specs.declared.fault.StopCause.TheVariants.{NoSuchSegment, NotInTable}
 use Rattle.hl7_transform.specs.Check.{check_step}

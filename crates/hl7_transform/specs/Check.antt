@@ -2,8 +2,8 @@
 use Rattle.std.specs.Prelude.{ℕ, Bool, not, ◌&&◌, ◌||◌, ◌==◌, List, Result, Ok, Err, is_ok, if◌then◌else◌}
 use Rattle.er7_tree.specs.Path.{Place, is_fixed, same_level}
 use Rattle.er7_tree.specs.Tree.{is_name, is_header}
-use Rattle.hl7_transform.specs.declared.checking.StepCheck.{StepCheck}
-use Rattle.hl7_transform.specs.declared.checking.StepCheck.TheVariants.{BadPath, ForbiddenWrite}
+use Rattle.hl7_transform.specs.declared.step_check.StepCheck.{StepCheck}
+use Rattle.hl7_transform.specs.declared.step_check.StepCheck.TheVariants.{BadPath, ForbiddenWrite}
 use Rattle.hl7_transform.specs.Step.{Edit, set, copy, clear, lookup, remove}
 
 -- MSH-1, MSH-2, and MSH-10, the message control id, with its parts

@@ -8,7 +8,7 @@ ghost use Rattle.hl7_transform.specs.Rules.{names_paths, KeepsProtected, LacksSe
 ghost use Rattle.hl7_transform.specs.Step.{Edit, change, after};
 ghost use Rattle.hl7_transform.specs.declared.fault.StopCause.TheVariants.{NoSuchSegment};
 
-use crate::checking::CONTROL_ID;
+use crate::step_check::CONTROL_ID;
 
 /// What steps leave as it is, and what stops them.
 pub fn step_rules()

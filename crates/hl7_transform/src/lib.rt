@@ -1,15 +1,15 @@
 //! Steps that change an HL7 v2 message: the rule language of source transformers and route transformers.
 #![tactic(auto)]
 
-mod checking;
+mod application;
 mod fault;
 mod laws;
-mod running;
 mod step;
+mod step_check;
 mod stop;
 
-pub use checking::{StepCheck, all_may_stand, check_step};
+pub use application::apply;
 pub use fault::{StepFault, StopCause};
 pub use laws::{constant_rules, step_rules};
-pub use running::apply;
 pub use step::{Pair, Step};
+pub use step_check::{StepCheck, all_may_stand, check_step};

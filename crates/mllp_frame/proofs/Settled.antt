@@ -2,8 +2,8 @@
 use Rattle.std.proofs.Common.{◌≡◌, ℕ, false, List, [], ◌∷◌, ◌++◌, None, refl, sym, ap, ◌∙◌, subst, append-nil}
 use Rattle.std.proofs.lemmas.List.{take_all}
 use Rattle.std.proofs.lemmas.List.Elements.{recursion_from_All}
-use Rattle.mllp_frame.specs.declared.reading.Stage.{Stage}
-use Rattle.mllp_frame.specs.declared.reading.Stage.TheVariants.{Outside, Inside, Ended}
+use Rattle.mllp_frame.specs.declared.stage.Stage.{Stage}
+use Rattle.mllp_frame.specs.declared.stage.Stage.TheVariants.{Outside, Inside, Ended}
 use Rattle.mllp_frame.specs.Event.{Event}
 use Rattle.mllp_frame.specs.Framed.{Framed, fed}
 use Rattle.mllp_frame.specs.Framing.{start_block, end_block, decision, outcome_of, blocks, least_too_long, unfinished, open_end}

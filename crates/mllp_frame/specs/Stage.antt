@@ -1,7 +1,7 @@
 -- Where in the stream a framer stands.
 use Rattle.std.specs.Prelude.{◌≡◌, ℕ, ◌+◌, ◌*◌, ◌≤◌, List, [], ◌++◌, length}
-use Rattle.mllp_frame.specs.declared.reading.Stage.{Stage}
-use Rattle.mllp_frame.specs.declared.reading.Stage.TheVariants.{Outside, Inside, Ended}
+use Rattle.mllp_frame.specs.declared.stage.Stage.{Stage}
+use Rattle.mllp_frame.specs.declared.stage.Stage.TheVariants.{Outside, Inside, Ended}
 use Rattle.mllp_frame.specs.Event.{Event}
 use Rattle.mllp_frame.specs.Framing.{blocks, open_end, HasNoStart, IsData, least_too_long, begun_block, ending_block}
 

@@ -11,13 +11,13 @@ ghost use Rattle.mllp_frame.specs.Event.{block};
 ghost use Rattle.mllp_frame.specs.Framing.{blocks, data_max, open_end, block_bytes, IsData};
 
 mod laws;
-mod reading;
+mod stage;
 
 pub use laws::{
     any_pieces, blocks_hold_data, constant_rules, cutting_rules, longer_streams, open_end_is_short,
     reading_back, single_bytes,
 };
-use reading::{Stage, read};
+use stage::{Stage, read};
 use std::alloc::{AllocError, Global};
 use std::collections::VecDeque;
 use std::marker::Model;
@@ -71,7 +71,7 @@ impl FrameFault {
     ghost use Rattle.mllp_frame.specs.Code.{code_of};
 
     /// The number of the fault, 1 or 2, as it is told in place of its name.
-    pub fn code(&self) -> u8
+    pub fn code(&self) -> u32
         ensures { result ≡ code_of self.now }
     {
         match self {

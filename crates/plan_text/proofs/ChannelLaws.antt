@@ -15,8 +15,8 @@ use Rattle.plan_text.specs.Keys.{key, key_path, required, table_at, only_keys, l
 use Rattle.plan_text.specs.Kinds.{new_name, text_within}
 use Rattle.plan_text.specs.Conditions.{path, filter_at}
 use Rattle.plan_text.specs.Steps.{checked, stands_at, step_key, step_by, step, steps_at}
-use Rattle.hl7_transform.specs.declared.checking.StepCheck.{StepCheck}
-use Rattle.hl7_transform.specs.declared.checking.StepCheck.TheVariants as check
+use Rattle.hl7_transform.specs.declared.step_check.StepCheck.{StepCheck}
+use Rattle.hl7_transform.specs.declared.step_check.StepCheck.TheVariants as check
 use Rattle.hl7_transform.specs.Check.{check_step, may_stand}
 use Rattle.hl7_transform.specs.Step.{Edit}
 use Rattle.plan_text.specs.Destinations.{destinations}

@@ -19,7 +19,7 @@ use Rattle.plan_text.specs.Keys.{key, required, or_else, table_at, only_keys, li
 use Rattle.plan_text.specs.Kinds.{within, number_within, new_name, is_name, text_within, text_as, await_word}
 use Rattle.plan_text.specs.Destinations.{sending, destination, destinations, destination_keys, has_name}
 use Rattle.plan_text.specs.declared.destination.Await.TheVariants as await
-use Rattle.plan_text.specs.declared.reading.destinations.Sending.{Sending}
+use Rattle.plan_text.specs.declared.from_toml.destinations.Sending.{Sending}
 
 -- the steps of a chain that came to an end
 pub bound : {A B : Type 0} (r : Result A PlanFault) (f : A → Result B PlanFault) (y : B) → (r >>= f) ≡ Ok y → (x : A) × ((r ≡ Ok x) × (f x ≡ Ok y))

@@ -4,7 +4,7 @@ use Rattle.toml.specs.Data.{Data}
 use Rattle.toml.specs.View.{view}
 use Rattle.plan_text.specs.declared.fault.FaultName.{FaultName}
 use Rattle.plan_text.specs.declared.fault.PlanFault.{PlanFault}
-use Rattle.plan_text.specs.declared.reading.keys.Key.{Key}
+use Rattle.plan_text.specs.declared.from_toml.keys.Key.{Key}
 use Rattle.plan_text.specs.Fault.{told}
 use Rattle.plan_text.specs.Keys.{key_path}
 

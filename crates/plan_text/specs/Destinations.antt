@@ -3,7 +3,7 @@ use Rattle.std.specs.Prelude.{ℕ, List, [], ◌∷◌, Bool, codes, Result, Ok}
 use Rattle.toml.specs.Data.{Data, Members}
 use Rattle.plan_text.specs.declared.fault.PlanFault.{PlanFault}
 use Rattle.plan_text.specs.declared.destination.Await.TheVariants as await
-use Rattle.plan_text.specs.declared.reading.destinations.Sending.{Sending}
+use Rattle.plan_text.specs.declared.from_toml.destinations.Sending.{Sending}
 use Rattle.plan_text.specs.Fault.{◌>>=◌}
 use Rattle.plan_text.specs.Entries.{DestinationEntry}
 use Rattle.plan_text.specs.Keys.{key, required, or_else, only_keys, table_at, list_within, each_after}

@@ -3,8 +3,8 @@ use Rattle.std.specs.Prelude.{ℕ, List, [], ◌∷◌, ◌++◌, codes, Bool, f
 use Rattle.std.specs.Option.{option_map_or}
 use Rattle.std.specs.Str.{bytes_eq}
 use Rattle.toml.specs.Data.{Data, Members, Items, no_items, item, get_member}
-use Rattle.hl7_transform.specs.declared.checking.StepCheck.{StepCheck}
-use Rattle.hl7_transform.specs.declared.checking.StepCheck.TheVariants as check
+use Rattle.hl7_transform.specs.declared.step_check.StepCheck.{StepCheck}
+use Rattle.hl7_transform.specs.declared.step_check.StepCheck.TheVariants as check
 use Rattle.hl7_transform.specs.Check.{check_step}
 use Rattle.hl7_transform.specs.Step.{Edit, set, copy, clear, lookup, remove}
 use Rattle.plan_text.specs.declared.fault.FaultName.{FaultName}

@@ -36,7 +36,7 @@ pub enum FaultName {
 
 impl FaultName {
     /// The number of the fault, 1 to 10.
-    pub fn code(self) -> u8
+    pub fn code(self) -> u32
         ensures { result ≡ fault_code self }
     {
         match self {

@@ -5,10 +5,10 @@ mod built_in;
 mod channel;
 mod destination;
 mod fault;
+mod from_toml;
 mod limits;
 mod literal;
 mod plan;
-mod reading;
 
 pub use channel::{Channel, MessageType, ProcessingId, Route, VersionId};
 pub use destination::{Await, Destination};

@@ -141,7 +141,7 @@ fn answer(alloc: Global, framer: &mut Framer, call: Call) -> Result<Vec<u8>> {
             push_events(&mut text, &events)?;
             if let Err(fault) = fed {
                 text.extend_from_slice(b", refused ")?;
-                text.push(b'0'.saturating_add(fault.code()))?;
+                text.push(b'0'.saturating_add(fault.code() as u8))?;
             }
         }
         Call::By(len, stream) => push_events(&mut text, &events_by(alloc, &stream, len)?)?,

@@ -2,9 +2,9 @@
 //! from its start, as the definition says it, so that a faster engine can be compared with it.
 #![tactic(auto)]
 
-mod answering;
+mod answers;
 mod engine;
-mod reading;
+mod entries;
 mod refusal;
 
 pub use engine::SequentialBook;

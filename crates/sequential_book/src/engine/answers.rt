@@ -6,9 +6,9 @@ ghost use Rattle.event_log.specs.History.{plan_in_force};
 ghost use Rattle.event_log.specs.Answers.{answer, cancel_answer, settle_answer, take_answer};
 ghost use Rattle.event_log.specs.Room.{exceeds, is_full};
 
-use crate::answering::{arrival_owes, settled};
+use crate::answers::{arrival_owes, settled};
 use crate::engine::SequentialBook;
-use crate::reading::{known, told_again};
+use crate::entries::{known, told_again};
 use dest_queue::{Outcome, SettleRefusal, SlotState};
 use event_log::{
     CancelRefusal, TakeRefusal, Ticket, Told, attempts_max, front_answer, interval, told_first,

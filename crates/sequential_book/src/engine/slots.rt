@@ -8,7 +8,7 @@ ghost use Rattle.event_log.specs.Room.{message_total, owed, slot_owed};
 ghost use Rattle.sequential_book.specs.Reading.{IsPlain};
 
 use crate::engine::SequentialBook;
-use crate::reading::{acceptances, deliveries, names, state};
+use crate::entries::{acceptances, deliveries, names, state};
 use dest_queue::SlotState;
 use event_log::{EVENTS_MAX, attempts_max, slot_owed};
 use judge_core::Deliveries;

@@ -1,6 +1,6 @@
 use Rattle.std.proofs.Common.{◌≡◌, [], ◌++◌, map, ap, sym, subst, ◌∙◌, Option, Some, None, is_none}
 use Rattle.std.specs.Option.{option_map_or}
-use Rattle.mllp_frame.specs.declared.reading.Stage.{Stage}
+use Rattle.mllp_frame.specs.declared.stage.Stage.{Stage}
 use Rattle.mllp_frame.specs.Event.{event_of}
 use Rattle.mllp_frame.specs.Framed.{Framed, fed}
 use Rattle.mllp_frame.specs.Stage.{open_block, HoldsShortData}

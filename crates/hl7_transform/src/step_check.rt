@@ -1,0 +1,97 @@
+ghost use Rattle.std.specs.Prelude.{◌≡◌};
+ghost use Rattle.hl7_transform.specs.Check.{is_protected, writable, removable, check_step, check_code, may_stand};
+ghost use Rattle.std.specs.List.{list_all};
+ghost use Rattle.hl7_transform.specs.View.{view, steps_view};
+
+use crate::step::Step;
+use er7_tree::{Path, is_header, is_name};
+use thiserror::Error;
+
+/// The field of MSH that holds the message control id (HL7 v2.5.1, 2.15.9.10).
+pub const CONTROL_ID: u32 = 10;
+
+/// Why a step may not stand in a transformer.
+#[derive(Clone, Copy, Debug, PartialEq, Eq, Error)]
+pub enum StepCheck {
+    /// A copy between levels, or from or to MSH-1 or MSH-2; or a segment name that isn't one.
+    #[error("bad path")]
+    BadPath,
+    /// A write to MSH-1, to MSH-2 or into MSH-10, or a removal of MSH.
+    #[error("forbidden write")]
+    ForbiddenWrite,
+}
+
+impl StepCheck {
+    /// The number of the answer, 1 or 2.
+    pub fn code(self) -> u32
+        ensures { result ≡ check_code self }
+    {
+        match self {
+            StepCheck::BadPath => 1,
+            StepCheck::ForbiddenWrite => 2,
+        }
+    }
+}
+
+/// Whether this is MSH-1, MSH-2, MSH-10 or a part of MSH-10.
+fn is_protected(path: &Path) -> bool
+    ensures { result ≡ is_protected path.now }
+{
+    path.is_fixed() || (is_header(path.segment()) && path.field() == CONTROL_ID)
+}
+
+/// A write to a place.
+fn writable(path: &Path) -> Result<(), StepCheck>
+    ensures { result ≡ writable path.now }
+{
+    if is_protected(path) {
+        return Err(StepCheck::ForbiddenWrite);
+    }
+    Ok(())
+}
+
+/// A removal of the segments of a name.
+fn removable(name: &[u8]) -> Result<(), StepCheck>
+    ensures { result ≡ removable name.now }
+{
+    if !is_name(name) {
+        return Err(StepCheck::BadPath);
+    }
+    if is_header(name) {
+        return Err(StepCheck::ForbiddenWrite);
+    }
+    Ok(())
+}
+
+/// Whether a step may stand in a transformer, or why it may not.
+///
+/// A copy has to lead from a field to a field, from a repetition to a repetition, from a component to a component or from a
+/// subcomponent to a subcomponent, and neither from nor to MSH-1 or MSH-2; a removal has to name a segment (`BadPath`). Then
+/// no step may write to MSH-1 or MSH-2, which declare the delimiters, or into MSH-10, the message control id by which the
+/// message is acknowledged, or remove MSH (`ForbiddenWrite`).
+pub fn check_step(step: &Step) -> Result<(), StepCheck>
+    ensures { result ≡ check_step (view step.now) }
+{
+    match step {
+        Step::Set(path, _) | Step::Clear(path) | Step::Lookup { path, .. } => writable(path),
+        Step::Copy { from, to } => {
+            if from.is_fixed() || to.is_fixed() || !from.is_level_with(to) {
+                return Err(StepCheck::BadPath);
+            }
+            writable(to)
+        }
+        Step::RemoveSegments(name) => removable(name.as_slice()),
+    }
+}
+
+/// Whether each of the steps may stand in a transformer.
+pub fn all_may_stand(steps: &[Step]) -> bool
+    ensures { result ≡ list_all may_stand (steps_view steps.now) }
+{
+    for step in steps {
+        if check_step(step).is_err() {
+            return false;
+        }
+    }
+    true
+}

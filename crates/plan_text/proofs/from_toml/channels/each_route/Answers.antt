@@ -1,0 +1,20 @@
+use Rattle.std.proofs.Common.{[]}
+use Rattle.std.proofs.lemmas.Result.{err_from_is_err_and}
+use Rattle.toml.specs.View.{array_view}
+use Rattle.plan_text.specs.Keys.{each_after}
+use Rattle.plan_text.specs.Channels.{route}
+use Rattle.plan_text.proofs.Items.{goes_on, ends}
+use Rattle.plan_text.proofs.from_toml.channels.each_route.Goals as goal
+
+pub returns-in_err-route : goal.returns-in_err-route
+returns-in_err-route c =
+    let p = err_from_is_err_and c.from_residual.result c.from_residual.ensures.1 in
+    rw (p.1, p.2) (ends (route c.args.destinations.now) c.args.at.now c.in_err-route.field-0.0 c.loop-value.routes.items c.as_slice.result.now
+    c.deref-value-items.result.now c.loop-value.value-index c.value-item.result (each_after (route c.args.destinations.now) c.args.at.now [] (array_view c.args.values.now))
+    c.loop-value-test.true c.as_slice.ensures.value c.value-item.is c.in_err-route.ensures c.loop-value.invariant)
+
+pub loop-value-preserved : goal.loop-value-preserved
+loop-value-preserved c =
+    rw c.in_ok-push.ensures.items (goes_on (route c.args.destinations.now) c.args.at.now c.loop-value.routes.items c.as_slice.result.now
+    c.deref-value-items.result.now c.loop-value.value-index c.value-item.result c.in_ok-route.route (each_after (route c.args.destinations.now) c.args.at.now [] (array_view c.args.values.now))
+    c.loop-value-test.true c.as_slice.ensures.value c.value-item.is c.in_ok-route.ensures c.loop-value.invariant)

@@ -1,0 +1,77 @@
+//! The plan of a document.
+
+ghost use Rattle.std.specs.Prelude.{◌≡◌, [], ◌≤◌, length, IsUtf8, IsErrAnd};
+ghost use Rattle.toml.specs.View.{array_view, table_view};
+ghost use Rattle.plan_text.specs.declared.fault.FaultName.TheVariants as name;
+ghost use Rattle.plan_text.specs.AtKey.{at_key};
+ghost use Rattle.plan_text.specs.Fault.{Gives, Reads, fault_at};
+ghost use Rattle.plan_text.specs.Keys.{required};
+ghost use Rattle.plan_text.specs.Document.{some_within, plan_of, plan_in};
+
+use crate::fault::{FaultName, PlanFault, Stop};
+use crate::from_toml::channels::each_channel;
+use crate::from_toml::destinations::destinations_of;
+use crate::from_toml::keys::{Key, Keys};
+use crate::limits::CHANNELS_MAX;
+use crate::plan::Plan;
+use std::alloc::Global;
+use toml::Table;
+use toml::value::Array;
+
+/// A required list of at least one member and at most `most`.
+#[tactic(auto, using(crate::proofs::Items::item_count_view))]
+fn some_of<'a>(key: &Key<'a>, most: usize) -> Result<&'a Array, Stop>
+    ensures { Gives (λ v. array_view v.now) result (at_key key.now (required (some_within most))) }
+{
+    let values = key.list(most)?;
+    if values.is_empty() {
+        return Err(key.fault(FaultName::Missing));
+    }
+    Ok(values)
+}
+
+#[tactic(auto, unfolding(crate::specs::Document::plan_of))]
+fn plan_of(alloc: Global, document: &Table) -> Result<Plan, Stop>
+    ensures { Gives (λ p. p) result (plan_of (table_view document.now)) }
+{
+    let keys = Keys {
+        alloc,
+        at: "",
+        table: document,
+    };
+    keys.only(&["destination", "channel"])?;
+    let destinations = destinations_of(alloc, &keys)?;
+    let channels = each_channel(
+        alloc,
+        destinations.as_slice(),
+        some_of(&keys.key("channel"), CHANNELS_MAX)?,
+    )?;
+    Ok(Plan {
+        destinations,
+        channels,
+    })
+}
+
+impl Plan {
+    /// The plan of a TOML text, or its first fault.
+    ///
+    /// NotToml is told where the bytes aren't UTF-8 or no TOML document, and NoMemory where memory was refused.
+    #[tactic(auto, unfolding(crate::specs::Document::plan_in))]
+    pub fn read(alloc: Global, text: &[u8]) -> Result<Plan, PlanFault>
+        ensures text { IsUtf8 text.now → Reads result (plan_in text.now) }
+        ensures no_text { ¬ (IsUtf8 text.now) → IsErrAnd result (λ e. e ≡ fault_at name.NotToml []) }
+    {
+        let Ok(text) = std::str::from_utf8(text) else {
+            return Err(PlanFault::of_text(alloc, FaultName::NotToml));
+        };
+        match toml::table_from_str(alloc, text) {
+            Ok(document) => match plan_of(alloc, &document) {
+                Ok(plan) => Ok(plan),
+                Err(Stop::NoMemory) => Err(PlanFault::of_text(alloc, FaultName::NoMemory)),
+                Err(Stop::Fault(fault)) => Err(fault),
+            },
+            Err(e) if e.is_memory() => Err(PlanFault::of_text(alloc, FaultName::NoMemory)),
+            Err(_) => Err(PlanFault::of_text(alloc, FaultName::NotToml)),
+        }
+    }
+}

@@ -1,0 +1,249 @@
+//! The steps of a plan.
+
+ghost use Rattle.std.specs.Prelude.{◌≡◌, false, None, map, option_map};
+ghost use Rattle.std.specs.Option.{option_map_or};
+ghost use Rattle.toml.specs.View.{view, table_view as members_of, items_view, array_view};
+ghost use Rattle.hl7_transform.specs.View.{view as step_view, steps_view, table_view};
+ghost use Rattle.plan_text.specs.AtKey.{at_key, key_at, value_at};
+ghost use Rattle.plan_text.specs.Fault.{Gives};
+ghost use Rattle.plan_text.specs.Conditions.{text_pair};
+ghost use Rattle.plan_text.specs.Keys.{member_path, required, or_else, only_keys, each};
+ghost use Rattle.plan_text.specs.Steps.{stands_at, two_texts, looks_up, any_looks_up, has_double, pairs, pair_at, any_text, default_text, lookup_at, known_keys, step_key, step_by, step, steps_at};
+
+use crate::fault::{FaultName, Stop};
+use crate::from_toml::conditions::{bytes_of, text_pair};
+use crate::from_toml::keys::{Key, Keys, member_fault, member_path};
+use crate::limits::{MEMBERS_MAX, PAIRS_MAX};
+use hl7_filter::Bytes;
+use hl7_transform::{Pair, Step, StepCheck, check_step};
+use std::alloc::Global;
+use toml::Value;
+use toml::value::Array;
+
+/// Whether the lookup text of a pair is this.
+fn looks_up(text: &str, value: &Value) -> bool
+    ensures { result ≡ looks_up text.now (view value.now) }
+{
+    match text_pair(value) {
+        Some((from, _)) => from == text,
+        None => false,
+    }
+}
+
+fn any_looks_up(text: &str, values: &[Value]) -> bool
+    ensures { result ≡ any_looks_up text.now (items_view values.now) }
+{
+    for value in values {
+        if looks_up(text, value) {
+            return true;
+        }
+    }
+    false
+}
+
+/// Whether the lookup text of the first pair stands in one of the others.
+fn stands_again(value: &Value, others: &[Value]) -> bool
+    ensures { result ≡ option_map_or (λ p. any_looks_up p.0 (items_view others.now)) (text_pair (view value.now)) false }
+{
+    match text_pair(value) {
+        Some((from, _)) => any_looks_up(from, others),
+        None => false,
+    }
+}
+
+/// Whether a lookup text stands twice.
+fn has_double(values: &[Value]) -> bool
+    ensures { result ≡ has_double (items_view values.now) }
+{
+    let mut rest = values;
+    while let [value, others @ ..] = rest {
+        if stands_again(value, others) {
+            return true;
+        }
+        rest = others;
+    }
+    false
+}
+
+impl<'a> Key<'a> {
+    /// A required text, of any length.
+    fn any_text(&self) -> Result<&'a str, Stop>
+        ensures { Gives (λ s. s.now) result (at_key self.now (required any_text)) }
+    {
+        let value = self.required()?;
+        match value.as_str() {
+            Some(text) => Ok(text),
+            None => Err(self.fault(FaultName::BadRange)),
+        }
+    }
+
+    /// Two texts.
+    fn two_texts(&self) -> Result<(&'a str, &'a str), Stop>
+        ensures { Gives (λ p. (p.0.now, p.1.now)) result (at_key self.now (required two_texts)) }
+    {
+        let value = self.required()?;
+        match text_pair(value) {
+            Some(texts) => Ok(texts),
+            None => Err(self.fault(FaultName::BadRange)),
+        }
+    }
+
+    /// The step may stand, else the fault at this key.
+    fn stands(&self, step: &Step) -> Result<(), Stop>
+        ensures { Gives (λ _. tt) result (stands_at (key_at self.now) (step_view step.now)) }
+    {
+        match check_step(step) {
+            Ok(()) => Ok(()),
+            Err(StepCheck::BadPath) => Err(self.fault(FaultName::BadPath)),
+            Err(StepCheck::ForbiddenWrite) => Err(self.fault(FaultName::ForbiddenWrite)),
+        }
+    }
+
+    /// The list of a lookup table, in which no lookup text stands twice.
+    fn pairs(&self) -> Result<&'a Array, Stop>
+        ensures { Gives (λ v. array_view v.now) result (at_key self.now (required pairs)) }
+    {
+        let values = self.list(PAIRS_MAX)?;
+        if has_double(values.as_slice()) {
+            return Err(self.fault(FaultName::DoubleName));
+        }
+        Ok(values)
+    }
+
+    /// A text that may be left out.
+    fn default_text(&self) -> Result<Option<Bytes>, Stop>
+        ensures { Gives (λ t. t) result (at_key self.now (or_else None default_text)) }
+    {
+        let Some(value) = self.value else {
+            return Ok(None);
+        };
+        match value.as_str() {
+            Some(text) => Ok(Some(bytes_of(self.alloc, text)?)),
+            None => Err(self.fault(FaultName::BadRange)),
+        }
+    }
+}
+
+/// The pair at a place of the list at `at`.
+fn next_pair(alloc: Global, at: &str, place: usize, value: &Value) -> Result<Pair, Stop>
+    ensures { Gives (λ p. (p.from, p.to)) result (pair_at (member_path at.now place) (view value.now)) }
+{
+    let Some((from, to)) = text_pair(value) else {
+        return Err(member_fault(alloc, FaultName::BadRange, at, place));
+    };
+    Ok(Pair {
+        from: bytes_of(alloc, from)?,
+        to: bytes_of(alloc, to)?,
+    })
+}
+
+fn each_pair(alloc: Global, at: &str, values: &Array) -> Result<Vec<Pair>, Stop>
+    ensures { Gives (λ v. table_view v.items) result (each pair_at at.now (array_view values.now)) }
+{
+    let mut pairs = Vec::new(alloc);
+    for value in values {
+        let pair = next_pair(alloc, at, pairs.len(), value)?;
+        pairs.push(pair)?;
+    }
+    Ok(pairs)
+}
+
+#[tactic(auto, unfolding(crate::specs::Steps::lookup_at))]
+fn lookup_of(keys: &Keys<'_>) -> Result<Step, Stop>
+    ensures { Gives step_view result (lookup_at keys.now.at.now (members_of keys.now.table.now)) }
+{
+    let key = keys.key("lookup");
+    let path = key.piece()?;
+    // What a lookup writes is told before its table is read; it may write what it may clear.
+    key.stands(&Step::Clear(path))?;
+    let table_key = keys.key("table");
+    let values = table_key.pairs()?;
+    let at = table_key.path()?;
+    let table = each_pair(keys.alloc, at.as_str(), values)?;
+    let default = keys.key("default").default_text()?;
+    Ok(Step::Lookup {
+        path,
+        table,
+        default,
+    })
+}
+
+/// No key but those of a step; `table` and `default` stand beside `lookup` alone.
+fn only_step_keys(keys: &Keys<'_>) -> Result<(), Stop>
+    ensures { Gives (λ _. tt) result (only_keys (known_keys (members_of keys.now.table.now)) keys.now.at.now (members_of keys.now.table.now)) }
+{
+    if keys.has("lookup") {
+        keys.only(&[
+            "set", "copy", "clear", "lookup", "remove", "table", "default",
+        ])
+    } else {
+        keys.only(&["set", "copy", "clear", "lookup", "remove"])
+    }
+}
+
+/// The one first key of a step.
+#[tactic(auto, unfolding(crate::specs::Steps::step_key))]
+fn step_key(keys: &Keys<'_>) -> Result<&'static str, Stop>
+    ensures { Gives (λ k. k.now) result (step_key keys.now.at.now (members_of keys.now.table.now)) }
+{
+    only_step_keys(keys)?;
+    keys.one_of(&["set", "copy", "clear", "lookup", "remove"])
+}
+
+/// A step by its first key.
+#[tactic(auto, unfolding(crate::specs::Steps::step_by))]
+fn step_by(name: &str, keys: &Keys<'_>) -> Result<Step, Stop>
+    ensures { Gives step_view result (step_by name.now keys.now.at.now (members_of keys.now.table.now)) }
+{
+    let key = keys.key(name);
+    match name {
+        "set" => {
+            let (path, text) = key.path_and_text()?;
+            Ok(Step::Set(path, text))
+        }
+        "copy" => {
+            let (from, to) = key.two_texts()?;
+            let from = key.path_in(from)?;
+            let to = key.path_in(to)?;
+            Ok(Step::Copy { from, to })
+        }
+        "clear" => Ok(Step::Clear(key.piece()?)),
+        "lookup" => lookup_of(keys),
+        _ => Ok(Step::RemoveSegments(bytes_of(keys.alloc, key.any_text()?)?)),
+    }
+}
+
+#[tactic(auto, unfolding(crate::specs::Steps::step))]
+fn step_of(alloc: Global, at: &str, value: &Value) -> Result<Step, Stop>
+    ensures { Gives step_view result (step at.now (view value.now)) }
+{
+    let keys = Keys::of(alloc, at, value)?;
+    let name = step_key(&keys)?;
+    let step = step_by(name, &keys)?;
+    keys.key(name).stands(&step)?;
+    Ok(step)
+}
+
+fn each_step(alloc: Global, at: &str, values: &Array) -> Result<Vec<Step>, Stop>
+    ensures { Gives (λ v. steps_view v.items) result (each step at.now (array_view values.now)) }
+{
+    let mut steps = Vec::new(alloc);
+    for value in values {
+        let at = member_path(alloc, at, steps.len())?;
+        let step = step_of(alloc, at.as_str(), value)?;
+        steps.push(step)?;
+    }
+    Ok(steps)
+}
+
+/// The steps of a list, none where it is left out.
+#[tactic(auto, unfolding(crate::specs::Steps::steps_at))]
+pub(crate) fn steps_of(key: &Key<'_>) -> Result<Vec<Step>, Stop>
+    ensures { Gives (λ v. steps_view v.items) result (steps_at (key_at key.now) (value_at key.now)) }
+{
+    if key.value.is_none() {
+        return Ok(Vec::new(key.alloc));
+    }
+    let at = key.path()?;
+    each_step(key.alloc, at.as_str(), key.list(MEMBERS_MAX)?)
+}
