@@ -1,15 +1,16 @@
 -- A book is kept by a cancellation.
-use Rattle.std.proofs.Common.{◌≡◌, ◌≢◌, ℕ, ◌+◌, ◌-◌, ◌<◌, ◌≤◌, true, false, cond, ◌==◌, inl, inr, List, [], ◌∷◌, None, Some, Result, Ok, Err, refl, sym, ◌∙◌, ap, arith, length-append, suc, zero}
+use Rattle.std.proofs.Common.{◌≡◌, ◌≢◌, ℕ, ◌+◌, ◌-◌, ◌^◌, ◌<◌, ◌≤◌, true, false, cond, ◌==◌, inl, inr, List, [], ◌∷◌, None, Some, Result, Ok, Err, refl, sym, ◌∙◌, ap, arith, length-append, suc, zero}
 use Rattle.std.specs.List.{range_with_len}
 use Rattle.std.specs.Prelude.{find, nat_lt, if◌then◌else◌}
 use Rattle.std.specs.Int.{bit_at}
 use Rattle.std.specs.Option.{option_map}
 use Rattle.std.proofs.lemmas.Bool.Decides.{nat_tests}
+use Rattle.std.proofs.lemmas.Nat.Bits.{bit_at-lt, same_from_bits_below}
 use Rattle.plan_text.specs.Entries.{PlanEntry}
 use Rattle.row_store.specs.declared.Row.{Row}
 use Rattle.row_store.specs.Rows.{changed_at, is_row, item_at, numbers as numbers_of}
 use Rattle.dest_queue.specs.declared.slots.Addressed.{Addressed}
-use Rattle.dest_queue.specs.Queues.{cancel}
+use Rattle.dest_queue.specs.Queues.{cancel, waits_in}
 use Rattle.dest_queue.specs.Slots.{state_at}
 use Rattle.dup_index.specs.Known.{Known}
 use Rattle.stat_count.specs.Statistics.{Statistics, destination_at}
@@ -21,13 +22,14 @@ use Rattle.event_log.specs.Answers.{cancel_answer, mask_where, waits}
 use Rattle.event_log.specs.Room.{owed}
 use Rattle.event_log.proofs.Cancelling.{cancel-step}
 use Rattle.event_log.proofs.Following.{funext}
+use Rattle.event_log.proofs.Masks.{mask_where-below, mask_where-bits}
 use Rattle.event_log.proofs.Steps.{CancelStep, waiting_owed}
 use Rattle.book_core.specs.declared.letter.Letter.{Letter}
 use Rattle.book_core.specs.Counting.{CountsCancel}
 use Rattle.book_core.specs.Parts.{IsKept}
 use Rattle.book_core.specs.Sending.{owed_waiting}
 use Rattle.book_core.proofs.CountedCancels.{cancel-waits, counted-cancel}
-use Rattle.book_core.proofs.Rows.{kept-slot, row-of}
+use Rattle.book_core.proofs.Rows.{kept-slot, kept-waits, row-of}
 use Rattle.book_core.proofs.RowsCancelled.{rows-cancelled}
 use Rattle.book_core.proofs.Waiting.{waits_by}
 
@@ -46,6 +48,15 @@ answer-nothing mask none = rw none refl
 -- something waits
 answer-mask : (mask : ℕ) → mask ≢ 0 → ◌≡◌ {A = Result ℕ CancelRefusal} (if mask == 0 then Err NothingWaiting else Ok mask) (Ok mask)
 answer-mask mask some = let differs : (mask == 0) ≡ false = grind (arith, nat_tests) in rw differs refl
+
+-- two bits that are set alike are equal
+same-bit : (a b : ℕ) → a < 2 → b < 2 → (a == 1) ≡ (b == 1) → a ≡ b
+same-bit zero zero m n e = refl
+same-bit zero (suc zero) m n e = absurd cc
+same-bit (suc zero) zero m n e = absurd cc
+same-bit (suc zero) (suc zero) m n e = refl
+same-bit (suc (suc a)) b m n e = absurd (omega arith)
+same-bit a (suc (suc b)) m n e = absurd (omega arith)
 
 -- rows whose numbers count up: a number that has a row is among them
 found-below : {T : Type 0} (n : ℕ) (item : T) (rows : List (Row T)) (a k : ℕ) → numbers_of rows ≡ range_with_len a k → item_at n rows ≡ Some item → n < a + k
@@ -73,6 +84,14 @@ module _ (h : History) (rows : List (Row (Addressed Letter))) (index : List Know
     -- its slots are as the history has them
     asked-slots : (λ d. state_at d message.slots) ≡ slot h number
     asked-slots = funext _ _ (λ d. rw found at (kept-slot h rows kept.rows_agree number d))
+
+    -- a mask whose bits say where the row waits is the mask of its slots
+    pub asked-bits : (mask : ℕ) → mask < 2 ^ 32 → ((d : ℕ) → (bit_at mask d == 1) ≡ waits_in number d rows) → mask ≡ mask_where (waits_by (λ d. state_at d message.slots))
+    asked-bits mask fits bits =
+        same_from_bits_below 32 mask (mask_where (waits h number)) fits (mask_where-below (waits h number))
+        (λ d below. same-bit (bit_at mask d) (bit_at (mask_where (waits h number)) d) (bit_at-lt mask d) (bit_at-lt (mask_where (waits h number)) d)
+        (bits d ∙ (kept-waits h rows kept.rows_agree number d ∙ sym (mask_where-bits (waits h number) d below))))
+        ∙ sym (ap (λ slots. mask_where (waits_by slots)) asked-slots)
 
     module _ (mask : ℕ) (is : mask ≡ mask_where (waits_by (λ d. state_at d message.slots))) where
       -- where it waits

@@ -1,7 +1,7 @@
 -- A book is kept by a take.
 use Rattle.std.proofs.Common.{◌≡◌, ℕ, ◌+◌, ◌-◌, ◌<◌, ◌≤◌, true, false, cond, ◌==◌, ◌||◌, inl, inr, List, [], ◌∷◌, Option, None, Some, Ok, Err, refl, sym, ◌∙◌, ap, arith, length-append, subst}
 use Rattle.std.specs.Prelude.{IfSome, find, option_and_then, slice_get}
-use Rattle.std.specs.Option.{option_map, option_map_or, IsSomeAnd}
+use Rattle.std.specs.Option.{option_map, option_map_or}
 use Rattle.std.proofs.lemmas.Option.{same_Some, slice_get_past}
 use Rattle.plan_text.specs.Entries.{IsDestination, PlanEntry, IsPlan}
 use Rattle.judge_core.specs.declared.delivery.Delivery.{Delivery}
@@ -11,8 +11,8 @@ use Rattle.row_store.specs.Rows.{changed_at, item_at}
 use Rattle.dest_queue.specs.declared.SlotState.{SlotState}
 use Rattle.dest_queue.specs.declared.SlotState.TheVariants.{Waiting, InFlight, Delivered, Failed}
 use Rattle.dest_queue.specs.declared.slots.Addressed.{Addressed}
-use Rattle.dest_queue.specs.Queues.{front_state, put, WaitsBelow}
-use Rattle.dest_queue.specs.States.{is_live, next_attempt}
+use Rattle.dest_queue.specs.Queues.{front_state, put}
+use Rattle.dest_queue.specs.States.{is_live}
 use Rattle.dup_index.specs.Known.{Known}
 use Rattle.stat_count.specs.Statistics.{Statistics, destination_at, on_destination, taken_one}
 use Rattle.event_log.specs.declared.entry.Ticket.{Ticket}
@@ -124,20 +124,6 @@ module _ (h : History) (rows : List (Row (Addressed Letter))) (index : List Know
 
     pub taken-inside : d < 32
     taken-inside = slot-inside h kept.sound ticket.number d (Waiting taking.attempts taking.due) waited
-
-    -- the front waits
-    front-waits : front_state d rows ≡ Some (ticket.number, Waiting taking.attempts taking.due)
-    front-waits =
-        kept-front_state h rows kept.rows_agree d taken-inside
-        ∙ (ap (λ o. option_and_then {U = ℕ × SlotState} (λ n. option_map {U = ℕ × SlotState} (λ state. (n, state)) (slot h n d)) o) (ap (λ e. slice_get (queue h e) 0) (sym place) ∙ taking.front)
-        ∙ ap (λ s. option_map {U = ℕ × SlotState} (λ state. (ticket.number, state)) s) waited)
-
-    pub takes-below : IsSomeAnd (front_state d rows) (λ front. WaitsBelow 100 front.1)
-    takes-below = rw front-waits (let most = few-attempts (plan_in_force h) ticket.destination kept.sound.plan in omega (arith, most, taking.allowed))
-
-    -- what the call on the rows took is what the ticket is for
-    pub took : (result : ℕ × ℕ) → IsSomeAnd (front_state d rows) (λ front. result ≡ (front.0, next_attempt front.1)) → result ≡ (ticket.number, ticket.attempt)
-    took result is = let fronted : result ≡ (ticket.number, taking.attempts + 1) = rw front-waits at is in fronted ∙ ap (λ a. (ticket.number, a)) (sym taking.attempt)
 
     pub taken-waits : 0 < (destination_at d tally).waiting
     taken-waits = subst (λ e. 0 < (destination_at e tally).waiting) place (take-waits h now ticket tally taking (rw place taken-inside) kept.are_counted).0

@@ -1,8 +1,8 @@
 -- What the rows of a book say of its history.
-use Rattle.std.proofs.Common.{◌≡◌, ◌≢◌, ℕ, ◌+◌, ◌<◌, ◌≤◌, Bool, true, false, cond, ◌==◌, ◌||◌, ◌⊎◌, inl, inr, List, [], ◌∷◌, None, Some, refl, sym, ◌∙◌, ap, arith, suc, zero}
+use Rattle.std.proofs.Common.{◌≡◌, ◌≢◌, ℕ, ◌+◌, ◌<◌, ◌≤◌, Bool, true, false, cond, ◌==◌, ◌&&◌, ◌||◌, ◌⊎◌, inl, inr, List, [], ◌∷◌, None, Some, refl, sym, ◌∙◌, ap, arith, suc, zero}
 use Rattle.std.specs.List.{AllByRecursion, range_with_len}
 use Rattle.std.specs.Prelude.{filter, find, map, slice_get, option_and_then}
-use Rattle.std.specs.Option.{option_map}
+use Rattle.std.specs.Option.{option_map, option_map_or}
 use Rattle.std.proofs.lemmas.Bool.Decides.{nat_tests}
 use Rattle.judge_core.specs.declared.delivery.Delivery.{Delivery}
 use Rattle.judge_core.specs.Delivering.{destinations_of}
@@ -12,11 +12,13 @@ use Rattle.row_store.proofs.Places.{numbers-changed_at}
 use Rattle.row_store.proofs.QueueLaws.{front_of-queue_of}
 use Rattle.dest_queue.specs.declared.SlotState.{SlotState}
 use Rattle.dest_queue.specs.declared.slots.Addressed.{Addressed}
-use Rattle.dest_queue.specs.Queues.{front_state, slot_of}
+use Rattle.dest_queue.specs.Queues.{front_state, slot_of, waits_in}
+use Rattle.dest_queue.specs.States.{is_waiting}
 use Rattle.dest_queue.specs.Slots.{state_at}
 use Rattle.dest_queue.specs.SlotsBy.{is_among}
-use Rattle.dest_queue.proofs.SlotLaws.{state_at-slots_by}
+use Rattle.dest_queue.proofs.SlotLaws.{state_at-slots_by, waits_at-slots_by}
 use Rattle.event_log.specs.History.{History, deliveries, is_queued, message_count, named, names, numbers, queue, slot, state}
+use Rattle.event_log.specs.Answers.{waits}
 use Rattle.event_log.proofs.Reading.{slot-beyond}
 use Rattle.book_core.specs.declared.letter.Letter.{Letter}
 use Rattle.book_core.specs.Parts.{IsAsTold, RowsAgree}
@@ -79,6 +81,21 @@ module _ (h : History) (rows : List (Row (Addressed Letter))) (agree : RowsAgree
   kept-slot n d = elim (row-of n) [
     | inl w ↦ rw w.3 (slot-in d w.0 w.2 ∙ ap (λ m. slot h m d) w.1)
     | inr w ↦ rw w.0 (sym (slot-beyond h n d w.1))
+  ]
+
+  -- whether a message that is named, or not, waits
+  waits-named : (named : Bool) (s : SlotState) → option_map_or is_waiting (cond named (Some s) None) false ≡ (named && is_waiting s)
+  waits-named true s = refl
+  waits-named false s = refl
+
+  -- a message waits where the history has it so
+  pub kept-waits : (n d : ℕ) → waits_in n d rows ≡ waits h n d
+  kept-waits n d = elim (row-of n) [
+    | inl w ↦ rw w.3 (rw w.2.slots (
+        waits_at-slots_by (state h w.0.number) (named h w.0.number) d
+        ∙ (ap (λ b. b && is_waiting (state h w.0.number d)) (among-named d (deliveries h w.0.number))
+        ∙ (sym (waits-named (names d (deliveries h w.0.number)) (state h w.0.number d)) ∙ ap (λ m. waits h m d) w.1))))
+    | inr w ↦ rw w.0 (sym (ap (λ s. option_map_or is_waiting s false) (slot-beyond h n d w.1)))
   ]
 
   -- each queue is linked as the history has it

@@ -1,12 +1,11 @@
 -- What an entry adds to the sums of the statistics.
-use Rattle.std.proofs.Common.{◌≡◌, ℕ, ◌+◌, ◌-◌, ◌*◌, ◌<◌, ◌≤◌, inl, inr, Bool, true, false, cond, not, ◌==◌, List, [], ◌∷◌, length, take, map, None, Some, Ok, refl, sym, ◌∙◌, ap, subst, arith, suc, zero, add-zero, get_or, set, length-set, get_or-set_same, get_or-set_other}
+use Rattle.std.proofs.Common.{◌≡◌, ℕ, ◌+◌, ◌-◌, ◌*◌, ◌<◌, ◌≤◌, inl, inr, Bool, true, false, cond, not, ◌==◌, List, [], ◌∷◌, length, map, None, Some, Ok, refl, sym, ◌∙◌, ap, subst, arith, suc, zero, add-zero, get_or, set, length-set, get_or-set_same, get_or-set_other}
 use Rattle.std.specs.Prelude.{slice_get, sum_by}
 use Rattle.std.specs.List.{list_any, range_with_len}
 use Rattle.std.specs.Int.{bit_at}
 use Rattle.std.proofs.lemmas.Bool.Decides.{eqb_tells}
 use Rattle.std.proofs.lemmas.List.FromFn.{length-range_with_len}
 use Rattle.std.proofs.lemmas.List.Sums.{count_by-le-length, sum_by-cons}
-use Rattle.plan_text.specs.Entries.{IsPlan}
 use Rattle.dest_queue.specs.declared.Outcome.{Outcome}
 use Rattle.dest_queue.specs.declared.SlotState.{SlotState}
 use Rattle.dest_queue.specs.declared.SlotState.TheVariants.{Waiting, InFlight, Delivered, Failed}
@@ -22,7 +21,7 @@ use Rattle.event_log.specs.declared.entry.Entry.{Entry}
 use Rattle.event_log.specs.declared.entry.Entry.TheVariants.{Arrival, Take, Settle, Cancel}
 use Rattle.event_log.specs.History.{History, before, followed_by, plan_in_force}
 use Rattle.event_log.specs.Answers.{cancel_answer, settle_answer, take_answer}
-use Rattle.event_log.specs.Legal.{IsLegal, IsSound, MayFollow}
+use Rattle.event_log.specs.Legal.{IsSound, MayFollow}
 use Rattle.event_log.specs.Room.{is_in_flight, slots_added}
 use Rattle.event_log.proofs.Arriving.{arrival-step}
 use Rattle.event_log.proofs.Cancelling.{cancel-step}
@@ -31,10 +30,9 @@ use Rattle.event_log.proofs.Following.{take-whole}
 use Rattle.event_log.proofs.Reading.{slot-inside}
 use Rattle.event_log.proofs.Replaying.{take-more}
 use Rattle.event_log.proofs.Settling.{settle-step}
-use Rattle.event_log.proofs.Steps.{CancelStep, SettleStep, TakeStep}
 use Rattle.event_log.proofs.Taking.{take-step}
 use Rattle.book_core.specs.Counting.{SumsRise, channel_counts, counted, destination_counts, is_repeat, is_take_at, is_told, settled_one, told_one}
-use Rattle.book_core.proofs.Counted.{counted-are, counted-is, listed, received-entries, repeats-entries}
+use Rattle.book_core.proofs.Counted.{counted-are, counted-is, listed}
 use Rattle.book_core.proofs.CountedArrivals.{arrived-counts, channel-kept, channel-told}
 use Rattle.book_core.proofs.CountedCancels.{cancelled-counts}
 use Rattle.book_core.proofs.CountedSteps.{channels-kept, count-kept, counted-settle, counted-take, settle-flies, settle-inside}

@@ -1,17 +1,16 @@
--- Where a message waits, and what it owes there, from one destination to the next.
-use Rattle.std.proofs.Common.{◌≡◌, ℕ, ◌+◌, ◌*◌, ◌<◌, ◌≤◌, ◌%◌, ◌^◌, Bool, true, false, Option, None, Some, refl, sym, ◌∙◌, ap, arith, bit_or, one-mul}
+-- What a message owes where it waits, from one destination to the next.
+use Rattle.std.proofs.Common.{◌≡◌, ◌≢◌, ℕ, ◌+◌, ◌*◌, ◌<◌, ◌≤◌, Bool, true, false, Option, None, Some, refl, sym, ◌∙◌, ap, arith, suc, zero, add-one}
 use Rattle.std.specs.Prelude.{sum_by, if◌then◌else◌}
 use Rattle.std.specs.List.{range_with_len}
 use Rattle.std.specs.Option.{option_map_or}
 use Rattle.std.proofs.lemmas.List.Sums.{sum_by_push}
-use Rattle.std.proofs.lemmas.Nat.{one_shl, or_comm, or_shifted}
 use Rattle.plan_text.specs.Entries.{PlanEntry}
 use Rattle.dest_queue.specs.declared.SlotState.{SlotState}
 use Rattle.dest_queue.specs.declared.SlotState.TheVariants.{Waiting, InFlight, Delivered, Failed}
 use Rattle.dest_queue.specs.States.{is_waiting}
 use Rattle.event_log.specs.Answers.{attempts_max, mask_where}
 use Rattle.event_log.specs.Room.{slot_owed}
-use Rattle.event_log.proofs.Masks.{mask_below, mask_below-more, mask_below-below, range-push}
+use Rattle.event_log.proofs.Masks.{mask_below, mask_below-more, mask_where-zero, range-push}
 use Rattle.book_core.specs.Sending.{owed_waiting}
 
 -- whether the slot at d waits
@@ -26,15 +25,18 @@ owed_at plan slots d = option_map_or (λ state. if is_waiting state then slot_ow
 abbrev pub owed_below : ℕ → PlanEntry → (ℕ → Option SlotState) → ℕ
 owed_below k plan slots = sum_by (owed_at plan slots) (range_with_len 0 k)
 
+-- one more slot adds what it owes
+owed_below-more : (k : ℕ) (plan : PlanEntry) (slots : ℕ → Option SlotState) → owed_below (k + 1) plan slots ≡ owed_below k plan slots + owed_at plan slots k
+owed_below-more k plan slots = ap (sum_by (owed_at plan slots)) (range-push k) ∙ sum_by_push (owed_at plan slots) (range_with_len 0 k) k
+
 -- so far: the slots below d
-pub record SoFar (plan : PlanEntry) (slots : ℕ → Option SlotState) (mask owed d : ℕ) : Type 0 where
-  pub mask_is : mask ≡ mask_below d (waits_by slots)
+pub record SoFar (plan : PlanEntry) (slots : ℕ → Option SlotState) (owed d : ℕ) : Type 0 where
   pub owed_is : owed ≡ owed_below d plan slots
   pub few : owed ≤ d * 201
 
 -- no slot at first
-pub none-yet : (plan : PlanEntry) (slots : ℕ → Option SlotState) → SoFar plan slots 0 0 0
-none-yet plan slots = record { mask_is = refl; owed_is = refl; few = omega arith }
+pub none-yet : (plan : PlanEntry) (slots : ℕ → Option SlotState) → SoFar plan slots 0 0
+none-yet plan slots = record { owed_is = refl; few = omega arith }
 
 -- a slot that waits owes at most 201
 pub owed-small : (max : ℕ) (state : SlotState) → max ≤ 100 → is_waiting state ≡ true → slot_owed max state ≤ 201
@@ -43,41 +45,74 @@ owed-small max (InFlight attempt) few waits = absurd (cc)
 owed-small max Delivered few waits = omega arith
 owed-small max (Failed cause) few waits = omega arith
 
--- one more bit
-with-bit : (mask d : ℕ) → d < 32 → mask < 2 ^ d → bit_or mask (1 * 2 ^ d % 2 ^ 32) ≡ mask + 2 ^ d
-with-bit mask d below fits =
-    ap (bit_or mask) (one_shl d 32 below ∙ sym (one-mul (2 ^ d)))
-    ∙ (or_comm mask (1 * 2 ^ d) ∙ (or_shifted 1 d mask fits ∙ omega arith))
-
-module _ (plan : PlanEntry) (slots : ℕ → Option SlotState) (mask owed d : ℕ) (so_far : SoFar plan slots mask owed d) (mask' owed' : ℕ) where
+module _ (plan : PlanEntry) (slots : ℕ → Option SlotState) (owed d : ℕ) (so_far : SoFar plan slots owed d) (owed' : ℕ) where
   -- one more slot
-  more : (bit own : ℕ) → bit ≡ (if waits_by slots d then 2 ^ d else 0) → own ≡ owed_at plan slots d → own ≤ 201 → mask' ≡ mask + bit → owed' ≡ owed + own → SoFar plan slots mask' owed' (d + 1)
-  more bit own bit_is own_is small mask_is owed_is = record {
-    mask_is = omega (arith, mask_below-more d (waits_by slots));
-    owed_is = omega (arith, ap (sum_by (owed_at plan slots)) (range-push d) ∙ sum_by_push (owed_at plan slots) (range_with_len 0 d) d);
-    few = omega arith;
+  more : (own : ℕ) → own ≡ owed_at plan slots d → own ≤ 201 → owed' ≡ owed + own → SoFar plan slots owed' (d + 1)
+  more own own_is small owed_is = record {
+    owed_is = omega (arith, owed_below-more d plan slots, so_far.owed_is);
+    few = omega (arith, so_far.few);
   }
 
   -- the next slot waits
-  pub one-waits : (state : SlotState) (own : ℕ) → d < 32 → slots d ≡ Some state → is_waiting state ≡ true → own ≡ slot_owed (attempts_max plan d) state → attempts_max plan d ≤ 100
-      → mask' ≡ bit_or mask (1 * 2 ^ d % 2 ^ 32) → owed' ≡ owed + own → SoFar plan slots mask' owed' (d + 1)
-  one-waits state own below is waits own_is few mask_is owed_is =
-      let fits : mask < 2 ^ d = omega (arith, mask_below-below d (waits_by slots)) in
-      more (2 ^ d) own (rw (is, waits) refl) (rw (is, waits) own_is) (omega (arith, owed-small (attempts_max plan d) state few waits)) (mask_is ∙ with-bit mask d below fits) owed_is
+  pub one-waits : (state : SlotState) (own : ℕ) → slots d ≡ Some state → is_waiting state ≡ true → own ≡ slot_owed (attempts_max plan d) state → attempts_max plan d ≤ 100
+      → owed' ≡ owed + own → SoFar plan slots owed' (d + 1)
+  one-waits state own is waits own_is few owed_is =
+      more own (rw (is, waits) own_is) (omega (arith, owed-small (attempts_max plan d) state few waits)) owed_is
 
   -- the next slot doesn't wait
-  pub one-settled : (state : SlotState) → slots d ≡ Some state → is_waiting state ≡ false → mask' ≡ mask → owed' ≡ owed → SoFar plan slots mask' owed' (d + 1)
-  one-settled state is waits mask_is owed_is = more 0 0 (rw (is, waits) refl) (rw (is, waits) refl) (omega arith) (omega arith) (omega arith)
+  pub one-settled : (state : SlotState) → slots d ≡ Some state → is_waiting state ≡ false → owed' ≡ owed → SoFar plan slots owed' (d + 1)
+  one-settled state is waits owed_is = more 0 (rw (is, waits) refl) (omega arith) (omega arith)
 
   -- there is no next slot
-  pub none-there : slots d ≡ None → mask' ≡ mask → owed' ≡ owed → SoFar plan slots mask' owed' (d + 1)
-  none-there is mask_is owed_is = more 0 0 (rw is refl) (rw is refl) (omega arith) (omega arith) (omega arith)
-
--- all slots are passed: the mask
-pub all-masked : (plan : PlanEntry) (slots : ℕ → Option SlotState) (mask owed d : ℕ) → SoFar plan slots mask owed d → d ≡ 32 → mask ≡ mask_where (waits_by slots)
-unfolding mask_where
-all-masked plan slots mask owed d so_far all = so_far.mask_is ∙ ap (λ k. mask_below k (waits_by slots)) all
+  pub none-there : slots d ≡ None → owed' ≡ owed → SoFar plan slots owed' (d + 1)
+  none-there is owed_is = more 0 (rw is refl) (omega arith) (omega arith)
 
 -- all slots are passed: what they owe
-pub all-owed : (plan : PlanEntry) (slots : ℕ → Option SlotState) (mask owed d : ℕ) → SoFar plan slots mask owed d → d ≡ 32 → owed ≡ owed_waiting plan slots
-all-owed plan slots mask owed d so_far all = so_far.owed_is ∙ ap (λ k. owed_below k plan slots) all
+pub all-owed : (plan : PlanEntry) (slots : ℕ → Option SlotState) (owed d : ℕ) → SoFar plan slots owed d → d ≡ 32 → owed ≡ owed_waiting plan slots
+all-owed plan slots owed d so_far all = so_far.owed_is ∙ ap (λ k. owed_below k plan slots) all
+
+-- a slot that owes nothing doesn't wait
+owes-nothing : (max : ℕ) (slot : Option SlotState) → option_map_or (λ state. if is_waiting state then slot_owed max state else 0) slot 0 ≡ 0 → option_map_or is_waiting slot false ≡ false
+owes-nothing max None none = refl
+owes-nothing max (Some (Waiting attempts due)) none = absurd (omega arith)
+owes-nothing max (Some (InFlight attempt)) none = refl
+owes-nothing max (Some Delivered) none = refl
+owes-nothing max (Some (Failed cause)) none = refl
+
+-- a slot that doesn't wait owes nothing
+waits-not : (max : ℕ) (slot : Option SlotState) → option_map_or is_waiting slot false ≡ false → option_map_or (λ state. if is_waiting state then slot_owed max state else 0) slot 0 ≡ 0
+waits-not max None idle = refl
+waits-not max (Some (Waiting attempts due)) idle = absurd cc
+waits-not max (Some (InFlight attempt)) idle = refl
+waits-not max (Some Delivered) idle = refl
+waits-not max (Some (Failed cause)) idle = refl
+
+-- where nothing is owed, nothing waits
+nowhere-below : (k : ℕ) (plan : PlanEntry) (slots : ℕ → Option SlotState) → owed_below k plan slots ≡ 0 → mask_below k (waits_by slots) ≡ 0
+nowhere-below zero plan slots none = refl
+nowhere-below (suc k) plan slots none =
+    let both : owed_below k plan slots + owed_at plan slots k ≡ 0 = sym (owed_below-more k plan slots) ∙ (ap (λ n. owed_below n plan slots) (add-one k) ∙ none) in
+    let rest = nowhere-below k plan slots (omega arith) in
+    let here : waits_by slots k ≡ false = owes-nothing (attempts_max plan k) (slots k) (omega arith) in
+    ap (λ n. mask_below n (waits_by slots)) (sym (add-one k)) ∙ (mask_below-more k (waits_by slots) ∙ rw (rest, here) refl)
+
+-- where nothing waits, nothing is owed
+nothing-below : (k : ℕ) (plan : PlanEntry) (slots : ℕ → Option SlotState) → ((d : ℕ) → d < k → waits_by slots d ≡ false) → owed_below k plan slots ≡ 0
+nothing-below zero plan slots none = refl
+nothing-below (suc k) plan slots none =
+    let rest = nothing-below k plan slots (λ d below. none d (omega arith)) in
+    let here = waits-not (attempts_max plan k) (slots k) (none k (omega arith)) in
+    ap (λ n. owed_below n plan slots) (sym (add-one k)) ∙ (owed_below-more k plan slots ∙ rw (rest, here) refl)
+
+-- where a message owes nothing, it waits nowhere
+pub waits-nowhere : (plan : PlanEntry) (slots : ℕ → Option SlotState) → owed_waiting plan slots ≡ 0 → mask_where (waits_by slots) ≡ 0
+unfolding mask_where
+waits-nowhere plan slots none = nowhere-below 32 plan slots none
+
+-- where it waits nowhere, it owes nothing
+pub owes-none : (plan : PlanEntry) (slots : ℕ → Option SlotState) → mask_where (waits_by slots) ≡ 0 → owed_waiting plan slots ≡ 0
+owes-none plan slots none = nothing-below 32 plan slots (mask_where-zero (waits_by slots) none)
+
+-- where it owes something, it waits somewhere
+pub some-waits : (mask : ℕ) (plan : PlanEntry) (slots : ℕ → Option SlotState) → mask ≡ mask_where (waits_by slots) → owed_waiting plan slots ≢ 0 → mask ≢ 0
+some-waits mask plan slots is some none = some (owes-none plan slots (sym is ∙ none))

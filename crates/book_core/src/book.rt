@@ -11,14 +11,14 @@ ghost use Rattle.book_core.specs.Counting.{counted};
 ghost use Rattle.book_core.specs.Headline.{KeepsItsPromise};
 ghost use Rattle.book_core.specs.Sending.{awaits_ack};
 
-use crate::arriving::{add_message, deliveries_if, keep_key, key_to_keep, own_of, told};
-use crate::counting::{count_arrival, count_cancelled, count_settled};
+use crate::arrival::{add_message, deliveries_if, keep_key, key_to_keep, own_of, told};
+use crate::dispatch::{awaits_ack, owed_waiting, payload};
+use crate::event_counts::{count_arrival, count_cancelled, count_settled};
 use crate::letter::{Job, Letter};
 use crate::receipt::{NotBooked, Receipt};
-use crate::sending::{awaits_ack, payload, where_waiting};
 use dest_queue::{
-    Addressed, Outcome, SettleRefusal, SlotState, cancel_waiting, front_state, settle_slot,
-    slot_of, take_front,
+    Addressed, Outcome, SettleRefusal, SlotState, begin_attempt, cancel_waiting, front_state,
+    settle_slot, slot_of,
 };
 use dup_index::Keys;
 use event_log::{
@@ -256,7 +256,7 @@ impl<S: RowStore<Addressed<Letter>>> Book<S> {
         let ack = awaits_ack(self.log.plan(), d);
         self.log.reserve(self.flights as usize + 2)?;
         // All growths are made: nothing below is refused.
-        let _front = take_front(&mut self.rows, d);
+        begin_attempt(&mut self.rows, ticket.number, d, ticket.attempt);
         self.counts.count_taken(d);
         self.flights += 1;
         let owed = self.log.owed() - 1;
@@ -362,16 +362,18 @@ impl<S: RowStore<Addressed<Letter>>> Book<S> {
         let Some(message) = self.rows.get(number) else {
             return Err(CancelRefusal::NoSuchMessage);
         };
-        let waiting = where_waiting(self.log.plan(), &message.slots);
-        let mask = waiting.mask;
-        if mask == 0 {
+        // A slot that waits owes its cancellation at least.
+        let waiting = owed_waiting(self.log.plan(), &message.slots);
+        if waiting == 0 {
             return Err(CancelRefusal::NothingWaiting);
         }
         self.log.reserve(self.flights as usize + 1)?;
         // All growths are made: nothing below is refused.
-        let _mask = cancel_waiting(&mut self.rows, number);
+        let Some(mask) = cancel_waiting(&mut self.rows, number) else {
+            unreachable!()
+        };
         count_cancelled(&mut self.counts, mask);
-        let owed = self.log.owed() - waiting.owed;
+        let owed = self.log.owed() - waiting;
         self.log.push(Entry::Cancel { number, mask }, owed);
         Ok(mask)
     }

@@ -1,13 +1,13 @@
 //! The book: the history of all events, and what is kept beside it so that no answer has to read it again.
 #![tactic(auto)]
 
-mod arriving;
+mod arrival;
 mod book;
-mod counting;
+mod dispatch;
+mod event_counts;
 mod laws;
 mod letter;
 mod receipt;
-mod sending;
 
 pub use book::Book;
 pub use event_log::{CancelRefusal, EVENTS_MAX, Entry, TakeRefusal, Ticket, Told};

@@ -10,7 +10,7 @@ use thiserror::Error;
 mod queues;
 mod slots;
 
-pub use queues::{cancel_waiting, front_state, settle_slot, slot_of, take_front};
+pub use queues::{begin_attempt, cancel_waiting, front_state, settle_slot, slot_of, take_front};
 pub use slots::{Addressed, Slot, Slots, slot_rules};
 
 /// The most attempts that a message may have at a destination.

@@ -36,11 +36,19 @@ pub fn take_front<T, S: RowStore<Addressed<T>>>(rows: &mut S, d: u32) -> (u32, u
     match front_state(rows, d) {
         Some((number, SlotState::Waiting { attempts, .. })) => {
             let attempt = attempts + 1;
-            put_slot(rows, number, d, SlotState::InFlight { attempt });
+            begin_attempt(rows, number, d, attempt);
             (number, attempt)
         }
         _ => unreachable!(),
     }
+}
+
+/// Begins an attempt at d, for a caller who has found the front already: the slot there is in flight from then on, and
+/// the message stays where it stands in its queues.
+pub fn begin_attempt<T, S: RowStore<Addressed<T>>>(rows: &mut S, number: u32, d: u32, attempt: u32)
+    ensures { S.rows rows.new ≡ changed_at number (put d (SlotState.InFlight attempt)) (S.rows rows.old) }
+{
+    put_slot(rows, number, d, SlotState::InFlight { attempt });
 }
 
 /// Settles an attempt at d that is in flight. Delivered and rejected messages leave the queue, and so do those that have

@@ -1,16 +1,8 @@
-use Rattle.std.proofs.Common.{◌≡◌, ◌+◌, ◌≤◌, ℕ, Ok, ◌∙◌, ap, sym, arith}
+use Rattle.std.proofs.Common.{◌≡◌, ◌+◌, ◌≤◌, Ok, ◌∙◌, ap, sym, arith}
 use Rattle.event_log.specs.Answers.{take_answer}
-use Rattle.row_store.specs.Rows.{changed_at}
-use Rattle.dest_queue.specs.Queues.{put}
-use Rattle.dest_queue.specs.declared.SlotState.TheVariants.{InFlight}
 use Rattle.book_core.proofs.Keeping.{few-flights}
-use Rattle.book_core.proofs.KeepingTakes.{kept-taken, taken-inside, taken-less, taken-owed, taken-waits, taken-within, takes-below, took}
+use Rattle.book_core.proofs.KeepingTakes.{kept-taken, taken-inside, taken-less, taken-owed, taken-waits, taken-within}
 use Rattle.book_core.proofs.book.Book.take.Goals as goal
-
-pub take_front-front-requires : goal.take_front-front-requires
-take_front-front-requires g c =
-    let asked : take_answer c.self.inside.log.history c.args.d c.args.now ≡ Ok c.in_ok-ticket.ticket = ap (λ h. take_answer h c.args.d c.args.now) (c.self.view_is ∙ c.ticket.ensures.unchanged) ∙ sym c.in_ok-ticket.ensures.answer in
-    takes-below _ _ _ _ _ _ c.self.invariant c.args.d c.args.now c.in_ok-ticket.ticket asked
 
 pub count_taken-requires-clause-place : goal.count_taken-requires-clause-place
 count_taken-requires-clause-place g c =
@@ -44,7 +36,5 @@ push-requires-clause-within g c =
 pub invariant_of-self-2 : goal.invariant_of-self-2
 invariant_of-self-2 g c =
     let asked : take_answer c.self.inside.log.history c.args.d c.args.now ≡ Ok c.in_ok-ticket.ticket = ap (λ h. take_answer h c.args.d c.args.now) (c.self.view_is ∙ c.ticket.ensures.unchanged) ∙ sym c.in_ok-ticket.ensures.answer in
-    let is = took _ _ _ _ _ _ c.self.invariant c.args.d c.args.now c.in_ok-ticket.ticket asked c.take_front-front.result c.take_front-front.ensures.taken in
-    let changed = c.take_front-front.ensures.changed ∙ ap (λ (r : ℕ × ℕ). changed_at r.0 (put c.args.d (InFlight r.1)) (g.S.RowStore.rows c.self.inside.rows)) is in
     let left : c.self.inside.flights + 1 ≤ c.push.new.self.room = omega (arith, c.push.ensures.room, c.in_ok-reserve.ensures.ok) in
-    rw (c.push.ensures.history, c.reserve.ensures.history, changed, c.count_taken.ensures) (kept-taken _ _ _ _ _ _ c.self.invariant c.args.d c.args.now c.in_ok-ticket.ticket asked c.push.new.self.room left)
+    rw (c.push.ensures.history, c.reserve.ensures.history, c.begin_attempt.ensures, c.count_taken.ensures) (kept-taken _ _ _ _ _ _ c.self.invariant c.args.d c.args.now c.in_ok-ticket.ticket asked c.push.new.self.room left)

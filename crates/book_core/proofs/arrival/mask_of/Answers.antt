@@ -1,7 +1,7 @@
 use Rattle.std.proofs.Common.{◌<◌, length, arith, subst, sym}
 use Rattle.judge_core.specs.declared.delivery.Delivery.{Delivery}
 use Rattle.book_core.proofs.Naming.{mask-more}
-use Rattle.book_core.proofs.arriving.mask_of.Goals as goal
+use Rattle.book_core.proofs.arrival.mask_of.Goals as goal
 
 pub loop-delivery-preserved : goal.loop-delivery-preserved
 loop-delivery-preserved c =

@@ -1,7 +1,7 @@
 use Rattle.std.proofs.Common.{◌<◌, ◌++◌, ◌∷◌, [], length, arith, sym, ap, ◌∙◌}
 use Rattle.dest_queue.specs.Slots.{new_slot}
 use Rattle.book_core.proofs.Naming.{slots-more}
-use Rattle.book_core.proofs.arriving.first_slots.Goals as goal
+use Rattle.book_core.proofs.arrival.first_slots.Goals as goal
 
 pub loop-delivery-preserved : goal.loop-delivery-preserved
 loop-delivery-preserved c =

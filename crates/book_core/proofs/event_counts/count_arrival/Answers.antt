@@ -9,8 +9,8 @@ use Rattle.event_log.specs.declared.entry.Told.{Told}
 use Rattle.stat_count.specs.Statistics.{Statistics, channel_at, destination_at, no_arrivals, no_slots, on_channel, on_destination, waits_one}
 use Rattle.book_core.specs.Counting.{CountsArrival, told_one}
 use Rattle.book_core.proofs.CountedArrivals.{names-either}
-use Rattle.book_core.proofs.counting.count_arrival.Goals as goal
-use Rattle.book_core.proofs.counting.count_arrival.Goals.{in-Accepted, in-Filtered, in-Refused, in-Repeat}
+use Rattle.book_core.proofs.event_counts.count_arrival.Goals as goal
+use Rattle.book_core.proofs.event_counts.count_arrival.Goals.{in-Accepted, in-Filtered, in-Refused, in-Repeat}
 
 -- whether a delivery goes to the destination
 abbrev goes_to : ℕ → Delivery → Bool

@@ -3,7 +3,7 @@ use Rattle.judge_core.specs.Judging.{key_of, verdict}
 use Rattle.event_log.specs.History.{plan_in_force}
 use Rattle.event_log.specs.Answers.{told_by}
 use Rattle.book_core.proofs.Telling.{brought, found-known, told-first, told-repeat, told-reused}
-use Rattle.book_core.proofs.arriving.told.Goals as goal
+use Rattle.book_core.proofs.arrival.told.Goals as goal
 
 pub returns-in-Some : goal.returns-in-Some
 returns-in-Some c =

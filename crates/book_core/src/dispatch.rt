@@ -1,10 +1,8 @@
 //! What is sent of a message, and where it waits.
 
-ghost use Rattle.std.specs.Prelude.{◌≡◌, ◌==◌, false, find, option_copied};
-ghost use Rattle.std.specs.Option.{option_map, option_map_or};
-ghost use Rattle.dest_queue.specs.States.{is_waiting};
+ghost use Rattle.std.specs.Prelude.{◌≡◌, ◌==◌, find, option_copied};
+ghost use Rattle.std.specs.Option.{option_map};
 ghost use Rattle.dest_queue.specs.Slots.{state_at};
-ghost use Rattle.event_log.specs.Answers.{mask_where};
 ghost use Rattle.book_core.specs.Sending.{awaits_ack, owed_waiting};
 
 use dest_queue::Slots;
@@ -33,27 +31,17 @@ pub fn awaits_ack(plan: &Plan, d: u32) -> bool
     }
 }
 
-/// Where a message waits, as a mask, and what its slots there owe.
-#[derive(Clone, Copy)]
-pub struct Waiting {
-    pub mask: u32,
-    pub owed: u32,
-}
-
-/// Where a message waits, by its slots.
-pub fn where_waiting(plan: &Plan, slots: &Slots) -> Waiting
-    ensures mask { result.mask ≡ mask_where (λ d. option_map_or is_waiting (state_at d slots.now) false) }
-    ensures owed { result.owed ≡ owed_waiting plan.now (λ d. state_at d slots.now) }
+/// What the slots of a message owe where they wait: nothing where none does.
+pub fn owed_waiting(plan: &Plan, slots: &Slots) -> u32
+    ensures { result ≡ owed_waiting plan.now (λ d. state_at d slots.now) }
 {
-    let mut mask = 0;
     let mut owed = 0;
     for d in 0..QUEUES {
         if let Some(state) = slots.state_at(d) {
             if state.is_waiting() {
-                mask |= 1 << d;
                 owed += slot_owed(attempts_max(plan, d), state);
             }
         }
     }
-    Waiting { mask, owed }
+    owed
 }

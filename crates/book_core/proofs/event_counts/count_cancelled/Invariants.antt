@@ -2,7 +2,7 @@ use Rattle.std.proofs.Common.{◌≡◌, ◌<◌, ◌≤◌, ◌==◌, ℕ, leng
 use Rattle.std.specs.Prelude.{if◌then◌else◌}
 use Rattle.std.specs.Int.{bit_at}
 use Rattle.stat_count.specs.Statistics.{destination_at, cancelled_one}
-use Rattle.book_core.proofs.counting.count_cancelled.Given as goal
+use Rattle.book_core.proofs.event_counts.count_cancelled.Given as goal
 
 abbrev pub invariant-loop-d : goal.invariant-loop-d
 invariant-loop-d l = record {
