@@ -14,8 +14,8 @@ use Rattle.event_log.specs.History.{entry_at, next_place}
 use Rattle.book_core.specs.declared.receipt.Receipt.{Receipt}
 use Rattle.book_lock.specs.Auditing.{receipt_at, receipt_due, receipts_due, naming, IsRightAt, IsFault, IsFirstFault}
 use Rattle.book_lock.specs.Rises.{Held}
-use Rattle.book_lock.specs.declared.auditing.AuditFault.{AuditFault}
-use Rattle.book_lock.specs.declared.auditing.AuditFault.TheVariants.{Missing, Doubled, Differs}
+use Rattle.book_lock.specs.declared.receipt_audit.AuditFault.{AuditFault}
+use Rattle.book_lock.specs.declared.receipt_audit.AuditFault.TheVariants.{Missing, Doubled, Differs}
 use Rattle.book_lock.proofs.Permuting.{permutation_from_alike, alike_from_permutation}
 
 differ_at : (a b : ℕ) → a ≢ b → (t : Bool) → eqb a b ≡ t → eqb a b ≡ false

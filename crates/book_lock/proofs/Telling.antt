@@ -3,8 +3,8 @@ use Rattle.std.proofs.Common.{◌≡◌, ◌≢◌, ℕ, ◌+◌, ◌<◌, ◌�
 use Rattle.std.specs.Prelude.{IsTrue}
 use Rattle.std.proofs.lemmas.Bool.{false≢true}
 use Rattle.book_core.specs.declared.receipt.Receipt.{Receipt}
-use Rattle.book_lock.specs.declared.auditing.AuditFault.{AuditFault}
-use Rattle.book_lock.specs.declared.auditing.AuditFault.TheVariants.{Missing, Doubled, Differs}
+use Rattle.book_lock.specs.declared.receipt_audit.AuditFault.{AuditFault}
+use Rattle.book_lock.specs.declared.receipt_audit.AuditFault.TheVariants.{Missing, Doubled, Differs}
 use Rattle.book_lock.specs.declared.windows.Named.{Named}
 use Rattle.book_lock.specs.declared.windows.Named.TheVariants.{Never, Right, Wrong, Often}
 use Rattle.book_lock.specs.Auditing.{naming, receipts_due, place_of, IsRightAt, IsFault}

@@ -5,9 +5,15 @@ use Rattle.event_log.specs.declared.entry.Entry.{Entry}
 use Rattle.event_log.specs.declared.entry.Entry.TheVariants.{Arrival, Take, Settle, Cancel}
 use Rattle.event_log.specs.History.{entry_at, next_place}
 use Rattle.book_core.specs.declared.receipt.Receipt.{Receipt}
-use Rattle.book_lock.specs.declared.auditing.AuditFault.{AuditFault}
-use Rattle.book_lock.specs.declared.auditing.AuditFault.TheVariants.{Missing, Doubled, Differs}
+use Rattle.book_lock.specs.declared.receipt_audit.AuditFault.{AuditFault}
+use Rattle.book_lock.specs.declared.receipt_audit.AuditFault.TheVariants.{Missing, Doubled, Differs}
 use Rattle.book_lock.specs.Rises.{Held}
+
+-- the numbers of the faults
+abbrev pub fault_code : AuditFault → ℕ
+fault_code (Missing place) = 1
+fault_code (Doubled place) = 2
+fault_code (Differs place) = 3
 
 -- the receipt of an entry at this place, if it is an arrival
 abbrev pub receipt_at : ℕ → Entry → Option Receipt

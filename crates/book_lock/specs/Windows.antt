@@ -3,8 +3,8 @@ use Rattle.std.specs.Prelude.{◌≡◌, ◌≢◌, ℕ, ◌+◌, ◌<◌, Bool,
 use Rattle.book_core.specs.declared.receipt.Receipt.{Receipt}
 use Rattle.book_lock.specs.declared.windows.Named.{Named}
 use Rattle.book_lock.specs.declared.windows.Named.TheVariants.{Never, Right, Wrong, Often}
-use Rattle.book_lock.specs.declared.auditing.AuditFault.{AuditFault}
-use Rattle.book_lock.specs.declared.auditing.AuditFault.TheVariants.{Missing, Doubled, Differs}
+use Rattle.book_lock.specs.declared.receipt_audit.AuditFault.{AuditFault}
+use Rattle.book_lock.specs.declared.receipt_audit.AuditFault.TheVariants.{Missing, Doubled, Differs}
 use Rattle.book_lock.specs.Auditing.{naming, receipts_due}
 use Rattle.book_lock.specs.Rises.{Held}
 

@@ -1,14 +1,14 @@
 //! The book under one lock, the shares of those who call it, and the audit of their receipts.
 #![tactic(auto)]
 
-mod auditing;
 mod desks;
-mod locking;
-mod sharing;
+mod locked;
+mod receipt_audit;
+mod shared;
 mod sums;
 mod windows;
 
-pub use auditing::{AuditFault, audit, rising};
 pub use desks::{Desk, Station};
-pub use locking::{Closed, Locked, Opening, add_up};
-pub use sharing::{NotClosed, Opened, Shared};
+pub use locked::{Closed, Locked, Opening, add_up};
+pub use receipt_audit::{AuditFault, audit, rising};
+pub use shared::{NotClosed, Opened, Shared};

@@ -6,8 +6,8 @@ ghost use Rattle.event_log.specs.History.{next_place};
 ghost use Rattle.book_lock.specs.Auditing.{IsFault, IsFirstFault, IsRightAt, naming, place_of, receipt_at, receipts_due};
 ghost use Rattle.book_lock.specs.Windows.{Tells, fault_at, named_again};
 
-use crate::auditing::AuditFault;
-use crate::locking::Closed;
+use crate::locked::Closed;
+use crate::receipt_audit::AuditFault;
 use book_core::{Entry, Letter, Receipt};
 use dest_queue::Addressed;
 use row_store::RowStore;

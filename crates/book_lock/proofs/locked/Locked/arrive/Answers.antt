@@ -1,0 +1,24 @@
+use Rattle.std.proofs.Common.{arith}
+use Rattle.event_log.specs.History.{plan_in_force}
+use Rattle.event_log.specs.declared.entry.Entry.TheVariants.{Arrival}
+use Rattle.book_lock.specs.Rises.{Held}
+use Rattle.book_lock.proofs.Following.{arrivals_fit, few_entries, known_channel, next}
+use Rattle.book_lock.proofs.locked.Locked.arrive.Goals as goal
+
+pub count-requires : goal.count-requires
+count-requires g c =
+    let h : Held = record { book = c.self.inside.book; opening = c.self.inside.opening; first = c.self.inside.first } in
+    arrivals_fit h c.self.inside.arrivals.total c.self.inside.takes.total c.self.inside.settlements.total c.self.invariant.1
+    (c.three_sums.ensures.few_arrivals h.book (few_entries h.book c.rules.ensures.sound c.rules.ensures.few))
+
+pub invariant_of-self-2 : goal.invariant_of-self-2
+invariant_of-self-2 g c =
+    let h : Held = record { book = c.self.inside.book; opening = c.self.inside.opening; first = c.self.inside.first } in
+    let judged = c.args.judged.now in
+    let told = c.in_ok-receipt.receipt.told in
+    let known = known_channel judged.plan (plan_in_force h.book) judged.channel (λ other. let w = c.in_ok-receipt.ensures.plan.1 other in cc) (omega (arith, c.channel-channel.ensures.value, c.channel-channel.ensures.known)) in
+    let rise = c.three_sums.ensures.arrival h.book c.args.conn judged.channel judged.raw told c.rules.ensures.sound c.in_ok-receipt.ensures.follows known in
+    let n = next h (Arrival c.args.conn judged.channel judged.raw told) c.arrive.new.self g.A.Opening.counts g.A.Opening.first g.A.Opening.channels
+    c.self.inside.arrivals.total c.self.inside.takes.total c.self.inside.settlements.total 1 0 0 c.count.new.book.total c.self.inside.takes.total c.self.inside.settlements.total
+    c.in_ok-receipt.ensures.booked c.self.invariant.0 c.self.invariant.1 rise c.count.ensures.total (omega arith) (omega arith) in
+    (n.0, n.1, c.self.invariant.2, c.self.invariant.3, c.self.invariant.4)
