@@ -27,6 +27,15 @@ impl Clone for Place {
 
 impl Copy for Place {}
 
+impl Place {
+    /// A place where nothing lies.
+    pub fn nowhere() -> Place {
+        Place {
+            ptr: std::ptr::null_mut(),
+        }
+    }
+}
+
 unsafe impl Send for Place {}
 
 unsafe impl Sync for Place {}

@@ -7,7 +7,7 @@ use denote.RawPtr.{Ptr}
 use Rattle.node_heap.specs.Held.{Held, held_at, same_ptr, find_node, set_node}
 use Rattle.node_heap.specs.declared.nodes.Place.{Place}
 use Rattle.node_heap.proofs.Cut.{same_ptr_eq}
-use Rattle.record_list.specs.declared.links.Link.{Link}
+use Rattle.record_list.specs.declared.link_table.Link.{Link}
 use Rattle.record_list.specs.declared.links.Node.{Node}
 use Rattle.record_list.specs.Chain.{link, link_at, next_is, prev_is, with_next, with_prev, change_node, change_at}
 

@@ -5,7 +5,7 @@ use Rattle.std.specs.declared.option.Option.TheVariants.{None, Some}
 use denote.RawPtr.{Ptr}
 use Rattle.node_heap.specs.Held.{Held, same_ptr, find_node, drop_node}
 use Rattle.node_heap.proofs.Cut.{same_ptr_eq}
-use Rattle.record_list.specs.declared.links.Link.{Link}
+use Rattle.record_list.specs.declared.link_table.Link.{Link}
 use Rattle.record_list.specs.declared.links.Node.{Node}
 use Rattle.record_list.specs.declared.links.Links.{Links}
 use Rattle.record_list.specs.Chain.{place, first_or, last_or, entry_of, entries, members, link_at, items_at}

@@ -8,7 +8,7 @@ use Rattle.row_store.specs.declared.Row.{Row}
 use Rattle.node_heap.specs.Held.{Held, same_ptr, find_node, IsHeld}
 use Rattle.node_heap.specs.declared.nodes.Place.{Place}
 use Rattle.node_heap.proofs.Cut.{same_ptr_refl}
-use Rattle.record_list.specs.declared.links.Link.{Link}
+use Rattle.record_list.specs.declared.link_table.Link.{Link}
 use Rattle.record_list.specs.declared.links.Node.{Node}
 use Rattle.record_list.specs.declared.links.Links.{Links}
 use Rattle.record_list.specs.Chain.{place, first_or, last_or, chain, entry_of, entries, members, link_at, with_next, with_prev, change_at, end_after, items_at}

@@ -13,7 +13,7 @@ use Rattle.node_heap.proofs.Cut.{same_ptr_refl, same_ptr_symm}
 use Rattle.row_store.specs.declared.Row.{Row}
 use Rattle.row_store.specs.Rows.{NumbersRise, is_row, stands_in, front_of, is_linked, unlinked}
 use Rattle.row_store.proofs.Bits.{beyond_width}
-use Rattle.record_list.specs.declared.links.Link.{Link}
+use Rattle.record_list.specs.declared.link_table.Link.{Link}
 use Rattle.record_list.specs.declared.links.Node.{Node}
 use Rattle.record_list.specs.declared.links.Links.{Links}
 use Rattle.record_list.specs.Chain.{place, link, first_or, last_or, chain, entry_of, entries, members, link_at, change_node, row_of, rows_of, items_at}

@@ -4,7 +4,7 @@ use Rattle.std.proofs.lemmas.List.{get_or-set_other, get_or-set_same}
 use Rattle.std.specs.declared.option.Option.{Option}
 use Rattle.std.specs.declared.option.Option.TheVariants.{None, Some}
 use Rattle.node_heap.specs.declared.nodes.Place.{Place}
-use Rattle.record_list.specs.declared.links.Link.{Link}
+use Rattle.record_list.specs.declared.link_table.Link.{Link}
 use Rattle.record_list.specs.Chain.{link}
 use Rattle.std.specs.Option.{is_some}
 use Rattle.record_list.specs.Stands.{stands, new_link}

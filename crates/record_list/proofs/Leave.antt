@@ -7,7 +7,7 @@ use denote.RawPtr.{Ptr}
 use Rattle.node_heap.specs.Held.{Held, held_at, same_ptr, find_node, set_node}
 use Rattle.node_heap.specs.declared.nodes.Place.{Place}
 use Rattle.node_heap.proofs.Cut.{same_ptr_eq}
-use Rattle.record_list.specs.declared.links.Link.{Link}
+use Rattle.record_list.specs.declared.link_table.Link.{Link}
 use Rattle.record_list.specs.declared.links.Node.{Node}
 use Rattle.record_list.specs.declared.links.Links.{Links}
 use Rattle.record_list.specs.Chain.{place, link, first_or, last_or, chain, entry_of, entries, members, link_at, without_link, change_node}

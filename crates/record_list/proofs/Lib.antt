@@ -9,5 +9,6 @@ pub mod Kept
 pub mod LastLinks
 pub mod Leave
 pub mod Listing
+pub mod Packing
 pub mod Store
 pub mod Thread

@@ -15,7 +15,7 @@ use Rattle.row_store.specs.declared.Row.{Row}
 use Rattle.row_store.specs.Rows.{without}
 use Rattle.row_store.proofs.Bits.{bit_at-without_same, bit_at-without_other}
 use Rattle.row_store.proofs.Places.{numbers-changed_at, NumbersRise-removed, NumbersRise-push}
-use Rattle.record_list.specs.declared.links.Link.{Link}
+use Rattle.record_list.specs.declared.link_table.Link.{Link}
 use Rattle.record_list.specs.declared.links.Node.{Node}
 use Rattle.record_list.specs.declared.links.Links.{Links}
 use Rattle.record_list.specs.Chain.{place, link, first_or, last_or, chain, entry_of, entries, members, link_at, without_link, change_node, row_of, rows_of, items_at}

@@ -5,7 +5,7 @@ use Rattle.std.specs.declared.option.Option.TheVariants.{None, Some}
 use denote.RawPtr.{Ptr}
 use Rattle.node_heap.specs.Held.{Held, same_ptr}
 use Rattle.node_heap.specs.declared.nodes.Place.{Place}
-use Rattle.record_list.specs.declared.links.Link.{Link}
+use Rattle.record_list.specs.declared.link_table.Link.{Link}
 use Rattle.record_list.specs.declared.links.Node.{Node}
 use Rattle.record_list.specs.declared.links.Links.{Links}
 use Rattle.record_list.specs.Chain.{place, link, link_at, first_or, last_or, chain, entries, members}

@@ -5,7 +5,7 @@ use Rattle.std.specs.declared.option.Option.{Option}
 use Rattle.std.specs.declared.option.Option.TheVariants.{None, Some}
 use denote.RawPtr.{Ptr}
 use Rattle.row_store.specs.declared.Row.{Row}
-use Rattle.record_list.specs.declared.links.Link.{Link}
+use Rattle.record_list.specs.declared.link_table.Link.{Link}
 use Rattle.record_list.specs.declared.links.Links.{Links}
 use Rattle.row_store.specs.Rows.{NumbersRise}
 use Rattle.record_list.specs.Chain.{link, items_at, rows_of}

@@ -6,11 +6,13 @@ ghost use Rattle.row_store.specs.declared.Row.{Row};
 ghost use Rattle.row_store.specs.Rows.{numbers, queue_of, item_at, unlinked};
 
 mod directory;
+mod link_table;
 mod links;
 mod record_list;
 
 pub use directory::Directory;
-pub use links::{Link, Links, Node};
+pub use link_table::{Link, LinkTable};
+pub use links::{Links, Node};
 pub use record_list::RecordList;
 
 /// The laws of links: what a row that leaves one queue leaves as it was.

@@ -6,23 +6,20 @@ ghost use Rattle.std.specs.Borrow.{sem, Lends};
 ghost use Rattle.std.specs.declared.option.Option.TheVariants.{None, Some};
 ghost use Rattle.node_heap.specs.Held.{IsHeld, find_node, drop_node, held_at};
 
+use crate::link_table::{Link, LinkTable};
 use node_heap::{Nodes, Place};
 use row_store::Row;
 use std::alloc::Global;
-
-/// The neighbours of a node in one chain.
-#[derive(Clone, Copy)]
-pub struct Link {
-    pub(crate) prev: Option<Place>,
-    pub(crate) next: Option<Place>,
-}
 
 /// One row, with its link in each chain that it stands in.
 #[derive(Drop)]
 pub struct Node<T> {
     pub(crate) row: Row<T>,
-    pub(crate) links: [Option<Link>; 33],
+    pub(crate) links: LinkTable,
 }
+
+/// A row of a word takes 584 bytes beside its item.
+const _: () = prove!(size_of::<Node<u64>>() == size_of::<u64>() + 584);
 
 /// The ends of the chains, and the memory of the nodes.
 pub struct Links<T> {
@@ -82,11 +79,12 @@ impl<T> Links<T> {
         match prev {
             Some(at) => {
                 let node = self.visit(at);
-                if let Some(link) = node.links[d] {
-                    node.links[d] = Some(Link {
+                if let Some(link) = node.links.get(d) {
+                    let link = Link {
                         prev: link.prev,
                         next,
-                    });
+                    };
+                    node.links.set(d, Some(link));
                 }
             }
             None => self.heads[d] = next,
@@ -105,11 +103,12 @@ impl<T> Links<T> {
         match next {
             Some(at) => {
                 let node = self.visit(at);
-                if let Some(link) = node.links[d] {
-                    node.links[d] = Some(Link {
+                if let Some(link) = node.links.get(d) {
+                    let link = Link {
                         prev,
                         next: link.next,
-                    });
+                    };
+                    node.links.set(d, Some(link));
                 }
             }
             None => self.tails[d] = prev,
@@ -148,16 +147,17 @@ impl<T> Links<T> {
     }
 
     /// The links of a node that will be the last row.
-    pub(crate) fn last_links(&self, mask: u32) -> [Option<Link>; 33]
+    pub(crate) fn last_links(&self, mask: u32) -> LinkTable
         ensures { (d : ℕ) → d < 33 → slice_index_or result d None ≡ new_link (stands d mask) (tail_at d self.now) }
     {
-        let mut links = [None; 33];
+        let mut links = LinkTable::new();
         for d in 0..33 {
             if stands(mask, d) {
-                links[d] = Some(Link {
+                let link = Link {
                     prev: self.tails[d],
                     next: None,
-                });
+                };
+                links.set(d, Some(link));
             }
         }
         links
@@ -193,10 +193,10 @@ impl<T> Links<T> {
         ensures visits { self.new.visits ≤ self.old.visits + 3 }
     {
         let node = self.visit(at);
-        let Some(link) = node.links[d as usize] else {
+        let Some(link) = node.links.get(d as usize) else {
             return false;
         };
-        node.links[d as usize] = None;
+        node.links.set(d as usize, None);
         node.row.leave(d);
         self.join(d as usize, link.prev, link.next);
         true
@@ -238,14 +238,14 @@ impl<T: Drop> Links<T> {
         ensures items { items_at self.new.nodes.held ≡ items_at (drop_node at.ptr self.old.nodes.held) }
         ensures visits { self.new.visits ≤ self.old.visits + 67 }
     {
-        let gaps = self.visit(at).links;
+        self.visit(at);
         let node = self.withdraw(at, alloc);
-        self.join_all(&gaps);
+        self.join_all(&node.links);
         node
     }
 
     /// Closes the gaps that a node left.
-    fn join_all(&mut self, gaps: &[Option<Link>; 33])
+    fn join_all(&mut self, gaps: &LinkTable)
         requires apart { IsApart (places self.old.nodes.held) }
         requires gaps { (d : ℕ) → d < 33 → IsOpen d self.old (slice_index_or gaps.now d None) }
         ensures linked { (d : ℕ) → d < 33 → IsLinked d self.new }
@@ -253,7 +253,7 @@ impl<T: Drop> Links<T> {
         ensures visits { self.new.visits ≤ self.old.visits + 66 }
     {
         for d in 0..33 {
-            if let Some(link) = gaps[d] {
+            if let Some(link) = gaps.get(d) {
                 self.join(d, link.prev, link.next);
             }
         }
@@ -272,7 +272,7 @@ impl<T: Drop> Links<T> {
         let mut head = heads[32];
         while let Some(at) = head {
             let block = nodes.take(at, alloc);
-            head = match block.links[32] {
+            head = match block.links.get(32) {
                 Some(link) => link.next,
                 None => None,
             };

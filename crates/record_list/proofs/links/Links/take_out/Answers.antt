@@ -16,7 +16,7 @@ pub join_all-requires-clause-apart : goal.join_all-requires-clause-apart
 join_all-requires-clause-apart g c = subst (λ hs. IsApart (places hs)) (sym (c.withdraw-node.ensures.nodes ∙ ap (drop_node c.args.at.ptr) (set_same c.args.at.ptr c.visit.result.now c.args.self.now.nodes.held c.visit.ensures.value))) (apart_dropped c.args.at.ptr c.args.self.now.nodes.held c.requires.whole.apart)
 
 pub join_all-requires-clause-gaps : goal.join_all-requires-clause-gaps
-join_all-requires-clause-gaps g c = λ d lt. opened d c.args.at.ptr c.visit.result.now c.args.self.now c.withdraw-node.new.self c.requires.whole.apart (c.requires.whole.linked d lt) c.visit.ensures.value (c.withdraw-node.ensures.nodes ∙ ap (drop_node c.args.at.ptr) (set_same c.args.at.ptr c.visit.result.now c.args.self.now.nodes.held c.visit.ensures.value)) c.withdraw-node.ensures.rest.0 c.withdraw-node.ensures.rest.1
+join_all-requires-clause-gaps g c = λ d lt. opened d c.args.at.ptr c.withdraw-node.result c.args.self.now c.withdraw-node.new.self c.requires.whole.apart (c.requires.whole.linked d lt) (sym (ap (find_node c.args.at.ptr) (set_same c.args.at.ptr c.visit.result.now c.args.self.now.nodes.held c.visit.ensures.value)) ∙ c.withdraw-node.ensures.value) (c.withdraw-node.ensures.nodes ∙ ap (drop_node c.args.at.ptr) (set_same c.args.at.ptr c.visit.result.now c.args.self.now.nodes.held c.visit.ensures.value)) c.withdraw-node.ensures.rest.0 c.withdraw-node.ensures.rest.1
 
 pub returns-clause-value : goal.returns-clause-value
 returns-clause-value g c = sym (ap (find_node c.args.at.ptr) (set_same c.args.at.ptr c.visit.result.now c.args.self.now.nodes.held c.visit.ensures.value)) ∙ c.withdraw-node.ensures.value
