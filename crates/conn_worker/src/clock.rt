@@ -20,7 +20,7 @@ pub fn nearest(seconds: u64) -> Moment
 }
 
 /// A clock that stands still.
-#[derive(Drop)]
+#[derive(Clone, Copy)]
 pub struct Still(pub Moment);
 
 impl Clock for Still {
@@ -34,7 +34,7 @@ impl Clock for Still {
 
 /// The system's clock. Where it can't be read, or tells a time before the year 1970, the first moment is told; where it
 /// tells a time after the last moment, the last.
-#[derive(Drop)]
+#[derive(Clone, Copy)]
 pub struct Running<'a, C: time::Clock>(pub &'a C);
 
 /// The moment of a time of the system's clock.

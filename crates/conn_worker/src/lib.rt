@@ -1,8 +1,10 @@
-//! Serving a connection over any reader and writer, wherever its messages are booked.
+//! Serving a connection over any reader and writer, wherever its messages are booked: in a book of one's own, or at a desk
+//! of a shared one.
 #![tactic(auto)]
 
 ghost use Rattle.std.specs.Prelude.{◌≡◌};
 
+mod at_desk;
 mod clock;
 mod counted;
 mod dialogue;
@@ -10,6 +12,7 @@ mod report;
 mod session;
 mod stream;
 
+pub use at_desk::{AtDesk, serve};
 pub use clock::{Clock, Running, Still, nearest};
 pub use counted::Counted;
 pub use report::{ServeEnd, ServeReport};

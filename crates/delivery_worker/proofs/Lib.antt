@@ -1,2 +1,4 @@
+pub mod Delivered
 pub mod Reading
+pub mod Streams
 mod Rows

@@ -1,11 +1,13 @@
 -- What the answers of a destination come to.
-use Rattle.std.specs.Prelude.{ℕ, Bool, ◌||◌, List, Option, if◌then◌else◌, codes, find, take}
+use Rattle.std.specs.Prelude.{ℕ, Bool, ◌||◌, List, Option, None, if◌then◌else◌, codes, find, take}
 use Rattle.std.specs.List.{flat_map}
 use Rattle.std.specs.Option.{option_map_or, option_to_list}
 use Rattle.std.specs.Str.{bytes_eq}
 use Rattle.dest_queue.specs.declared.Outcome.{Outcome}
 use Rattle.dest_queue.specs.declared.Outcome.TheVariants.{Delivered, Again, Rejected}
 use Rattle.hl7_head.specs.Msa.{MsaFields}
+use Rattle.hl7_head.specs.Laws.{msa_of}
+use Rattle.mllp_frame.specs.Event.{Event, block, broken}
 
 -- what an acknowledgment code of table 0008 comes to: accepted is delivered, rejected stays rejected, and on an error, as on any other code, the message is sent again
 abbrev pub code_outcome : List ℕ → Outcome
@@ -24,3 +26,8 @@ acknowledgments answers = flat_map option_to_list (take 9 answers)
 -- the first acknowledgment of the message decides; without one the message is sent again
 abbrev pub outcome_of : List ℕ → List (Option MsaFields) → Outcome
 outcome_of control_id answers = option_map_or (λ msa. code_outcome msa.code) (find (answers_to control_id) (acknowledgments answers)) Again
+
+-- the answer that an event of the stream brings: that of a block's text, none where the block is broken
+abbrev pub answer_in : Event → Option MsaFields
+answer_in (block text) = msa_of text
+answer_in (broken cause) = None

@@ -1,6 +1,16 @@
-//! Deliveries: what the answers of a destination come to.
+//! Deliveries: sending the messages of a destination's queue, and what its answers come to.
 #![tactic(auto)]
 
 mod answers;
+mod connection;
+mod link;
+mod report;
+mod tcp_link;
+mod worker;
 
 pub use answers::{MAX_ANSWERS, answer_rules, outcome_of};
+pub use connection::{RECEIVES_MAX, delivery_limits};
+pub use link::{Link, LinkFault};
+pub use report::{DeliverEnd, DeliverReport};
+pub use tcp_link::TcpLink;
+pub use worker::deliver;

@@ -1,0 +1,104 @@
+//! Serving a connection at a desk of a shared book.
+
+ghost use Rattle.std.specs.Prelude.{◌≡◌, ◌+◌, ◌<◌, false, vec_len};
+ghost use Rattle.conn_worker.specs.Serving.{Serves};
+ghost use Rattle.conn_worker.specs.Faults.{Rose};
+
+use crate::clock::Clock;
+use crate::counted::Counted;
+use crate::report::{ServeEnd, ServeReport};
+use crate::session::{TURNS_MAX, serve_within};
+use book_core::{Letter, NotBooked, Receipt};
+use book_lock::{Desk, Opening, Shared};
+use conn_core::{Booking, Line};
+use dest_queue::Addressed;
+use judge_core::Judged;
+use plan_text::Plan;
+use row_store::RowStore;
+use std::alloc::{AllocError, Global};
+use std::io::{Read, Write};
+use std::sync::ledger::Ledger;
+use std::sync::{Arc, Wait};
+
+/// A desk of a shared book, as the place where messages are booked. Each call takes the book's lock for a moment.
+#[derive(Drop)]
+pub struct AtDesk<'a, A: Opening, T: Ledger, U: Ledger, S: RowStore<Addressed<Letter>>, H> {
+    pub rt: &'a H,
+    pub shared: &'a Shared<A, T, U, S>,
+    pub desk: &'a mut Desk<A>,
+}
+
+impl<'a, A: Opening, T: Ledger, U: Ledger, S: RowStore<Addressed<Letter>>, H: Wait> Booking
+    for AtDesk<'a, A, T, U, S, H> {
+    ghost use Rattle.std.specs.Prelude.{◌≡◌, ◌+◌, length, refl, ⊤};
+    ghost use Rattle.std.proofs.Common.{◌∙◌, arith, length-append};
+
+    /// The desk counted as many arrivals. It is the same desk.
+    ghost books = { λ old new receipts. (new.desk.now ≡ old.desk.now + length receipts) × (new.desk.ghost_name ≡ old.desk.ghost_name) };
+
+    ghost channels = { λ _. A.channels };
+
+    ghost outcomes = { λ _ _ _. ⊤ };
+
+    fn plan(&self) -> Result<Arc<Plan>, AllocError> {
+        self.shared.plan(self.rt)
+    }
+
+    fn arrive(&mut self, conn: u32, judged: &Judged) -> Result<Receipt, NotBooked> {
+        self.shared.arrive(self.rt, self.desk, conn, judged)
+    }
+
+    ghost nothing = { λ x. (Prim.omega arith, refl) };
+
+    ghost after = { λ x y z rs ss h k. (Prim.omega (arith, h.0, k.0, length-append rs ss), k.1 ∙ h.1) };
+
+    ghost same_channels = { λ _ _ _ _. refl };
+}
+
+/// Serves a connection to its reader's end, or to a fault, or for [`TURNS_MAX`] reads or events, as connection `conn` of a
+/// channel given by its place in the plan: each message is booked at the desk and acknowledged as its header asks
+/// (HL7 v2.5.1, 2.9.2 and 2.9.3). The lock of the book is held neither while a message is judged, nor while the reader or
+/// the writer waits. The moments of the replies are the clock's.
+pub fn serve<
+    A: Opening,
+    T: Ledger,
+    U: Ledger,
+    S: RowStore<Addressed<Letter>>,
+    R: Read,
+    W: Write,
+    C: Clock,
+    H: Wait,
+>(
+    rt: &H,
+    alloc: Global,
+    shared: &Shared<A, T, U, S>,
+    desk: &mut Desk<A>,
+    conn: u32,
+    channel: u32,
+    reader: &mut Counted<R>,
+    writer: &mut Counted<W>,
+    clock: &mut C,
+) -> ServeReport
+    requires channel { channel < A.channels }
+
+    // The messages read, what was told of them, and what was written.
+    ensures served { Serves conn channel (R.remaining reader.old.inner) (R.remaining reader.new.inner) (W.contents writer.old.inner) (W.contents writer.new.inner) result }
+
+    // The receipts are as many as the arrivals that the desk counted.
+    ensures counted { desk.new ≡ desk.old + vec_len result.receipts }
+
+    // A fault is told where the device failed.
+    ensures read_fault { result.end ≡ ServeEnd.ReadFault → Rose reader.old.faults reader.new.faults }
+    ensures write_fault { result.end ≡ ServeEnd.WriteFault → Rose writer.old.faults writer.new.faults }
+
+    // At the reader's end all that was written is flushed.
+    ensures flushed { result.end ≡ ServeEnd.End → writer.old.unflushed ≡ false → writer.new.unflushed ≡ false }
+{
+    let line = Line {
+        alloc,
+        conn,
+        channel,
+    };
+    let mut place = AtDesk { rt, shared, desk };
+    serve_within(&line, &mut place, reader, writer, clock, TURNS_MAX)
+}

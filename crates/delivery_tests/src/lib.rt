@@ -1,0 +1,9 @@
+//! Tests of deliveries over links that are played from a script.
+#![tactic(auto)]
+
+#[cfg(test)]
+mod delivering;
+#[cfg(test)]
+mod played;
+#[cfg(test)]
+mod tcp;

@@ -1,0 +1,6 @@
+use Rattle.delivery_worker.specs.Stream.{ReadsOn}
+use Rattle.delivery_worker.proofs.connection.take_answers.Given as goal
+
+-- the first events were read
+abbrev pub invariant-answers : goal.invariant-answers
+invariant-answers l = ReadsOn l.fn.framer l.framer l.fn.answers.items l.answers.items

@@ -1,0 +1,98 @@
+//! Delivering the messages of a destination's queue.
+
+ghost use Rattle.std.specs.Prelude.{◌≡◌, ◌+◌, ◌≤◌, IfOk, OnOk, OnErr};
+ghost use Rattle.std.specs.Io.KnownBytes.{Keeps};
+ghost use Rattle.delivery_worker.specs.Delivering.{Delivers, Tries};
+
+use crate::connection::Connection;
+use crate::link::Link;
+use crate::report::{DeliverEnd, DeliverReport};
+use book_core::{Letter, TakeRefusal};
+use book_lock::{Opening, Shared, Station};
+use conn_worker::Clock;
+use dest_queue::{Addressed, Outcome};
+use row_store::RowStore;
+use std::alloc::Global;
+use std::sync::Wait;
+use std::sync::ledger::Ledger;
+use std::time;
+
+/// Takes the message at the front of a queue, makes one attempt to deliver it, and settles the attempt, whatever came of
+/// it. The lock is held for the take and for the settlement, and not in between.
+fn take_turn<
+    H: Wait,
+    A: Opening,
+    T: Ledger,
+    U: Ledger,
+    S: RowStore<Addressed<Letter>>,
+    L: Link,
+    C: Clock,
+>(
+    rt: &H,
+    shared: &Shared<A, T, U, S>,
+    station: &mut Station<T, U>,
+    connection: &mut Connection,
+    link: &mut L,
+    d: u32,
+    clock: &mut C,
+) -> Result<Outcome, TakeRefusal>
+    ensures taken { OnOk result (station.new.takes ≡ station.old.takes + 1) }
+    ensures settled { OnOk result ((station.old.settlements ≤ station.new.settlements) × (station.new.settlements ≤ station.old.settlements + 1)) }
+    ensures attempt { IfOk result (λ outcome. Tries connection.old.framer connection.new.framer (L.sent link.old) (L.sent link.new) (L.received link.old) (L.received link.new) outcome) }
+    ensures refused { OnErr result ((station.new ≡ station.old) × (connection.new.framer ≡ connection.old.framer)) }
+    ensures unused { OnErr result (Keeps (L.sent link.old) (L.sent link.new) × Keeps (L.received link.old) (L.received link.new)) }
+{
+    let job = shared.take(rt, station, d, clock.now())?;
+    let outcome = connection.attempt(link, &job);
+    let _settled = shared.settle(rt, station, &job.ticket, outcome, clock.now());
+    Ok(outcome)
+}
+
+/// Delivers the messages of queue `d`, one after another, over one link: each that is due is taken, sent as a block, and
+/// settled by what the destination answers (HL7 v2.5.1, 2.9.2 and 2.9.3). A turn is one call of `take`, answered or
+/// refused; where nothing is due, the worker waits for a change at the queue, or a short while.
+///
+/// It ends where no arrival will follow and the queue is empty, or after so many turns.
+pub fn deliver<
+    H: Wait + time::Clock,
+    A: Opening,
+    T: Ledger,
+    U: Ledger,
+    S: RowStore<Addressed<Letter>>,
+    L: Link,
+    C: Clock,
+>(
+    rt: &H,
+    alloc: Global,
+    shared: &Shared<A, T, U, S>,
+    station: &mut Station<T, U>,
+    link: &mut L,
+    d: u32,
+    clock: &mut C,
+    turns: u64,
+) -> DeliverReport
+    // The attempts are the takes of this station, and none is settled twice.
+    ensures taken { station.new.takes ≡ station.old.takes + result.taken }
+    ensures settled { (station.old.settlements ≤ station.new.settlements) × (station.new.settlements ≤ station.old.settlements + result.taken) }
+    ensures turns { result.taken ≤ turns }
+
+    // Each attempt is counted by what it came to: where it was sent, by the answers that were read next of its connection.
+    ensures sum { result.taken ≡ result.delivered + result.again + result.rejected }
+    ensures attempts { Delivers (L.sent link.old) (L.sent link.new) (L.received link.old) (L.received link.new) result }
+{
+    let mut connection = Connection::new(alloc);
+    let mut report = DeliverReport::new();
+    'turns: for _ in 0..turns {
+        // An arrival before this note is seen by the take after it.
+        let is_finished = shared.is_finished();
+        match take_turn(rt, shared, station, &mut connection, link, d, clock) {
+            Ok(outcome) => report.count(outcome),
+            Err(TakeRefusal::Idle) if is_finished => {
+                report.end = DeliverEnd::Drained;
+                return report;
+            }
+            Err(_) => shared.bell(rt, d),
+        }
+    }
+    report
+}
