@@ -34,13 +34,13 @@ module _ (conn : ℕ) (c : Connection) (new : List Answer) where
   abbrev first : ℕ
   first = 1 + length (dues c.answers)
 
-  next_number : (d : Connection) → d.answers ≡ c.answers ++ new → 1 + length (dues d.answers) ≡ first + length (dues new)
+  pub next_number : (d : Connection) → d.answers ≡ c.answers ++ new → 1 + length (dues d.answers) ≡ first + length (dues new)
   next_number d grown =
       let size : length (dues d.answers) ≡ length (dues c.answers) + length (dues new) =
       ap (λ l. length (dues l)) grown ∙ ap length (dues-append c.answers new) ∙ length-append (dues c.answers) (dues new) in
       omega arith
 
-  sent_more : (d : Connection) (ds : List Due) → d.answers ≡ c.answers ++ new → d.output ≡ c.output ++ numbered conn first (dues new)
+  pub sent_more : (d : Connection) (ds : List Due) → d.answers ≡ c.answers ++ new → d.output ≡ c.output ++ numbered conn first (dues new)
       → d.output ++ numbered conn (1 + length (dues d.answers)) ds ≡ c.output ++ numbered conn first (dues new ++ ds)
   sent_more d ds grown output =
       ap (λ n. d.output ++ numbered conn n ds) (next_number d grown)

@@ -10,3 +10,5 @@ pub mod Handled
 pub mod PieceRead
 pub mod Worlds
 pub mod Conversely
+pub mod Stretches
+pub mod Channels

@@ -24,6 +24,16 @@ steps_of h = map step_of h.entries
 pub record KeepsTo (channels : List ℕ) (entries : List Entry) : Type 0 where
   pub keeps : (place conn channel : ℕ) (raw : List ℕ) (told : Told) → slice_get entries place ≡ Some (Arrival conn channel raw told) → slice_get channels conn ≡ Some channel
 
+-- no connection has arrivals on two channels in these
+pub record KeepToOne (entries : List Entry) : Type 0 where
+  pub same : (place later conn channel other : ℕ) (raw text : List ℕ) (told reply : Told)
+      → slice_get entries place ≡ Some (Arrival conn channel raw told) → slice_get entries later ≡ Some (Arrival conn other text reply) → channel ≡ other
+
+-- there are channels to which the connections keep in these
+pub record HaveChannels (entries : List Entry) : Type 0 where
+  pub channels : List ℕ
+  pub keep : KeepsTo channels entries
+
 -- a run by these steps, from the opening of this history on, has this history
 pub record IsRunOf (steps : List Turn) (h : History) (channels : List ℕ) : Type 0 where
   pub run : Run

@@ -1,0 +1,45 @@
+//! Plays a script of steps of the whole engine on one thread: a line of standard input is a call, and standard output has
+//! that line and what came of it. Empty lines and those that begin with `#` are written as they are. Words stand between
+//! spaces. Bytes that aren't seen have names, as `<VT>`, and `<>` is nothing. A moment is in seconds since 1970.
+//!
+//! - `world PLAN EVENTS CHANNEL,..`: a new world, of the plan `built-in` or of that in a file, which may book so many
+//!   entries, with a connection on each of these channels.
+//!
+//! Steps tell the entries that they added, and what connections were sent:
+//!
+//! - `chunk CONN MOMENT BYTES`: a piece of its stream comes on a connection.
+//! - `letters CONN MOMENT COUNT`: a piece of so many letters comes.
+//! - `pieces LEN CONN MOMENT BYTES`: these bytes come in pieces of a length, as one run of steps.
+//! - `take D MOMENT`: the front of a destination's queue is taken.
+//! - `settle NUMBER D ATTEMPT OUTCOME MOMENT`: an attempt is settled, as `delivered`, `again` or `rejected`.
+//! - `cancel NUMBER`: a message is cancelled.
+//!
+//! Questions:
+//!
+//! - `output CONN` and `ended CONN`: all that a connection was sent, and whether it has ended.
+//! - `slot NUMBER D`: the slot of a message at a destination.
+//! - `channel CHANNEL` and `destination D`: what was counted there.
+//! - `entries`: how many entries there are.
+//! - `steps`: the steps by which the history of the book comes.
+#![tactic(auto)]
+
+mod shown;
+mod stage;
+mod words;
+
+use anyhow::Result;
+use stage::Stage;
+
+fn main(rt: HostRuntime) -> Result<()> {
+    let alloc = rt.alloc();
+    let mut stage = Stage::new(&rt)?;
+    for line in rt.lines(alloc) {
+        let line = line?;
+        println!(rt; "{line}")?;
+        if line.is_empty() || line.starts_with('#') {
+            continue;
+        }
+        print!(rt; "{}", stage.play(&rt, line.as_str())?)?;
+    }
+    Ok(())
+}

@@ -1,0 +1,84 @@
+//! How entries, steps and replies are written.
+
+use dest_queue::Outcome;
+use engine_model::Step;
+use event_log::{Entry, Ticket};
+use hl7_head::Moment;
+use play_script::shown;
+use std::alloc::{AllocError, Global};
+
+/// An attempt that is settled.
+fn settlement_shown(
+    alloc: Global,
+    ticket: &Ticket,
+    outcome: Outcome,
+    now: Moment,
+) -> Result<String, AllocError> {
+    format!(in alloc;
+        "settle {} {} {} {outcome:?} at {}",
+        ticket.number,
+        ticket.destination,
+        ticket.attempt,
+        now.secs()
+    )
+}
+
+/// An entry.
+pub fn entry_shown(alloc: Global, entry: &Entry) -> Result<String, AllocError> {
+    match entry {
+        Entry::Arrival {
+            conn,
+            channel,
+            raw,
+            told,
+        } => format!(in alloc;
+            "arrival by {conn} on {channel}, {} bytes, {told:?}",
+            raw.as_slice().len()
+        ),
+        Entry::Take { ticket, now } => format!(in alloc;
+            "take {} {} {} at {}",
+            ticket.number,
+            ticket.destination,
+            ticket.attempt,
+            now.secs()
+        ),
+        Entry::Settle {
+            ticket,
+            outcome,
+            now,
+            state,
+        } => {
+            let settlement = settlement_shown(alloc, ticket, *outcome, *now)?;
+            format!(in alloc; "{settlement}, {state:?}")
+        }
+        Entry::Cancel { number, mask } => format!(in alloc; "cancel {number}, mask {mask}"),
+    }
+}
+
+/// A step.
+pub fn step_shown(alloc: Global, step: &Step) -> Result<String, AllocError> {
+    match step {
+        Step::Chunk { conn, bytes, now } => {
+            let piece = shown(alloc, bytes)?;
+            format!(in alloc; "chunk on {conn} at {}: {piece}", now.secs())
+        }
+        Step::Take { d, now } => format!(in alloc; "take {d} at {}", now.secs()),
+        Step::Settle {
+            ticket,
+            outcome,
+            now,
+        } => settlement_shown(alloc, ticket, *outcome, *now),
+        Step::Cancel { number } => format!(in alloc; "cancel {number}"),
+    }
+}
+
+/// Bytes that a connection was sent, a block a line.
+pub fn sent_shown(alloc: Global, conn: u32, bytes: &[u8]) -> Result<String, AllocError> {
+    if bytes.is_empty() {
+        return Ok(String::new(alloc));
+    }
+    let next = format!(in alloc; "<FS><CR>\n  to {conn}: <VT>")?;
+    let blocks = shown(alloc, bytes)?;
+    let lines = blocks.replace(alloc, "<FS><CR><VT>", next.as_str())?;
+    format!(in alloc; "  to {conn}: {lines}\n")
+}

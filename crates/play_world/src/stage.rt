@@ -1,0 +1,271 @@
+//! The world of a script, and the answers to its calls.
+
+ghost use Rattle.std.specs.Prelude.{◌<◌, All, IsTrue};
+
+use crate::shown::{entry_shown, sent_shown, step_shown};
+use crate::words::{moment, number, numbers, outcome, ticket, word};
+use anyhow::{Result, bail};
+use book_core::{EVENTS_MAX, Letter};
+use dest_queue::Addressed;
+use engine_model::{Step, World, steps_of};
+use plan_text::Plan;
+use play_script::bytes_of;
+use row_store::PlainRows;
+use stat_count::{CHANNELS, DESTINATIONS};
+use std::alloc::{AllocError, Global};
+use std::fs;
+use std::hash::RandomState;
+use std::str::SplitWhitespace;
+use std::sync::Arc;
+
+/// A world, and how much of it was told: so many entries, and of each connection so many bytes that it was sent.
+#[derive(Drop)]
+pub struct Stage {
+    alloc: Global,
+    world: World<PlainRows<Addressed<Letter>>>,
+    entries: usize,
+    sent: Vec<usize>,
+}
+
+/// A plan by the name of its file, or the built-in one.
+fn plan_named(rt: &HostRuntime, name: &str) -> Result<Plan> {
+    let alloc = rt.alloc();
+    if name == "built-in" {
+        return Ok(Plan::built_in(alloc)?);
+    }
+    let text = fs::read(rt, name)?;
+    match Plan::read(alloc, &text) {
+        Ok(plan) => Ok(plan),
+        Err(fault) => bail!("{fault}"),
+    }
+}
+
+/// Whether these are channels of a plan that has so many.
+fn are_known(channels: &[u32], count: u32) -> bool
+    ensures { IsTrue result → All (λ channel. channel < count) channels.now }
+{
+    channels.iter().all(|channel| *channel < count)
+}
+
+impl Stage {
+    /// A world of the built-in plan without connections.
+    pub fn new(rt: &HostRuntime) -> Result<Stage> {
+        Stage::on(rt, "built-in", EVENTS_MAX, &[])
+    }
+
+    /// A world of the plan of this name that may book so many entries, with a connection on each of these channels.
+    fn on(rt: &HostRuntime, name: &str, events_max: u32, channels: &[u32]) -> Result<Stage> {
+        let alloc = rt.alloc();
+        let plan = Arc::new(alloc, plan_named(rt, name)?)?;
+        if events_max == 0 || events_max > EVENTS_MAX || !are_known(channels, plan.channels()) {
+            bail!("there is no such world");
+        }
+        Ok(Stage {
+            alloc,
+            world: World::new(alloc, plan, channels, events_max, RandomState::new(rt)?)?,
+            entries: 0,
+            sent: vec![in alloc; 0; channels.len()]?,
+        })
+    }
+
+    /// Makes the call that a line says, and gives what came of it as lines of text.
+    pub fn play(&mut self, rt: &HostRuntime, line: &str) -> Result<String> {
+        let mut words = line.split_whitespace();
+        match word(&mut words)? {
+            "world" => self.open(rt, &mut words),
+            "chunk" => self.chunk(&mut words),
+            "letters" => self.letters(&mut words),
+            "pieces" => self.pieces(&mut words),
+            "take" => self.take(&mut words),
+            "settle" => self.settle(&mut words),
+            "cancel" => self.cancel(&mut words),
+            question => self.asked(question, &mut words),
+        }
+    }
+
+    /// The answer to a question.
+    fn asked(&self, question: &str, words: &mut SplitWhitespace<'_>) -> Result<String> {
+        match question {
+            "output" => self.output(words),
+            "ended" => self.ended(words),
+            "slot" => self.slot(words),
+            "channel" => self.channel(words),
+            "destination" => self.destination(words),
+            "entries" => self.entries(),
+            "steps" => self.steps(),
+            _ => bail!("{question} is no call"),
+        }
+    }
+
+    /// A new world.
+    fn open(&mut self, rt: &HostRuntime, words: &mut SplitWhitespace<'_>) -> Result<String> {
+        let name = word(words)?;
+        let events_max = number(words)?;
+        let channels = numbers(self.alloc, words)?;
+        *self = Stage::on(rt, name, events_max, &channels)?;
+        Ok(String::new(self.alloc))
+    }
+
+    /// A piece comes.
+    fn chunk(&mut self, words: &mut SplitWhitespace<'_>) -> Result<String> {
+        let conn = number(words)?;
+        let now = moment(words)?;
+        let bytes = bytes_of(self.alloc, word(words)?)?;
+        self.step(Step::Chunk { conn, bytes, now })
+    }
+
+    /// A piece of letters comes.
+    fn letters(&mut self, words: &mut SplitWhitespace<'_>) -> Result<String> {
+        let conn = number(words)?;
+        let now = moment(words)?;
+        let bytes = vec![in self.alloc; b'A'; number(words)? as usize]?;
+        self.step(Step::Chunk { conn, bytes, now })
+    }
+
+    /// Bytes come in pieces of a length.
+    fn pieces(&mut self, words: &mut SplitWhitespace<'_>) -> Result<String> {
+        let alloc = self.alloc;
+        let len = number(words)?.max(1) as usize;
+        let conn = number(words)?;
+        let now = moment(words)?;
+        let stream = bytes_of(alloc, word(words)?)?;
+        let mut steps = Vec::new(alloc);
+        for piece in stream.chunks(len) {
+            let bytes = Vec::from_slice(alloc, piece)?;
+            steps.push(Step::Chunk { conn, bytes, now })?;
+        }
+        self.world.run(&steps);
+        self.news()
+    }
+
+    /// The front of a queue is taken.
+    fn take(&mut self, words: &mut SplitWhitespace<'_>) -> Result<String> {
+        let d = number(words)?;
+        let now = moment(words)?;
+        self.step(Step::Take { d, now })
+    }
+
+    /// An attempt is settled.
+    fn settle(&mut self, words: &mut SplitWhitespace<'_>) -> Result<String> {
+        let ticket = ticket(words)?;
+        let outcome = outcome(words)?;
+        let now = moment(words)?;
+        self.step(Step::Settle {
+            ticket,
+            outcome,
+            now,
+        })
+    }
+
+    /// A message is cancelled.
+    fn cancel(&mut self, words: &mut SplitWhitespace<'_>) -> Result<String> {
+        let number = number(words)?;
+        self.step(Step::Cancel { number })
+    }
+
+    /// What came of a step.
+    fn step(&mut self, step: Step) -> Result<String> {
+        self.world.step(step);
+        self.news()
+    }
+
+    /// The entries that weren't told yet, and what connections were sent since then.
+    fn news(&mut self) -> Result<String> {
+        let entries = self.new_entries()?;
+        let sent = self.newly_sent()?;
+        Ok(format!(in self.alloc; "{entries}{sent}")?)
+    }
+
+    /// The entries that weren't told yet.
+    fn new_entries(&mut self) -> Result<String, AllocError> {
+        let mut text = String::new(self.alloc);
+        let book = self.world.book();
+        for place in self.entries..book.len() {
+            if let Some(entry) = book.entry(place) {
+                let entry = entry_shown(self.alloc, entry)?;
+                let line = format!(in self.alloc; "  entry {place}: {entry}\n")?;
+                text.push_str(line.as_str())?;
+            }
+        }
+        self.entries = book.len();
+        Ok(text)
+    }
+
+    /// What connections were sent that wasn't told yet.
+    fn newly_sent(&mut self) -> Result<String, AllocError> {
+        let mut text = String::new(self.alloc);
+        for (conn, told) in self.sent.iter_mut().enumerate() {
+            let conn = u32::try_from(conn).unwrap_or(u32::MAX);
+            let output = self.world.output(conn);
+            let lines = sent_shown(self.alloc, conn, output.get(*told..).unwrap_or(&[]))?;
+            text.push_str(lines.as_str())?;
+            *told = output.len();
+        }
+        Ok(text)
+    }
+
+    /// All that a connection was sent.
+    fn output(&self, words: &mut SplitWhitespace<'_>) -> Result<String> {
+        let conn = number(words)?;
+        Ok(sent_shown(self.alloc, conn, self.world.output(conn))?)
+    }
+
+    /// Whether a connection has ended.
+    fn ended(&self, words: &mut SplitWhitespace<'_>) -> Result<String> {
+        let conn = number(words)?;
+        Ok(format!(in self.alloc; "  {}\n", self.world.ended(conn))?)
+    }
+
+    /// The slot of a message at a destination.
+    fn slot(&self, words: &mut SplitWhitespace<'_>) -> Result<String> {
+        let message = number(words)?;
+        let d = number(words)?;
+        match self.world.book().status(message, d) {
+            Some(state) => Ok(format!(in self.alloc; "  {state:?}\n")?),
+            None => Ok(format!(in self.alloc; "  no slot\n")?),
+        }
+    }
+
+    /// What was counted of a channel.
+    fn channel(&self, words: &mut SplitWhitespace<'_>) -> Result<String> {
+        let channel = number(words)?;
+        if channel >= CHANNELS {
+            bail!("no book counts channel {channel}");
+        }
+        let counts = self.world.book().counts().channel(channel);
+        Ok(format!(in self.alloc;
+            "  received {}, filtered {}, accepted {}, refused {}, repeats {}\n",
+            counts.received, counts.filtered, counts.accepted, counts.refused, counts.repeats
+        )?)
+    }
+
+    /// What was counted of a destination.
+    fn destination(&self, words: &mut SplitWhitespace<'_>) -> Result<String> {
+        let d = number(words)?;
+        if d >= DESTINATIONS {
+            bail!("no book counts destination {d}");
+        }
+        let counts = self.world.book().counts().destination(d);
+        Ok(format!(in self.alloc;
+            "  waiting {}, inflight {}, delivered {}, failed {}, attempts {}\n",
+            counts.waiting, counts.inflight, counts.delivered, counts.failed, counts.attempts
+        )?)
+    }
+
+    /// How many entries there are.
+    fn entries(&self) -> Result<String> {
+        Ok(format!(in self.alloc; "  {}\n", self.world.book().len())?)
+    }
+
+    /// The steps by which the history of the book comes.
+    fn steps(&self) -> Result<String> {
+        let alloc = self.alloc;
+        let mut text = String::new(alloc);
+        for step in &steps_of(alloc, self.world.book())? {
+            let step = step_shown(alloc, step)?;
+            let line = format!(in alloc; "  {step}\n")?;
+            text.push_str(line.as_str())?;
+        }
+        Ok(text)
+    }
+}
