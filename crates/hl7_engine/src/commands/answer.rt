@@ -14,7 +14,8 @@ use conn_worker::{Clock, Counted, Running, ServeEnd, ServeReport, Still, TURNS_M
 use dest_queue::Addressed;
 use hl7_head::Moment;
 use plan_text::Plan;
-use row_store::{PlainRows, RowStore};
+use record_list::RecordList;
+use row_store::RowStore;
 use std::alloc::{AllocError, Global};
 use std::hash::RandomState;
 use std::io::{Read, Write};
@@ -27,8 +28,8 @@ const CONNECTION: u32 = 0;
 /// The channel that it is served for, by its place in the plan.
 const CHANNEL: u32 = 0;
 
-/// The book, with its rows in a plain store.
-type EngineBook = Book<PlainRows<Addressed<Letter>>>;
+/// The book, with its rows in linked nodes.
+type EngineBook = Book<RecordList<Addressed<Letter>>>;
 
 /// Answers a stream as connection 0 of the plan's first channel: each message is booked and acknowledged as its header
 /// asks (HL7 v2.5.1, 2.9.2 and 2.9.3). The replies to a piece are written and flushed before the next read waits.
