@@ -82,6 +82,16 @@ def wrong(program, folder):
         status, out, err = called(program, words)
         if (status, err) != (0, b'') or b'Usage: hl7_engine' not in out:
             lines.append(f'{words}: {(status, out, err)}, not the help')
+    # Devices that fail: a full disk takes no byte, and a folder can't be read.
+    with open('/dev/full', 'wb') as full:
+        ran = subprocess.run([program], input=ADMISSION, stdout=full, stderr=subprocess.PIPE, timeout=60)
+    if (ran.returncode, ran.stderr) != (3, b'device: write\n'):
+        lines.append(f'a full disk: {ran}')
+    unread = os.open(folder, os.O_RDONLY)
+    ran = subprocess.run([program], stdin=unread, capture_output=True, timeout=60)
+    os.close(unread)
+    if (ran.returncode, ran.stdout, ran.stderr) != (3, b'', b'device: read\n'):
+        lines.append(f'a folder as standard input: {ran}')
     return lines
 
 

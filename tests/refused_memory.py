@@ -1,0 +1,90 @@
+#!/usr/bin/env python3
+"""Gives the built program less and less memory, and compares what it writes with what it writes when it has enough.
+
+Usage: tests/refused_memory.py [PROGRAM]
+
+PROGRAM is the built program, crates/hl7_engine/out/hl7_engine where left out. A message that finds no memory is answered
+CE with NoMemory where the reply finds some, and else the connection ends: what was written are whole blocks, each the one
+that is due or that refusal, the status is 3 and the line is 'memory'. The exit status is 0 where it was so at each limit.
+Plain Python 3, no packages.
+"""
+import os
+import resource
+import subprocess
+import sys
+
+HERE = os.path.dirname(os.path.abspath(__file__))
+PROGRAM = os.path.join(HERE, '..', 'crates', 'hl7_engine', 'out', 'hl7_engine')
+MESSAGES = 400
+PAGE = 4_096
+
+
+def message(number):
+    return (f'\x0bMSH|^~\\&|REG|HOSP|ENG|HUB|20231114221300||ADT^A01^ADT_A01|M{number}|P|2.5.1|||AL|NE\r'
+            f'PID|1||{"7" * (number % 300)}^^^H\r\x1c\r').encode()
+
+
+def answered(program, stream, limit=None):
+    """What a run with so many bytes of address space wrote: its status, standard output and standard error."""
+    def limited():
+        resource.setrlimit(resource.RLIMIT_AS, (limit, limit))
+    try:
+        ran = subprocess.run([program], input=stream, capture_output=True, timeout=60, preexec_fn=limited if limit else None)
+    except (OSError, subprocess.SubprocessError):
+        return None
+    return ran.returncode, ran.stdout, ran.stderr
+
+
+def refused(reply, number):
+    """The refusal of a message for want of memory, in place of its acceptance."""
+    return reply.replace(b'MSA|CA|M%d\r' % number, b'MSA|CE|M%d|NoMemory\r' % number)
+
+
+def least_start(program):
+    """The least limit, in pages, at which the program starts: it answers nothing, or tells that it wants memory."""
+    low, high = 0, 1 << 16
+    while low < high:
+        middle = (low + high) // 2
+        ran = answered(program, b'', middle * PAGE)
+        if ran is not None and (ran[0] == 0 or ran[2] == b'memory\n'):
+            high = middle
+        else:
+            low = middle + 1
+    return low
+
+
+def main():
+    program = os.path.abspath(sys.argv[1] if len(sys.argv) > 1 else PROGRAM)
+    stream = b''.join(message(number) for number in range(MESSAGES))
+    status, whole, _ = answered(program, stream)
+    replies = [part + b'\x1c\r' for part in whole.split(b'\x1c\r')[:-1]]
+    if (status, len(replies)) != (0, MESSAGES):
+        print(f'with all memory: status {status}, {len(replies)} replies')
+        return 1
+    first, lines, ends, refusals = least_start(program), [], set(), 0
+    pages, enough = first, 0
+    while enough < 3 and pages < first + 4_000:
+        ran = answered(program, stream, pages * PAGE)
+        if ran is None:
+            lines.append(f'{pages} pages: no answer')
+            break
+        status, out, err = ran
+        told = [part + b'\x1c\r' for part in out.split(b'\x1c\r')]
+        rest = told.pop()[:-2]
+        right = all(got in (due, refused(due, number)) for number, (got, due) in enumerate(zip(told, replies)))
+        refusals += sum(b'|NoMemory\r' in got for got in told)
+        ends.add(len(told))
+        ended = (status, err) == (3, b'memory\n') or (status, err, len(told)) == (0, b'', MESSAGES)
+        if rest or not right or not ended:
+            lines.append(f'{pages} pages: status {status}, {err}, {len(told)} replies, {len(rest)} bytes of another')
+        enough = enough + 1 if out == whole else 0
+        pages += 1
+    for line in lines:
+        print(line)
+    print(f'{pages - first} limits from {first} pages on, {len(ends)} different ends, {refusals} messages refused: '
+          f'{"as it should be" if not lines and enough else "WRONG"}')
+    return 1 if lines or not enough else 0
+
+
+if __name__ == '__main__':
+    sys.exit(main())
