@@ -28,6 +28,13 @@ CLAIMS = (
      ['conn_worker.Serving.Serves', 'conn_core.Booking.Books', 'conn_worker.Faults.*']),
     ('A message at a book', 'the clause `told` of `answer_block`: `BookAnswers`, on top of `answer` and `is_full`',
      ['conn_core.Booking.BookAnswers']),
+    ('Delivering', 'the clause `attempts` of `deliver`: `Delivers`, on top of framing and of what a message is',
+     ['delivery_worker.Delivering.Delivers']),
+    ('A shared book', 'the clauses of `close` and `audit`: what adds up, which receipts are due, which fault is first',
+     ['book_lock.Rises.AddsUp', 'book_lock.Auditing.receipts_due', 'book_lock.Auditing.IsFirstFault']),
+    ('Every order of steps', 'the clauses of `World::run`, `World::promise` and `steps_of`: `Runs`, `KeepsItsWord` and '
+     '`IsRunOf`, on top of replies and of what a history is',
+     ['engine_model.Steps.Runs', 'engine_model.Promise.KeepsItsWord', 'engine_model.Converse.IsRunOf']),
     ('Reading a plan', 'the clause `text` of `Plan::read`: `plan_in`. What a TOML document says is the definition of the '
      "kit's crate toml",
      ['plan_text.Document.plan_in']),
