@@ -17,6 +17,7 @@ HERE = os.path.dirname(os.path.abspath(__file__))
 PROGRAM = os.path.join(HERE, '..', 'crates', 'hl7_engine', 'out', 'hl7_engine')
 MESSAGES = 400
 PAGE = 4_096
+SLACK = 64
 
 
 def message(number):
@@ -69,6 +70,10 @@ def main():
             lines.append(f'{pages} pages: no answer')
             break
         status, out, err = ran
+        if not out and status not in (0, 3) and pages < first + SLACK:
+            # Where the stack lies differs from run to run by some pages: the program may not start after all.
+            pages += 1
+            continue
         told = [part + b'\x1c\r' for part in out.split(b'\x1c\r')]
         rest = told.pop()[:-2]
         right = all(got in (due, refused(due, number)) for number, (got, due) in enumerate(zip(told, replies)))
