@@ -8,10 +8,8 @@ crates/bench_book builds it). It books messages and cancels them, and then tells
 took, and 500 takes, settlements and cancellations: first in a history of about 1,000 entries, and then in
 one of about a million. Half of the takes find their message at the front of all rows, and half behind the
 rows of all others. A call may cost at most BOUND times as much in the longer, whose memory no
-processor's cache holds: a cost that grows with the history would be near a thousand times. A take behind
-all others may cost BEHIND times as much: it looks its row up in the directory, a tree that is deeper by
-the logarithm, where the front's way through that tree stays in the cache. The runs in the two histories
-take turns, and the least cost of each counts. The exit status is 0 where the bounds are met, else 1.
+processor's cache holds: a cost that grows with the history would be near a thousand times. The runs in the two histories take turns, and the least cost of each counts. The
+exit status is 0 where the bounds are met, else 1.
 """
 import os
 import subprocess
@@ -22,7 +20,7 @@ PROGRAM = os.path.join(HERE, '..', 'crates', 'bench_book', 'out', 'bench_book')
 FEW, MANY = 500, 495_000
 CALLS = 500
 TIMES = 15
-BOUND, BEHIND = 1.5, 2
+BOUND = 1.5
 KINDS = {'arrive': 'arrive', 'take': 'take', 'settle': 'settle', 'behind': 'take, behind all', 'cancel': 'cancel'}
 
 
@@ -55,10 +53,9 @@ def main():
     missed = False
     for kind, title in KINDS.items():
         ratio = cost[MANY][kind] / max(cost[FEW][kind], 1)
-        bound = BEHIND if kind == 'behind' else BOUND
-        missed = missed or ratio > bound
-        print(f'{title:<16} at {entries(MANY):,} entries over that at {entries(FEW):,}: {ratio:.2f} (at most {bound})  '
-              f'{"ok" if ratio <= bound else "MISSED"}')
+        missed = missed or ratio > BOUND
+        print(f'{title:<16} at {entries(MANY):,} entries over that at {entries(FEW):,}: {ratio:.2f} (at most {BOUND})  '
+              f'{"ok" if ratio <= BOUND else "MISSED"}')
     print(f'cores: {os.cpu_count()}')
     return 1 if missed else 0
 

@@ -1,5 +1,5 @@
 -- The row of a number: its node, and what a change there does to the rows.
-use Rattle.std.proofs.Common.{◌≡◌, ℕ, ◌+◌, ◌||◌, Bool, true, false, cond, List, [], ◌∷◌, refl, ap, subst, arith, suc}
+use Rattle.std.proofs.Common.{◌≡◌, ◌≢◌, ℕ, ◌+◌, ◌||◌, Bool, true, false, cond, List, [], ◌∷◌, refl, ap, subst, arith, suc}
 use Rattle.std.specs.Prelude.{find}
 use Rattle.std.proofs.lemmas.Bool.Decides.{nat_tests}
 use Rattle.std.specs.declared.option.Option.TheVariants.{None, Some}
@@ -9,7 +9,7 @@ use Rattle.node_heap.specs.declared.nodes.Place.{Place}
 use Rattle.node_heap.proofs.Cut.{same_ptr_refl, same_ptr_eq}
 use Rattle.row_store.specs.declared.Row.{Row}
 use Rattle.row_store.specs.Rows.{NumbersRise, is_row, stands_in, is_linked, changed_at, removed}
-use Rattle.row_store.proofs.Places.{IsMissing, only_at, rest-missing, changed_at-missing, removed-missing, is_linked-missing}
+use Rattle.row_store.proofs.Places.{IsMissing, missing-tail, only_at, rest-missing, changed_at-missing, removed-missing, is_linked-missing}
 use Rattle.record_list.specs.declared.links.Node.{Node}
 use Rattle.record_list.specs.Chain.{place, rows_of, change_node}
 use Rattle.record_list.specs.Linked.{IsAway, IsApart, places}
@@ -22,6 +22,9 @@ rise-tail row rows rise = λ k inside.
 
 is_row-true : {T : Type 0} (n : ℕ) (row : Row T) → is_row n row ≡ true → row.number ≡ n
 is_row-true n row named = grind (arith, nat_tests)
+
+row-is : {T : Type 0} (n : ℕ) (row : Row T) → row.number ≡ n → is_row n row ≡ true
+row-is n row named = grind (arith, nat_tests)
 
 others-missing : {T : Type 0} (n : ℕ) (row : Row T) (rows : List (Row T)) → NumbersRise (row ∷ rows) → is_row n row ≡ true → IsMissing n rows
 others-missing n row rows rise named = rest-missing n row rows (only_at n 0 (row ∷ rows) rise (omega arith) (λ d. is_row-true n row named))
@@ -102,3 +105,30 @@ module _ {T : Type 0} where
           removed_is = rw other (ap (λ rs. h.node.row ∷ rs) on.removed_is);
         }
   ]) refl is
+
+  -- the number of a node that is held leads to its place
+  missing_held : (n : ℕ) (p : Ptr) (x : Node T) (hs : List (Held (Node T))) → IsMissing n (rows_of hs) → find_node p hs ≡ Some x → x.row.number ≢ n
+  missing_held n p x [] missing found = cc
+  missing_held n p x (h ∷ hs) missing found = (elim (same_ptr h.at p) as (λ y. same_ptr h.at p ≡ y → x.row.number ≢ n) [
+    | true ↦ λ t.
+        let is : Some h.node ≡ Some x = subst (λ (b : Bool). cond b (Some h.node) (find_node p hs) ≡ Some x) t found in
+        let node : h.node ≡ x = cc in
+        subst (λ (y : Node T). y.row.number ≢ n) node (missing 0 h.node.row (omega arith))
+    | false ↦ λ t. missing_held n p x hs (missing-tail n h.node.row (rows_of hs) missing) (subst (λ (b : Bool). cond b (Some h.node) (find_node p hs) ≡ Some x) t found)
+  ]) refl
+
+  pub listed_held : (at : Place) (x : Node T) (hs : List (Held (Node T))) → NumbersRise (rows_of hs) → find_node at.ptr hs ≡ Some x → place_of x.row.number (listed hs) ≡ Some at
+  listed_held at x [] rise found = cc
+  listed_held at x (h ∷ hs) rise found = (elim (same_ptr h.at at.ptr) as (λ y. same_ptr h.at at.ptr ≡ y → place_of x.row.number (listed (h ∷ hs)) ≡ Some at) [
+    | true ↦ λ t.
+        let is : Some h.node ≡ Some x = subst (λ (b : Bool). cond b (Some h.node) (find_node at.ptr hs) ≡ Some x) t found in
+        let node : h.node ≡ x = cc in
+        let here : is_row x.row.number h.node.row ≡ true = row-is x.row.number h.node.row (ap (λ y. y.row.number) node) in
+        rw here (ap (λ q. Some (place q)) (same_ptr_eq h.at at.ptr t))
+    | false ↦ λ t.
+        let on = subst (λ (b : Bool). cond b (Some h.node) (find_node at.ptr hs) ≡ Some x) t found in
+        (elim (is_row x.row.number h.node.row) as (λ b. is_row x.row.number h.node.row ≡ b → place_of x.row.number (listed (h ∷ hs)) ≡ Some at) [
+          | true ↦ λ named. absurd (missing_held x.row.number at.ptr x hs (others-missing x.row.number h.node.row (rows_of hs) rise named) on refl)
+          | false ↦ λ other. rw other (listed_held at x hs (rise-tail h.node.row (rows_of hs) rise) on)
+        ]) refl
+  ]) refl

@@ -1,6 +1,6 @@
 -- The links of a new last node are written one by one.
-use Rattle.std.proofs.Common.{◌≡◌, ◌≢◌, ◌≤◌, ◌<◌, ◌+◌, ◌==◌, ℕ, zero, suc, Bool, true, false, List, length, slice_index_or, slice_set, replicate, refl, sym, ap, ◌∙◌, subst, arith}
-use Rattle.std.proofs.lemmas.List.{get_or-set_other, get_or-set_same}
+use Rattle.std.proofs.Common.{◌≡◌, ◌≢◌, ◌≤◌, ◌<◌, ◌+◌, ◌==◌, ℕ, Bool, true, false, List, slice_index_or, slice_set, refl, sym, ap, ◌∙◌, subst, arith}
+use Rattle.std.proofs.lemmas.List.{get_or-set_other}
 use Rattle.std.specs.declared.option.Option.{Option}
 use Rattle.std.specs.declared.option.Option.TheVariants.{None, Some}
 use Rattle.node_heap.specs.declared.nodes.Place.{Place}
@@ -8,48 +8,45 @@ use Rattle.record_list.specs.declared.link_table.Link.{Link}
 use Rattle.record_list.specs.Chain.{link}
 use Rattle.std.specs.Option.{is_some}
 use Rattle.record_list.specs.Stands.{stands, new_link}
+use Rattle.record_list.proofs.Change.{set_some}
 use Rattle.record_list.proofs.Entering.{differ, same}
 
-abbrev no_link : Option Link
-no_link = None
-
-pub no_links : (n d : ℕ) → slice_index_or (replicate n no_link) d None ≡ None
-no_links zero d = refl
-no_links (suc n) zero = refl
-no_links (suc n) (suc d) = no_links n d
-
+-- the links of a node that stands alone in each chain, and below d what they become
 module _ (mask : ℕ) (tails : List (Option Place)) where
   abbrev pub Written : ℕ → List (Option Link) → Type 0
-  Written d ls = ((e : ℕ) → e < d → slice_index_or ls e None ≡ new_link (stands e mask) (slice_index_or tails e None)) × ((e : ℕ) → d ≤ e → slice_index_or ls e None ≡ None)
+  Written d ls = ((e : ℕ) → e < d → slice_index_or ls e None ≡ new_link (stands e mask) (slice_index_or tails e None)) × ((e : ℕ) → d ≤ e → e < 33 → slice_index_or ls e None ≡ new_link (stands e mask) None)
 
-  pub links_set : (d : ℕ) (ls ks : List (Option Link)) → Written d ls → d < length ls → stands d mask ≡ true → ks ≡ slice_set ls d (Some (link (slice_index_or tails d None) None)) → Written (d + 1) ks
+  below : (e d : ℕ) → e < d + 1 → e ≢ d → e < d
+  below e d lt ne = omega (arith, lt, ne)
+
+  above : (e d : ℕ) → d + 1 ≤ e → e ≢ d
+  above e d le p = omega (arith, le, p)
+
+  alone_at : (d : ℕ) (ls : List (Option Link)) → Written d ls → d < 33 → (y : Bool) → stands d mask ≡ y → slice_index_or ls d None ≡ new_link y None
+  alone_at d ls w lt y is = w.1 d (omega arith) lt ∙ ap (λ b. new_link b None) is
+
+  pub links_stand : (d : ℕ) (ls : List (Option Link)) → Written d ls → d < 33 → stands d mask ≡ true → is_some (slice_index_or ls d None) ≡ true
+  links_stand d ls w lt y = ap is_some (alone_at d ls w lt true y)
+
+  pub links_set : (d : ℕ) (ls ks : List (Option Link)) → Written d ls → d < 33 → stands d mask ≡ true → ks ≡ slice_set ls d (Some (link (slice_index_or tails d None) None)) → Written (d + 1) ks
   links_set d ls ks w lt y is = (
     λ e le. (elim (e == d) as (λ b. (e == d) ≡ b → slice_index_or ks e None ≡ new_link (stands e mask) (slice_index_or tails e None)) [
       | true ↦ λ q. subst (λ k. slice_index_or ks k None ≡ new_link (stands k mask) (slice_index_or tails k None)) (sym (same e d q))
-          (ap (λ l. slice_index_or l d None) is ∙ get_or-set_same ls d (Some (link (slice_index_or tails d None) None)) None lt ∙ sym (ap (λ b. new_link b (slice_index_or tails d None)) y))
+          (ap (λ l. slice_index_or l d None) is ∙ set_some ls d (link None None) (Some (link (slice_index_or tails d None) None)) (alone_at d ls w lt true y) ∙ sym (ap (λ b. new_link b (slice_index_or tails d None)) y))
       | false ↦ λ q. ap (λ l. slice_index_or l e None) is ∙ get_or-set_other ls d e (Some (link (slice_index_or tails d None) None)) None (differ e d q) ∙ w.0 e (below e d le (differ e d q))
     ]) refl,
-    λ e le. ap (λ l. slice_index_or l e None) is ∙ get_or-set_other ls d e (Some (link (slice_index_or tails d None) None)) None (above e d le) ∙ w.1 e (omega (arith, le)),
+    λ e le more. ap (λ l. slice_index_or l e None) is ∙ get_or-set_other ls d e (Some (link (slice_index_or tails d None) None)) None (above e d le) ∙ w.1 e (omega (arith, le)) more,
   )
-    where
-      below : (e d : ℕ) → e < d + 1 → e ≢ d → e < d
-      below e d lt ne = omega (arith, lt, ne)
 
-      above : (e d : ℕ) → d + 1 ≤ e → e ≢ d
-      above e d le p = omega (arith, le, p)
-
-  pub links_skip : (d : ℕ) (ls ks : List (Option Link)) → Written d ls → stands d mask ≡ false → ks ≡ ls → Written (d + 1) ks
-  links_skip d ls ks w y is = (
+  pub links_skip : (d : ℕ) (ls ks : List (Option Link)) → Written d ls → d < 33 → stands d mask ≡ false → ks ≡ ls → Written (d + 1) ks
+  links_skip d ls ks w lt y is = (
     λ e le. (elim (e == d) as (λ b. (e == d) ≡ b → slice_index_or ks e None ≡ new_link (stands e mask) (slice_index_or tails e None)) [
       | true ↦ λ q. subst (λ k. slice_index_or ks k None ≡ new_link (stands k mask) (slice_index_or tails k None)) (sym (same e d q))
-          (ap (λ l. slice_index_or l d None) is ∙ w.1 d (omega arith) ∙ sym (ap (λ b. new_link b (slice_index_or tails d None)) y))
+          (ap (λ l. slice_index_or l d None) is ∙ alone_at d ls w lt false y ∙ sym (ap (λ b. new_link b (slice_index_or tails d None)) y))
       | false ↦ λ q. ap (λ l. slice_index_or l e None) is ∙ w.0 e (below e d le (differ e d q))
     ]) refl,
-    λ e le. ap (λ l. slice_index_or l e None) is ∙ w.1 e (omega (arith, le)),
+    λ e le more. ap (λ l. slice_index_or l e None) is ∙ w.1 e (omega (arith, le)) more,
   )
-    where
-      below : (e d : ℕ) → e < d + 1 → e ≢ d → e < d
-      below e d lt ne = omega (arith, lt, ne)
 
 pub is_new : (b : Bool) (t : Option Place) → is_some (new_link b t) ≡ b
 is_new true t = refl

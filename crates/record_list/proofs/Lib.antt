@@ -11,4 +11,5 @@ pub mod Leave
 pub mod Listing
 pub mod Packing
 pub mod Store
+pub mod Table
 pub mod Thread

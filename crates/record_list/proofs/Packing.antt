@@ -18,3 +18,9 @@ link_written (t ∷ ss) [] zero s e = refl
 link_written (t ∷ ss) [] (suc d) s e = refl
 link_written (t ∷ ss) (x ∷ es) zero s e = refl
 link_written (t ∷ ss) (x ∷ es) (suc d) s e = ap (λ l. link_of t x ∷ l) (link_written ss es d s e)
+
+pub link_kept : (ss : List Seat) (es : List Ends) (d : ℕ) (s : Seat) (e : Ends) → d < length ss → d < length es → slice_index_or (links_of (slice_set ss d s) (slice_set es d e)) d None ≡ link_of s e
+link_kept [] es d s e a b = absurd (omega (arith, a))
+link_kept (t ∷ ss) [] d s e a b = absurd (omega (arith, b))
+link_kept (t ∷ ss) (x ∷ es) zero s e a b = refl
+link_kept (t ∷ ss) (x ∷ es) (suc d) s e a b = link_kept ss es d s e (omega (arith, a)) (omega (arith, b))

@@ -1,5 +1,5 @@
 -- The rows' numbers, each with the place of its node.
-use Rattle.std.specs.Prelude.{ℕ, ◌==◌, cond, List, [], ◌∷◌, map}
+use Rattle.std.specs.Prelude.{◌≡◌, ℕ, ◌==◌, cond, List, [], ◌∷◌, map}
 use Rattle.std.specs.declared.option.Option.{Option}
 use Rattle.std.specs.declared.option.Option.TheVariants.{None, Some}
 use Rattle.node_heap.specs.Held.{Held}
@@ -16,6 +16,11 @@ place_of number (e ∷ es) = cond (e.0 == number) (Some e.1) (place_of number es
 abbrev pub without_number : ℕ → List (ℕ × Place) → List (ℕ × Place)
 without_number number [] = []
 without_number number (e ∷ es) = cond (e.0 == number) es (e ∷ without_number number es)
+
+-- the entry, if there is one, is what the list tells of its number
+abbrev pub IsListed : Option (ℕ × Place) → List (ℕ × Place) → Type 0
+IsListed None es = Unit {0}
+IsListed (Some e) es = place_of e.0 es ≡ Some e.1
 
 -- the numbers of the nodes' rows, with their places
 abbrev pub listed : {T : Type 0} → List (Held (Node T)) → List (ℕ × Place)

@@ -1,5 +1,7 @@
 -- How a node's links are kept.
-use Rattle.std.specs.Prelude.{List, [], ◌∷◌}
+use Rattle.std.specs.Prelude.{ℕ, ◌-◌, ◌==◌, nat_lt, if◌then◌else◌, List, [], ◌∷◌, map, slice_index_or}
+use Rattle.std.specs.Global.{Box}
+use Rattle.std.specs.List.{range_with_len}
 use Rattle.std.specs.declared.option.Option.{Option}
 use Rattle.std.specs.declared.option.Option.TheVariants.{None, Some}
 use Rattle.record_list.specs.declared.link_table.Link.{Link}
@@ -19,3 +21,20 @@ abbrev pub links_of : List Seat → List Ends → List (Option Link)
 links_of [] es = []
 links_of (s ∷ ss) [] = []
 links_of (s ∷ ss) (e ∷ es) = link_of s e ∷ links_of ss es
+
+-- the links in other queues, where there is a block of them
+abbrev pub others_of : Option (Box (List (Option Link))) → List (Option Link)
+others_of None = []
+others_of (Some block) = block.value
+
+-- the slot of queue d among all queues but one
+abbrev pub slot_of : ℕ → ℕ → ℕ
+slot_of queue d = if nat_lt d queue then d else d - 1
+
+-- the link in the chain d: of the row among all rows, in its first queue, or in one of the others
+abbrev pub link_in : ℕ → Option Link → List (Option Link) → Option Link → ℕ → Option Link
+link_in queue first others row d = if d == 32 then row else if d == queue then first else slice_index_or others (slot_of queue d) None
+
+-- the links in the 33 chains
+abbrev pub table_of : ℕ → Option Link → List (Option Link) → Option Link → List (Option Link)
+table_of queue first others row = map (link_in queue first others row) (range_with_len 0 33)

@@ -1,6 +1,7 @@
 //! Where the node of each row lies.
 
 ghost use Rattle.std.specs.Prelude.{◌≡◌, ◌<◌, [], ◌∷◌, ◌++◌, All, OnOk, OnErr, length};
+ghost use Rattle.std.specs.declared.option.Option.TheVariants.{Some};
 ghost use Rattle.record_list.specs.Listed.{place_of, without_number};
 
 use node_heap::Place;
@@ -8,10 +9,12 @@ use std::alloc::{AllocError, Global};
 use std::collections::BTreeMap;
 use std::marker::Model;
 
-/// The places of the rows' nodes by the rows' numbers, in rising order.
+/// The places of the rows' nodes by the rows' numbers, in rising order, and the row that was asked for last, which is
+/// found again with no look into the map.
 #[derive(Drop)]
 pub struct Directory {
     places: BTreeMap<u32, Place>,
+    latest: Option<(u32, Place)>,
 }
 
 impl Model for Directory {
@@ -20,7 +23,11 @@ impl Model for Directory {
 
     ghost Value = { List (ℕ × Place) };
 
+    ghost use Rattle.record_list.specs.Listed.{IsListed};
+
     ghost view = { λ s. s.places.entries };
+
+    ghost invariant = { λ s. IsListed s.latest s.places.entries };
 }
 
 impl Directory {
@@ -30,6 +37,7 @@ impl Directory {
     {
         Directory {
             places: BTreeMap::new(alloc),
+            latest: None,
         }
     }
 
@@ -37,7 +45,28 @@ impl Directory {
     pub(crate) fn find(&self, number: u32) -> Option<Place>
         ensures { result ≡ place_of number self.now }
     {
-        self.places.get(&number).copied()
+        match self.latest {
+            Some((latest, at)) if latest == number => Some(at),
+            _ => self.places.get(&number).copied(),
+        }
+    }
+
+    /// The place of a row's node, and remembers the row.
+    pub(crate) fn look_up(&mut self, number: u32) -> Option<Place>
+        ensures place { result ≡ place_of number self.old }
+        ensures same { self.new ≡ self.old }
+    {
+        let at = self.find(number)?;
+        self.remember(number, at);
+        Some(at)
+    }
+
+    /// Remembers a row, as one that is likely to be asked for next.
+    pub(crate) fn remember(&mut self, number: u32, at: Place)
+        requires { place_of number self.old ≡ Some at }
+        ensures { self.new ≡ self.old }
+    {
+        self.latest = Some((number, at));
     }
 
     /// Adds a row whose number is above all others.
@@ -54,6 +83,7 @@ impl Directory {
     pub(crate) fn remove(&mut self, number: u32)
         ensures { self.new ≡ without_number number self.old }
     {
+        self.latest = None;
         let _place = self.places.remove(&number);
     }
 

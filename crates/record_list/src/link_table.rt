@@ -1,10 +1,14 @@
 //! The links of a node, one for each chain in which it stands.
 
-ghost use Rattle.std.specs.Prelude.{◌≡◌, ◌<◌, replicate, slice_index_or, slice_set};
+ghost use Rattle.std.specs.Prelude.{◌≡◌, ◌≢◌, ◌<◌, ℕ, true, IfOk, slice_index_or, slice_set};
+ghost use Rattle.std.specs.Option.{is_some};
 ghost use Rattle.std.specs.declared.option.Option.TheVariants.{None};
-ghost use Rattle.record_list.specs.Packing.{link_of};
+ghost use Rattle.record_list.specs.declared.link_table.Ends.{Ends};
+ghost use Rattle.record_list.specs.Packing.{link_of, slot_of};
+ghost use Rattle.record_list.specs.Stands.{stands, new_link};
 
 use node_heap::Place;
+use std::alloc::{AllocError, Global};
 use std::marker::Model;
 
 /// The neighbours of a node in one chain.
@@ -26,6 +30,15 @@ enum Seat {
     Last,
 }
 
+impl Seat {
+    /// The seat of a row that is the only one in a chain, or doesn't stand there.
+    fn alone(there: bool) -> Seat
+        ensures { (ends : Ends) → link_of result ends ≡ new_link there None }
+    {
+        if there { Seat::Alone } else { Seat::Absent }
+    }
+}
+
 /// Where the neighbours of a node lie, where it has them.
 #[derive(Clone, Copy)]
 struct Ends {
@@ -33,14 +46,14 @@ struct Ends {
     next: Place,
 }
 
-/// A link for each of 33 chains, or none, in 17 bytes each.
+/// The links in each queue but one, in 17 bytes each.
 #[derive(Drop)]
-pub struct LinkTable {
-    seats: [Seat; 33],
-    ends: [Ends; 33],
+pub struct OtherLinks {
+    seats: [Seat; 31],
+    ends: [Ends; 31],
 }
 
-impl Model for LinkTable {
+impl Model for OtherLinks {
     ghost use Rattle.std.specs.Prelude.{List};
     ghost use Rattle.std.specs.declared.option.Option.{Option};
     ghost use Rattle.record_list.specs.declared.link_table.Link.{Link};
@@ -51,19 +64,102 @@ impl Model for LinkTable {
     ghost view = { λ s. links_of s.seats s.ends };
 }
 
-impl LinkTable {
-    /// No link.
-    pub(crate) fn new() -> LinkTable
-        ensures { result ≡ replicate 33 None }
+impl OtherLinks {
+    /// Those of a row that stands alone in the queues of its mask.
+    fn alone(mask: u32, queue: usize) -> OtherLinks
+        requires { queue < 32 }
+        ensures { (d : ℕ) → d < 32 → d ≢ queue → slice_index_or result (slot_of queue d) None ≡ new_link (stands d mask) None }
     {
         let nowhere = Place::nowhere();
-        LinkTable {
-            seats: [Seat::Absent; 33],
+        let mut seats = [Seat::Absent; 31];
+        for slot in 0..31 {
+            let d = if slot < queue { slot } else { slot + 1 };
+            seats[slot] = Seat::alone(stands(mask, d));
+        }
+        OtherLinks {
+            seats,
             ends: [Ends {
                 prev: nowhere,
                 next: nowhere,
-            }; 33],
+            }; 31],
         }
+    }
+
+    /// The link in this slot.
+    fn get(&self, slot: usize) -> Option<Link>
+        requires { slot < 31 }
+        ensures { result ≡ slice_index_or self.now slot None }
+    {
+        unpacked(self.seats[slot], self.ends[slot])
+    }
+
+    /// Writes the link in this slot.
+    fn set(&mut self, slot: usize, link: Option<Link>)
+        requires { slot < 31 }
+        ensures written { self.new ≡ slice_set self.old slot link }
+        ensures stands { slice_index_or self.new slot None ≡ link }
+    {
+        let (seat, ends) = packed(link);
+        self.seats[slot] = seat;
+        self.ends[slot] = ends;
+    }
+}
+
+/// A link for each of 33 chains, or none. Those in the last chain and in the first queue of the row stand here, and those
+/// in other queues in a block of their own, which a row that was pushed into one queue goes without.
+#[derive(Drop)]
+pub struct LinkTable {
+    /// The first queue of the row as it was pushed.
+    queue: u8,
+    row_seat: Seat,
+    queue_seat: Seat,
+    row_ends: Ends,
+    queue_ends: Ends,
+    others: Option<Box<OtherLinks>>,
+}
+
+/// The block of the links in other queues takes 528 bytes.
+const _: () = prove!(size_of::<OtherLinks>() == 528);
+
+impl Model for LinkTable {
+    ghost use Rattle.std.specs.Prelude.{List, ◌<◌};
+    ghost use Rattle.std.specs.declared.option.Option.{Option};
+    ghost use Rattle.record_list.specs.declared.link_table.Link.{Link};
+    ghost use Rattle.record_list.specs.Packing.{link_of, others_of, table_of};
+
+    ghost Value = { List (Option Link) };
+
+    ghost view = { λ s. table_of s.queue (link_of s.queue_seat s.queue_ends) (others_of s.others) (link_of s.row_seat s.row_ends) };
+
+    ghost invariant = { λ s. s.queue < 32 };
+}
+
+impl LinkTable {
+    /// Those of a row that stands alone in the queues of its mask and in the last chain. An error is want of memory for
+    /// those in other queues.
+    pub(crate) fn for_queues(alloc: Global, mask: u32) -> Result<LinkTable, AllocError>
+        ensures { IfOk result (λ links. (d : ℕ) → d < 33 → slice_index_or links d None ≡ new_link (stands d mask) None) }
+    {
+        let queue = mask.trailing_zeros() as usize % 32;
+        let in_queue = stands(mask, queue);
+        let rest = if in_queue { mask - (1 << queue) } else { mask };
+        let others = if rest == 0 {
+            None
+        } else {
+            Some(Box::new(alloc, OtherLinks::alone(mask, queue))?)
+        };
+        let nowhere = Ends {
+            prev: Place::nowhere(),
+            next: Place::nowhere(),
+        };
+        Ok(LinkTable {
+            queue: queue as u8,
+            row_seat: Seat::Alone,
+            queue_seat: Seat::alone(in_queue),
+            row_ends: nowhere,
+            queue_ends: nowhere,
+            others,
+        })
     }
 
     /// The link in the chain d.
@@ -71,18 +167,55 @@ impl LinkTable {
         requires { d < 33 }
         ensures { result ≡ slice_index_or self.now d None }
     {
-        unpacked(self.seats[d], self.ends[d])
+        let queue = self.queue as usize;
+        if d == 32 {
+            return unpacked(self.row_seat, self.row_ends);
+        }
+        if d == queue {
+            return unpacked(self.queue_seat, self.queue_ends);
+        }
+        match &self.others {
+            Some(others) => others.get(slot_of(queue, d)),
+            None => None,
+        }
     }
 
-    /// Gives the node this link in the chain d.
+    /// Gives the node this link in the chain d, in which it stands.
     pub(crate) fn set(&mut self, d: usize, link: Option<Link>)
-        requires { d < 33 }
+        requires chain { d < 33 }
+        requires stands { is_some (slice_index_or self.old d None) ≡ true }
         ensures { self.new ≡ slice_set self.old d link }
     {
+        let queue = self.queue as usize;
         let (seat, ends) = packed(link);
-        self.seats[d] = seat;
-        self.ends[d] = ends;
+        if d == 32 {
+            self.row_seat = seat;
+            self.row_ends = ends;
+        } else if d == queue {
+            self.queue_seat = seat;
+            self.queue_ends = ends;
+        } else if let Some(others) = &mut self.others {
+            others.set(slot_of(queue, d), link);
+        }
     }
+}
+
+/// Whether a row with this mask stands in the chain d. All rows stand in the last chain.
+pub(crate) fn stands(mask: u32, d: usize) -> bool
+    requires { d < 33 }
+    ensures { result ≡ stands d mask }
+{
+    d == 32 || mask >> d & 1 == 1
+}
+
+/// The slot of queue d among those of all queues but one.
+fn slot_of(queue: usize, d: usize) -> usize
+    requires other { d ≢ queue }
+    requires queues { (d < 32) × (queue < 32) }
+    ensures slot { result ≡ slot_of queue d }
+    ensures within { result < 31 }
+{
+    if d < queue { d } else { d - 1 }
 }
 
 /// A link as it is kept.

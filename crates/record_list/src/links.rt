@@ -1,15 +1,15 @@
 //! Nodes that stand in up to 33 chains: one for each queue, and the last for all rows.
-ghost use Rattle.std.specs.Prelude.{min, ◌-◌, ◌^◌, ◌≡◌, ◌≢◌, ◌<◌, ◌≤◌, ◌+◌, ℕ, [], ◌∷◌, ◌++◌, slice_index_or, true, false, IfSome, MatchOption, MatchResult, replicate, if◌then◌else◌};
+ghost use Rattle.std.specs.Prelude.{min, ◌-◌, ◌^◌, ◌≡◌, ◌≢◌, ◌<◌, ◌≤◌, ◌+◌, ℕ, [], ◌∷◌, ◌++◌, slice_index_or, true, false, IfOk, IfSome, MatchOption, MatchResult, replicate, if◌then◌else◌};
 ghost use Rattle.std.specs.Option.{is_some};
 ghost use Rattle.record_list.specs.Stands.{stands};
 ghost use Rattle.std.specs.Borrow.{sem, Lends};
 ghost use Rattle.std.specs.declared.option.Option.TheVariants.{None, Some};
 ghost use Rattle.node_heap.specs.Held.{IsHeld, find_node, drop_node, held_at};
 
-use crate::link_table::{Link, LinkTable};
+use crate::link_table::{Link, LinkTable, OtherLinks, stands};
 use node_heap::{Nodes, Place};
 use row_store::Row;
-use std::alloc::Global;
+use std::alloc::{AllocError, Global};
 
 /// One row, with its link in each chain that it stands in.
 #[derive(Drop)]
@@ -18,8 +18,10 @@ pub struct Node<T> {
     pub(crate) links: LinkTable,
 }
 
-/// A row of a word takes 584 bytes beside its item.
-const _: () = prove!(size_of::<Node<u64>>() == size_of::<u64>() + 584);
+/// A row of a word takes 72 bytes beside its item, and one of several queues 600 with the block of its other links.
+const _: () = prove!(size_of::<Node<u64>>() == size_of::<u64>() + 72);
+
+const _: () = prove!(size_of::<Node<u64>>() + size_of::<OtherLinks>() == size_of::<u64>() + 600);
 
 /// The ends of the chains, and the memory of the nodes.
 pub struct Links<T> {
@@ -146,11 +148,11 @@ impl<T> Links<T> {
         self.tails[d] = Some(at);
     }
 
-    /// The links of a node that will be the last row.
-    pub(crate) fn last_links(&self, mask: u32) -> LinkTable
-        ensures { (d : ℕ) → d < 33 → slice_index_or result d None ≡ new_link (stands d mask) (tail_at d self.now) }
+    /// The links of a node that will be the last row. An error is want of memory.
+    pub(crate) fn last_links(&self, alloc: Global, mask: u32) -> Result<LinkTable, AllocError>
+        ensures { IfOk result (λ links. (d : ℕ) → d < 33 → slice_index_or links d None ≡ new_link (stands d mask) (tail_at d self.now)) }
     {
-        let mut links = LinkTable::new();
+        let mut links = LinkTable::for_queues(alloc, mask)?;
         for d in 0..33 {
             if stands(mask, d) {
                 let link = Link {
@@ -160,7 +162,7 @@ impl<T> Links<T> {
                 links.set(d, Some(link));
             }
         }
-        links
+        Ok(links)
     }
 
     /// The last row's node, at `at`, is linked in in each of the chains that it stands in.
@@ -279,12 +281,4 @@ impl<T: Drop> Links<T> {
         }
         nodes.destroy_empty();
     }
-}
-
-/// Whether a row with this mask stands in the chain d. All rows stand in the last chain.
-fn stands(mask: u32, d: usize) -> bool
-    requires { d < 33 }
-    ensures { result ≡ stands d mask }
-{
-    d == 32 || mask >> d & 1 == 1
 }

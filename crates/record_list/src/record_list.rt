@@ -67,12 +67,14 @@ impl<T: Drop> RowStore<T> for RecordList<T> {
         ensures item_returned { IfErr result (λ failed. failed.value ≡ item) }
         ensures visits { self.new.1 ≤ self.old.1 + 34 }
     {
-        let links = &mut self.links;
+        let Ok(links) = self.links.last_links(self.alloc, mask) else {
+            return Err(AllocFailed { value: item });
+        };
         let node = Node {
             row: Row { number, item, mask },
-            links: links.last_links(mask),
+            links,
         };
-        match links.place(self.alloc, node) {
+        match self.links.place(self.alloc, node) {
             Ok(at) => {
                 if self.directory.add(number, at).is_ok() {
                     self.links.enter_all(at, mask);
@@ -99,10 +101,10 @@ impl<T: Drop> RowStore<T> for RecordList<T> {
         if d >= QUEUES {
             return None;
         }
-        match links.heads[d as usize] {
-            Some(at) => Some(links.number(at)),
-            None => None,
-        }
+        let at = links.heads[d as usize]?;
+        let number = links.number(at);
+        self.directory.remember(number, at);
+        Some(number)
     }
 
     fn get(&self, number: u32) -> Option<&T> {
@@ -112,7 +114,7 @@ impl<T: Drop> RowStore<T> for RecordList<T> {
     }
 
     fn get_mut(&mut self, number: u32) -> Option<&mut T> {
-        let at = self.directory.find(number)?;
+        let at = self.directory.look_up(number)?;
         let node = self.links.nodes.get_mut(at);
         Some(&mut node.row.item)
     }
@@ -122,7 +124,7 @@ impl<T: Drop> RowStore<T> for RecordList<T> {
         ensures unlinked { self.new.0 ≡ unlinked number d self.old.0 }
         ensures visits { self.new.1 ≤ self.old.1 + 3 }
     {
-        let Some(at) = self.directory.find(number) else {
+        let Some(at) = self.directory.look_up(number) else {
             return false;
         };
         if d >= QUEUES {
