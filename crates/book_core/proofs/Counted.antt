@@ -13,7 +13,7 @@ use Rattle.stat_count.specs.Statistics.{Statistics, channel_at, destination_at, 
 use Rattle.event_log.specs.declared.entry.Told.{Told}
 use Rattle.event_log.specs.declared.entry.Told.TheVariants as told
 use Rattle.event_log.specs.declared.entry.Entry.{Entry}
-use Rattle.event_log.specs.declared.entry.Entry.TheVariants.{Arrival, Take, Settle, Cancel}
+use Rattle.event_log.specs.declared.entry.Entry.TheVariants.{Arrival, Take, Settle, Cancel, Deploy}
 use Rattle.event_log.specs.History.{History, opened_by}
 use Rattle.book_core.specs.Counting.{AreCounted, channel_counts, counted, destination_counts, is_accepted, is_filtered, is_refused, is_repeat, is_told}
 use Rattle.book_core.proofs.Slots.{slots-entries}
@@ -98,6 +98,7 @@ told-sum c (Arrival conn channel raw reply) = by (channel == c) reply
 told-sum c (Take ticket now) = refl
 told-sum c (Settle ticket outcome now state) = refl
 told-sum c (Cancel number mask) = refl
+told-sum c (Deploy plan) = refl
 
 -- a sum of three sums
 sum-three : {X : Type 0} (a f g k : X → ℕ) → ((x : X) → a x ≡ f x + g x + k x) → (xs : List X) → sum_by a xs ≡ sum_by f xs + sum_by g xs + sum_by k xs

@@ -6,6 +6,7 @@ pub mod CountedSteps
 pub mod Keeping
 pub mod KeepingArrivals
 pub mod KeepingCancels
+pub mod KeepingDeployments
 pub mod KeepingTakes
 pub mod Moves
 pub mod Naming

@@ -62,7 +62,7 @@ queued-first true = refl
 queued-first false = refl
 
 -- the rows of a history with no message more
-rows-kept : (h g : History) → accepted g ≡ accepted h → ((n d : ℕ) → state g n d ≡ state h n d) → (rows : List (Row (Addressed Letter))) → RowsAgree h rows → RowsAgree g rows
+pub rows-kept : (h g : History) → accepted g ≡ accepted h → ((n d : ℕ) → state g n d ≡ state h n d) → (rows : List (Row (Addressed Letter))) → RowsAgree h rows → RowsAgree g rows
 rows-kept h g messages states rows agree = record {
   each_once = agree.each_once ∙ ap (λ (ms : List Accepted). range_with_len 0 (length ms)) (sym messages);
   as_told = all-weaker (IsAsTold h) (IsAsTold g) (λ row told. same-row h g row (ap (λ ms. slice_get ms row.number) messages) (states row.number) told) rows agree.as_told;

@@ -6,6 +6,7 @@ use Rattle.std.specs.Int.{bit_at}
 use Rattle.std.proofs.lemmas.Bool.Decides.{eqb_tells}
 use Rattle.std.proofs.lemmas.List.FromFn.{length-range_with_len}
 use Rattle.std.proofs.lemmas.List.Sums.{count_by-le-length, sum_by-cons}
+use Rattle.plan_text.specs.Entries.{PlanEntry}
 use Rattle.dest_queue.specs.declared.Outcome.{Outcome}
 use Rattle.dest_queue.specs.declared.SlotState.{SlotState}
 use Rattle.dest_queue.specs.declared.SlotState.TheVariants.{Waiting, InFlight, Delivered, Failed}
@@ -18,13 +19,14 @@ use Rattle.event_log.specs.declared.entry.Ticket.{Ticket}
 use Rattle.event_log.specs.declared.entry.Told.{Told}
 use Rattle.event_log.specs.declared.entry.Told.TheVariants as told
 use Rattle.event_log.specs.declared.entry.Entry.{Entry}
-use Rattle.event_log.specs.declared.entry.Entry.TheVariants.{Arrival, Take, Settle, Cancel}
+use Rattle.event_log.specs.declared.entry.Entry.TheVariants.{Arrival, Take, Settle, Cancel, Deploy}
 use Rattle.event_log.specs.History.{History, before, followed_by, plan_in_force}
 use Rattle.event_log.specs.Answers.{cancel_answer, settle_answer, take_answer}
 use Rattle.event_log.specs.Legal.{IsSound, MayFollow}
 use Rattle.event_log.specs.Room.{is_in_flight, slots_added}
 use Rattle.event_log.proofs.Arriving.{arrival-step}
 use Rattle.event_log.proofs.Cancelling.{cancel-step}
+use Rattle.event_log.proofs.Deploying.{deploy-step}
 use Rattle.event_log.proofs.Fitting.{sound-before, take-past}
 use Rattle.event_log.proofs.Following.{take-whole}
 use Rattle.event_log.proofs.Reading.{slot-inside}
@@ -35,6 +37,7 @@ use Rattle.book_core.specs.Counting.{SumsRise, channel_counts, counted, destinat
 use Rattle.book_core.proofs.Counted.{counted-are, counted-is, listed}
 use Rattle.book_core.proofs.CountedArrivals.{arrived-counts, channel-kept, channel-told}
 use Rattle.book_core.proofs.CountedCancels.{cancelled-counts}
+use Rattle.book_core.proofs.KeepingDeployments.{deployed-counts}
 use Rattle.book_core.proofs.CountedSteps.{channels-kept, count-kept, counted-settle, counted-take, settle-flies, settle-inside}
 
 -- ---- sums over lists
@@ -105,6 +108,7 @@ taken-after h (Cancel number mask) sound may were d below = subst AreTaken (sym 
     by : (b : Bool) → AreTaken (cond b (cancelled_one (destination_counts h d)) (destination_counts h d))
     by true = were d below
     by false = were d below
+taken-after h (Deploy plan) sound may were d below = subst AreTaken (sym (deployed-counts h plan (deploy-step h sound plan may) d)) (were d below)
 
 -- and holds of each sound history, as far as it was booked
 taken-before : (h : History) → IsSound h → (k d : ℕ) → d < 32 → AreTaken (destination_counts (before h k) d)
@@ -113,7 +117,7 @@ taken-before h sound (suc k) d below = elim (slice_get h.entries k) as (λ o. sl
   | None ↦ λ none. subst (λ es. AreTaken (destination_counts (record { opening = h.opening; entries = es }) d)) (sym (take-past h.entries k none)) (taken-before h sound k d below)
   | Some e ↦ λ got.
       subst (λ es. AreTaken (destination_counts (record { opening = h.opening; entries = es }) d)) (sym (take-more h.entries k e got))
-      (taken-after (before h k) e (sound-before h sound.plan sound.legal k) (sound.legal.follows k e got) (taken-before h sound k) d below)
+      (taken-after (before h k) e (sound-before h sound.opening sound.legal k) (sound.legal.follows k e got) (taken-before h sound k) d below)
 ] refl
 
 -- to its end
@@ -182,6 +186,17 @@ cancel-sums h number mask sound is = record {
         ≡ (destination_counts h d).attempts - (destination_counts h d).inflight
     by d true = refl
     by d false = refl
+
+-- a deployment
+pub deploy-sums : (h : History) (plan : PlanEntry) → IsSound h → MayFollow h (Deploy plan) → SumsRise 0 0 0 (counted h) (counted (followed_by h (Deploy plan)))
+deploy-sums h plan sound may = record {
+  arrivals = and-none _ _ (sum-same (λ (c : ChannelCounts). c.received + c.repeats) (channel_counts (followed_by h (Deploy plan))) (channel_counts h)
+      (λ c. ap (λ (k : ChannelCounts). k.received + k.repeats) (channels-kept h (Deploy plan) (λ c so. refl) c)) (range_with_len 0 64));
+  takes = and-none _ _ (sum-same (λ (c : DestinationCounts). c.attempts) (destination_counts (followed_by h (Deploy plan))) (destination_counts h)
+      (λ d. count-kept (is_take_at d) h (Deploy plan) refl) (range_with_len 0 32));
+  settlements = and-none _ _ (sum-same (λ (c : DestinationCounts). c.attempts - c.inflight) (destination_counts (followed_by h (Deploy plan))) (destination_counts h)
+      (λ d. ap (λ (k : DestinationCounts). k.attempts - k.inflight) (deployed-counts h plan (deploy-step h sound plan may) d)) (range_with_len 0 32));
+}
 
 -- an arrival adds one to its channel
 told-more : (reply : Told) (counts : ChannelCounts) → (told_one reply counts).received + (told_one reply counts).repeats ≡ counts.received + counts.repeats + 1

@@ -13,7 +13,7 @@ use Rattle.stat_count.specs.Sums.{arrivals, settlements, takes}
 use Rattle.event_log.specs.declared.entry.Told.{Told}
 use Rattle.event_log.specs.declared.entry.Told.TheVariants as told
 use Rattle.event_log.specs.declared.entry.Entry.{Entry}
-use Rattle.event_log.specs.declared.entry.Entry.TheVariants.{Arrival, Take, Settle, Cancel}
+use Rattle.event_log.specs.declared.entry.Entry.TheVariants.{Arrival, Take, Settle, Cancel, Deploy}
 use Rattle.event_log.specs.History.{History, numbers, slot}
 use Rattle.event_log.specs.Room.{is_in_flight}
 
@@ -47,6 +47,7 @@ is_told c so (Arrival conn channel raw told) = (channel == c) && so told
 is_told c so (Take ticket now) = false
 is_told c so (Settle ticket outcome now state) = false
 is_told c so (Cancel number mask) = false
+is_told c so (Deploy plan) = false
 
 -- how many arrivals on the channel were told so
 abbrev pub told_count : History → ℕ → (Told → Bool) → ℕ
@@ -84,6 +85,7 @@ is_take_at d (Arrival conn channel raw told) = false
 is_take_at d (Take ticket now) = ticket.destination == d
 is_take_at d (Settle ticket outcome now state) = false
 is_take_at d (Cancel number mask) = false
+is_take_at d (Deploy plan) = false
 
 -- how it stands with the messages of a destination
 abbrev pub destination_counts : History → ℕ → DestinationCounts

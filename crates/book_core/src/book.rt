@@ -1,12 +1,13 @@
 //! The book itself.
 
-ghost use Rattle.std.specs.Prelude.{◌≡◌, ◌≢◌, ◌≤◌, ◌<◌, ◌==◌, ◌⊎◌, ◌↔◌, Ok, Err, IsOk, IfOk, IfErr, OnErr, IsErrOf, IsTrue, Some, true, length, option_copied};
+ghost use Rattle.std.specs.Prelude.{◌≡◌, ◌≢◌, ◌≤◌, ◌<◌, ◌==◌, ◌⊎◌, ◌↔◌, Ok, Err, IsOk, IfOk, IfErr, OnOk, OnErr, IsErrOf, IsTrue, None, Some, true, false, length, option_copied};
 ghost use Rattle.std.specs.Arc.{arc_value};
 ghost use Rattle.judge_core.specs.Judging.{is_bookable};
 ghost use Rattle.event_log.specs.History.{control_id, deliveries, entry_at, followed_by, message_count, names, next_place, opened_by, payload, plan_in_force, queue, slot};
 ghost use Rattle.event_log.specs.Answers.{answer, cancel_answer, settle_answer, take_answer};
+ghost use Rattle.event_log.specs.Deployment.{deploy_answer, first_lost, is_lost};
 ghost use Rattle.event_log.specs.Legal.{IsSound, MayFollow};
-ghost use Rattle.event_log.specs.Room.{is_full};
+ghost use Rattle.event_log.specs.Room.{exceeds, is_full};
 ghost use Rattle.book_core.specs.Counting.{counted};
 ghost use Rattle.book_core.specs.Headline.{KeepsItsPromise};
 ghost use Rattle.book_core.specs.Sending.{awaits_ack};
@@ -22,8 +23,8 @@ use dest_queue::{
 };
 use dup_index::Keys;
 use event_log::{
-    CancelRefusal, EVENTS_MAX, Entry, Log, TakeRefusal, Ticket, attempts_max, front_answer,
-    interval, slot_owed,
+    CancelRefusal, DEPLOYMENTS_MAX, DeployRefusal, EVENTS_MAX, Entry, Log, TakeRefusal, Ticket,
+    attempts_max, front_answer, interval, keeps_destination, same_channels, slot_owed,
 };
 use hl7_head::Moment;
 use judge_core::{Judged, Text};
@@ -376,5 +377,68 @@ impl<S: RowStore<Addressed<Letter>>> Book<S> {
         let owed = self.log.owed() - waiting;
         self.log.push(Entry::Cancel { number, mask }, owed);
         Ok(mask)
+    }
+
+    /// Puts another plan in force. Messages that came before go where the plan in force then sent them, and a plan that is
+    /// equal to the one in force is booked too.
+    ///
+    /// # Errors
+    ///
+    /// `ChannelsDiffer` where its channels have other names or stand in another order, then `DestinationInUse` of the first
+    /// destination to which messages are still to be delivered and which the plan lacks, names otherwise or gives other
+    /// attempts, then `TooMany` where a thousand plans were deployed, then `Full` where there is no room for one more entry,
+    /// and then `NoMemory` where a growth was refused. A refusal leaves the book as it was, and drops the plan.
+    pub fn deploy(&mut self, plan: Arc<Plan>) -> Result<(), DeployRefusal>
+        ensures answer { OnOk result (MayFollow self.old (Entry.Deploy (arc_value plan))) }
+        ensures booked { OnOk result (self.new ≡ followed_by self.old (Entry.Deploy (arc_value plan))) }
+        ensures refused { IfErr result (λ e. (deploy_answer self.old (arc_value plan) ≡ Some e) ⊎ (deploy_answer self.old (arc_value plan) ≡ None) × ((e ≡ DeployRefusal.Full) ⊎ (e ≡ DeployRefusal.NoMemory))) }
+        ensures full { IsErrOf result DeployRefusal.Full ↔ (deploy_answer self.old (arc_value plan) ≡ None) × IsTrue (exceeds self.old 0) }
+        ensures err { OnErr result (self.new ≡ self.old) }
+    {
+        if let Some(refusal) = self.deploy_answer(&plan) {
+            return Err(refusal);
+        }
+        if !self.log.room(0) {
+            return Err(DeployRefusal::Full);
+        }
+        plan.rules();
+        let shared = Arc::try_clone(&plan)?;
+        self.log.reserve(self.flights as usize + 1)?;
+        // All growths are made: nothing below is refused.
+        self.log.deploy(plan, shared);
+        Ok(())
+    }
+
+    /// Why a plan isn't deployed, before room and memory are asked for.
+    fn deploy_answer(&self, plan: &Plan) -> Option<DeployRefusal>
+        ensures { result ≡ deploy_answer self.now plan.now }
+    {
+        if !same_channels(self.log.plan(), plan) {
+            return Some(DeployRefusal::ChannelsDiffer);
+        }
+        match self.first_lost(plan) {
+            Some(d) => Some(DeployRefusal::DestinationInUse(d)),
+            None if self.log.deployments() < DEPLOYMENTS_MAX => None,
+            None => Some(DeployRefusal::TooMany),
+        }
+    }
+
+    /// Whether messages are still to be delivered to destination `d`, which a plan doesn't keep as it is.
+    fn is_lost(&self, plan: &Plan, d: u32) -> bool
+        ensures { result ≡ is_lost self.now plan.now d }
+    {
+        self.queue_len(d) > 0 && !keeps_destination(self.log.plan(), plan, d)
+    }
+
+    /// The first destination that would be lost with a plan.
+    fn first_lost(&self, plan: &Plan) -> Option<u32>
+        ensures { result ≡ first_lost self.now plan.now }
+    {
+        for d in 0..QUEUES {
+            if self.is_lost(plan, d) {
+                return Some(d);
+            }
+        }
+        None
     }
 }

@@ -1,10 +1,11 @@
 //! What holds of the statistics of every book.
 
 ghost use Rattle.std.specs.Prelude.{◌≡◌, ◌<◌, ◌≤◌, ℕ, List, length, Ok};
+ghost use Rattle.plan_text.specs.Entries.{PlanEntry};
 ghost use Rattle.dest_queue.specs.declared.Outcome.{Outcome};
 ghost use Rattle.dest_queue.specs.declared.SlotState.{SlotState};
 ghost use Rattle.stat_count.specs.Sums.{arrivals, settlements, takes};
-ghost use Rattle.event_log.specs.declared.entry.Entry.TheVariants.{Arrival, Take, Settle, Cancel};
+ghost use Rattle.event_log.specs.declared.entry.Entry.TheVariants.{Arrival, Take, Settle, Cancel, Deploy};
 ghost use Rattle.event_log.specs.declared.entry.Ticket.{Ticket};
 ghost use Rattle.event_log.specs.declared.entry.Told.{Told};
 ghost use Rattle.event_log.specs.History.{History, followed_by, plan_in_force};
@@ -13,7 +14,7 @@ ghost use Rattle.event_log.specs.Legal.{IsSound, MayFollow};
 ghost use Rattle.book_core.specs.Counting.{SumsRise, counted};
 
 /// The laws of the three sums of the statistics: an arrival adds one to the arrivals, a take one to the attempts begun, a
-/// settlement one to the attempts settled, and a cancellation adds to none.
+/// settlement one to the attempts settled, and a cancellation and a deployment add to none.
 pub fn three_sums()
     ensures arrival { (h : History) (conn channel : ℕ) (raw : List ℕ) (told : Told) → IsSound h → MayFollow h (Arrival conn channel raw told) → channel < length (plan_in_force h).channels →
         SumsRise 1 0 0 (counted h) (counted (followed_by h (Arrival conn channel raw told))) }
@@ -23,6 +24,8 @@ pub fn three_sums()
         SumsRise 0 0 1 (counted h) (counted (followed_by h (Settle ticket outcome now state))) }
     ensures cancellation { (h : History) (number mask : ℕ) → IsSound h → cancel_answer h number ≡ Ok mask →
         SumsRise 0 0 0 (counted h) (counted (followed_by h (Cancel number mask))) }
+    ensures deployment { (h : History) (plan : PlanEntry) → IsSound h → MayFollow h (Deploy plan) →
+        SumsRise 0 0 0 (counted h) (counted (followed_by h (Deploy plan))) }
 
     // A book's entries are few, and so is what they add up to.
     ensures few_arrivals { (h : History) → length h.entries ≤ 1000000 → arrivals (counted h) ≤ 128000000 }

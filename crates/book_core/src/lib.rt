@@ -10,7 +10,10 @@ mod letter;
 mod receipt;
 
 pub use book::Book;
-pub use event_log::{CancelRefusal, EVENTS_MAX, Entry, TakeRefusal, Ticket, Told};
+pub use event_log::{
+    CancelRefusal, DEPLOYMENTS_MAX, DeployRefusal, DeployedPlan, EVENTS_MAX, Entry, TakeRefusal,
+    Ticket, Told,
+};
 pub use laws::three_sums;
 pub use letter::{Job, Letter};
 pub use receipt::{NotBooked, Receipt};

@@ -7,6 +7,25 @@ use dest_queue::Outcome;
 use event_log::Ticket;
 use std::alloc::Global;
 
+/// What plans differ in: a destination's name, attempts and interval, and a channel's name.
+#[derive(Clone, Copy)]
+pub struct Said {
+    pub destination: &'static str,
+    pub attempts: &'static str,
+    pub interval: &'static str,
+    pub channel: &'static str,
+}
+
+impl Said {
+    /// What the first plan says.
+    pub const FIRST: Said = Said {
+        destination: "A",
+        attempts: "2",
+        interval: "3",
+        channel: "ADT",
+    };
+}
+
 /// Numbers that look like chance.
 #[derive(Drop)]
 pub struct Dice {
@@ -47,6 +66,16 @@ impl Dice {
         Ok(format!(in alloc;
             "MSH|^~\\&|REG|HOSP|ENG|HUB|||ADT^{event}|{id}|P|{version}\rPID|1||{patient}\rPV1|1|{class}\r"
         )?)
+    }
+
+    /// What a plan says, mostly what the first one does.
+    pub fn said(&mut self) -> Said {
+        Said {
+            destination: self.pick(["A", "A", "A", "X"]),
+            attempts: self.pick(["2", "2", "2", "3"]),
+            interval: self.pick(["3", "0", "5", "3"]),
+            channel: self.pick(["ADT", "ADT", "ADT", "ORU"]),
+        }
     }
 
     /// A ticket of an attempt, each part of which is small.

@@ -14,7 +14,7 @@ use pair::Pair;
 const RUNS: u32 = 4;
 
 /// How many calls a run makes.
-const CALLS: u32 = 250;
+const CALLS: u32 = 180;
 
 /// How often calls of one kind were made, and how often they were refused.
 #[derive(Clone, Copy)]
@@ -46,15 +46,17 @@ struct Scores {
     takes: Score,
     settlements: Score,
     cancellations: Score,
+    deployments: Score,
 }
 
 /// Makes a call at random.
 fn call(rt: &HostRuntime, dice: &mut Dice, pair: &mut Pair, scores: &mut Scores) -> Result<()> {
-    match dice.roll(10) {
+    match dice.roll(11) {
         0..4 => scores.arrivals.count(pair.arrive(rt.alloc(), dice)?),
         4..7 => scores.takes.count(pair.take(dice)?),
         7..9 => scores.settlements.count(pair.settle(dice)?),
-        _ => scores.cancellations.count(pair.cancel(dice)?),
+        9 => scores.cancellations.count(pair.cancel(dice)?),
+        _ => scores.deployments.count(pair.deploy(rt.alloc(), dice)?),
     }
     Ok(())
 }
@@ -76,6 +78,7 @@ fn main(rt: HostRuntime) -> Result<()> {
         takes: Score::NONE,
         settlements: Score::NONE,
         cancellations: Score::NONE,
+        deployments: Score::NONE,
     };
     for seed in 0..RUNS {
         run(&rt, seed, &mut scores)?;
@@ -86,6 +89,7 @@ fn main(rt: HostRuntime) -> Result<()> {
         ("takes", scores.takes),
         ("settlements", scores.settlements),
         ("cancellations", scores.cancellations),
+        ("deployments", scores.deployments),
     ] {
         println!(rt; "{calls}: {} made, {} refused", score.made, score.refused)?;
     }

@@ -1,6 +1,6 @@
 //! The two engines, asked the same.
 
-use crate::dice::Dice;
+use crate::dice::{Dice, Said};
 use anyhow::{Result, bail};
 use book_core::{Book, Letter, NotBooked};
 use dest_queue::Addressed;
@@ -15,13 +15,15 @@ use std::hash::RandomState;
 use std::sync::Arc;
 
 /// Inpatients go to A, outpatients to B, patients with an identifier to C, and updates to D, twice at most. A channel of
-/// its own takes everything for C.
-const PLAN: &str = r#"
+/// its own takes everything for C. The name, the attempts and the interval of A and the name of the first channel are given.
+fn plan_of(alloc: Global, said: Said) -> Result<Arc<Plan>> {
+    let text = format!(in alloc;
+        r#"
 [[destination]]
-name = "A"
+name = "{}"
 address = "127.0.0.1:6661"
-attempts = 2
-interval = 3
+attempts = {}
+interval = {}
 
 [[destination]]
 name = "B"
@@ -40,16 +42,16 @@ address = "127.0.0.1:6664"
 await = "none"
 
 [[channel]]
-name = "ADT"
+name = "{}"
 listen = "127.0.0.1:6660"
 types = ["ADT"]
 processing = ["P"]
 versions = ["2.5.1"]
 route = [
-    { to = "A", filter = { equals = ["PV1-2", "I"] } },
-    { to = "B", filter = { equals = ["PV1-2", "O"] } },
-    { to = "C", filter = { exists = "PID-3.1" } },
-    { to = "D", filter = { equals = ["MSH-9.2", "A08"] } },
+    {{ to = "{}", filter = {{ equals = ["PV1-2", "I"] }} }},
+    {{ to = "B", filter = {{ equals = ["PV1-2", "O"] }} }},
+    {{ to = "C", filter = {{ exists = "PID-3.1" }} }},
+    {{ to = "D", filter = {{ equals = ["MSH-9.2", "A08"] }} }},
 ]
 
 [[channel]]
@@ -58,8 +60,15 @@ listen = "127.0.0.1:6670"
 types = ["*"]
 processing = ["P"]
 versions = ["*"]
-route = [{ to = "C" }]
-"#;
+route = [{{ to = "C" }}]
+"#,
+        said.destination, said.attempts, said.interval, said.channel, said.destination
+    )?;
+    match Plan::read(alloc, text.as_bytes()) {
+        Ok(plan) => Ok(Arc::new(alloc, plan)?),
+        Err(fault) => bail!("{fault}"),
+    }
+}
 
 /// How many entries the engines may hold, fewer than a run makes calls.
 const ENTRIES: u32 = 60;
@@ -80,10 +89,7 @@ impl Pair {
     /// Two engines in which nothing is booked.
     pub fn new(rt: &HostRuntime) -> Result<Pair> {
         let alloc = rt.alloc();
-        let plan = match Plan::read(alloc, PLAN.as_bytes()) {
-            Ok(plan) => Arc::new(alloc, plan)?,
-            Err(fault) => bail!("{fault}"),
-        };
+        let plan = plan_of(alloc, Said::FIRST)?;
         let shared = Arc::try_clone(&plan)?;
         Ok(Pair {
             book: Book::new(alloc, plan, ENTRIES, RandomState::new(rt)?),
@@ -173,6 +179,17 @@ impl Pair {
             bail!("a cancellation has two answers");
         }
         Ok(mask.is_ok())
+    }
+
+    /// Whether both deploy a plan. An error where one does, or they refuse it for two reasons.
+    pub fn deploy(&mut self, alloc: Global, dice: &mut Dice) -> Result<bool> {
+        let plan = plan_of(alloc, dice.said())?;
+        let shared = Arc::try_clone(&plan)?;
+        let answer = self.book.deploy(plan);
+        if answer != self.other.deploy(shared) {
+            bail!("a deployment has two answers");
+        }
+        Ok(answer.is_ok())
     }
 
     /// An error where a slot, a queue or the number of entries is not the same in both.

@@ -1,26 +1,30 @@
 -- What answers and events book.
-use Rattle.std.proofs.Common.{◌≡◌, ℕ, ◌+◌, true, false, cond, ◌==◌, nat_lt, List, [], ◌∷◌, ◌++◌, slice_get, Option, None, Some, Result, Ok, Err, refl, sym, ap, ◌∙◌, append_assoc, append-nil, eq-eqb}
+use Rattle.std.proofs.Common.{◌≡◌, ℕ, ◌+◌, Bool, true, false, cond, ◌==◌, nat_lt, List, [], ◌∷◌, ◌++◌, slice_get, Option, None, Some, Result, Ok, Err, refl, sym, ap, ◌∙◌, append_assoc, append-nil, eq-eqb}
 use Rattle.std.specs.List.{cons_option}
-use Rattle.std.specs.Option.{option_map, option_map_or}
+use Rattle.std.specs.Option.{is_none, option_map, option_map_or}
 use Rattle.std.specs.Result.{result_ok}
 use Rattle.std.proofs.lemmas.Bool.{ne_eqb}
 use Rattle.std.proofs.lemmas.List.Elements.{filter_map-append}
 use Rattle.book_core.specs.declared.receipt.NotBooked.{NotBooked}
+use Rattle.plan_text.specs.Entries.{IsPlan, PlanEntry}
 use Rattle.dest_queue.specs.declared.Outcome.{Outcome}
 use Rattle.dest_queue.specs.declared.SettleRefusal.{SettleRefusal}
 use Rattle.dest_queue.specs.declared.SlotState.{SlotState}
 use Rattle.dest_queue.specs.declared.SlotState.TheVariants.{Waiting, InFlight, Delivered, Failed}
 use Rattle.event_log.specs.declared.entry.Entry.{Entry}
-use Rattle.event_log.specs.declared.entry.Entry.TheVariants.{Arrival, Take, Settle, Cancel}
+use Rattle.event_log.specs.declared.entry.Entry.TheVariants.{Arrival, Take, Settle, Cancel, Deploy}
 use Rattle.event_log.specs.declared.entry.Ticket.{Ticket}
 use Rattle.event_log.specs.declared.entry.Told.{Told}
 use Rattle.event_log.specs.declared.refusal.TakeRefusal.{TakeRefusal}
 use Rattle.event_log.specs.declared.refusal.TakeRefusal.TheVariants.{Idle, NotDue}
 use Rattle.event_log.specs.declared.refusal.CancelRefusal.{CancelRefusal}
+use Rattle.event_log.specs.declared.refusal.DeployRefusal.{DeployRefusal}
 use Rattle.event_log.specs.Answers.{cancel_answer, settle_answer, take_answer, front_answer}
+use Rattle.event_log.specs.Deployment.{deploy_answer}
 use Rattle.event_log.specs.History.{History, followed_by, queue, slot}
 use Rattle.event_log.specs.Legal.{IsLegal, MayFollow}
-use Rattle.event_log.specs.Replay.{next, asked, ended, revoked}
+use Rattle.event_log.specs.Replay.{next, asked, ended, planned, revoked}
+use Rattle.event_log.specs.Room.{exceeds}
 use Rattle.event_log.proofs.Following.{legal-followed_by}
 use Rattle.conn_core.specs.Messages.{BookedMessage, booked, booked_with}
 use Rattle.conn_core.specs.Replies.{Answer}
@@ -122,6 +126,14 @@ settling-keeps h ticket outcome now legal = by (settle_answer h ticket outcome n
     by : (o : Result SlotState SettleRefusal) → settle_answer h ticket outcome now ≡ o → BringsNone h (option_map_or (λ e. followed_by h e) (option_map (λ state. Settle ticket outcome now state) (result_ok o)) h)
     by (Ok state) is = brings_none h (Settle ticket outcome now state) legal is (λ conn. refl)
     by (Err refusal) is = record { legal = legal; arrivals = λ conn. refl }
+
+pub deploying-keeps : (h : History) (plan : PlanEntry) → IsPlan plan → IsLegal h → BringsNone h (next h (planned plan))
+deploying-keeps h plan good legal = by (exceeds h 0) (deploy_answer h plan) refl refl
+  where
+    by : (b : Bool) (o : Option DeployRefusal) → exceeds h 0 ≡ b → deploy_answer h plan ≡ o → BringsNone h (option_map_or (λ e. followed_by h e) (cond b None (cond (is_none o) (Some (Deploy plan)) None)) h)
+    by true o full is = record { legal = legal; arrivals = λ conn. refl }
+    by false None full is = brings_none h (Deploy plan) legal (record { good = good; allowed = is; room = full }) (λ conn. refl)
+    by false (Some refusal) full is = record { legal = legal; arrivals = λ conn. refl }
 
 pub cancelling-keeps : (h : History) (number : ℕ) → IsLegal h → BringsNone h (next h (revoked number))
 cancelling-keeps h number legal = by (cancel_answer h number) refl

@@ -5,7 +5,7 @@ use Rattle.std.specs.Option.{option_map, option_map_or}
 use Rattle.std.proofs.lemmas.Option.{same_Some, slice_get-map}
 use Rattle.book_core.specs.declared.receipt.NotBooked.{NotBooked}
 use Rattle.event_log.specs.declared.entry.Entry.{Entry}
-use Rattle.event_log.specs.declared.entry.Entry.TheVariants.{Arrival, Take, Settle, Cancel}
+use Rattle.event_log.specs.declared.entry.Entry.TheVariants.{Arrival, Take, Settle, Cancel, Deploy}
 use Rattle.event_log.specs.declared.entry.Told.{Told}
 use Rattle.conn_core.specs.Messages.{BookedMessage, booked, booked_with}
 use Rattle.conn_core.specs.Replies.{Answer}
@@ -118,3 +118,4 @@ have-channels (Arrival conn channel raw told ∷ es) one = arrived conn channel 
 have-channels (Take ticket now ∷ es) one = passed (Take ticket now) es (λ conn channel raw told is. absurd cc) (have-channels es (others-one (Take ticket now) es one))
 have-channels (Settle ticket outcome now state ∷ es) one = passed (Settle ticket outcome now state) es (λ conn channel raw told is. absurd cc) (have-channels es (others-one (Settle ticket outcome now state) es one))
 have-channels (Cancel number mask ∷ es) one = passed (Cancel number mask) es (λ conn channel raw told is. absurd cc) (have-channels es (others-one (Cancel number mask) es one))
+have-channels (Deploy plan ∷ es) one = passed (Deploy plan) es (λ conn channel raw told is. absurd cc) (have-channels es (others-one (Deploy plan) es one))

@@ -2,7 +2,7 @@
 use Rattle.std.proofs.Common.{◌≡◌, ℕ, zero, suc, ◌+◌, ◌<◌, ◌≤◌, List, [], ◌∷◌, ◌++◌, length, map, take, get_or, slice_get, Some, sym, ap, ◌∙◌, subst, arith}
 use Rattle.std.proofs.lemmas.List.{map-append, take_more}
 use Rattle.event_log.specs.declared.entry.Entry.{Entry}
-use Rattle.event_log.specs.declared.entry.Entry.TheVariants.{Arrival, Take, Settle, Cancel}
+use Rattle.event_log.specs.declared.entry.Entry.TheVariants.{Arrival, Take, Settle, Cancel, Deploy}
 use Rattle.event_log.specs.History.{History, entry_at}
 use Rattle.event_log.specs.Legal.{IsLegal, IsSound}
 use Rattle.event_log.proofs.Following.{take-whole}
@@ -21,6 +21,7 @@ came h place (Arrival conn channel raw told) legal at = (legal.follows place (Ar
 came h place (Take ticket now) legal at = tt
 came h place (Settle ticket outcome now state) legal at = tt
 came h place (Cancel number mask) legal at = tt
+came h place (Deploy plan) legal at = tt
 
 take-push : {A : Type 0} (xs : List A) (i : ℕ) (x : A) → slice_get xs i ≡ Some x → take (suc i) xs ≡ take i xs ++ x ∷ []
 take-push [] i x is = absurd cc

@@ -8,11 +8,12 @@ use Rattle.book_core.specs.declared.receipt.Receipt.{Receipt}
 use Rattle.event_log.specs.declared.entry.Entry.TheVariants.{Arrival}
 use Rattle.event_log.specs.declared.entry.Told.{Told}
 use Rattle.event_log.specs.History.{History, followed_by, plan_in_force}
+use Rattle.event_log.proofs.Following.{plan-kept_all}
 use Rattle.event_log.specs.Room.{is_full}
 use Rattle.judge_core.specs.Judging.{Judgement, is_bookable}
 use Rattle.mllp_frame.specs.Event.{Event, block}
 use Rattle.mllp_frame.specs.Framing.{IsBlockData, blocks}
-use Rattle.conn_core.specs.Booking.{BookAnswers, Books}
+use Rattle.conn_core.specs.Booking.{BookAnswers, Books, arrival_by}
 use Rattle.conn_core.specs.Messages.{message_of}
 use Rattle.conn_core.specs.Replies.{Answer, answer_to, dues, dues_of, numbered, told_by}
 use Rattle.engine_model.proofs.Duly.{dues-append}
@@ -172,8 +173,8 @@ cut-back old new added grown = ap (take (length old)) grown ∙ back old added
 
 -- the plan in force stays
 pub plan-kept : (h h' : History) (o : Result Receipt NotBooked) → IfOk o (λ r. Books h h' (r ∷ [])) → OnErr o (Books h h' []) → plan_in_force h' ≡ plan_in_force h
-plan-kept h h' (Ok r) more none = ap plan_in_force more.history
-plan-kept h h' (Err e) more none = ap plan_in_force none.history
+plan-kept h h' (Ok r) more none = ap plan_in_force more.history ∙ plan-kept_all h.opening.plan h.entries (arrival_by r ∷ []) refl
+plan-kept h h' (Err e) more none = ap plan_in_force (none_booked h h' none)
 
 -- a text that is no message, and one that is an acknowledgment, bring none
 pub no_message : (raw : List ℕ) → is_bookable raw ≡ false → message_of (block raw) ≡ None

@@ -9,12 +9,13 @@ use Rattle.mllp_frame.specs.Framing.{block_bytes, blocks, open_end}
 use Rattle.mllp_frame.proofs.DataLaws.{block_behind, nothing_open_behind}
 use Rattle.judge_core.specs.Judging.{is_bookable}
 use Rattle.event_log.specs.declared.entry.Entry.{Entry}
-use Rattle.event_log.specs.declared.entry.Entry.TheVariants.{Arrival, Take, Settle, Cancel}
+use Rattle.event_log.specs.declared.entry.Entry.TheVariants.{Arrival, Take, Settle, Cancel, Deploy}
 use Rattle.event_log.specs.declared.entry.Told.{Told}
 use Rattle.event_log.specs.Answers.{answer}
-use Rattle.event_log.specs.History.{History, followed_by, plan_in_force}
+use Rattle.event_log.specs.History.{History, followed_by}
 use Rattle.event_log.specs.Legal.{IsLegal, MayArrive, MayFollow}
 use Rattle.event_log.proofs.Following.{take-below, take-whole}
+use Rattle.event_log.proofs.Rerun.{answered-again}
 use Rattle.conn_core.specs.Messages.{message_of, messages, messages_of}
 use Rattle.conn_core.specs.Replies.{Answer, dues, numbered}
 use Rattle.engine_model.specs.Run.{Connection, Run, opened, silent}
@@ -152,6 +153,13 @@ module _ (channels : List ℕ) (n : ℕ) (r : Run) (ready : AllReady channels n 
         history = refl;
         ready = still (followed_by r.history (Cancel number mask));
       }
+  step (Deploy plan) may keeps few =
+      record {
+        to = with_history r (followed_by r.history (Deploy plan));
+        steps = inl (may.good, ap (λ o. with_history r (option_map_or (λ e. followed_by r.history e) o r.history)) (sym (answered-again r.history (Deploy plan) may)));
+        history = refl;
+        ready = still (followed_by r.history (Deploy plan));
+      }
 
 -- ---- entry by entry
 
@@ -193,7 +201,7 @@ silent-ready (x ∷ channels) (suc conn) channel is = silent-ready channels conn
 -- a legal history in which each connection keeps to its channel comes of its steps
 pub reaches : (h : History) (channels : List ℕ) → IsLegal h → KeepsTo channels h.entries → length h.entries < frame_events_max → IsRunOf (steps_of h) h channels
 reaches h channels legal keep few =
-    let from : Run = opened (plan_in_force h) h.opening.events_max channels in
+    let from : Run = opened h.opening.plan h.opening.events_max channels in
     let all : AllReady channels 0 from = λ conn channel is. record { c = silent channel; at = silent-ready channels conn channel is; ready = record { channel_is = refl; stays = refl; outside = refl; few = omega arith } } in
     let w = walk channels h.entries 0 from all legal keep (omega arith) in
     record { run = w.to; runs = w.runs; history = w.history }

@@ -3,13 +3,13 @@ use Rattle.std.proofs.Common.{◌≡◌, ℕ, zero, suc, List, [], ◌∷◌, �
 use Rattle.std.specs.Option.{option_map_or}
 use Rattle.plan_text.specs.Entries.{PlanEntry}
 use Rattle.event_log.specs.History.{History}
-use Rattle.event_log.specs.Replay.{next, asked, ended, revoked}
+use Rattle.event_log.specs.Replay.{next, asked, ended, revoked, planned}
 use Rattle.conn_core.specs.Messages.{booked}
 use Rattle.engine_model.specs.Run.{Connection, Run, opened, silent}
-use Rattle.engine_model.specs.Turn.{Turn, chunk, taking, settling, cancelling}
+use Rattle.engine_model.specs.Turn.{Turn, chunk, taking, settling, cancelling, deploying}
 use Rattle.engine_model.specs.Steps.{Runs, Steps, with_history}
 use Rattle.engine_model.specs.Promise.{AreRead, AreWritten, KeepsItsWord}
-use Rattle.engine_model.proofs.Booking.{BringsNone, cancelling-keeps, settling-keeps, taking-keeps}
+use Rattle.engine_model.proofs.Booking.{BringsNone, cancelling-keeps, deploying-keeps, settling-keeps, taking-keeps}
 use Rattle.engine_model.proofs.Hearing.{hears_at}
 
 -- an event that brings no arrival
@@ -34,6 +34,11 @@ step-keeps (settling ticket outcome now) r r' word does =
 step-keeps (cancelling number) r r' word does =
     elim does [
       | inl is ↦ subst KeepsItsWord (sym is) (quiet r (next r.history (revoked number)) (cancelling-keeps r.history number word.legal) word)
+      | inr is ↦ subst KeepsItsWord (sym is) word
+    ]
+step-keeps (deploying plan) r r' word does =
+    elim does [
+      | inl is ↦ subst KeepsItsWord (sym is.1) (quiet r (next r.history (planned plan)) (deploying-keeps r.history plan is.0 word.legal) word)
       | inr is ↦ subst KeepsItsWord (sym is) word
     ]
 

@@ -1,5 +1,5 @@
 -- What the calls of a world are, as steps of a run.
-use Rattle.std.proofs.Common.{◌≡◌, ℕ, zero, suc, ◌+◌, ◌<◌, true, false, Bool, List, [], ◌∷◌, ◌++◌, All, length, map, take, set, get_or, slice_get, None, Some, Result, Ok, Err, OnErr, IfOk, inl, inr, refl, sym, ap, ◌∙◌, subst, arith}
+use Rattle.std.proofs.Common.{◌≡◌, ℕ, zero, suc, ◌+◌, ◌<◌, true, false, Bool, List, [], ◌∷◌, ◌++◌, All, length, map, take, set, get_or, slice_get, None, Some, Result, Ok, Err, OnErr, OnOk, IfOk, inl, inr, refl, sym, ap, ◌∙◌, subst, arith}
 use Rattle.std.specs.List.{AllByRecursion}
 use Rattle.std.specs.Option.{option_map, option_map_or}
 use Rattle.std.specs.Result.{result_ok}
@@ -11,18 +11,23 @@ use Rattle.dest_queue.specs.declared.Outcome.{Outcome}
 use Rattle.dest_queue.specs.declared.SettleRefusal.{SettleRefusal}
 use Rattle.dest_queue.specs.declared.SlotState.{SlotState}
 use Rattle.event_log.specs.declared.entry.Entry.{Entry}
-use Rattle.event_log.specs.declared.entry.Entry.TheVariants.{Cancel, Settle, Take}
+use Rattle.event_log.specs.declared.entry.Entry.TheVariants.{Cancel, Deploy, Settle, Take}
 use Rattle.event_log.specs.declared.entry.Ticket.{Ticket}
 use Rattle.event_log.specs.declared.refusal.CancelRefusal.{CancelRefusal}
+use Rattle.event_log.specs.declared.refusal.DeployRefusal.{DeployRefusal}
 use Rattle.event_log.specs.declared.refusal.TakeRefusal.{TakeRefusal}
 use Rattle.event_log.specs.Answers.{cancel_answer, settle_answer, take_answer}
-use Rattle.event_log.specs.History.{History, followed_by, opened_by, plan_in_force}
+use Rattle.event_log.specs.History.{History, deployed_by, followed_by, opened_by, plan_in_force}
+use Rattle.event_log.specs.Legal.{MayFollow}
+use Rattle.event_log.proofs.Deploying.{channels-same}
+use Rattle.event_log.proofs.Following.{plan-followed_by, plan-kept}
+use Rattle.event_log.proofs.Rerun.{answered-again}
 use Rattle.engine_model.specs.declared.connection.Connected.{Connected}
 use Rattle.engine_model.specs.Handling.{HearsOn}
 use Rattle.engine_model.specs.Promise.{KeepsItsWord}
 use Rattle.engine_model.specs.Run.{Connection, Run, opened, silent}
 use Rattle.engine_model.specs.Steps.{HearsAt, HearsIf, Runs, Steps}
-use Rattle.engine_model.specs.Turn.{Turn, chunk, taking, settling, cancelling}
+use Rattle.engine_model.specs.Turn.{Turn, chunk, taking, settling, cancelling, deploying}
 use Rattle.engine_model.specs.View.{IsFit, IsOpen, IsWorld, connection_of, run_of}
 use Rattle.engine_model.proofs.Stepping.{opened-keeps, runs-append, step-keeps}
 
@@ -57,10 +62,23 @@ cancelled h h' cs number (Ok mask) answered booked left =
     inl (ap (λ g. run_of g cs) (booked ∙ ap (λ o. option_map_or (λ e. followed_by h e) (option_map (λ m. Cancel number m) (result_ok o)) h) (sym answered)))
 cancelled h h' cs number (Err e) answered booked left = inr (ap (λ g. run_of g cs) left)
 
--- the plan stays with each of them
-pub same-plan : {T E : Type 0} (h h' : History) (f : T → Entry) (o : Result T E) → IfOk o (λ x. h' ≡ followed_by h (f x)) → OnErr o (h' ≡ h) → plan_in_force h' ≡ plan_in_force h
-same-plan h h' f (Ok x) booked left = ap plan_in_force booked
-same-plan h h' f (Err e) booked left = ap plan_in_force left
+-- of a deployment
+pub deployed : (h h' : History) (cs : List Connected) (plan : PlanEntry) (o : Result (Unit {0}) DeployRefusal) → OnOk o (MayFollow h (Deploy plan)) → OnOk o (h' ≡ followed_by h (Deploy plan)) → OnErr o (h' ≡ h)
+    → Steps (deploying plan) (run_of h cs) (run_of h' cs)
+deployed h h' cs plan (Ok x) answered booked left =
+    inl (answered.good, ap (λ g. run_of g cs) (booked ∙ ap (λ o. option_map_or (λ e. followed_by h e) o h) (sym (answered-again h (Deploy plan) answered))))
+deployed h h' cs plan (Err e) answered booked left = inr (ap (λ g. run_of g cs) left)
+
+-- its plan has as many channels
+pub same-channels : (h h' : History) (plan : PlanEntry) (o : Result (Unit {0}) DeployRefusal) → OnOk o (MayFollow h (Deploy plan)) → OnOk o (h' ≡ followed_by h (Deploy plan)) → OnErr o (h' ≡ h)
+    → length (plan_in_force h').channels ≡ length (plan_in_force h).channels
+same-channels h h' plan (Ok x) answered booked left = ap (λ (g : History). length (plan_in_force g).channels) booked ∙ (ap (λ (p : PlanEntry). length p.channels) (plan-followed_by h (Deploy plan)) ∙ channels-same h plan answered)
+same-channels h h' plan (Err e) answered booked left = ap (λ (g : History). length (plan_in_force g).channels) left
+
+-- the plan stays with each of the others
+pub same-plan : {T E : Type 0} (h h' : History) (f : T → Entry) (o : Result T E) → ((x : T) → deployed_by (f x) ≡ None) → IfOk o (λ x. h' ≡ followed_by h (f x)) → OnErr o (h' ≡ h) → plan_in_force h' ≡ plan_in_force h
+same-plan h h' f (Ok x) none booked left = ap plan_in_force booked ∙ plan-kept h (f x) (none x)
+same-plan h h' f (Err e) none booked left = ap plan_in_force left
 
 -- ---- a chunk
 
@@ -120,6 +138,11 @@ fit-set n (x ∷ cs) (suc i) c all one = (all.0, fit-set n cs i c all.1 one)
 pub world-on : (turn : Turn) (h h' : History) (cs : List Connected) → IsWorld h cs → Steps turn (run_of h cs) (run_of h' cs) → plan_in_force h' ≡ plan_in_force h → IsWorld h' cs
 world-on turn h h' cs w does same =
     record { fit = subst (λ p. AllByRecursion (IsFit (length p.channels)) cs) (sym same) w.fit; word = step-keeps turn (run_of h cs) (run_of h' cs) w.word does }
+
+-- after a deployment
+pub world-deployed : (turn : Turn) (h h' : History) (cs : List Connected) → IsWorld h cs → Steps turn (run_of h cs) (run_of h' cs) → length (plan_in_force h').channels ≡ length (plan_in_force h).channels → IsWorld h' cs
+world-deployed turn h h' cs w does same =
+    record { fit = subst (λ n. AllByRecursion (IsFit n) cs) (sym same) w.fit; word = step-keeps turn (run_of h cs) (run_of h' cs) w.word does }
 
 -- after a chunk
 pub world-heard : (turn : Turn) (h h' : History) (cs : List Connected) (i : ℕ) (c : Connected) → IsWorld h cs → Steps turn (run_of h cs) (run_of h' (set cs i c)) → plan_in_force h' ≡ plan_in_force h → IsFit (length (plan_in_force h).channels) c

@@ -1,12 +1,12 @@
 -- The steps by which a legal history comes.
 use Rattle.std.specs.Prelude.{◌≡◌, ℕ, List, map, slice_get, Some, ⊤}
 use Rattle.event_log.specs.declared.entry.Entry.{Entry}
-use Rattle.event_log.specs.declared.entry.Entry.TheVariants.{Arrival, Take, Settle, Cancel}
+use Rattle.event_log.specs.declared.entry.Entry.TheVariants.{Arrival, Take, Settle, Cancel, Deploy}
 use Rattle.event_log.specs.declared.entry.Told.{Told}
-use Rattle.event_log.specs.History.{History, plan_in_force}
+use Rattle.event_log.specs.History.{History}
 use Rattle.mllp_frame.specs.Framing.{IsData, block_bytes}
 use Rattle.engine_model.specs.Run.{Run, opened}
-use Rattle.engine_model.specs.Turn.{Turn, chunk, taking, settling, cancelling}
+use Rattle.engine_model.specs.Turn.{Turn, chunk, taking, settling, cancelling, deploying}
 use Rattle.engine_model.specs.Steps.{Runs}
 
 -- the step of an entry: an arrival comes as one whole block
@@ -15,6 +15,7 @@ step_of (Arrival conn channel raw told) = chunk conn (block_bytes raw) 0
 step_of (Take ticket now) = taking ticket.destination now
 step_of (Settle ticket outcome now state) = settling ticket outcome now
 step_of (Cancel number mask) = cancelling number
+step_of (Deploy plan) = deploying plan
 
 -- the steps of a history, one an entry
 abbrev pub steps_of : History → List Turn
@@ -37,7 +38,7 @@ pub record HaveChannels (entries : List Entry) : Type 0 where
 -- a run by these steps, from the opening of this history on, has this history
 pub record IsRunOf (steps : List Turn) (h : History) (channels : List ℕ) : Type 0 where
   pub run : Run
-  pub runs : Runs steps (opened (plan_in_force h) h.opening.events_max channels) run
+  pub runs : Runs steps (opened h.opening.plan h.opening.events_max channels) run
   pub history : run.history ≡ h
 
 -- the text of an arrival can be framed

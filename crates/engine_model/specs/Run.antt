@@ -3,7 +3,7 @@ use Rattle.std.specs.Prelude.{ℕ, Bool, false, ◌==◌, if◌then◌else◌, L
 use Rattle.std.specs.List.{filter_map}
 use Rattle.std.specs.Option.{option_map_or}
 use Rattle.event_log.specs.declared.entry.Entry.{Entry}
-use Rattle.event_log.specs.declared.entry.Entry.TheVariants.{Arrival, Take, Settle, Cancel}
+use Rattle.event_log.specs.declared.entry.Entry.TheVariants.{Arrival, Take, Settle, Cancel, Deploy}
 use Rattle.event_log.specs.History.{History, opened_by}
 use Rattle.plan_text.specs.Entries.{PlanEntry}
 use Rattle.conn_core.specs.Messages.{BookedMessage}
@@ -37,6 +37,7 @@ arrival_on conn (Arrival came channel raw told) = if came == conn then Some (rec
 arrival_on conn (Take ticket now) = None
 arrival_on conn (Settle ticket outcome now state) = None
 arrival_on conn (Cancel number mask) = None
+arrival_on conn (Deploy plan) = None
 
 -- the arrivals of a connection, in the order in which they were booked
 abbrev pub arrivals : ℕ → History → List BookedMessage

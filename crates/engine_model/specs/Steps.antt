@@ -6,13 +6,14 @@ use Rattle.event_log.specs.declared.entry.Entry.TheVariants.{Arrival}
 use Rattle.event_log.specs.declared.entry.Told.{Told}
 use Rattle.event_log.specs.History.{History, followed_by}
 use Rattle.event_log.specs.Legal.{MayArrive}
-use Rattle.event_log.specs.Replay.{next, asked, ended, revoked}
+use Rattle.plan_text.specs.Entries.{IsPlan}
+use Rattle.event_log.specs.Replay.{next, asked, ended, revoked, planned}
 use Rattle.event_log.specs.Room.{is_full}
 use Rattle.mllp_frame.specs.Framing.{blocks}
 use Rattle.conn_core.specs.Messages.{messages}
 use Rattle.conn_core.specs.Replies.{Answer, Due, dues, numbered}
 use Rattle.engine_model.specs.Run.{Connection, Run}
-use Rattle.engine_model.specs.Turn.{Turn, chunk, taking, settling, cancelling}
+use Rattle.engine_model.specs.Turn.{Turn, chunk, taking, settling, cancelling, deploying}
 
 -- the most frame events of a connection: having had so many it ends
 unfoldable pub frame_events_max : ℕ
@@ -110,13 +111,14 @@ HearsAt (Some c) conn bytes now r r' = HearsIf c.ended conn bytes now r r' c
 abbrev pub with_history : Run → History → Run
 with_history r h = record r { history = h }
 
--- One step. An event that the sequential engine refuses books nothing, and a take and a cancellation may be refused for
--- memory; a settlement needs none.
+-- One step. An event that the sequential engine refuses books nothing, and a take, a cancellation and a deployment may be
+-- refused for memory; a settlement needs none. What is deployed is a plan.
 abbrev pub Steps : Turn → Run → Run → Type 0
 Steps (chunk conn bytes now) r r' = HearsAt (slice_get r.connections conn) conn bytes now r r'
 Steps (taking d now) r r' = (r' ≡ with_history r (next r.history (asked d now))) ⊎ (r' ≡ r)
 Steps (settling ticket outcome now) r r' = r' ≡ with_history r (next r.history (ended ticket outcome now))
 Steps (cancelling number) r r' = (r' ≡ with_history r (next r.history (revoked number))) ⊎ (r' ≡ r)
+Steps (deploying plan) r r' = (IsPlan plan × (r' ≡ with_history r (next r.history (planned plan)))) ⊎ (r' ≡ r)
 
 -- step after step
 abbrev pub Runs : List Turn → Run → Run → Type 0

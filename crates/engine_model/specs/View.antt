@@ -1,14 +1,15 @@
 -- What the program's values stand for.
 use Rattle.std.specs.Prelude.{◌≡◌, ◌<◌, ◌≤◌, ◌*◌, ℕ, false, List, [], length, map}
+use Rattle.std.specs.Arc.{arc_value}
 use Rattle.std.specs.List.{AllByRecursion}
 use Rattle.event_log.specs.History.{History, plan_in_force}
 use Rattle.mllp_frame.specs.Framing.{blocks, open_end}
 use Rattle.engine_model.specs.Handling.{IsCounted, said}
 use Rattle.engine_model.specs.declared.connection.Connected.{Connected}
 use Rattle.engine_model.specs.declared.step.Step.{Step}
-use Rattle.engine_model.specs.declared.step.Step.TheVariants.{Chunk, Take, Settle, Cancel}
+use Rattle.engine_model.specs.declared.step.Step.TheVariants.{Chunk, Take, Settle, Cancel, Deploy}
 use Rattle.engine_model.specs.Run.{Connection, Run}
-use Rattle.engine_model.specs.Turn.{Turn, chunk, taking, settling, cancelling}
+use Rattle.engine_model.specs.Turn.{Turn, chunk, taking, settling, cancelling, deploying}
 use Rattle.engine_model.specs.Promise.{KeepsItsWord}
 
 abbrev pub connection_of : Connected → Connection
@@ -35,6 +36,7 @@ turn_by (Chunk conn bytes now) = chunk conn bytes.items now
 turn_by (Take d now) = taking d now
 turn_by (Settle ticket outcome now) = settling ticket outcome now
 turn_by (Cancel number) = cancelling number
+turn_by (Deploy plan) = deploying (arc_value plan)
 
 -- the run of a world with this history and these connections
 abbrev pub run_of : History → List Connected → Run

@@ -11,6 +11,7 @@ use hl7_head::Moment;
 use mllp_frame::write_block;
 use row_store::RowStore;
 use std::alloc::{AllocError, Global};
+use std::sync::Arc;
 
 /// The step of an entry: an arrival comes as one whole block, at the first moment.
 fn step_of(alloc: Global, entry: &Entry, first: Moment) -> Result<Step, AllocError>
@@ -43,6 +44,9 @@ fn step_of(alloc: Global, entry: &Entry, first: Moment) -> Result<Step, AllocErr
             now: *now,
         }),
         Entry::Cancel { number, .. } => Ok(Step::Cancel { number: *number }),
+        Entry::Deploy { plan } => Ok(Step::Deploy {
+            plan: Arc::try_clone(plan.plan())?,
+        }),
     }
 }
 

@@ -3,6 +3,8 @@
 use dest_queue::Outcome;
 use event_log::Ticket;
 use hl7_head::Moment;
+use plan_text::Plan;
+use std::sync::Arc;
 
 /// A step of a run of the engine.
 #[derive(Drop)]
@@ -27,5 +29,9 @@ pub enum Step {
     /// A message is cancelled.
     Cancel {
         number: u32,
+    },
+    /// A plan is deployed.
+    Deploy {
+        plan: Arc<Plan>,
     },
 }

@@ -5,7 +5,7 @@ ghost use Rattle.std.specs.Arc.{arc_value};
 ghost use Rattle.engine_model.specs.Promise.{KeepsItsWord};
 ghost use Rattle.engine_model.specs.Run.{ended_at, opened, output_of, silent};
 ghost use Rattle.engine_model.specs.Steps.{Runs, Steps};
-ghost use Rattle.engine_model.specs.Turn.{chunk, taking, settling, cancelling};
+ghost use Rattle.engine_model.specs.Turn.{chunk, taking, settling, cancelling, deploying};
 ghost use Rattle.engine_model.specs.View.{IsOpen, connection_of, turn_by};
 
 use crate::connection::Connected;
@@ -131,6 +131,15 @@ impl<S: RowStore<Addressed<Letter>>> World<S> {
         let _ = self.book.cancel(number);
     }
 
+    /// A plan is deployed.
+    fn deploy(&mut self, plan: &Arc<Plan>)
+        ensures { Steps (deploying (arc_value plan.now)) self.old self.new }
+    {
+        if let Ok(plan) = Arc::try_clone(plan) {
+            let _ = self.book.deploy(plan);
+        }
+    }
+
     /// Takes a step that is lent.
     fn advance(&mut self, step: &Step)
         ensures { Steps (turn_by step.now) self.old self.new }
@@ -144,6 +153,7 @@ impl<S: RowStore<Addressed<Letter>>> World<S> {
                 now,
             } => self.settle(ticket, *outcome, *now),
             Step::Cancel { number } => self.cancel(*number),
+            Step::Deploy { plan } => self.deploy(plan),
         }
     }
 

@@ -23,7 +23,7 @@ use Rattle.event_log.specs.Answers.{answer, attempts_max, brings, known, told_by
 use Rattle.event_log.specs.Room.{in_flight, is_full, is_in_flight, message_total, owed, own, own_owed, slot_owed, slots_added, total}
 use Rattle.event_log.specs.Legal.{IsSound, IsWithin, MayArrive}
 use Rattle.event_log.proofs.Adding.{fresh, fresh-in_flight, fresh-owed}
-use Rattle.event_log.proofs.Following.{accepted-followed_by, accepted-kept, deliveries-same, funext, get-last, known-followed_by, legal-followed_by, message_count-same, slot-same, state-followed_by}
+use Rattle.event_log.proofs.Following.{accepted-followed_by, accepted-kept, deliveries-same, funext, get-last, known-followed_by, legal-followed_by, message_count-same, plan-kept, slot-same, state-followed_by}
 use Rattle.event_log.proofs.Steps.{ArrivalStep, IsNumbered}
 use Rattle.event_log.proofs.Totals.{total-grown, total-same}
 
@@ -103,6 +103,14 @@ module _ (h : History) (sound : IsSound h) (conn channel : ℕ) (raw : List ℕ)
       room-left (length h.entries) (length (h.entries ++ Arrival conn channel raw reply ∷ [])) h.opening.events_max (owed h) (owed (followed_by h (Arrival conn channel raw reply))) (own h channel raw)
       may.room (length-append h.entries (Arrival conn channel raw reply ∷ [])) owes
 
+  -- the plan in force stays
+  plan-after : plan_in_force (followed_by h (Arrival conn channel raw reply)) ≡ plan_in_force h
+  plan-after = plan-kept h (Arrival conn channel raw reply) refl
+
+  -- what is owed, by the plan in force before it
+  owed-after : owed (followed_by h (Arrival conn channel raw reply)) ≡ total (λ d. slot_owed (attempts_max (plan_in_force h) d)) (followed_by h (Arrival conn channel raw reply))
+  owed-after = ap (λ p. total (λ d. slot_owed (attempts_max p d)) (followed_by h (Arrival conn channel raw reply))) plan-after
+
   -- no slot's state changes
   state-after : (n d : ℕ) → state (followed_by h (Arrival conn channel raw reply)) n d ≡ state h n d
   state-after n d = state-followed_by h (Arrival conn channel raw reply) n d
@@ -118,10 +126,11 @@ module _ (h : History) (sound : IsSound h) (conn channel : ℕ) (raw : List ℕ)
   step-when numbered goes within more owes flight = record {
     numbered = numbered;
     sound = record {
-      plan = sound.plan;
+      opening = sound.opening;
+      plan = subst IsPlan (sym plan-after) sound.plan;
       legal = legal-followed_by h (Arrival conn channel raw reply) sound.legal may;
       deliveries = goes;
-      attempts = within;
+      attempts = λ n d. subst (λ p. IfSome (slot (followed_by h (Arrival conn channel raw reply)) n d) (IsWithin (attempts_max p d))) (sym plan-after) (within n d);
       to_come = λ n d beyond. state-after n d ∙ sound.to_come n d (omega arith);
       room = room-after owes;
     };
@@ -156,7 +165,7 @@ module _ (h : History) (sound : IsSound h) (conn channel : ℕ) (raw : List ℕ)
     owed-kept : owed (followed_by h (Arrival conn channel raw reply)) ≡ owed h + own h channel raw
     owed-kept =
         let own-none : own h channel raw ≡ 0 = own-is ∙ ap (own_owed (plan_in_force h)) nothing in
-        total-kept (λ d. slot_owed (attempts_max (plan_in_force h) d)) ∙ rw own-none (sym (add-zero (owed h)))
+        owed-after ∙ total-kept (λ d. slot_owed (attempts_max (plan_in_force h) d)) ∙ rw own-none (sym (add-zero (owed h)))
 
     -- such an arrival leaves all slots as they are
     step-kept : IsNumbered (message_count h) reply → ArrivalStep h conn channel raw reply
@@ -220,7 +229,7 @@ module _ (h : History) (sound : IsSound h) (conn channel : ℕ) (raw : List ℕ)
     -- what is owed grows by what the new slots owe
     owed-more : owed (followed_by h (Arrival conn channel raw reply)) ≡ owed h + own h channel raw
     owed-more =
-        total-more (λ d. slot_owed (attempts_max (plan_in_force h) d))
+        owed-after ∙ total-more (λ d. slot_owed (attempts_max (plan_in_force h) d))
         ∙ ap (λ t. owed h + t) (fresh-owed (plan_in_force h) (deliveries_of (decided (plan_in_force h) channel raw)) new-goes ∙ sym (own-is ∙ ap (own_owed (plan_in_force h)) adds))
 
     -- no attempt comes under way

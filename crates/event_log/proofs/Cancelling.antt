@@ -7,6 +7,7 @@ use Rattle.std.specs.Option.{option_map, option_map_or}
 use Rattle.std.proofs.lemmas.Bool.{cases_lt, cases_eq}
 use Rattle.std.proofs.lemmas.Bool.Decides.{nat_tests}
 use Rattle.std.proofs.lemmas.List.Sums.{sum_by-cons}
+use Rattle.plan_text.specs.Entries.{IsPlan}
 use Rattle.judge_core.specs.Delivering.{AreDeliveries}
 use Rattle.dest_queue.specs.declared.SlotState.{SlotState}
 use Rattle.dest_queue.specs.declared.SlotState.TheVariants.{Waiting, InFlight, Delivered, Failed}
@@ -17,9 +18,9 @@ use Rattle.event_log.specs.declared.refusal.CancelRefusal.{CancelRefusal}
 use Rattle.event_log.specs.declared.refusal.CancelRefusal.TheVariants.{NoSuchMessage, NothingWaiting}
 use Rattle.event_log.specs.History.{History, accepted, deliveries, followed_by, message_count, names, plan_in_force, slot, state}
 use Rattle.event_log.specs.Answers.{attempts_max, cancel_answer, mask_where, waits}
-use Rattle.event_log.specs.Room.{in_flight, is_in_flight, message_total, owed, slot_owed}
+use Rattle.event_log.specs.Room.{in_flight, is_in_flight, message_total, owed, slot_owed, total}
 use Rattle.event_log.specs.Legal.{IsSound, IsWithin}
-use Rattle.event_log.proofs.Following.{accepted-kept, known-kept, legal-followed_by, message_count-same, deliveries-same, slot-same, state-followed_by}
+use Rattle.event_log.proofs.Following.{accepted-kept, known-kept, legal-followed_by, message_count-same, deliveries-same, plan-kept, slot-same, state-followed_by}
 use Rattle.event_log.proofs.Masks.{mask_where-bits, mask_where-beyond}
 use Rattle.event_log.proofs.Reading.{slot-outside}
 use Rattle.event_log.proofs.Steps.{CancelStep, waiting_owed}
@@ -152,6 +153,10 @@ module _ (h : History) (sound : IsSound h) (n mask : ℕ) (is : cancel_answer h 
   bits d = ap (λ m. bit_at m d == 1) parts.2 ∙ elim (cases_lt d 32)
       [ inl below ↦ mask_where-bits (waits h n) d below | inr beyond ↦ mask_where-beyond (waits h n) d beyond ∙ sym (waits-beyond d beyond) ]
 
+  -- the plan in force stays
+  plan : plan_in_force (followed_by h (Cancel n mask)) ≡ plan_in_force h
+  plan = plan-kept h (Cancel n mask) refl
+
   -- no message comes or goes
   same-messages : accepted (followed_by h (Cancel n mask)) ≡ accepted h
   same-messages = accepted-kept h (Cancel n mask) refl
@@ -177,7 +182,8 @@ module _ (h : History) (sound : IsSound h) (n mask : ℕ) (is : cancel_answer h 
   owed-after : owed (followed_by h (Cancel n mask)) + waiting_owed h n ≡ owed h
   owed-after =
       let weight : ℕ → SlotState → ℕ = λ d. slot_owed (attempts_max (plan_in_force h) d) in
-      left-owed (owed (followed_by h (Cancel n mask))) (owed h) (message_total weight (slot h n)) (message_total weight (slot (followed_by h (Cancel n mask)) n)) (waiting_owed h n)
+      ap (λ p. total (λ d. slot_owed (attempts_max p d)) (followed_by h (Cancel n mask)) + waiting_owed h n) plan
+      ∙ left-owed (total weight (followed_by h (Cancel n mask))) (owed h) (message_total weight (slot h n)) (message_total weight (slot (followed_by h (Cancel n mask)) n)) (waiting_owed h n)
       (total-changed weight h (followed_by h (Cancel n mask)) n (message_count-same h (followed_by h (Cancel n mask)) same-messages) exists slot-other)
       (sum-split (λ d. option_map_or (weight d) (slot h n d) 0) (λ d. option_map_or (weight d) (slot (followed_by h (Cancel n mask)) n d) 0)
       (λ d. option_map_or (owed_waiting (attempts_max (plan_in_force h) d)) (slot h n d) 0)
@@ -216,10 +222,11 @@ module _ (h : History) (sound : IsSound h) (n mask : ℕ) (is : cancel_answer h 
   -- the history stays sound
   sound-after : IsSound (followed_by h (Cancel n mask))
   sound-after = record {
-    plan = sound.plan;
+    opening = sound.opening;
+    plan = subst IsPlan (sym plan) sound.plan;
     legal = legal-followed_by h (Cancel n mask) sound.legal is;
     deliveries = λ m. subst AreDeliveries (sym (deliveries-same h (followed_by h (Cancel n mask)) same-messages m)) (sound.deliveries m);
-    attempts = within-after;
+    attempts = λ m d. subst (λ p. IfSome (slot (followed_by h (Cancel n mask)) m d) (IsWithin (attempts_max p d))) (sym plan) (within-after m d);
     to_come = to_come-after;
     room = room-left (length h.entries) (length (h.entries ++ Cancel n mask ∷ [])) h.opening.events_max (owed (followed_by h (Cancel n mask))) (owed h) (waiting_owed h n)
         (length-append h.entries (Cancel n mask ∷ [])) owed-after owes sound.room;

@@ -6,13 +6,14 @@ use Rattle.dest_queue.specs.declared.SlotState.{SlotState}
 use Rattle.dest_queue.specs.declared.Outcome.{Outcome}
 use Rattle.event_log.specs.declared.entry.Ticket.{Ticket}
 use Rattle.event_log.specs.declared.entry.Entry.{Entry}
-use Rattle.event_log.specs.declared.entry.Entry.TheVariants.{Arrival, Take, Settle, Cancel}
-use Rattle.event_log.specs.History.{History, before, followed_by, next_place, plan_in_force}
+use Rattle.event_log.specs.declared.entry.Entry.TheVariants.{Arrival, Take, Settle, Cancel, Deploy}
+use Rattle.event_log.specs.History.{History, before, followed_by, next_place}
 use Rattle.event_log.specs.Answers.{cancel_answer, settle_answer, take_answer}
 use Rattle.event_log.specs.Legal.{IsLegal, IsSound, MayFollow}
 use Rattle.event_log.specs.Room.{owed}
 use Rattle.event_log.proofs.Arriving.{arrival-step}
 use Rattle.event_log.proofs.Cancelling.{cancel-owes, cancel-step}
+use Rattle.event_log.proofs.Deploying.{deploy-step}
 use Rattle.event_log.proofs.Following.{take-whole}
 use Rattle.event_log.proofs.Reading.{opened-sound}
 use Rattle.event_log.proofs.Replaying.{take-more}
@@ -25,6 +26,7 @@ sound-followed_by h (Arrival conn channel raw reply) sound may = (arrival-step h
 sound-followed_by h (Take ticket now) sound may = (take-step h sound ticket.destination now ticket may).1.sound
 sound-followed_by h (Settle ticket outcome now state) sound may = (settle-step h sound ticket outcome now state may).sound
 sound-followed_by h (Cancel number mask) sound may = (cancel-step h sound number mask may).sound
+sound-followed_by h (Deploy plan) sound may = (deploy-step h sound plan may).sound
 
 -- the first items, where there is no other
 pub take-past : {A : Type 0} (xs : List A) (k : ℕ) → slice_get xs k ≡ None → take (suc k) xs ≡ take k xs
@@ -34,8 +36,8 @@ take-past (y ∷ xs) zero none = absurd cc
 take-past (y ∷ xs) (suc k) none = ap (λ zs. y ∷ zs) (take-past xs k none)
 
 -- a legal history is sound as far as it was booked
-pub sound-before : (h : History) → IsPlan (plan_in_force h) → IsLegal h → (k : ℕ) → IsSound (before h k)
-sound-before h good legal zero = opened-sound (plan_in_force h) h.opening.events_max good
+pub sound-before : (h : History) → IsPlan h.opening.plan → IsLegal h → (k : ℕ) → IsSound (before h k)
+sound-before h good legal zero = opened-sound h.opening.plan h.opening.events_max good
 sound-before h good legal (suc k) =
     let earlier = sound-before h good legal k in
     elim (slice_get h.entries k) as (λ o. slice_get h.entries k ≡ o → IsSound (before h (suc k))) [
@@ -44,7 +46,7 @@ sound-before h good legal (suc k) =
     ] refl
 
 -- a legal history is sound
-pub sound-legal : (h : History) → IsPlan (plan_in_force h) → IsLegal h → IsSound h
+pub sound-legal : (h : History) → IsPlan h.opening.plan → IsLegal h → IsSound h
 sound-legal h good legal = subst (λ es. IsSound (record { opening = h.opening; entries = es })) (take-whole h.entries) (sound-before h good legal (length h.entries))
 
 -- one more entry, of which at least one was owed

@@ -13,7 +13,9 @@ use Rattle.judge_core.specs.Delivering.{destinations_of}
 use Rattle.dest_queue.specs.declared.SlotState.{SlotState}
 use Rattle.dest_queue.specs.declared.SlotState.TheVariants.{Waiting}
 use Rattle.event_log.specs.declared.entry.Entry.{Entry}
-use Rattle.event_log.specs.History.{History, accepted, accepted_by, deliveries, followed_by, last_from, message_count, named, names, numbers, plan_in_force, slot, state, state_by}
+use Rattle.event_log.specs.declared.entry.Entry.TheVariants.{Deploy}
+use Rattle.plan_text.specs.Entries.{PlanEntry}
+use Rattle.event_log.specs.History.{Accepted, History, accepted, accepted_by, accepted_from, deliveries, deployed, deployed_by, followed_by, last_from, message_count, named, names, numbers, plan_after, plan_in_force, slot, state, state_by}
 use Rattle.event_log.specs.Answers.{keeps, known}
 use Rattle.event_log.specs.Legal.{IsLegal, MayFollow}
 
@@ -78,20 +80,71 @@ cons-none : {A : Type 0} (o : Option A) → cons_option o [] ≡ option_to_list 
 cons-none None = refl
 cons-none (Some x) = refl
 
+-- the plan in force after an entry and others
+pub last-after : (plan : PlanEntry) (e : Entry) (es : List Entry) → last_from plan (filter_map deployed_by (e ∷ es)) ≡ last_from (plan_after plan e) (filter_map deployed_by es)
+last-after plan e es = by (deployed_by e)
+  where
+    by : (o : Option PlanEntry) → last_from plan (cons_option o (filter_map deployed_by es)) ≡ last_from (option_map_or (λ p. p) o plan) (filter_map deployed_by es)
+    by None = refl
+    by (Some p) = refl
+
+-- the last of some values and one more
+last-push : {A : Type 0} (x : A) (xs : List A) (o : Option A) → last_from x (xs ++ option_to_list o) ≡ option_map_or (λ y. y) o (last_from x xs)
+last-push x [] None = refl
+last-push x [] (Some y) = refl
+last-push x (z ∷ xs) o = last-push z xs o
+
+-- the plan in force after entries and one more
+pub plan-push : (plan : PlanEntry) (es : List Entry) (e : Entry) → last_from plan (filter_map deployed_by (es ++ e ∷ [])) ≡ plan_after (last_from plan (filter_map deployed_by es)) e
+plan-push plan es e =
+    ap (last_from plan) (filter_map-append deployed_by es (e ∷ []) ∙ ap (λ ps. filter_map deployed_by es ++ ps) (cons-none (deployed_by e)))
+    ∙ last-push plan (filter_map deployed_by es) (deployed_by e)
+
+-- the plans that were deployed are those before, and that which the entry deploys
+pub deployed-followed_by : (h : History) (e : Entry) → deployed (followed_by h e) ≡ deployed h ++ option_to_list (deployed_by e)
+deployed-followed_by h e = filter_map-append deployed_by h.entries (e ∷ []) ∙ ap (λ ps. deployed h ++ ps) (cons-none (deployed_by e))
+
+-- an entry that deploys none leaves as many
+pub deployments-kept : (h : History) (e : Entry) → deployed_by e ≡ None → length (deployed (followed_by h e)) ≡ length (deployed h)
+deployments-kept h e none = ap length (deployed-followed_by h e ∙ (ap (λ o. deployed h ++ option_to_list o) none ∙ append-nil (deployed h)))
+
+-- a deployment is one more
+pub deployments-more : (h : History) (plan : PlanEntry) → length (deployed (followed_by h (Deploy plan))) ≡ length (deployed h) + 1
+deployments-more h plan = ap length (deployed-followed_by h (Deploy plan)) ∙ length-append (deployed h) (plan ∷ [])
+
+-- the plan in force is the one that an entry deploys, or as it was
+pub plan-followed_by : (h : History) (e : Entry) → plan_in_force (followed_by h e) ≡ plan_after (plan_in_force h) e
+plan-followed_by h e = plan-push h.opening.plan h.entries e
+
+-- an entry that deploys none leaves the plan in force
+pub plan-kept : (h : History) (e : Entry) → deployed_by e ≡ None → plan_in_force (followed_by h e) ≡ plan_in_force h
+plan-kept h e none = plan-followed_by h e ∙ ap (λ o. option_map_or (λ p. p) o (plan_in_force h)) none
+
+-- entries of which none deploys a plan leave the plan in force
+pub plan-kept_all : (plan : PlanEntry) (es more : List Entry) → filter_map deployed_by more ≡ [] → last_from plan (filter_map deployed_by (es ++ more)) ≡ last_from plan (filter_map deployed_by es)
+plan-kept_all plan es more none =
+    ap (last_from plan) (filter_map-append deployed_by es more ∙ (ap (λ ps. filter_map deployed_by es ++ ps) none ∙ append-nil (filter_map deployed_by es)))
+
+-- one more entry brings its message by the plan in force after those before it
+accepted-push : (plan : PlanEntry) (es : List Entry) (e : Entry)
+    → accepted_from plan (es ++ e ∷ []) ≡ accepted_from plan es ++ option_to_list (accepted_by (last_from plan (filter_map deployed_by es)) e)
+accepted-push plan [] e = cons-none (accepted_by plan e)
+accepted-push plan (x ∷ es) e =
+    ap (cons_option (accepted_by plan x)) (accepted-push (plan_after plan x) es e)
+    ∙ (joined (accepted_by plan x) (accepted_from (plan_after plan x) es) (option_to_list (accepted_by (last_from (plan_after plan x) (filter_map deployed_by es)) e))
+    ∙ ap (λ p. cons_option (accepted_by plan x) (accepted_from (plan_after plan x) es) ++ option_to_list (accepted_by p e)) (sym (last-after plan x es)))
+  where
+    joined : (o : Option Accepted) (ms ns : List Accepted) → cons_option o (ms ++ ns) ≡ cons_option o ms ++ ns
+    joined None ms ns = refl
+    joined (Some m) ms ns = refl
+
 -- the messages are those before, and that which the entry brings
 pub accepted-followed_by : (h : History) (e : Entry) → accepted (followed_by h e) ≡ accepted h ++ option_to_list (accepted_by (plan_in_force h) e)
-accepted-followed_by h e =
-    filter_map-append (accepted_by h.opening.plan) h.entries (e ∷ []) ∙ ap (λ ms. accepted h ++ ms) (cons-none (accepted_by h.opening.plan e))
+accepted-followed_by h e = accepted-push h.opening.plan h.entries e
 
 -- an entry that brings no message leaves the messages as they are
 pub accepted-kept : (h : History) (e : Entry) → accepted_by (plan_in_force h) e ≡ None → accepted (followed_by h e) ≡ accepted h
 accepted-kept h e none = accepted-followed_by h e ∙ (ap (λ o. accepted h ++ option_to_list o) none ∙ append-nil (accepted h))
-
--- the last of some states and one more
-last-push : (s : SlotState) (states : List SlotState) (o : Option SlotState) → last_from s (states ++ option_to_list o) ≡ option_map_or (λ s. s) o (last_from s states)
-last-push s [] None = refl
-last-push s [] (Some t) = refl
-last-push s (x ∷ states) o = last-push x states o
 
 -- a slot's state is as the entry leaves it, or as it was
 pub state-followed_by : (h : History) (e : Entry) (n d : ℕ) → state (followed_by h e) n d ≡ option_map_or (λ s. s) (state_by n d e) (state h n d)

@@ -115,6 +115,7 @@ opened-known plan events_max key = refl
 -- a history of which nothing is booked is sound
 pub opened-sound : (plan : PlanEntry) (events_max : ℕ) → IsPlan plan → IsSound (opened_by plan events_max)
 opened-sound plan events_max good = record {
+  opening = good;
   plan = good;
   legal = record { follows = λ place e got. absurd cc };
   deliveries = λ n. record { within = All-nil (λ x. x.destination < 32); once = λ i j d before inside. absurd (omega arith); plain = λ k d inside. absurd (omega arith) };

@@ -13,12 +13,12 @@ use Rattle.judge_core.specs.declared.judged.Verdict.TheVariants as verdict
 use Rattle.judge_core.specs.Judging.{verdict as decided, deliveries_of, is_bookable, key_of}
 use Rattle.event_log.specs.declared.entry.Told.TheVariants as told
 use Rattle.event_log.specs.declared.entry.Entry.{Entry}
-use Rattle.event_log.specs.declared.entry.Entry.TheVariants.{Arrival, Take, Settle, Cancel}
-use Rattle.event_log.specs.History.{Accepted, History, accepted, accepted_by, accepted_under, before, entry_at, message_at, message_count, plan_in_force}
+use Rattle.event_log.specs.declared.entry.Entry.TheVariants.{Arrival, Take, Settle, Cancel, Deploy}
+use Rattle.event_log.specs.History.{Accepted, History, accepted, accepted_by, accepted_from, accepted_under, before, deployed_by, entry_at, last_from, message_at, message_count, plan_after, plan_in_force}
 use Rattle.event_log.specs.Answers.{answer, brings, keeps, known, told_by}
 use Rattle.event_log.specs.Legal.{HasArrival, IsLegal}
 use Rattle.event_log.proofs.Arriving.{accepted-number}
-use Rattle.event_log.proofs.Following.{accepted-kept}
+use Rattle.event_log.proofs.Following.{accepted-kept, last-after}
 
 -- ---- lists
 
@@ -35,32 +35,48 @@ length-taken xs zero = omega arith
 length-taken [] (suc k) = omega arith
 length-taken (x ∷ xs) (suc k) = let rest = length-taken xs k in omega arith
 
--- what an item gives stands after what those before it gave
-get-given : {A B : Type 0} (f : A → Option B) (xs : List A) (k : ℕ) (x : A) (y : B) → slice_get xs k ≡ Some x → f x ≡ Some y → slice_get (filter_map f xs) (length (filter_map f (take k xs))) ≡ Some y
-get-given f [] k x y got gives = absurd cc
-get-given f (z ∷ xs) zero x y got gives = let here : f z ≡ Some y = ap f (same_Some z x got) ∙ gives in rw here refl
-get-given f (z ∷ xs) (suc k) x y got gives = elim (f z) as (λ o. slice_get (cons_option o (filter_map f xs)) (length (cons_option o (filter_map f (take k xs)))) ≡ Some y)
-    [ None ↦ get-given f xs k x y got gives | Some w ↦ get-given f xs k x y got gives ]
+-- the message of an entry stands after those of the entries before it
+get-brought : (plan : PlanEntry) (es : List Entry) (k : ℕ) (e : Entry) (m : Accepted) → slice_get es k ≡ Some e → accepted_by (last_from plan (filter_map deployed_by (take k es))) e ≡ Some m
+    → slice_get (accepted_from plan es) (length (accepted_from plan (take k es))) ≡ Some m
+get-brought plan [] k e m got brings = absurd cc
+get-brought plan (x ∷ es) zero e m got brings = let here : accepted_by plan x ≡ Some m = ap (accepted_by plan) (same_Some x e got) ∙ brings in rw here refl
+get-brought plan (x ∷ es) (suc k) e m got brings =
+    let rest = get-brought (plan_after plan x) es k e m got (ap (λ p. accepted_by p e) (sym (last-after plan x (take k es))) ∙ brings) in
+    elim (accepted_by plan x) as (λ o. slice_get (cons_option o (accepted_from (plan_after plan x) es)) (length (cons_option o (accepted_from (plan_after plan x) (take k es)))) ≡ Some m)
+    [ None ↦ rest | Some w ↦ rest ]
 
--- an item of a list that gives the n-th of what all give, after those that gave the ones before
-record GivenAt {A B : Type 0} (f : A → Option B) (xs : List A) (n : ℕ) (y : B) : Type 0 where
+-- an entry that brings message n, by the plan in force when it came
+record BroughtAt (plan : PlanEntry) (es : List Entry) (n : ℕ) (m : Accepted) : Type 0 where
   place : ℕ
-  item : A
-  there : slice_get xs place ≡ Some item
-  gives : f item ≡ Some y
-  after : length (filter_map f (take place xs)) ≡ n
+  item : Entry
+  there : slice_get es place ≡ Some item
+  brings : accepted_by (last_from plan (filter_map deployed_by (take place es))) item ≡ Some m
+  after : length (accepted_from plan (take place es)) ≡ n
 
--- what was given comes of an item
-given-at : {A B : Type 0} (f : A → Option B) (xs : List A) (n : ℕ) (y : B) → slice_get (filter_map f xs) n ≡ Some y → GivenAt f xs n y
-given-at f [] n y got = absurd cc
-given-at {A} {B} f (x ∷ xs) n y got = elim (f x) as (λ o. f x ≡ o → slice_get (cons_option o (filter_map f xs)) n ≡ Some y → GivenAt f (x ∷ xs) n y) [
-  | None ↦ λ e rest. let at = given-at f xs n y rest in record { place = suc at.place; item = at.item; there = at.there; gives = at.gives; after = rw e at.after }
-  | Some w ↦ λ e rest. first n w e (λ k later. given-at f xs k y later) rest
+-- each message is brought by an entry
+brought-at : (plan : PlanEntry) (es : List Entry) (n : ℕ) (m : Accepted) → slice_get (accepted_from plan es) n ≡ Some m → BroughtAt plan es n m
+brought-at plan [] n m got = absurd cc
+brought-at plan (x ∷ es) n m got = elim (accepted_by plan x) as (λ o. accepted_by plan x ≡ o → slice_get (cons_option o (accepted_from (plan_after plan x) es)) n ≡ Some m → BroughtAt plan (x ∷ es) n m) [
+  | None ↦ λ e rest. let at = brought-at (plan_after plan x) es n m rest in record {
+    place = suc at.place;
+    item = at.item;
+    there = at.there;
+    brings = ap (λ p. accepted_by p at.item) (last-after plan x (take at.place es)) ∙ at.brings;
+    after = rw e at.after;
+  }
+  | Some w ↦ λ e rest. first n w e (λ k later. brought-at (plan_after plan x) es k m later) rest
 ] refl got
   where
-    first : (n : ℕ) (w : B) → f x ≡ Some w → ((k : ℕ) → slice_get (filter_map f xs) k ≡ Some y → GivenAt f xs k y) → slice_get (w ∷ filter_map f xs) n ≡ Some y → GivenAt f (x ∷ xs) n y
-    first zero w e later is = record { place = zero; item = x; there = refl; gives = e ∙ is; after = refl }
-    first (suc n) w e later is = let at = later n is in record { place = suc at.place; item = at.item; there = at.there; gives = at.gives; after = rw e (ap suc at.after) }
+    first : (n : ℕ) (w : Accepted) → accepted_by plan x ≡ Some w → ((k : ℕ) → slice_get (accepted_from (plan_after plan x) es) k ≡ Some m → BroughtAt (plan_after plan x) es k m)
+        → slice_get (w ∷ accepted_from (plan_after plan x) es) n ≡ Some m → BroughtAt plan (x ∷ es) n m
+    first zero w e later is = record { place = zero; item = x; there = refl; brings = e ∙ is; after = refl }
+    first (suc n) w e later is = let at = later n is in record {
+      place = suc at.place;
+      item = at.item;
+      there = at.there;
+      brings = ap (λ p. accepted_by p at.item) (last-after plan x (take at.place es)) ∙ at.brings;
+      after = rw e (ap suc at.after);
+    }
 
 -- ---- keys
 
@@ -102,12 +118,13 @@ arrived-by plan (Arrival conn channel raw (told.Repeat place)) m is = absurd cc
 arrived-by plan (Take ticket now) m is = absurd cc
 arrived-by plan (Settle ticket outcome now state) m is = absurd cc
 arrived-by plan (Cancel number mask) m is = absurd cc
+arrived-by plan (Deploy next) m is = absurd cc
 
 -- message n has its arrival, told Accepted n
 pub message-arrived : (h : History) → IsLegal h → (n : ℕ) (m : Accepted) → message_at h n ≡ Some m → HasArrival h n m
 message-arrived h legal n m got =
-    let at = given-at (accepted_by h.opening.plan) h.entries n m got in
-    let by = arrived-by h.opening.plan at.item m at.gives in
+    let at = brought-at h.opening.plan h.entries n m got in
+    let by = arrived-by (plan_in_force (before h at.place)) at.item m at.brings in
     let there : entry_at h at.place ≡ Some (Arrival by.0 m.channel m.raw (told.Accepted by.1)) = at.there ∙ ap (λ e. Some e) by.2 in
     let may = legal.follows at.place (Arrival by.0 m.channel m.raw (told.Accepted by.1)) there in
     let number : by.1 ≡ n = accepted-number (before h at.place) m.channel m.raw by.1 may.answered ∙ at.after in
@@ -119,8 +136,8 @@ pub accepted-is : (h : History) → IsLegal h → (place conn channel n : ℕ) (
 accepted-is h legal place conn channel n raw got =
     let may = legal.follows place (Arrival conn channel raw (told.Accepted n)) got in
     let number : n ≡ message_count (before h place) = accepted-number (before h place) channel raw n may.answered in
-    subst (λ k. message_at h k ≡ Some (accepted_under (plan_in_force h) channel raw)) (sym number)
-    (get-given (accepted_by h.opening.plan) h.entries place (Arrival conn channel raw (told.Accepted n)) (accepted_under (plan_in_force h) channel raw) got refl)
+    subst (λ k. message_at h k ≡ Some (accepted_under (plan_in_force (before h place)) channel raw)) (sym number)
+    (get-brought h.opening.plan h.entries place (Arrival conn channel raw (told.Accepted n)) (accepted_under (plan_in_force (before h place)) channel raw) got refl)
 
 -- only a message that its channel sends nowhere is told that it was filtered
 judged-filtered : (v : Verdict) (count : ℕ) → told_by count v ≡ Some told.Filtered → deliveries_of v ≡ []

@@ -1,13 +1,14 @@
 -- A legal history is what the sequential engine gives of its requests.
 use Rattle.std.proofs.Common.{◌≡◌, cond, List, [], ◌∷◌, ◌++◌, length, take, map, None, Some, refl, sym, ◌∙◌, ap, subst, arith}
 use Rattle.std.specs.Prelude.{slice_get}
-use Rattle.std.specs.Option.{option_map, option_map_or}
+use Rattle.std.specs.Option.{is_none, option_map, option_map_or}
 use Rattle.std.specs.Result.{result_ok}
 use Rattle.std.proofs.lemmas.List.{append-nil, append_assoc}
 use Rattle.event_log.specs.declared.entry.Entry.{Entry}
-use Rattle.event_log.specs.declared.entry.Entry.TheVariants.{Arrival, Take, Settle, Cancel}
+use Rattle.event_log.specs.declared.entry.Entry.TheVariants.{Arrival, Take, Settle, Cancel, Deploy}
 use Rattle.event_log.specs.History.{History, before, followed_by}
 use Rattle.event_log.specs.Answers.{answer}
+use Rattle.event_log.specs.Deployment.{deploy_answer}
 use Rattle.event_log.specs.Legal.{IsLegal, MayFollow}
 use Rattle.event_log.specs.Replay.{answered_by, request_of, replay, run}
 use Rattle.event_log.proofs.Following.{take-below, take-whole}
@@ -22,12 +23,14 @@ take-before : {A : Type 0} (xs ys : List A) → take (length xs) (xs ++ ys) ≡ 
 take-before xs ys = take-below xs ys (length xs) (omega arith) ∙ take-whole xs
 
 -- an entry that may follow is what is booked of its request
-answered-again : (h : History) (e : Entry) → MayFollow h e → answered_by h (request_of e) ≡ Some e
+pub answered-again : (h : History) (e : Entry) → MayFollow h e → answered_by h (request_of e) ≡ Some e
 answered-again h (Arrival conn channel raw told) may =
     ap (λ b. cond b None (option_map (λ t. Arrival conn channel raw t) (answer h channel raw))) may.room ∙ ap (λ o. option_map (λ t. Arrival conn channel raw t) o) may.answered
 answered-again h (Take ticket now) may = ap (λ r. option_map (λ t. Take t now) (result_ok r)) may
 answered-again h (Settle ticket outcome now state) may = ap (λ r. option_map (λ s. Settle ticket outcome now s) (result_ok r)) may
 answered-again h (Cancel number mask) may = ap (λ r. option_map (λ m. Cancel number m) (result_ok r)) may
+answered-again h (Deploy plan) may =
+    ap (λ b. cond b None (cond (is_none (deploy_answer h plan)) (Some (Deploy plan)) None)) may.room ∙ ap (λ o. cond (is_none o) (Some (Deploy plan)) None) may.allowed
 
 -- a history with these entries more
 abbrev continued : History → List Entry → History

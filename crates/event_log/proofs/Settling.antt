@@ -58,6 +58,7 @@ module _ (h : History) (sound : IsSound h) (ticket : Ticket) (outcome : Outcome)
   -- the settlement touches its slot alone
   touches : Touches h (Settle ticket outcome now after) ticket.number ticket.destination (InFlight ticket.attempt) after
   touches = record {
+    deploys_none = refl;
     brings = refl;
     keeps_none = λ key. refl;
     found = flew;

@@ -3,6 +3,7 @@ use Rattle.std.proofs.Common.{◌≡◌, ℕ, ◌+◌, ◌<◌, ◌≤◌, false
 use Rattle.std.specs.Prelude.{slice_get, option_to_list}
 use Rattle.std.specs.Int.{bit_at}
 use Rattle.std.specs.Option.{option_map_or}
+use Rattle.plan_text.specs.Entries.{PlanEntry}
 use Rattle.dest_queue.specs.declared.SlotState.{SlotState}
 use Rattle.dest_queue.specs.declared.SlotState.TheVariants.{Waiting, InFlight, Failed}
 use Rattle.dest_queue.specs.declared.FailCause.TheVariants.{Cancelled}
@@ -12,7 +13,7 @@ use Rattle.event_log.specs.declared.entry.Ticket.{Ticket}
 use Rattle.event_log.specs.declared.entry.Told.{Told}
 use Rattle.event_log.specs.declared.entry.Told.TheVariants as told
 use Rattle.event_log.specs.declared.entry.Entry.{Entry}
-use Rattle.event_log.specs.declared.entry.Entry.TheVariants.{Arrival, Take, Settle, Cancel}
+use Rattle.event_log.specs.declared.entry.Entry.TheVariants.{Arrival, Take, Settle, Cancel, Deploy}
 use Rattle.event_log.specs.History.{History, accepted, accepted_by, followed_by, is_for, message_count, plan_in_force, queue, slot, state}
 use Rattle.event_log.specs.Answers.{attempts_max, interval, keeps, known, mask_where, waits}
 use Rattle.event_log.specs.Room.{in_flight, is_in_flight, message_total, owed, own, slot_owed}
@@ -66,6 +67,15 @@ pub record CancelStep (h : History) (number mask : ℕ) : Type 0 where
   pub state : (n d : ℕ) → state (followed_by h (Cancel number mask)) n d ≡ cond ((number == n) && (bit_at mask d == 1)) (Failed Cancelled) (state h n d)
   pub owed : owed (followed_by h (Cancel number mask)) + waiting_owed h number ≡ owed h
   pub in_flight : in_flight (followed_by h (Cancel number mask)) ≡ in_flight h
+
+-- a deployment: another plan is in force, and no slot and nothing owed changes
+pub record DeployStep (h : History) (plan : PlanEntry) : Type 0 where
+  pub sound : IsSound (followed_by h (Deploy plan))
+  pub nothing : BringsNothing h (Deploy plan)
+  pub in_force : plan_in_force (followed_by h (Deploy plan)) ≡ plan
+  pub state : (n d : ℕ) → state (followed_by h (Deploy plan)) n d ≡ state h n d
+  pub owed : owed (followed_by h (Deploy plan)) ≡ owed h
+  pub in_flight : in_flight (followed_by h (Deploy plan)) ≡ in_flight h
 
 -- an accepted message has the next number
 abbrev pub IsNumbered : ℕ → Told → Type 0

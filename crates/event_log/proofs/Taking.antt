@@ -46,6 +46,7 @@ module _ (h : History) (sound : IsSound h) (now : ℕ) (ticket : Ticket) (attemp
   -- the take touches its slot alone
   touches : Touches h (Take ticket now) ticket.number ticket.destination (Waiting attempts due) (InFlight ticket.attempt)
   touches = record {
+    deploys_none = refl;
     brings = refl;
     keeps_none = λ key. refl;
     found = waited;

@@ -1,13 +1,15 @@
 -- What a sum over all slots is after some of them changed.
 use Rattle.std.proofs.Common.{◌≡◌, ◌≢◌, ℕ, ◌+◌, ◌<◌, ◌≤◌, inl, inr, cond, List, [], ◌∷◌, length, Option, None, Some, refl, sym, ◌∙◌, ap, arith, suc, zero}
 use Rattle.std.specs.Prelude.{sum_by}
-use Rattle.std.specs.List.{filter_map, cons_option, range_with_len}
+use Rattle.std.specs.List.{cons_option, range_with_len}
 use Rattle.std.specs.Option.{option_map_or}
 use Rattle.std.proofs.lemmas.Bool.Decides.{eqb_tells}
 use Rattle.std.proofs.lemmas.List.Sums.{sum_by-cons}
 use Rattle.dest_queue.specs.declared.SlotState.{SlotState}
 use Rattle.dest_queue.specs.declared.SlotState.TheVariants.{Waiting, InFlight, Delivered, Failed}
-use Rattle.event_log.specs.History.{History, accepted_by, message_count, numbers, plan_in_force, slot}
+use Rattle.plan_text.specs.Entries.{PlanEntry}
+use Rattle.event_log.specs.declared.entry.Entry.{Entry}
+use Rattle.event_log.specs.History.{History, accepted_by, accepted_from, message_count, numbers, plan_after, plan_in_force, slot}
 use Rattle.event_log.specs.Answers.{attempts_max}
 use Rattle.event_log.specs.Room.{in_flight, is_in_flight, message_total, owed, slot_owed, total}
 use Rattle.event_log.proofs.Following.{funext}
@@ -111,10 +113,12 @@ in_flight-owed h = total-le (λ d s. cond (is_in_flight s) 1 0) (λ d. slot_owed
     one max (Failed cause) = omega arith
 
 -- at most one message for each entry
-few : {A B : Type 0} (f : A → Option B) (xs : List A) → length (filter_map f xs) ≤ length xs
-few f [] = omega arith
-few f (x ∷ xs) = let rest = few f xs in elim (f x) as (λ o. length (cons_option o (filter_map f xs)) ≤ suc (length xs)) [ None ↦ omega (arith, rest) | Some y ↦ omega (arith, rest) ]
+few : (plan : PlanEntry) (es : List Entry) → length (accepted_from plan es) ≤ length es
+few plan [] = omega arith
+few plan (e ∷ es) =
+    let rest = few (plan_after plan e) es in
+    elim (accepted_by plan e) as (λ o. length (cons_option o (accepted_from (plan_after plan e) es)) ≤ suc (length es)) [ None ↦ omega (arith, rest) | Some m ↦ omega (arith, rest) ]
 
 -- no more messages than entries
 pub messages-entries : (h : History) → message_count h ≤ length h.entries
-messages-entries h = few (accepted_by h.opening.plan) h.entries
+messages-entries h = few h.opening.plan h.entries

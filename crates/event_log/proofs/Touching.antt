@@ -4,21 +4,23 @@ use Rattle.std.specs.Prelude.{IfSome}
 use Rattle.std.specs.Option.{option_map_or}
 use Rattle.std.proofs.lemmas.Bool.{eq-eqb}
 use Rattle.std.proofs.lemmas.Bool.Decides.{eqb_tells}
+use Rattle.plan_text.specs.Entries.{IsPlan}
 use Rattle.judge_core.specs.Delivering.{AreDeliveries}
 use Rattle.dest_queue.specs.declared.SlotState.{SlotState}
 use Rattle.event_log.specs.declared.entry.Ticket.{Ticket}
 use Rattle.event_log.specs.declared.entry.Entry.{Entry}
-use Rattle.event_log.specs.History.{History, accepted, accepted_by, deliveries, followed_by, is_for, message_count, names, plan_in_force, slot, state, state_by}
+use Rattle.event_log.specs.History.{History, accepted, accepted_by, deliveries, deployed_by, followed_by, is_for, message_count, names, plan_in_force, slot, state, state_by}
 use Rattle.event_log.specs.Answers.{attempts_max, keeps}
 use Rattle.event_log.specs.Room.{message_total, owed, slot_owed, total}
 use Rattle.event_log.specs.Legal.{IsSound, IsWithin, MayFollow}
-use Rattle.event_log.proofs.Following.{accepted-kept, known-kept, legal-followed_by, message_count-same, deliveries-same, slot-same, state-followed_by}
+use Rattle.event_log.proofs.Following.{accepted-kept, known-kept, legal-followed_by, message_count-same, deliveries-same, plan-kept, slot-same, state-followed_by}
 use Rattle.event_log.proofs.Reading.{slot-exists, slot-inside, slot-state}
 use Rattle.event_log.proofs.Steps.{BringsNothing}
 use Rattle.event_log.proofs.Totals.{message-changed, total-changed}
 
 -- an entry leaves the slot of message n at d in that state, and touches no other
 pub record Touches (h : History) (e : Entry) (n d : ℕ) (was is : SlotState) : Type 0 where
+  pub deploys_none : deployed_by e ≡ None
   pub brings : accepted_by (plan_in_force h) e ≡ None
   pub keeps_none : (key : List ℕ) → keeps key e ≡ false
   pub found : slot h n d ≡ Some was
@@ -50,6 +52,10 @@ room-kept : (held longer owes owed' before after most : ℕ) → longer ≡ held
 room-kept held longer owes owed' before after most one changes less room = omega arith
 
 module _ (h : History) (e : Entry) (n d : ℕ) (was is : SlotState) (touches : Touches h e n d was is) where
+  -- the plan in force is as it was
+  plan : plan_in_force (followed_by h e) ≡ plan_in_force h
+  plan = plan-kept h e touches.deploys_none
+
   -- the messages are as they were
   same : accepted (followed_by h e) ≡ accepted h
   same = accepted-kept h e touches.brings
@@ -86,16 +92,19 @@ module _ (h : History) (e : Entry) (n d : ℕ) (was is : SlotState) (touches : T
 
     -- what is owed changes by what that slot owes
     pub touched-owed : owed (followed_by h e) + slot_owed (attempts_max (plan_in_force h) d) was ≡ owed h + slot_owed (attempts_max (plan_in_force h) d) is
-    touched-owed = touched-total (λ k. slot_owed (attempts_max (plan_in_force h) k))
+    touched-owed =
+        ap (λ p. total (λ k. slot_owed (attempts_max p k)) (followed_by h e) + slot_owed (attempts_max (plan_in_force h) d) was) plan
+        ∙ touched-total (λ k. slot_owed (attempts_max (plan_in_force h) k))
 
     -- the history stays sound where the entry may follow, its state is within the plan's attempts, and owes less
     pub touched-sound : MayFollow h e → IsWithin (attempts_max (plan_in_force h) d) is
         → slot_owed (attempts_max (plan_in_force h) d) is + 1 ≤ slot_owed (attempts_max (plan_in_force h) d) was → IsSound (followed_by h e)
     touched-sound may within less = record {
-      plan = sound.plan;
+      opening = sound.opening;
+      plan = subst IsPlan (sym plan) sound.plan;
       legal = legal-followed_by h e sound.legal may;
       deliveries = λ m. subst AreDeliveries (sym (deliveries-same h (followed_by h e) same m)) (sound.deliveries m);
-      attempts = λ m k. elim (eqb_tells m n) [
+      attempts = λ m k. subst (λ p. IfSome (slot (followed_by h e) m k) (IsWithin (attempts_max p k))) (sym plan) (elim (eqb_tells m n) [
         | inl v ↦ elim (eqb_tells k d) [
           | inl w ↦
               let here : slot (followed_by h e) m k ≡ Some is = rw (v.1, w.1) touched-slot in
@@ -103,7 +112,7 @@ module _ (h : History) (e : Entry) (n d : ℕ) (was is : SlotState) (touches : T
           | inr w ↦ as_before m k (λ _. w.1)
         ]
         | inr v ↦ as_before m k (λ e. absurd (v.1 e))
-      ];
+      ]);
       to_come = λ m k beyond.
           let later : message_count h ≤ m = rw (message_count-same h (followed_by h e) same) at beyond in
           let exists = slot-exists h n d was touches.found in

@@ -17,7 +17,7 @@ use Rattle.event_log.specs.declared.entry.Ticket.{Ticket}
 use Rattle.event_log.specs.declared.entry.Told.{Told}
 use Rattle.event_log.specs.declared.entry.Told.TheVariants as told
 use Rattle.event_log.specs.declared.entry.Entry.{Entry}
-use Rattle.event_log.specs.declared.entry.Entry.TheVariants.{Arrival, Take, Settle, Cancel}
+use Rattle.event_log.specs.declared.entry.Entry.TheVariants.{Arrival, Take, Settle, Cancel, Deploy}
 use Rattle.event_log.specs.declared.refusal.TakeRefusal.{TakeRefusal}
 use Rattle.event_log.specs.declared.refusal.TakeRefusal.TheVariants.{Idle, InFlightNow, NotDue}
 use Rattle.event_log.specs.declared.refusal.TakeRefusal.TheVariants as take_refusal
@@ -39,6 +39,7 @@ keeps key (Arrival conn channel raw told) = is_kept told && bytes_eq key (key_of
 keeps key (Take ticket now) = false
 keeps key (Settle ticket outcome now state) = false
 keeps key (Cancel number mask) = false
+keeps key (Deploy plan) = false
 
 -- the place of the message with this key, if one was accepted or filtered
 abbrev pub known : History → List ℕ → Option ℕ
@@ -50,6 +51,7 @@ brings raw (Arrival conn channel came told) = bytes_eq raw came
 brings raw (Take ticket now) = false
 brings raw (Settle ticket outcome now state) = false
 brings raw (Cancel number mask) = false
+brings raw (Deploy plan) = false
 
 -- what the sender is told of a message whose key is known: the same bytes are a repeat, others a control id used again
 abbrev pub told_again : History → List ℕ → ℕ → Told

@@ -1,6 +1,6 @@
 -- What was booked, and what it says: the messages, their slots and the queues.
 use Rattle.std.specs.Prelude.{ℕ, Bool, false, ◌&&◌, ◌==◌, if◌then◌else◌, List, [], ◌∷◌, ◌++◌, length, take, filter, find, slice_get, Option, None, Some}
-use Rattle.std.specs.List.{filter_map, list_any, range_with_len}
+use Rattle.std.specs.List.{filter_map, cons_option, list_any, range_with_len}
 use Rattle.std.specs.Option.{option_map_or}
 use Rattle.std.specs.Int.{bit_at}
 use Rattle.hl7_head.specs.Header.{header_of}
@@ -15,7 +15,7 @@ use Rattle.dest_queue.specs.States.{is_live}
 use Rattle.event_log.specs.declared.entry.Ticket.{Ticket}
 use Rattle.event_log.specs.declared.entry.Told.TheVariants as told
 use Rattle.event_log.specs.declared.entry.Entry.{Entry}
-use Rattle.event_log.specs.declared.entry.Entry.TheVariants.{Arrival, Take, Settle, Cancel}
+use Rattle.event_log.specs.declared.entry.Entry.TheVariants.{Arrival, Take, Settle, Cancel, Deploy}
 
 -- what a book starts with: the plan, and the most entries that it may hold
 pub record Opening : Type 0 where
@@ -43,9 +43,30 @@ followed_by h e = record { opening = h.opening; entries = h.entries ++ e ∷ [] 
 abbrev pub before : History → ℕ → History
 before h place = record { opening = h.opening; entries = take place h.entries }
 
--- the plan by which the next event is answered
+-- the last of some values, or the one before them
+abbrev pub last_from : {A : Type 0} → A → List A → A
+last_from x [] = x
+last_from x (y ∷ ys) = last_from y ys
+
+-- the plan that an entry deploys
+abbrev pub deployed_by : Entry → Option PlanEntry
+deployed_by (Arrival conn channel raw told) = None
+deployed_by (Take ticket now) = None
+deployed_by (Settle ticket outcome now state) = None
+deployed_by (Cancel number mask) = None
+deployed_by (Deploy plan) = Some plan
+
+-- the plan in force after an entry
+abbrev pub plan_after : PlanEntry → Entry → PlanEntry
+plan_after plan e = option_map_or (λ p. p) (deployed_by e) plan
+
+-- the plans that were deployed, in their order
+abbrev pub deployed : History → List PlanEntry
+deployed h = filter_map deployed_by h.entries
+
+-- the plan by which the next event is answered: the last that was deployed, or that of the opening
 abbrev pub plan_in_force : History → PlanEntry
-plan_in_force h = h.opening.plan
+plan_in_force h = last_from h.opening.plan (deployed h)
 
 -- the place of the next entry
 abbrev pub next_place : History → ℕ
@@ -74,10 +95,16 @@ accepted_by plan (Arrival conn channel raw (told.Repeat place)) = None
 accepted_by plan (Take ticket now) = None
 accepted_by plan (Settle ticket outcome now state) = None
 accepted_by plan (Cancel number mask) = None
+accepted_by plan (Deploy next) = None
+
+-- the messages that entries bring, each by the plan that is in force when it comes, where this plan is in force before them
+abbrev pub accepted_from : PlanEntry → List Entry → List Accepted
+accepted_from plan [] = []
+accepted_from plan (e ∷ es) = cons_option (accepted_by plan e) (accepted_from (plan_after plan e) es)
 
 -- the accepted messages, in order of acceptance
 abbrev pub accepted : History → List Accepted
-accepted h = filter_map (accepted_by h.opening.plan) h.entries
+accepted h = accepted_from h.opening.plan h.entries
 
 -- how many messages were accepted: the number of the next
 abbrev pub message_count : History → ℕ
@@ -125,11 +152,7 @@ state_by n d (Arrival conn channel raw told) = None
 state_by n d (Take ticket now) = if is_for n d ticket then Some (InFlight ticket.attempt) else None
 state_by n d (Settle ticket outcome now state) = if is_for n d ticket then Some state else None
 state_by n d (Cancel number mask) = if (number == n) && (bit_at mask d == 1) then Some (Failed Cancelled) else None
-
--- the last of some states, or the one before them
-abbrev pub last_from : SlotState → List SlotState → SlotState
-last_from state [] = state
-last_from state (next ∷ states) = last_from next states
+state_by n d (Deploy plan) = None
 
 -- the state of message n at d as the last entry that touches it leaves it; before, it waits for its first attempt
 abbrev pub state : History → ℕ → ℕ → SlotState

@@ -1,6 +1,7 @@
 pub mod Kept
 pub mod History
 pub mod Answers
+pub mod Deployment
 pub mod Room
 pub mod Legal
 pub mod Coding

@@ -1,11 +1,16 @@
 //! Events with their replies.
 
-ghost use Rattle.std.specs.Prelude.{◌≡◌};
+ghost use Rattle.std.specs.Prelude.{◌≡◌, option_map};
+ghost use Rattle.std.specs.Arc.{arc_value};
 ghost use Rattle.event_log.specs.Answers.{brings};
+ghost use Rattle.event_log.specs.History.{deployed_by};
 
 use dest_queue::{Outcome, SlotState};
 use hl7_head::{Cause, Moment};
 use judge_core::Text;
+use plan_text::Plan;
+use std::marker::Model;
+use std::sync::Arc;
 
 /// What the sender of a message is told of it.
 #[derive(Clone, Copy, Debug, PartialEq, Eq)]
@@ -29,6 +34,40 @@ pub struct Ticket {
     pub destination: u32,
     /// The attempt, counted from 1.
     pub attempt: u32,
+}
+
+/// A plan that was deployed, held once for all its owners.
+#[derive(Debug, Drop)]
+pub struct DeployedPlan {
+    plan: Arc<Plan>,
+}
+
+impl Model for DeployedPlan {
+    ghost use Rattle.std.specs.Arc.{arc_value};
+    ghost use Rattle.plan_text.specs.Coding.{plan_code};
+    ghost use Rattle.plan_text.specs.Entries.{PlanEntry};
+
+    ghost Value = { PlanEntry };
+
+    ghost coded = { plan_code };
+
+    ghost view = { λ d. arc_value d.plan };
+}
+
+impl DeployedPlan {
+    /// The plan, with its owners.
+    pub fn new(plan: Arc<Plan>) -> DeployedPlan
+        ensures { result ≡ arc_value plan }
+    {
+        DeployedPlan { plan }
+    }
+
+    /// The plan.
+    pub fn plan(&self) -> &Arc<Plan>
+        ensures { arc_value result.now ≡ self.now }
+    {
+        &self.plan
+    }
 }
 
 /// An event with its reply.
@@ -58,6 +97,10 @@ pub enum Entry {
         number: u32,
         mask: u32,
     },
+    /// A plan was deployed: it is in force from then on.
+    Deploy {
+        plan: DeployedPlan,
+    },
 }
 
 impl Entry {
@@ -68,6 +111,16 @@ impl Entry {
         match self {
             Entry::Arrival { raw: came, .. } => raw == came.as_slice(),
             _ => false,
+        }
+    }
+
+    /// The plan that it deploys, if it deploys one.
+    pub fn deployed(&self) -> Option<&Arc<Plan>>
+        ensures { option_map (λ plan. arc_value plan.now) result ≡ deployed_by self.now }
+    {
+        match self {
+            Entry::Deploy { plan } => Some(plan.plan()),
+            _ => None,
         }
     }
 }

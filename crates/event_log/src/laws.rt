@@ -8,7 +8,7 @@ ghost use Rattle.dest_queue.specs.declared.Outcome.{Outcome};
 ghost use Rattle.event_log.specs.declared.entry.Ticket.{Ticket};
 ghost use Rattle.event_log.specs.declared.entry.Entry.{Entry};
 ghost use Rattle.event_log.specs.declared.entry.Entry.TheVariants.{Take, Settle, Cancel};
-ghost use Rattle.event_log.specs.History.{History, followed_by, next_place, opened_by, plan_in_force};
+ghost use Rattle.event_log.specs.History.{History, followed_by, next_place, opened_by};
 ghost use Rattle.event_log.specs.Answers.{cancel_answer, keeps, known, settle_answer, take_answer};
 ghost use Rattle.event_log.specs.Legal.{IsLegal, IsSound, MayFollow};
 ghost use Rattle.event_log.specs.Replay.{replay};
@@ -23,8 +23,8 @@ pub fn history_rules()
     // A legal history is what the sequential engine gives of its events alone, reply for reply.
     ensures replayed { (h : History) → IsLegal h → replay h ≡ h }
 
-    // What a sequential engine gives under a plan is sound; so it is at first, and with each entry that may follow.
-    ensures sound { (h : History) → IsPlan (plan_in_force h) → IsLegal h → IsSound h }
+    // What a sequential engine gives from an opening with a plan is sound; so it is at first, and with each entry that may follow.
+    ensures sound { (h : History) → IsPlan h.opening.plan → IsLegal h → IsSound h }
     ensures opened { (plan : PlanEntry) (events_max : ℕ) → IsPlan plan → IsSound (opened_by plan events_max) }
     ensures followed { (h : History) (e : Entry) → IsSound h → MayFollow h e → IsSound (followed_by h e) }
 

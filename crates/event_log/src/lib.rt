@@ -2,13 +2,15 @@
 #![tactic(auto)]
 
 mod answers;
+mod deployment;
 mod entry;
 mod laws;
 mod log;
 mod refusal;
 
 pub use answers::{attempts_max, front_answer, interval, own_owed, told_first};
-pub use entry::{Entry, Ticket, Told};
+pub use deployment::{DEPLOYMENTS_MAX, keeps_destination, same_channels};
+pub use entry::{DeployedPlan, Entry, Ticket, Told};
 pub use laws::history_rules;
 pub use log::{EVENTS_MAX, Log, slot_owed};
-pub use refusal::{CancelRefusal, TakeRefusal};
+pub use refusal::{CancelRefusal, DeployRefusal, TakeRefusal};

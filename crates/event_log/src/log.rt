@@ -1,11 +1,13 @@
 //! The history, with room for more of it.
 
-ghost use Rattle.std.specs.Prelude.{◌≡◌, ◌<◌, ◌≤◌, ◌+◌, ◌*◌, ◌==◌, OnOk, OnErr, length, not, option_copied};
+ghost use Rattle.std.specs.Prelude.{◌≡◌, ◌<◌, ◌≤◌, ◌+◌, ◌*◌, ◌==◌, None, OnOk, OnErr, length, not, option_copied};
 ghost use Rattle.std.specs.Arc.{arc_value};
-ghost use Rattle.event_log.specs.History.{entry_at, followed_by, next_place, opened_by, plan_in_force};
+ghost use Rattle.event_log.specs.Deployment.{deployments};
+ghost use Rattle.event_log.specs.History.{deployed_by, entry_at, followed_by, next_place, opened_by, plan_in_force};
 ghost use Rattle.event_log.specs.Room.{exceeds, owed, slot_owed};
 
-use crate::entry::Entry;
+use crate::deployment::DEPLOYMENTS_MAX;
+use crate::entry::{DeployedPlan, Entry};
 use dest_queue::{ATTEMPTS_MAX, SlotState};
 use plan_text::Plan;
 use std::alloc::{AllocError, Global};
@@ -15,11 +17,14 @@ use std::sync::Arc;
 /// The most entries that any history may hold.
 pub const EVENTS_MAX: u32 = 1_000_000;
 
-/// The history: the plan, the entries in their order, how many more are owed to the slots of its messages, and the room
-/// that was made for more. The entries and those owed are together never more than the history may hold.
+/// The history: the plan at the start, the plan in force where another was deployed, and how many were; the entries in their
+/// order, how many more are owed to the slots of its messages, and the room that was made for more. The entries and those
+/// owed are together never more than the history may hold.
 #[derive(Drop)]
 pub struct Log {
     plan: Arc<Plan>,
+    deployed: Option<Arc<Plan>>,
+    deployments: u32,
     events_max: u32,
     entries: Vec<Entry>,
     owed: u32,
@@ -28,9 +33,11 @@ pub struct Log {
 impl Model for Log {
     ghost use Rattle.std.specs.Prelude.{◌≡◌, ◌≤◌, ◌+◌, ◌-◌, length, vec_len, vec_capacity};
     ghost use Rattle.std.specs.Arc.{arc_value};
+    ghost use Rattle.std.specs.Option.{option_map_or};
+    ghost use Rattle.event_log.specs.Deployment.{deployments as deployments_of};
     ghost use Rattle.event_log.specs.Kept.{Kept};
     ghost use Rattle.event_log.specs.Coding.{kept_code};
-    ghost use Rattle.event_log.specs.History.{history_of};
+    ghost use Rattle.event_log.specs.History.{history_of, plan_in_force};
     ghost use Rattle.event_log.specs.Room.{owed as owed_by};
 
     ghost Value = { Kept };
@@ -40,6 +47,8 @@ impl Model for Log {
     ghost view = { λ l. record { history = history_of (arc_value l.plan) l.events_max l.entries.items; room = vec_capacity l.entries - vec_len l.entries } };
 
     ghost invariant = { λ l. record {
+      plan_is : option_map_or (λ p. arc_value p) l.deployed (arc_value l.plan) ≡ plan_in_force (history_of (arc_value l.plan) l.events_max l.entries.items);
+      deployments_are : l.deployments ≡ deployments_of (history_of (arc_value l.plan) l.events_max l.entries.items);
       owed_is : l.owed ≡ owed_by (history_of (arc_value l.plan) l.events_max l.entries.items);
       within : length l.entries.items + l.owed ≤ l.events_max;
       few : l.events_max ≤ 1000000;
@@ -66,6 +75,8 @@ impl Log {
     {
         Log {
             plan,
+            deployed: None,
+            deployments: 0,
             events_max,
             entries: Vec::new(alloc),
             owed: 0,
@@ -76,7 +87,14 @@ impl Log {
     pub fn plan(&self) -> &Arc<Plan>
         ensures { arc_value result.now ≡ plan_in_force self.now.history }
     {
-        &self.plan
+        self.deployed.as_ref().unwrap_or(&self.plan)
+    }
+
+    /// How many plans were deployed.
+    pub fn deployments(&self) -> u32
+        ensures { result ≡ deployments self.now.history }
+    {
+        self.deployments
     }
 
     /// How many entries there are: the place of the next.
@@ -126,9 +144,10 @@ impl Log {
         self.entries.reserve(additional)
     }
 
-    /// Appends an entry into the room that was made for it. `still_owed` is what the longer history owes.
+    /// Appends an entry that deploys no plan into the room that was made for it. `still_owed` is what the longer history owes.
     pub fn push(&mut self, entry: Entry, still_owed: u32)
         requires reserved { 0 < self.old.room }
+        requires deploys_none { deployed_by entry ≡ None }
         requires owed { still_owed ≡ owed (followed_by self.old.history entry) }
         requires within { length self.old.history.entries + 1 + still_owed ≤ self.old.history.opening.events_max }
         ensures history { self.new.history ≡ followed_by self.old.history entry }
@@ -136,5 +155,24 @@ impl Log {
     {
         self.entries.push(entry).unwrap();
         self.owed = still_owed;
+    }
+
+    /// Appends the deployment of a plan into the room that was made for it. `shared` is the same plan, for the entry. Where
+    /// nothing is owed to a destination that the plan changes, as much is owed as before.
+    pub fn deploy(&mut self, plan: Arc<Plan>, shared: Arc<Plan>)
+        requires reserved { 0 < self.old.room }
+        requires same { arc_value shared ≡ arc_value plan }
+        requires few { deployments self.old.history < DEPLOYMENTS_MAX }
+        requires owed { owed (followed_by self.old.history (Entry.Deploy (arc_value plan))) ≡ owed self.old.history }
+        requires within { length self.old.history.entries + 1 + owed self.old.history ≤ self.old.history.opening.events_max }
+        ensures history { self.new.history ≡ followed_by self.old.history (Entry.Deploy (arc_value plan)) }
+        ensures room { self.old.room ≤ self.new.room + 1 }
+    {
+        let plan_entry = Entry::Deploy {
+            plan: DeployedPlan::new(shared),
+        };
+        self.entries.push(plan_entry).unwrap();
+        self.deployed = Some(plan);
+        self.deployments += 1;
     }
 }

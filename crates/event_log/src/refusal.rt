@@ -2,6 +2,7 @@
 
 ghost use Rattle.std.specs.Prelude.{◌≡◌};
 ghost use Rattle.event_log.specs.Answers.{cancel_refusal_code, take_refusal_code};
+ghost use Rattle.event_log.specs.Deployment.{deploy_refusal_code};
 
 use std::alloc::AllocError;
 use thiserror::Error;
@@ -37,6 +38,27 @@ pub enum CancelRefusal {
     NoMemory,
 }
 
+/// Why a plan was not deployed.
+#[derive(Clone, Copy, Debug, PartialEq, Eq, Error)]
+pub enum DeployRefusal {
+    /// Its channels have other names, or stand in another order.
+    #[error("the channels differ")]
+    ChannelsDiffer,
+    /// Messages are still to be delivered to this destination, by its place, and the plan has no such destination, one of
+    /// another name, or one with other attempts.
+    #[error("destination {0} is in use")]
+    DestinationInUse(u32),
+    /// As many plans were deployed as may be.
+    #[error("too many plans were deployed")]
+    TooMany,
+    /// The book holds as many entries as it may.
+    #[error("the book is full")]
+    Full,
+    /// A growth was refused.
+    #[error("out of memory")]
+    NoMemory,
+}
+
 impl TakeRefusal {
     /// The number of the refusal: 1 for `Idle`, 2 for `InFlightNow`, 3 for `NotDue`, 4 for `NoMemory`.
     pub fn code(self) -> u32
@@ -64,6 +86,22 @@ impl CancelRefusal {
     }
 }
 
+impl DeployRefusal {
+    /// The number of the refusal: 1 for `DestinationInUse`, 2 for `TooMany`, 3 for `ChannelsDiffer`, 4 for `Full`, 5 for
+    /// `NoMemory`.
+    pub fn code(self) -> u32
+        ensures { result ≡ deploy_refusal_code self }
+    {
+        match self {
+            DeployRefusal::DestinationInUse(_) => 1,
+            DeployRefusal::TooMany => 2,
+            DeployRefusal::ChannelsDiffer => 3,
+            DeployRefusal::Full => 4,
+            DeployRefusal::NoMemory => 5,
+        }
+    }
+}
+
 impl From<AllocError> for TakeRefusal {
     ghost use Rattle.std.specs.Prelude.{◌≡◌};
     ghost use Rattle.event_log.specs.declared.refusal.TakeRefusal.TheVariants.{NoMemory};
@@ -83,5 +121,16 @@ impl From<AllocError> for CancelRefusal {
 
     fn from(_: AllocError) -> CancelRefusal {
         CancelRefusal::NoMemory
+    }
+}
+
+impl From<AllocError> for DeployRefusal {
+    ghost use Rattle.std.specs.Prelude.{◌≡◌};
+    ghost use Rattle.event_log.specs.declared.refusal.DeployRefusal.TheVariants.{NoMemory};
+
+    ghost from_gives = { λ _ e. e ≡ NoMemory };
+
+    fn from(_: AllocError) -> DeployRefusal {
+        DeployRefusal::NoMemory
     }
 }

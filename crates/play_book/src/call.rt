@@ -42,6 +42,15 @@ pub enum Call<'a> {
     Cancel {
         number: u32,
     },
+    /// A plan is deployed, by which messages are judged from then on.
+    Deploy {
+        plan: &'a str,
+    },
+    /// A plan is deployed so many times.
+    Deploys {
+        count: u32,
+        plan: &'a str,
+    },
     /// Each message of a queue is taken and delivered at a moment.
     Drain {
         d: u32,
@@ -153,6 +162,14 @@ fn drain<'a>(words: &mut SplitWhitespace<'a>) -> Option<Call<'a>> {
     })
 }
 
+/// Many deployments.
+fn deploys<'a>(words: &mut SplitWhitespace<'a>) -> Option<Call<'a>> {
+    Some(Call::Deploys {
+        count: number(words)?,
+        plan: words.next()?,
+    })
+}
+
 /// A slot that is asked for.
 fn status<'a>(words: &mut SplitWhitespace<'a>) -> Option<Call<'a>> {
     Some(Call::Status {
@@ -170,11 +187,15 @@ fn changing<'a>(name: &str, words: &mut SplitWhitespace<'a>) -> Option<Call<'a>>
         "take" => take(words),
         "settle" => settle(words),
         "drain" => drain(words),
+        "deploys" => deploys(words),
         "judge" => Some(Call::Judge {
             plan: words.next()?,
         }),
         "cancel" => Some(Call::Cancel {
             number: number(words)?,
+        }),
+        "deploy" => Some(Call::Deploy {
+            plan: words.next()?,
         }),
         _ => asking(name, words),
     }

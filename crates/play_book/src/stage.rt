@@ -117,6 +117,8 @@ impl Stage {
                 now,
             } => self.settle(&ticket, outcome, now),
             Call::Cancel { number } => self.cancel(number),
+            Call::Deploy { plan } => self.deploy(rt, plan),
+            Call::Deploys { count, plan } => self.deploys(rt, count, plan),
             Call::Drain { d, now } => self.drain(d, now),
             Call::Queue { d } => self.queue(d),
             Call::Status { number, d } => self.status(number, d),
@@ -141,6 +143,31 @@ impl Stage {
             Ok(mask) => Ok(format!(in alloc; "mask {mask}")?),
             Err(refusal) => Ok(format!(in alloc; "{refusal:?}, code {}", refusal.code())?),
         }
+    }
+
+    /// The answer to a deployment; messages are judged by the plan from then on.
+    fn deploy(&mut self, rt: &HostRuntime, plan: &str) -> Result<String> {
+        let alloc = self.alloc;
+        let plan = plan_named(rt, plan)?;
+        match self.book.deploy(Arc::try_clone(&plan)?) {
+            Ok(()) => {
+                self.plan = plan;
+                Ok(format!(in alloc; "ok")?)
+            }
+            Err(refusal) => Ok(format!(in alloc; "{refusal:?}, code {}", refusal.code())?),
+        }
+    }
+
+    /// How many of so many deployments of a plan are booked.
+    fn deploys(&mut self, rt: &HostRuntime, count: u32, plan: &str) -> Result<String> {
+        let plan = plan_named(rt, plan)?;
+        let mut booked = 0_u32;
+        for _ in 0..count {
+            if self.book.deploy(Arc::try_clone(&plan)?).is_ok() {
+                booked = booked.saturating_add(1);
+            }
+        }
+        Ok(format!(in self.alloc; "{booked} deployed")?)
     }
 
     /// How many messages a queue has.
@@ -327,6 +354,10 @@ impl Stage {
             )?,
             Some(Entry::Cancel { number, mask }) => {
                 format!(in alloc; "cancel {number} where {mask} says")?
+            }
+            Some(Entry::Deploy { plan }) => {
+                let plan = plan.plan();
+                format!(in alloc; "deploy {} to {}", plan.channels(), plan.destinations())?
             }
         })
     }

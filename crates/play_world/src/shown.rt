@@ -52,6 +52,7 @@ pub fn entry_shown(alloc: Global, entry: &Entry) -> Result<String, AllocError> {
             format!(in alloc; "{settlement}, {state:?}")
         }
         Entry::Cancel { number, mask } => format!(in alloc; "cancel {number}, mask {mask}"),
+        Entry::Deploy { .. } => format!(in alloc; "deploy"),
     }
 }
 
@@ -69,6 +70,7 @@ pub fn step_shown(alloc: Global, step: &Step) -> Result<String, AllocError> {
             now,
         } => settlement_shown(alloc, ticket, *outcome, *now),
         Step::Cancel { number } => format!(in alloc; "cancel {number}"),
+        Step::Deploy { .. } => format!(in alloc; "deploy"),
     }
 }
 

@@ -1,13 +1,17 @@
 -- What the plain engine keeps true, with one more entry.
-use Rattle.std.proofs.Common.{ℕ, ◌≤◌, arith}
-use Rattle.std.proofs.lemmas.List.Elements.{All-nil, All-push}
+use Rattle.std.proofs.Common.{◌≡◌, ℕ, ◌≤◌, List, [], ◌∷◌, length, refl, sym, ◌∙◌, ap, subst, arith}
+use Rattle.std.specs.Prelude.{All}
+use Rattle.std.specs.List.{filter_map}
+use Rattle.std.proofs.lemmas.List.Elements.{All-head, All-nil, All-push, All-tail}
 use Rattle.plan_text.specs.Entries.{PlanEntry, IsPlan}
 use Rattle.event_log.specs.declared.entry.Entry.{Entry}
-use Rattle.event_log.specs.declared.entry.Entry.TheVariants.{Arrival, Take, Settle, Cancel}
-use Rattle.event_log.specs.History.{History, followed_by, message_count, opened_by, plan_in_force}
+use Rattle.event_log.specs.declared.entry.Entry.TheVariants.{Arrival, Take, Settle, Cancel, Deploy}
+use Rattle.event_log.specs.History.{History, deployed_by, followed_by, last_from, message_count, opened_by, plan_after, plan_in_force}
 use Rattle.event_log.specs.Legal.{IsSound, MayFollow}
 use Rattle.event_log.proofs.Arriving.{arrival-step}
 use Rattle.event_log.proofs.Cancelling.{cancel-step}
+use Rattle.event_log.proofs.Deploying.{deploy-step}
+use Rattle.event_log.proofs.Following.{last-after}
 use Rattle.event_log.proofs.Reading.{opened-sound}
 use Rattle.event_log.proofs.Settling.{settle-step}
 use Rattle.event_log.proofs.Taking.{take-step}
@@ -20,18 +24,39 @@ sound-followed_by h sound (Arrival conn channel raw told) may = (arrival-step h 
 sound-followed_by h sound (Take ticket now) may = (take-step h sound ticket.destination now ticket may).1.sound
 sound-followed_by h sound (Settle ticket outcome now state) may = (settle-step h sound ticket outcome now state may).sound
 sound-followed_by h sound (Cancel number mask) may = (cancel-step h sound number mask may).sound
+sound-followed_by h sound (Deploy plan) may = (deploy-step h sound plan may).sound
 
 -- what is kept true stays true
-pub plain-followed_by : (h : History) → IsPlain h → (e : Entry) → MayFollow h e → IsJudgeable (plan_in_force h) e → IsPlain (followed_by h e)
+pub plain-followed_by : (h : History) → IsPlain h → (e : Entry) → MayFollow h e → IsJudgeable (length h.opening.plan.channels) e → IsPlain (followed_by h e)
 plain-followed_by h plain e may judgeable = record {
   sound = sound-followed_by h plain.sound e may;
-  judgeable = All-push (IsJudgeable (plan_in_force h)) h.entries e plain.judgeable judgeable;
+  judgeable = All-push (IsJudgeable (length h.opening.plan.channels)) h.entries e plain.judgeable judgeable;
   bound = plain.bound;
 }
 
 -- and is true at first
 pub plain-opened : (plan : PlanEntry) (events_max : ℕ) → IsPlan plan → events_max ≤ 1000000 → IsPlain (opened_by plan events_max)
-plain-opened plan events_max good few = record { sound = opened-sound plan events_max good; judgeable = All-nil (IsJudgeable plan); bound = few }
+plain-opened plan events_max good few = record { sound = opened-sound plan events_max good; judgeable = All-nil (IsJudgeable (length plan.channels)); bound = few }
+
+-- an entry leaves as many channels
+after-channels : (plan : PlanEntry) (e : Entry) → IsJudgeable (length plan.channels) e → length (plan_after plan e).channels ≡ length plan.channels
+after-channels plan (Arrival conn channel raw told) judgeable = refl
+after-channels plan (Take ticket now) judgeable = refl
+after-channels plan (Settle ticket outcome now state) judgeable = refl
+after-channels plan (Cancel number mask) judgeable = refl
+after-channels plan (Deploy next) judgeable = judgeable
+
+-- so do all of them
+last-channels : (plan : PlanEntry) (es : List Entry) → All (IsJudgeable (length plan.channels)) es → length (last_from plan (filter_map deployed_by es)).channels ≡ length plan.channels
+last-channels plan [] all = refl
+last-channels plan (e ∷ es) all =
+    let first = after-channels plan e (All-head (IsJudgeable (length plan.channels)) e es all) in
+    ap (λ (p : PlanEntry). length p.channels) (last-after plan e es)
+    ∙ (last-channels (plan_after plan e) es (subst (λ n. All (IsJudgeable n) es) (sym first) (All-tail (IsJudgeable (length plan.channels)) e es all)) ∙ first)
+
+-- the plan in force has as many channels as the first one
+pub channels-kept : (h : History) → IsPlain h → length (plan_in_force h).channels ≡ length h.opening.plan.channels
+channels-kept h plain = last-channels h.opening.plan h.entries plain.judgeable
 
 -- there are no more messages than entries, and no more entries than there may be
 pub few-messages : (h : History) → IsPlain h → message_count h ≤ 1000000

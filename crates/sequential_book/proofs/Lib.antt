@@ -1,4 +1,5 @@
 pub mod Adding
+pub mod Deploying
 pub mod Replies
 pub mod Following
 pub mod Messages

@@ -5,7 +5,6 @@ use Rattle.std.specs.List.{filter_map, position_from, range_with_len}
 use Rattle.std.specs.Option.{unwrap_or}
 use Rattle.std.proofs.Math.Seq.{drop-cons}
 use Rattle.std.proofs.lemmas.List.Elements.{filter-append}
-use Rattle.dest_queue.specs.declared.SlotState.{SlotState}
 use Rattle.event_log.specs.History.{last_from}
 use Rattle.event_log.proofs.Masks.{range-push}
 
@@ -14,11 +13,11 @@ pub left : {A : Type 0} (xs : List A) (i : ℕ) (x : A) → i < length xs → x 
 left xs i x inside is = drop-cons xs i x inside ∙ (ap (λ y. y ∷ drop (suc i) xs) (sym is) ∙ ap (λ k. x ∷ drop k xs) (sym (add-one i)))
 
 -- the state so far and those that are left give the last
-pub state-left : {A : Type 0} (h : A → Option SlotState) (xs : List A) (i : ℕ) (x : A) → i < length xs → x ≡ get_or xs i x
-    → (s : SlotState) → last_from (unwrap_or (h x) s) (filter_map h (drop (i + 1) xs)) ≡ last_from s (filter_map h (drop i xs))
-state-left h xs i x inside is s = by (h x) refl ∙ ap (λ ys. last_from s (filter_map h ys)) (sym (left xs i x inside is))
+pub state-left : {A B : Type 0} (h : A → Option B) (xs : List A) (i : ℕ) (x : A) → i < length xs → x ≡ get_or xs i x
+    → (s : B) → last_from (unwrap_or (h x) s) (filter_map h (drop (i + 1) xs)) ≡ last_from s (filter_map h (drop i xs))
+state-left {B = B} h xs i x inside is s = by (h x) refl ∙ ap (λ ys. last_from s (filter_map h ys)) (sym (left xs i x inside is))
   where
-    by : (o : Option SlotState) → h x ≡ o → last_from (unwrap_or (h x) s) (filter_map h (drop (i + 1) xs)) ≡ last_from s (filter_map h (x ∷ drop (i + 1) xs))
+    by : (o : Option B) → h x ≡ o → last_from (unwrap_or (h x) s) (filter_map h (drop (i + 1) xs)) ≡ last_from s (filter_map h (x ∷ drop (i + 1) xs))
     by None e = rw e refl
     by (Some t) e = rw e refl
 

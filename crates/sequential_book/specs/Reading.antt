@@ -1,12 +1,11 @@
 -- What the plain engine keeps true of its entries, and how it tells the accepted arrivals among them.
-use Rattle.std.specs.Prelude.{◌≤◌, ◌<◌, Bool, true, false, length, All}
+use Rattle.std.specs.Prelude.{◌≡◌, ◌≤◌, ◌<◌, ℕ, Bool, true, false, length, All}
 use Rattle.mllp_frame.specs.Framing.{IsBlockData}
-use Rattle.plan_text.specs.Entries.{PlanEntry}
 use Rattle.event_log.specs.declared.entry.Told.{Told}
 use Rattle.event_log.specs.declared.entry.Told.TheVariants as told
 use Rattle.event_log.specs.declared.entry.Entry.{Entry}
-use Rattle.event_log.specs.declared.entry.Entry.TheVariants.{Arrival, Take, Settle, Cancel}
-use Rattle.event_log.specs.History.{History, plan_in_force}
+use Rattle.event_log.specs.declared.entry.Entry.TheVariants.{Arrival, Take, Settle, Cancel, Deploy}
+use Rattle.event_log.specs.History.{History}
 use Rattle.event_log.specs.Legal.{IsSound}
 
 -- whether a message was accepted
@@ -22,16 +21,27 @@ is_acceptance (Arrival conn channel raw told) = is_accepted told
 is_acceptance (Take ticket now) = false
 is_acceptance (Settle ticket outcome now state) = false
 is_acceptance (Cancel number mask) = false
+is_acceptance (Deploy plan) = false
 
--- an arrival whose text can be judged again: it came on a channel of the plan, and a block can hold it
-abbrev pub IsJudgeable : PlanEntry → Entry → Type 0
-IsJudgeable plan (Arrival conn channel raw told) = (channel < length plan.channels) × IsBlockData raw
-IsJudgeable plan (Take ticket now) = Unit {0}
-IsJudgeable plan (Settle ticket outcome now state) = Unit {0}
-IsJudgeable plan (Cancel number mask) = Unit {0}
+-- whether an entry is a deployment
+abbrev pub is_deployment : Entry → Bool
+is_deployment (Arrival conn channel raw told) = false
+is_deployment (Take ticket now) = false
+is_deployment (Settle ticket outcome now state) = false
+is_deployment (Cancel number mask) = false
+is_deployment (Deploy plan) = true
+
+-- an arrival whose text can be judged again: it came on one of so many channels, and a block can hold it; a deployed plan has
+-- as many
+abbrev pub IsJudgeable : ℕ → Entry → Type 0
+IsJudgeable channels (Arrival conn channel raw told) = (channel < channels) × IsBlockData raw
+IsJudgeable channels (Take ticket now) = Unit {0}
+IsJudgeable channels (Settle ticket outcome now state) = Unit {0}
+IsJudgeable channels (Cancel number mask) = Unit {0}
+IsJudgeable channels (Deploy plan) = length plan.channels ≡ channels
 
 -- what the plain engine keeps true of its history
 pub record IsPlain (h : History) : Type 0 where
   pub sound : IsSound h
-  pub judgeable : All (IsJudgeable (plan_in_force h)) h.entries
+  pub judgeable : All (IsJudgeable (length h.opening.plan.channels)) h.entries
   pub bound : h.opening.events_max ≤ 1000000

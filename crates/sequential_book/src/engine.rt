@@ -6,6 +6,7 @@ ghost use Rattle.judge_core.specs.Judging.{is_bookable};
 ghost use Rattle.dest_queue.specs.declared.SettleRefusal.{SettleRefusal};
 ghost use Rattle.event_log.specs.History.{followed_by, opened_by, plan_in_force, queue, slot};
 ghost use Rattle.event_log.specs.Answers.{answer, cancel_answer, settle_answer, take_answer};
+ghost use Rattle.event_log.specs.Deployment.{deploy_answer};
 ghost use Rattle.event_log.specs.Legal.{MayFollow};
 ghost use Rattle.event_log.specs.Room.{is_full};
 ghost use Rattle.sequential_book.specs.Reading.{IsJudgeable};
@@ -13,9 +14,12 @@ ghost use Rattle.sequential_book.specs.Reading.{IsJudgeable};
 mod answers;
 mod slots;
 
+use crate::entries::in_force;
 use crate::refusal::{NotBooked, NotSettled};
 use dest_queue::{Outcome, SlotState};
-use event_log::{CancelRefusal, EVENTS_MAX, Entry, TakeRefusal, Ticket, Told};
+use event_log::{
+    CancelRefusal, DeployRefusal, DeployedPlan, EVENTS_MAX, Entry, TakeRefusal, Ticket, Told,
+};
 use hl7_head::Moment;
 use judge_core::Judged;
 use plan_text::Plan;
@@ -66,7 +70,7 @@ impl SequentialBook {
     pub fn plan(&self) -> &Arc<Plan>
         ensures { arc_value result.now ≡ plan_in_force self.now }
     {
-        &self.plan
+        in_force(&self.plan, &self.entries)
     }
 
     /// All that was booked, in its order.
@@ -105,6 +109,7 @@ impl SequentialBook {
         ensures full { IsErrOf result NotBooked.Full → IsTrue (is_full self.old judged.now.channel judged.now.raw) }
         ensures err { OnErr result (self.new ≡ self.old) }
     {
+        self.rules();
         let told = self.answer(judged)?;
         if self.is_full(judged, told)? {
             return Err(NotBooked::Full);
@@ -179,10 +184,36 @@ impl SequentialBook {
         Ok(mask)
     }
 
+    /// Puts another plan in force.
+    ///
+    /// # Errors
+    ///
+    /// `ChannelsDiffer`, `DestinationInUse`, `TooMany`, `Full` where there is no room for one more entry, and `NoMemory`
+    /// where memory was refused. Nothing changes then.
+    pub fn deploy(&mut self, plan: Arc<Plan>) -> Result<(), DeployRefusal>
+        ensures answer { OnOk result (MayFollow self.old (Entry.Deploy (arc_value plan))) }
+        ensures booked { OnOk result (self.new ≡ followed_by self.old (Entry.Deploy (arc_value plan))) }
+        ensures refused { IfErr result (λ e. (deploy_answer self.old (arc_value plan) ≡ Some e) ⊎ (e ≡ DeployRefusal.Full) ⊎ (e ≡ DeployRefusal.NoMemory)) }
+        ensures err { OnErr result (self.new ≡ self.old) }
+    {
+        self.rules();
+        if let Some(refusal) = self.deploy_answer(&plan)? {
+            return Err(refusal);
+        }
+        if self.exceeds(0)? {
+            return Err(DeployRefusal::Full);
+        }
+        plan.rules();
+        self.book(Entry::Deploy {
+            plan: DeployedPlan::new(plan),
+        })?;
+        Ok(())
+    }
+
     /// Appends an entry that may follow.
     fn book(&mut self, entry: Entry) -> Result<(), AllocError>
         requires may_follow { MayFollow self.old entry }
-        requires judgeable { IsJudgeable (plan_in_force self.old) entry }
+        requires judgeable { IsJudgeable (length self.old.opening.plan.channels) entry }
         ensures ok { OnOk result (self.new ≡ followed_by self.old entry) }
         ensures err { OnErr result (self.new ≡ self.old) }
     {

@@ -1,6 +1,6 @@
 //! What a list of entries says, read from its start.
 
-ghost use Rattle.std.specs.Prelude.{◌≡◌, ◌<◌, ◌==◌, [], IfOk, All, false, if◌then◌else◌, count_by, filter, length, slice_get, option_copied};
+ghost use Rattle.std.specs.Prelude.{◌≡◌, ◌<◌, ◌==◌, [], IfOk, IfSome, None, All, false, if◌then◌else◌, count_by, length, slice_get};
 ghost use Rattle.std.specs.Arc.{arc_value};
 ghost use Rattle.std.specs.Int.{bit_at};
 ghost use Rattle.std.specs.List.{filter_map, position};
@@ -8,9 +8,9 @@ ghost use Rattle.std.specs.Option.{option_map_or};
 ghost use Rattle.mllp_frame.specs.Framing.{IsBlockData};
 ghost use Rattle.judge_core.specs.Judging.{deliveries_of};
 ghost use Rattle.dest_queue.specs.declared.SlotState.{SlotState};
-ghost use Rattle.event_log.specs.History.{accepted_by, is_for, last_from, names, state_by};
+ghost use Rattle.event_log.specs.History.{accepted_by, accepted_from, deployed_by, is_for, last_from, names, plan_after, state_by};
 ghost use Rattle.event_log.specs.Answers.{brings, is_kept, keeps};
-ghost use Rattle.sequential_book.specs.Reading.{IsJudgeable, is_acceptance};
+ghost use Rattle.sequential_book.specs.Reading.{IsJudgeable, is_acceptance, is_deployment};
 
 use dest_queue::{FailCause, SlotState};
 use event_log::{Entry, Ticket, Told};
@@ -67,6 +67,30 @@ pub(crate) fn state(entries: &[Entry], number: u32, d: u32) -> SlotState
     state
 }
 
+/// Whether an entry is a deployment.
+fn is_deployment(entry: &Entry) -> bool
+    ensures { result ≡ is_deployment entry.now }
+{
+    matches!(entry, Entry::Deploy { .. })
+}
+
+/// How many plans were deployed.
+pub(crate) fn deployments(entries: &[Entry]) -> usize
+    ensures { result ≡ count_by is_deployment entries.now }
+{
+    entries.iter().filter(|entry| is_deployment(entry)).count()
+}
+
+/// The plan in force after an entry, where this one is in force before it.
+fn plan_after<'a>(plan: &'a Arc<Plan>, entry: &'a Entry) -> &'a Arc<Plan>
+    ensures { arc_value result.now ≡ plan_after (arc_value plan.now) entry.now }
+{
+    match entry {
+        Entry::Deploy { plan } => plan.plan(),
+        _ => plan,
+    }
+}
+
 /// Whether an entry is the arrival of an accepted message.
 fn is_acceptance(entry: &Entry) -> bool
     ensures { result ≡ is_acceptance entry.now }
@@ -87,14 +111,38 @@ pub(crate) fn acceptances(entries: &[Entry]) -> usize
     entries.iter().filter(|entry| is_acceptance(entry)).count()
 }
 
-/// The arrival of the message of this number.
-fn acceptance(entries: &[Entry], number: u32) -> Option<&Entry>
-    ensures { option_copied result ≡ slice_get (filter is_acceptance entries.now) number }
+/// The plan in force after entries, where this one is in force before them.
+pub(crate) fn in_force<'a>(plan: &'a Arc<Plan>, entries: &'a [Entry]) -> &'a Arc<Plan>
+    ensures { arc_value result.now ≡ last_from (arc_value plan.now) (filter_map deployed_by entries.now) }
 {
-    entries
-        .iter()
-        .filter(|entry| is_acceptance(entry))
-        .nth(number as usize)
+    let mut in_force = plan;
+    for entry in entries {
+        in_force = plan_after(in_force, entry);
+    }
+    in_force
+}
+
+/// The arrival of the message of this number, and the plan that was in force when it came.
+fn acceptance<'a>(
+    plan: &'a Arc<Plan>,
+    entries: &'a [Entry],
+    number: u32,
+) -> Option<(&'a Arc<Plan>, &'a Entry)>
+    requires { All (IsJudgeable (length (arc_value plan.now).channels)) entries.now }
+    ensures brought { option_map_or (λ found. accepted_by (arc_value found.0.now) found.1.now) result None ≡ slice_get (accepted_from (arc_value plan.now) entries.now) number }
+    ensures judgeable { IfSome result (λ found. IsJudgeable (length (arc_value found.0.now).channels) found.1.now) }
+{
+    let mut in_force = plan;
+    let mut left = number;
+    for entry in entries {
+        let accepted = is_acceptance(entry);
+        if accepted && left == 0 {
+            return Some((in_force, entry));
+        }
+        left -= u32::from(accepted);
+        in_force = plan_after(in_force, entry);
+    }
+    None
 }
 
 /// A text that came on a channel, judged again.
@@ -132,7 +180,7 @@ fn deliveries_by(
     plan: &Arc<Plan>,
     entry: &Entry,
 ) -> Result<Option<Deliveries>, AllocError>
-    requires { IsJudgeable (arc_value plan.now) entry.now }
+    requires { IsJudgeable (length (arc_value plan.now).channels) entry.now }
     ensures { IfOk result (λ found. option_map_or (λ deliveries. deliveries) found [] ≡ option_map_or (λ message. message.deliveries) (accepted_by (arc_value plan.now) entry.now) []) }
 {
     match entry {
@@ -153,12 +201,12 @@ pub(crate) fn deliveries(
     entries: &[Entry],
     number: u32,
 ) -> Result<Option<Deliveries>, AllocError>
-    requires { All (IsJudgeable (arc_value plan.now)) entries.now }
+    requires { All (IsJudgeable (length (arc_value plan.now).channels)) entries.now }
     ensures { IfOk result (λ found. option_map_or (λ deliveries. deliveries) found []
-        ≡ option_map_or (λ message. message.deliveries) (slice_get (filter_map (accepted_by (arc_value plan.now)) entries.now) number) []) }
+        ≡ option_map_or (λ message. message.deliveries) (slice_get (accepted_from (arc_value plan.now) entries.now) number) []) }
 {
-    match acceptance(entries, number) {
-        Some(entry) => deliveries_by(alloc, plan, entry),
+    match acceptance(plan, entries, number) {
+        Some((in_force, entry)) => deliveries_by(alloc, in_force, entry),
         None => Ok(None),
     }
 }
@@ -179,7 +227,7 @@ fn is_kept(told: Told) -> bool
 
 /// Whether an entry is the arrival of a message with this key, told Accepted or Filtered.
 fn keeps(alloc: Global, plan: &Arc<Plan>, entry: &Entry, key: &[u8]) -> Result<bool, AllocError>
-    requires { IsJudgeable (arc_value plan.now) entry.now }
+    requires { IsJudgeable (length (arc_value plan.now).channels) entry.now }
     ensures { IfOk result (λ kept. kept ≡ keeps key.now entry.now) }
 {
     match entry {
@@ -200,7 +248,7 @@ pub(crate) fn known(
     entries: &[Entry],
     key: &[u8],
 ) -> Result<Option<usize>, AllocError>
-    requires { All (IsJudgeable (arc_value plan.now)) entries.now }
+    requires { All (IsJudgeable (length (arc_value plan.now).channels)) entries.now }
     ensures { IfOk result (λ place. place ≡ position (keeps key.now) entries.now) }
 {
     for (place, entry) in entries.iter().enumerate() {

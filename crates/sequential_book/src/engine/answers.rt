@@ -4,6 +4,7 @@ ghost use Rattle.std.specs.Prelude.{◌≡◌, IfOk, IsTrue, Some};
 ghost use Rattle.judge_core.specs.Judging.{is_bookable};
 ghost use Rattle.event_log.specs.History.{plan_in_force};
 ghost use Rattle.event_log.specs.Answers.{answer, cancel_answer, settle_answer, take_answer};
+ghost use Rattle.event_log.specs.Deployment.{deploy_answer, first_lost, is_lost};
 ghost use Rattle.event_log.specs.Room.{exceeds, is_full};
 
 use crate::answers::{arrival_owes, settled};
@@ -11,10 +12,12 @@ use crate::engine::SequentialBook;
 use crate::entries::{known, told_again};
 use dest_queue::{Outcome, SettleRefusal, SlotState};
 use event_log::{
-    CancelRefusal, TakeRefusal, Ticket, Told, attempts_max, front_answer, interval, told_first,
+    CancelRefusal, DEPLOYMENTS_MAX, DeployRefusal, TakeRefusal, Ticket, Told, attempts_max,
+    front_answer, interval, keeps_destination, same_channels, told_first,
 };
 use hl7_head::Moment;
 use judge_core::Judged;
+use plan_text::Plan;
 use std::alloc::AllocError;
 
 impl SequentialBook {
@@ -47,7 +50,7 @@ impl SequentialBook {
     {
         let channel = judged.channel();
         let raw = judged.raw().as_slice();
-        self.exceeds(arrival_owes(&self.plan, channel, raw, told, judged.verdict()))
+        self.exceeds(arrival_owes(self.plan(), channel, raw, told, judged.verdict()))
     }
 
     /// The answer to a take at d.
@@ -75,9 +78,42 @@ impl SequentialBook {
         ensures { IfOk result (λ answer. answer ≡ settle_answer self.now ticket.now outcome now) }
     {
         let slot = self.slot(ticket.number, ticket.destination)?;
-        let max = attempts_max(&self.plan, ticket.destination);
-        let interval = interval(&self.plan, ticket.destination);
+        let max = attempts_max(self.plan(), ticket.destination);
+        let interval = interval(self.plan(), ticket.destination);
         Ok(settled(slot, outcome, ticket.attempt, now.secs(), max, interval))
+    }
+
+    /// Whether messages are still to be delivered to d, which a plan doesn't keep as it is.
+    fn is_lost(&self, plan: &Plan, d: u32) -> Result<bool, AllocError>
+        ensures { IfOk result (λ lost. lost ≡ is_lost self.now plan.now d) }
+    {
+        Ok(self.queue_len(d)? > 0 && !keeps_destination(self.plan(), plan, d))
+    }
+
+    /// The first destination that would be lost with a plan.
+    fn first_lost(&self, plan: &Plan) -> Result<Option<u32>, AllocError>
+        ensures { IfOk result (λ lost. lost ≡ first_lost self.now plan.now) }
+    {
+        for d in 0..u32::BITS {
+            if self.is_lost(plan, d)? {
+                return Ok(Some(d));
+            }
+        }
+        Ok(None)
+    }
+
+    /// Why a plan isn't deployed, where there is room for one more entry.
+    pub(crate) fn deploy_answer(&self, plan: &Plan) -> Result<Option<DeployRefusal>, AllocError>
+        ensures { IfOk result (λ answer. answer ≡ deploy_answer self.now plan.now) }
+    {
+        if !same_channels(self.plan(), plan) {
+            return Ok(Some(DeployRefusal::ChannelsDiffer));
+        }
+        Ok(match self.first_lost(plan)? {
+            Some(d) => Some(DeployRefusal::DestinationInUse(d)),
+            None if self.deployments() < DEPLOYMENTS_MAX as usize => None,
+            None => Some(DeployRefusal::TooMany),
+        })
     }
 
     /// The answer to a cancellation.

@@ -2,13 +2,14 @@
 
 ghost use Rattle.std.specs.Prelude.{◌≡◌, ◌≤◌, [], IfOk};
 ghost use Rattle.std.specs.Option.{option_map_or};
+ghost use Rattle.event_log.specs.Deployment.{deployments};
 ghost use Rattle.event_log.specs.History.{deliveries, is_queued, message_count, plan_in_force, queue, slot, state};
 ghost use Rattle.event_log.specs.Answers.{attempts_max, mask_where, waits};
 ghost use Rattle.event_log.specs.Room.{message_total, owed, slot_owed};
 ghost use Rattle.sequential_book.specs.Reading.{IsPlain};
 
 use crate::engine::SequentialBook;
-use crate::entries::{acceptances, deliveries, names, state};
+use crate::entries::{acceptances, deliveries, deployments, names, state};
 use dest_queue::SlotState;
 use event_log::{EVENTS_MAX, attempts_max, slot_owed};
 use judge_core::Deliveries;
@@ -28,6 +29,13 @@ impl SequentialBook {
         ensures bound { result ≤ EVENTS_MAX }
     {
         acceptances(&self.entries) as u32
+    }
+
+    /// How many plans were deployed.
+    pub(crate) fn deployments(&self) -> usize
+        ensures { result ≡ deployments self.now }
+    {
+        deployments(&self.entries)
     }
 
     /// Where a message goes; nowhere where there is no such message.
@@ -103,7 +111,7 @@ impl SequentialBook {
         ensures bound { IfOk result (λ owes. owes ≤ 202) }
     {
         match self.slot(number, d)? {
-            Some(state) => Ok(slot_owed(attempts_max(&self.plan, d), state)),
+            Some(state) => Ok(slot_owed(attempts_max(self.plan(), d), state)),
             None => Ok(0),
         }
     }

@@ -1,4 +1,4 @@
-use Rattle.book_core.proofs.ThreeSums.{arrival-sums, cancel-sums, settle-sums, sums-few, take-sums}
+use Rattle.book_core.proofs.ThreeSums.{arrival-sums, cancel-sums, deploy-sums, settle-sums, sums-few, take-sums}
 use Rattle.book_core.proofs.laws.three_sums.Goals as goal
 
 pub returns-clause-arrival : goal.returns-clause-arrival
@@ -12,6 +12,9 @@ returns-clause-settlement c = settle-sums
 
 pub returns-clause-cancellation : goal.returns-clause-cancellation
 returns-clause-cancellation c = cancel-sums
+
+pub returns-clause-deployment : goal.returns-clause-deployment
+returns-clause-deployment c = deploy-sums
 
 pub returns-clause-few_arrivals : goal.returns-clause-few_arrivals
 returns-clause-few_arrivals c = λ h few. (sums-few h few).0

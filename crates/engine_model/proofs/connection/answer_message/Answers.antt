@@ -1,7 +1,7 @@
 use Rattle.std.proofs.Common.{◌≡◌, take, true, false, refl, ap, ◌∙◌, subst}
 use Rattle.mllp_frame.specs.Framing.{IsBlockData}
 use Rattle.conn_core.specs.Replies.{told_by}
-use Rattle.engine_model.proofs.Handled.{cut-back, handles-cut, handles-left, handles-message, is_booked, kept-on, on_err_always}
+use Rattle.engine_model.proofs.Handled.{cut-back, handles-cut, handles-left, handles-message, is_booked, kept-on, on_err_always, plan-kept}
 use Rattle.engine_model.proofs.connection.answer_message.Goals as goal
 
 pub returns-in_err-reserve-clause-err : goal.returns-in_err-reserve-clause-err
@@ -42,3 +42,11 @@ returns-then-not-booked-clause-err g c =
     c.requires.counted
     (c.truncate.ensures.items ∙ ap (λ n. take n c.book_and_reply-booked.new.replies.bytes.items) (c.len-sent.ensures ∙ c.args.words.now.replies.bytes.ok.0)
     ∙ cut-back c.args.words.now.replies.bytes.items c.book_and_reply-booked.new.replies.bytes.items front.added front.grows)
+
+pub returns-then-not-booked-clause-plan : goal.returns-then-not-booked-clause-plan
+returns-then-not-booked-clause-plan g c =
+    plan-kept c.args.book.now c.book_and_reply-booked.new.book c.book_and_reply-booked.result.outcome c.book_and_reply-booked.ensures.booked c.book_and_reply-booked.ensures.unbooked
+
+pub returns-clause-plan : goal.returns-clause-plan
+returns-clause-plan g c =
+    plan-kept c.args.book.now c.book_and_reply-booked.new.book c.book_and_reply-booked.result.outcome c.book_and_reply-booked.ensures.booked c.book_and_reply-booked.ensures.unbooked

@@ -1,4 +1,4 @@
-use Rattle.std.proofs.Common.{subst}
+use Rattle.std.proofs.Common.{subst, refl}
 use Rattle.book_core.specs.declared.letter.Job.{Job}
 use Rattle.event_log.specs.declared.entry.Entry.TheVariants.{Take}
 use Rattle.engine_model.specs.Steps.{Steps}
@@ -11,7 +11,7 @@ pub invariant_of-self : goal.invariant_of-self
 invariant_of-self g c =
     world-on (taking c.args.d c.args.now) c.self.inside.book c.take.new.self c.self.inside.connections.items c.self.invariant
     (took c.self.inside.book c.take.new.self c.self.inside.connections.items c.args.d c.args.now c.take.result c.take.ensures.answer c.take.ensures.booked c.take.ensures.err)
-    (same-plan c.self.inside.book c.take.new.self (λ (job : Job). Take job.ticket c.args.now) c.take.result c.take.ensures.booked c.take.ensures.err)
+    (same-plan c.self.inside.book c.take.new.self (λ (job : Job). Take job.ticket c.args.now) c.take.result (λ x. refl) c.take.ensures.booked c.take.ensures.err)
 
 pub returns : goal.returns
 returns g c =

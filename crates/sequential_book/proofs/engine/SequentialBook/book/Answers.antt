@@ -1,6 +1,6 @@
-use Rattle.std.proofs.Common.{sym, subst}
+use Rattle.std.proofs.Common.{length, sym, subst}
 use Rattle.std.specs.Arc.{arc_value}
-use Rattle.event_log.specs.History.{History, history_of, plan_in_force}
+use Rattle.event_log.specs.History.{History, history_of}
 use Rattle.event_log.specs.Legal.{MayFollow}
 use Rattle.sequential_book.specs.Reading.{IsJudgeable}
 use Rattle.sequential_book.proofs.Following.{plain-followed_by}
@@ -11,5 +11,5 @@ invariant_of-self-2 c =
     let h : History = history_of (arc_value c.self.inside.plan) c.self.inside.events_max c.self.inside.entries.items in
     rw c.in_ok-push.ensures.items (
     plain-followed_by h c.self.invariant c.args.entry (subst (λ (g : History). MayFollow g c.args.entry) (sym c.self.view_is) c.requires.may_follow)
-    (subst (λ (g : History). IsJudgeable (plan_in_force g) c.args.entry) (sym c.self.view_is) c.requires.judgeable)
+    (subst (λ (g : History). IsJudgeable (length g.opening.plan.channels) c.args.entry) (sym c.self.view_is) c.requires.judgeable)
     )
