@@ -1,12 +1,13 @@
 -- What rose with an entry.
-use Rattle.std.proofs.Common.{◌≡◌, ◌≢◌, ℕ, ◌+◌, ◌-◌, ◌<◌, ◌≤◌, ◌^◌, length, ltb, inl, inr, refl, sym, ap, subst, ◌∙◌, arith, length-append, [], ◌∷◌}
+use Rattle.std.proofs.Common.{◌≡◌, ◌≢◌, ℕ, ◌+◌, ◌-◌, ◌<◌, ◌≤◌, ◌^◌, length, ltb, None, inl, inr, refl, sym, ap, subst, ◌∙◌, arith, length-append, [], ◌∷◌}
 use Rattle.std.proofs.lemmas.List.FromFn.{length-map-range_with_len}
 use Rattle.plan_text.specs.Entries.{PlanEntry}
 use Rattle.stat_count.specs.Statistics.{Statistics}
 use Rattle.stat_count.specs.Sums.{arrivals, settlements, takes}
 use Rattle.event_log.specs.declared.entry.Entry.{Entry}
-use Rattle.event_log.specs.History.{History, followed_by, next_place, plan_in_force}
+use Rattle.event_log.specs.History.{History, deployed_by, followed_by, next_place, plan_in_force}
 use Rattle.event_log.specs.Legal.{IsSound}
+use Rattle.event_log.proofs.Following.{plan-kept}
 use Rattle.book_core.specs.Counting.{SumsRise, channel_counts, counted, destination_counts}
 use Rattle.book_lock.specs.Rises.{Held, IsCounted, IsOpened, arrived, settled, taken, with_book}
 use Rattle.book_lock.proofs.Naming.{split_by}
@@ -70,17 +71,22 @@ known_channel p q channel same known =
       | inr inside ↦ inside
     ]
 
+-- an entry that deploys no plan leaves as many channels
+pub still : (h : Held) (e : Entry) → deployed_by e ≡ None → length (plan_in_force (followed_by h.book e)).channels ≡ length (plan_in_force h.book).channels
+still h e none = ap (λ (p : PlanEntry). length p.channels) (plan-kept h.book e none)
+
 -- the book behind the lock after one more entry
 pub next : (h : Held) (e : Entry) (new : History) (counts : Statistics) (first channels m t s x y z m' t' s' : ℕ) → new ≡ followed_by h.book e
+    → length (plan_in_force (followed_by h.book e)).channels ≡ length (plan_in_force h.book).channels
     → IsOpened h counts first channels → IsCounted h m t s → SumsRise x y z (counted h.book) (counted (followed_by h.book e))
     → m' ≡ m + x → t' ≡ t + y → s' ≡ s + z
     → IsOpened (with_book h new) counts first channels × IsCounted (with_book h new) m' t' s'
-next h e new counts first channels m t s x y z m' t' s' booked opened known rise ms ts ss =
+next h e new counts first channels m t s x y z m' t' s' booked same opened known rise ms ts ss =
     let now : IsCounted (with_book h (followed_by h.book e)) m' t' s' =
     subst (λ w. IsCounted (with_book h (followed_by h.book e)) w t' s') (sym ms)
     (subst (λ w. IsCounted (with_book h (followed_by h.book e)) (m + x) w s') (sym ts)
     (subst (λ w. IsCounted (with_book h (followed_by h.book e)) (m + x) (t + y) w) (sym ss) (counted_more h e m t s x y z known rise))) in
-    let there : IsOpened (with_book h (followed_by h.book e)) counts first channels = record { opening = opened.opening; all_channels = opened.all_channels; all_destinations = opened.all_destinations; first_is = opened.first_is; channels_are = opened.channels_are } in (
+    let there : IsOpened (with_book h (followed_by h.book e)) counts first channels = record { opening = opened.opening; all_channels = opened.all_channels; all_destinations = opened.all_destinations; first_is = opened.first_is; channels_are = same ∙ opened.channels_are } in (
       subst (λ (b : History). IsOpened (with_book h b) counts first channels) (sym booked) there,
       subst (λ (b : History). IsCounted (with_book h b) m' t' s') (sym booked) now,
     )

@@ -9,7 +9,7 @@ use Rattle.std.proofs.lemmas.Bool.Decides.{nat_tests}
 use Rattle.std.proofs.lemmas.List.{get_or-map}
 use Rattle.std.proofs.lemmas.Option.{slice_get_past}
 use Rattle.event_log.specs.declared.entry.Entry.{Entry}
-use Rattle.event_log.specs.declared.entry.Entry.TheVariants.{Arrival, Take, Settle, Cancel}
+use Rattle.event_log.specs.declared.entry.Entry.TheVariants.{Arrival, Take, Settle, Cancel, Deploy}
 use Rattle.event_log.specs.History.{entry_at, next_place}
 use Rattle.book_core.specs.declared.receipt.Receipt.{Receipt}
 use Rattle.book_lock.specs.Auditing.{receipt_at, receipt_due, receipts_due, naming, IsRightAt, IsFault, IsFirstFault}
@@ -61,6 +61,7 @@ receipt_names p (Arrival conn channel raw told) r is = cc
 receipt_names p (Take ticket now) r is = cc
 receipt_names p (Settle ticket outcome now state) r is = cc
 receipt_names p (Cancel number mask) r is = cc
+receipt_names p (Deploy plan) r is = cc
 
 due_names : (o : Option Entry) (p : ℕ) (r : Receipt) → option_and_then (receipt_at p) o ≡ Some r → r.entry ≡ p
 due_names None p r is = cc

@@ -2,7 +2,7 @@
 use Rattle.std.specs.Prelude.{◌≡◌, ◌≢◌, ℕ, ◌-◌, ◌<◌, ◌==◌, List, [], Option, Some, None, length, option_and_then}
 use Rattle.std.specs.List.{filter, filter_map, range_with_len}
 use Rattle.event_log.specs.declared.entry.Entry.{Entry}
-use Rattle.event_log.specs.declared.entry.Entry.TheVariants.{Arrival, Take, Settle, Cancel}
+use Rattle.event_log.specs.declared.entry.Entry.TheVariants.{Arrival, Take, Settle, Cancel, Deploy}
 use Rattle.event_log.specs.History.{entry_at, next_place}
 use Rattle.book_core.specs.declared.receipt.Receipt.{Receipt}
 use Rattle.book_lock.specs.declared.receipt_audit.AuditFault.{AuditFault}
@@ -21,6 +21,7 @@ receipt_at place (Arrival conn channel raw told) = Some (record { entry = place;
 receipt_at place (Take ticket now) = None
 receipt_at place (Settle ticket outcome now state) = None
 receipt_at place (Cancel number mask) = None
+receipt_at place (Deploy plan) = None
 
 -- the receipt that is due at a place of the history: that of its arrival
 abbrev pub receipt_due : Held → ℕ → Option Receipt

@@ -1,12 +1,14 @@
 //! The value behind the lock.
 
-ghost use Rattle.std.specs.Prelude.{◌≡◌, ◌≢◌, ◌+◌, ◌<◌, ◌≤◌, ◌⊎◌, ◌↔◌, Ok, Err, IsOk, IfOk, IfErr, OnOk, OnErr, IsErrOf, IsTrue, Some, length};
+ghost use Rattle.std.specs.Prelude.{◌≡◌, ◌≢◌, ◌+◌, ◌<◌, ◌≤◌, ◌⊎◌, ◌↔◌, Ok, Err, IsOk, IfOk, IfErr, OnOk, OnErr, IsErrOf, IsTrue, None, Some, length};
 ghost use Rattle.std.specs.Arc.{arc_value};
 ghost use Rattle.judge_core.specs.Judging.{is_bookable};
 ghost use Rattle.stat_count.specs.Sums.{arrivals};
 ghost use Rattle.event_log.specs.History.{control_id, followed_by, next_place, payload, plan_in_force};
 ghost use Rattle.event_log.specs.Answers.{answer, cancel_answer, settle_answer, take_answer};
-ghost use Rattle.event_log.specs.Room.{is_full};
+ghost use Rattle.event_log.specs.Deployment.{deploy_answer};
+ghost use Rattle.event_log.specs.Legal.{MayFollow};
+ghost use Rattle.event_log.specs.Room.{exceeds, is_full};
 ghost use Rattle.book_core.specs.Counting.{counted};
 ghost use Rattle.book_core.specs.Headline.{KeepsItsPromise};
 ghost use Rattle.book_core.specs.Sending.{awaits_ack};
@@ -16,7 +18,8 @@ ghost use Rattle.book_lock.specs.Shares.{with_settlement, with_take};
 use crate::desks::{Desk, Station, audit_desks, audit_stations, made_by, settled_at, taken_at};
 use crate::sums::{arrivals, settlements, takes};
 use book_core::{
-    Book, CancelRefusal, Entry, Job, Letter, NotBooked, Receipt, TakeRefusal, Ticket, three_sums,
+    Book, CancelRefusal, DeployRefusal, Entry, Job, Letter, NotBooked, Receipt, TakeRefusal,
+    Ticket, three_sums,
 };
 use dest_queue::{Addressed, Outcome, SettleRefusal, SlotState};
 use hl7_head::Moment;
@@ -307,6 +310,24 @@ impl<A: Opening, T: Ledger, U: Ledger, S: RowStore<Addressed<Letter>>> Locked<A,
         self.book.rules();
         let mask = self.book.cancel(number)?;
         Ok(mask)
+    }
+
+    /// Puts another plan in force, as the book does: no share rises, and there are as many channels as before.
+    ///
+    /// # Errors
+    ///
+    /// The book's, in its order. A refusal leaves the book as it was, and drops the plan.
+    pub fn deploy(&mut self, plan: Arc<Plan>) -> Result<(), DeployRefusal>
+        ensures answer { OnOk result (MayFollow self.old.book (Entry.Deploy (arc_value plan))) }
+        ensures booked { OnOk result (self.new ≡ with_book self.old (followed_by self.old.book (Entry.Deploy (arc_value plan)))) }
+        ensures refused { IfErr result (λ e. (deploy_answer self.old.book (arc_value plan) ≡ Some e) ⊎ (deploy_answer self.old.book (arc_value plan) ≡ None) × ((e ≡ DeployRefusal.Full) ⊎ (e ≡ DeployRefusal.NoMemory))) }
+        ensures full { IsErrOf result DeployRefusal.Full ↔ (deploy_answer self.old.book (arc_value plan) ≡ None) × IsTrue (exceeds self.old.book 0) }
+        ensures err { OnErr result (self.new ≡ self.old) }
+    {
+        three_sums();
+        self.book.rules();
+        self.book.deploy(plan)?;
+        Ok(())
     }
 
     /// Notes a change at the destinations of a mask, and answers those at which none was noted.

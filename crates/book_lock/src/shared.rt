@@ -12,7 +12,9 @@ ghost use Rattle.book_lock.specs.Shares.{no_calls, with_settlement, with_take};
 
 use crate::desks::{Desk, Station, open_desks, open_stations};
 use crate::locked::{Closed, Locked, Opening};
-use book_core::{Book, CancelRefusal, Job, Letter, NotBooked, Receipt, TakeRefusal, Ticket, Told};
+use book_core::{
+    Book, CancelRefusal, DeployRefusal, Job, Letter, NotBooked, Receipt, TakeRefusal, Ticket, Told,
+};
 use dest_queue::{Addressed, Outcome, SettleRefusal, SlotState};
 use hl7_head::Moment;
 use judge_core::{Delivery, Judged, Verdict};
@@ -225,6 +227,16 @@ impl<A: Opening, T: Ledger, U: Ledger, S: RowStore<Addressed<Letter>>> Shared<A,
         drop(locked);
         self.wake(rung);
         Ok(mask)
+    }
+
+    /// Puts another plan in force. A message that was judged by the one before is told PlanChanged where it is booked
+    /// afterwards.
+    ///
+    /// # Errors
+    ///
+    /// The book's. A refusal drops the plan.
+    pub fn deploy<H: Wait>(&self, rt: &H, plan: Arc<Plan>) -> Result<(), DeployRefusal> {
+        self.locked.lock(rt).deploy(plan)
     }
 
     /// The statistics, with at least the arrivals that the desk made.

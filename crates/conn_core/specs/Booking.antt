@@ -1,6 +1,6 @@
 -- What a book is given, one receipt after the other.
 use Rattle.std.specs.Prelude.{◌≡◌, ℕ, ◌+◌, zero, suc, List, [], ◌∷◌, ◌++◌, length, map, Result, Ok, Err, IsTrue, IsErrOf, ◌≢◌, ◌↔◌, Some, refl}
-use Rattle.std.specs.List.{range_with_len}
+use Rattle.std.specs.List.{filter_map, range_with_len}
 use Rattle.std.specs.Result.{IfOk}
 use Rattle.std.proofs.Common.{sym, ap, ◌∙◌, append_assoc, append-nil, length-append, arith}
 use Rattle.std.proofs.lemmas.List.{map-append}
@@ -8,12 +8,14 @@ use Rattle.book_core.specs.declared.receipt.NotBooked.{NotBooked}
 use Rattle.book_core.specs.declared.receipt.NotBooked.TheVariants.{Full, PlanChanged}
 use Rattle.book_core.specs.declared.receipt.Receipt.{Receipt}
 use Rattle.event_log.specs.Answers.{answer}
-use Rattle.event_log.specs.History.{History, next_place, plan_in_force}
+use Rattle.event_log.specs.History.{History, deployed_by, next_place, plan_in_force}
 use Rattle.event_log.specs.Room.{is_full}
 use Rattle.event_log.specs.declared.entry.Entry.{Entry}
 use Rattle.event_log.specs.declared.entry.Entry.TheVariants.{Arrival}
 use Rattle.event_log.specs.declared.entry.Told.{Told}
+use Rattle.event_log.proofs.Following.{plan-kept_all}
 use Rattle.judge_core.specs.Judging.{Judgement}
+use Rattle.plan_text.specs.Entries.{PlanEntry}
 
 -- the receipt that an outcome brings, if it brings one
 abbrev pub receipts_of : Result Receipt NotBooked → List Receipt
@@ -76,6 +78,13 @@ books_trans a b c xs ys one two =
 pub books_one : (old new : History) (r : Receipt) → new ≡ record old { entries = old.entries ++ arrival_by r ∷ [] } → r.entry ≡ length old.entries → Books old new (r ∷ [])
 books_one old new r grown place = record { history = grown; places = ap (λ n. n ∷ []) place }
 
+-- arrivals deploy no plan
+pub books_deploy_none : (rs : List Receipt) → filter_map deployed_by (map arrival_by rs) ≡ []
+books_deploy_none [] = refl
+books_deploy_none (r ∷ rs) = books_deploy_none rs
+
 -- the plan in force stays
 pub books_same_channels : (old new : History) (rs : List Receipt) → Books old new rs → length (plan_in_force new).channels ≡ length (plan_in_force old).channels
-books_same_channels old new rs more = ap (λ (h : History). length (plan_in_force h).channels) more.history
+books_same_channels old new rs more =
+    ap (λ (h : History). length (plan_in_force h).channels) more.history
+    ∙ ap (λ (p : PlanEntry). length p.channels) (plan-kept_all old.opening.plan old.entries (map arrival_by rs) (books_deploy_none rs))

@@ -1,4 +1,5 @@
-//! Tests of a shared book: its calls, its refusals, its close, and the audit of its receipts.
+//! Tests of a shared book: its calls, its refusals, plans that are deployed, its close, the audit of its receipts, and two
+//! threads at it.
 #![tactic(auto)]
 
 #[cfg(test)]
@@ -6,6 +7,10 @@ mod audits;
 #[cfg(test)]
 mod calls;
 #[cfg(test)]
+mod deploys;
+#[cfg(test)]
 mod refusals;
 #[cfg(test)]
 mod stage;
+#[cfg(test)]
+mod threads;

@@ -1,8 +1,8 @@
-use Rattle.std.proofs.Common.{arith}
+use Rattle.std.proofs.Common.{arith, refl}
 use Rattle.event_log.specs.History.{plan_in_force}
 use Rattle.event_log.specs.declared.entry.Entry.TheVariants.{Arrival}
 use Rattle.book_lock.specs.Rises.{Held}
-use Rattle.book_lock.proofs.Following.{arrivals_fit, few_entries, known_channel, next}
+use Rattle.book_lock.proofs.Following.{arrivals_fit, few_entries, known_channel, next, still}
 use Rattle.book_lock.proofs.locked.Locked.arrive.Goals as goal
 
 pub count-requires : goal.count-requires
@@ -20,5 +20,5 @@ invariant_of-self-2 g c =
     let rise = c.three_sums.ensures.arrival h.book c.args.conn judged.channel judged.raw told c.rules.ensures.sound c.in_ok-receipt.ensures.follows known in
     let n = next h (Arrival c.args.conn judged.channel judged.raw told) c.arrive.new.self g.A.Opening.counts g.A.Opening.first g.A.Opening.channels
     c.self.inside.arrivals.total c.self.inside.takes.total c.self.inside.settlements.total 1 0 0 c.count.new.book.total c.self.inside.takes.total c.self.inside.settlements.total
-    c.in_ok-receipt.ensures.booked c.self.invariant.0 c.self.invariant.1 rise c.count.ensures.total (omega arith) (omega arith) in
+    c.in_ok-receipt.ensures.booked (still h (Arrival c.args.conn judged.channel judged.raw told) refl) c.self.invariant.0 c.self.invariant.1 rise c.count.ensures.total (omega arith) (omega arith) in
     (n.0, n.1, c.self.invariant.2, c.self.invariant.3, c.self.invariant.4)

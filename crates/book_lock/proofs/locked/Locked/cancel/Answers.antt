@@ -1,4 +1,4 @@
-use Rattle.std.proofs.Common.{◌≡◌, sym, ap, ◌∙◌, arith}
+use Rattle.std.proofs.Common.{◌≡◌, sym, ap, ◌∙◌, arith, refl}
 use Rattle.event_log.specs.declared.entry.Entry.TheVariants.{Cancel}
 use Rattle.std.specs.Prelude.{Err, IfErr, IsOk, ◌⊎◌}
 use Rattle.std.proofs.Common.{rules, subst}
@@ -6,7 +6,7 @@ use Rattle.event_log.specs.Answers.{cancel_answer}
 use Rattle.event_log.specs.History.{History}
 use Rattle.event_log.specs.declared.refusal.CancelRefusal.TheVariants.{NoMemory}
 use Rattle.book_lock.specs.Rises.{Held}
-use Rattle.book_lock.proofs.Following.{next}
+use Rattle.book_lock.proofs.Following.{next, still}
 use Rattle.book_lock.proofs.locked.Locked.cancel.Goals as goal
 
 pub invariant_of-self-2 : goal.invariant_of-self-2
@@ -16,7 +16,7 @@ invariant_of-self-2 g c =
     let rise = c.three_sums.ensures.cancellation h.book c.args.number mask c.rules.ensures.sound c.in_ok-mask.ensures.answer in
     let n = next h (Cancel c.args.number mask) c.cancel.new.self g.A.Opening.counts g.A.Opening.first g.A.Opening.channels
     c.self.inside.arrivals.total c.self.inside.takes.total c.self.inside.settlements.total 0 0 0 c.self.inside.arrivals.total c.self.inside.takes.total c.self.inside.settlements.total
-    c.in_ok-mask.ensures.booked c.self.invariant.0 c.self.invariant.1 rise (omega arith) (omega arith) (omega arith) in
+    c.in_ok-mask.ensures.booked (still h (Cancel c.args.number mask) refl) c.self.invariant.0 c.self.invariant.1 rise (omega arith) (omega arith) (omega arith) in
     (n.0, n.1, c.self.invariant.2, c.self.invariant.3, c.self.invariant.4)
 
 pub returns-in_err-mask-clause-refused : goal.returns-in_err-mask-clause-refused

@@ -1,10 +1,10 @@
-use Rattle.std.proofs.Common.{◌≡◌, sym, ap, ◌∙◌, arith}
+use Rattle.std.proofs.Common.{◌≡◌, sym, ap, ◌∙◌, arith, refl}
 use Rattle.event_log.specs.declared.entry.Entry.TheVariants.{Settle}
 use Rattle.std.proofs.Common.{rules}
 use Rattle.event_log.specs.Answers.{settle_answer}
 use Rattle.event_log.specs.History.{History}
 use Rattle.book_lock.specs.Rises.{Held}
-use Rattle.book_lock.proofs.Following.{few_entries, next, settlements_fit}
+use Rattle.book_lock.proofs.Following.{few_entries, next, settlements_fit, still}
 use Rattle.book_lock.proofs.locked.Locked.settle.Goals as goal
 
 pub count_settlement-requires : goal.count_settlement-requires
@@ -21,7 +21,7 @@ invariant_of-self-2 g c =
     let rise = c.three_sums.ensures.settlement h.book ticket c.args.outcome c.args.now state c.rules.ensures.sound (sym c.in_ok-state.ensures.answer) in
     let n = next h (Settle ticket c.args.outcome c.args.now state) c.settle.new.self g.A.Opening.counts g.A.Opening.first g.A.Opening.channels
     c.self.inside.arrivals.total c.self.inside.takes.total c.self.inside.settlements.total 0 0 1 c.self.inside.arrivals.total c.self.inside.takes.total c.count_settlement.new.book.total
-    c.in_ok-state.ensures.booked c.self.invariant.0 c.self.invariant.1 rise (omega arith) (omega arith) c.count_settlement.ensures.total in
+    c.in_ok-state.ensures.booked (still h (Settle ticket c.args.outcome c.args.now state) refl) c.self.invariant.0 c.self.invariant.1 rise (omega arith) (omega arith) c.count_settlement.ensures.total in
     (n.0, n.1, c.self.invariant.2, c.self.invariant.3, c.self.invariant.4)
 
 pub returns-in_err-state-clause-answer : goal.returns-in_err-state-clause-answer

@@ -1,4 +1,4 @@
-use Rattle.std.proofs.Common.{◌≡◌, ap, ◌∙◌, arith}
+use Rattle.std.proofs.Common.{◌≡◌, ap, ◌∙◌, arith, refl}
 use Rattle.event_log.specs.declared.entry.Entry.TheVariants.{Take}
 use Rattle.std.specs.Prelude.{Err, IfErr, IsOk, ◌⊎◌}
 use Rattle.std.proofs.Common.{rules, subst}
@@ -6,7 +6,7 @@ use Rattle.event_log.specs.Answers.{take_answer}
 use Rattle.event_log.specs.History.{History, control_id, payload}
 use Rattle.event_log.specs.declared.refusal.TakeRefusal.TheVariants.{NoMemory}
 use Rattle.book_lock.specs.Rises.{Held}
-use Rattle.book_lock.proofs.Following.{few_entries, next, takes_fit}
+use Rattle.book_lock.proofs.Following.{few_entries, next, still, takes_fit}
 use Rattle.book_lock.proofs.locked.Locked.take.Goals as goal
 
 pub count_take-requires : goal.count_take-requires
@@ -21,7 +21,7 @@ invariant_of-self-2 g c =
     let rise = c.three_sums.ensures.take h.book c.args.d c.args.now c.in_ok-job.job.ticket c.rules.ensures.sound c.in_ok-job.ensures.answer in
     let n = next h (Take c.in_ok-job.job.ticket c.args.now) c.take.new.self g.A.Opening.counts g.A.Opening.first g.A.Opening.channels
     c.self.inside.arrivals.total c.self.inside.takes.total c.self.inside.settlements.total 0 1 0 c.self.inside.arrivals.total c.count_take.new.book.total c.self.inside.settlements.total
-    c.in_ok-job.ensures.booked c.self.invariant.0 c.self.invariant.1 rise (omega arith) c.count_take.ensures.total (omega arith) in
+    c.in_ok-job.ensures.booked (still h (Take c.in_ok-job.job.ticket c.args.now) refl) c.self.invariant.0 c.self.invariant.1 rise (omega arith) c.count_take.ensures.total (omega arith) in
     (n.0, n.1, c.self.invariant.2, c.self.invariant.3, c.self.invariant.4)
 
 pub returns-in_err-job-clause-refused : goal.returns-in_err-job-clause-refused

@@ -1,0 +1,123 @@
+-- The book under its lock may be shared by threads, where its rows may be given to one.
+use mathlib.Core.List.{List, [], ◌∷◌}
+use denote.Struct.Field.{rows}
+use mir.Syntax.{Sym}
+use denote.RattleType.{RattleType}
+use denote.Struct.Tuple.{TupleAt, type_at, parts}
+use denote.Struct.Declared.{shape}
+use denote.Param.Send.{IsSend, IsSync, sendable, view_send, recorded_send, recorded_sync, struct_send, struct_sync, AllSend}
+use Rattle.book_core.specs.contracts.book.Book as Book
+use Rattle.book_core.specs.contracts.book.Book.TheInside as Inside
+use Rattle.book_core.specs.declared.letter.Letter as Letter
+use Rattle.dest_queue.specs.declared.slots.Addressed as Addressed
+use Rattle.row_store.specs.declared.RowStore as RowStore
+use Rattle.book_lock.specs.contracts.locked.Locked as Locked
+use Rattle.book_lock.specs.contracts.locked.Locked.TheInside as Behind
+use Rattle.book_lock.specs.declared.locked.Opening as Opening
+use Rattle.book_lock.specs.contracts.shared.Shared as Shared
+use Rattle.std.proofs.sync.Mutex.TheSendSync as mutex
+use Rattle.std.specs.declared.sync.ledger.Ledger as Ledger
+use Rattle.std.proofs.sync.ledger.Share.TheSendSync as share
+use Rattle.std.proofs.sync.ledger.Book.TheSendSync as ledger_book
+use Rattle.std.proofs.Crossing.{crosses}
+use Rattle.hl7_filter.proofs.condition.Cond.TheLaws.TheKnot as cond
+use Rattle.hl7_transform.proofs.step.Step.TheSendSync as step
+use Rattle.plan_text.proofs.destination.Destination.TheSendSync as destination
+use Rattle.plan_text.proofs.literal.Literal.TheSendSync as literal
+use Rattle.plan_text.proofs.channel.MessageType.TheSendSync as message_type
+use Rattle.plan_text.proofs.channel.ProcessingId.TheSendSync as processing_id
+use Rattle.plan_text.proofs.channel.VersionId.TheSendSync as version_id
+use Rattle.plan_text.specs.contracts.plan.Plan as Plan
+use Rattle.plan_text.specs.contracts.channel.Channel as Channel
+use Rattle.plan_text.specs.contracts.channel.Route as Route
+use Rattle.event_log.specs.contracts.log.Log as Log
+use Rattle.event_log.specs.contracts.entry.DeployedPlan as DeployedPlan
+use Rattle.event_log.specs.contracts.entry.Entry as Entry
+
+-- its parts cross
+parts_send : (Ts : List RattleType) → AllSend Ts → AllSend (rows (parts Ts))
+parts_send [] s = tt
+parts_send (T ∷ Ts) s = (s.0, parts_send Ts s.1)
+
+-- a closure crosses where what it captured does
+pub tuple_send : (ν : Sym) (Ts : List RattleType) → AllSend Ts → IsSend (TupleAt ν Ts)
+tuple_send ν Ts s = recorded_send _ _ _ (type_at ν Ts).to_one (struct_send (shape (type_at ν Ts)) (parts_send Ts s))
+
+pub route_send : IsSend Route.the_row
+route_send = search (sendable, crosses, cond.crosses, step.the_send) depth 30 fits 30000
+
+pub channel_send : IsSend Channel.the_row
+channel_send = search (sendable, crosses, cond.crosses, step.the_send, route_send, literal.the_send, message_type.the_send, processing_id.the_send, version_id.the_send) depth 90 fits 30000
+
+pub plan_send : IsSend Plan.the_row
+plan_send = search (sendable, crosses, channel_send, destination.the_send) depth 30 fits 30000
+
+pub route_sync : IsSync Route.the_row
+route_sync = search (sendable, crosses, cond.crosses, step.the_sync) depth 30 fits 30000
+
+pub channel_sync : IsSync Channel.the_row
+channel_sync = search (sendable, crosses, cond.crosses, step.the_sync, route_sync, literal.the_sync, message_type.the_sync, processing_id.the_sync, version_id.the_sync) depth 90 fits 30000
+
+pub plan_sync : IsSync Plan.the_row
+plan_sync = search (sendable, crosses, channel_sync, destination.the_sync) depth 30 fits 30000
+
+pub deployed_send : IsSend DeployedPlan.the_row
+deployed_send = search (sendable, crosses, plan_send, plan_sync) depth 60 fits 30000
+
+pub entry_send : IsSend Entry.the_row
+entry_send = search (sendable, crosses, deployed_send) depth 90 fits 30000
+
+pub log_send : IsSend Log.the_row
+log_send = search (sendable, crosses, plan_send, plan_sync, entry_send) depth 90 fits 30000
+
+pub book_send : (S : RattleType) (g : RowStore.Ghosts S.Denot (Addressed.Addressed Letter.Letter)) → IsSend S → IsSend (Book.the_row S g)
+book_send S g s =
+    view_send (Inside.the_row S g) _ _ _ _
+    (recorded_send (Inside.the_field S g).row _ _ (Inside.the_type S g).to_one
+    (struct_send (shape (Inside.the_type S g)) (
+      search (sendable, crosses) depth 20,
+      (log_send, (s, (search (sendable, crosses) depth 60 fits 30000, (search (sendable, crosses) depth 60 fits 30000, (search (sendable, crosses) depth 20, tt))))),
+    )))
+
+module _ (A T U S : RattleType) (o : Opening.Ghosts A.Denot) (a : Ledger.Ghosts A.Denot) (t : Ledger.Ghosts T.Denot)
+    (u : Ledger.Ghosts U.Denot) (g : RowStore.Ghosts S.Denot (Addressed.Addressed Letter.Letter)) where
+  pub locked_send : IsSend S → IsSend (Locked.the_row A T U S o a t u g)
+  locked_send s =
+      view_send (Behind.the_row A T U S o a t u g) _ _ _ _
+      (recorded_send (Behind.the_field A T U S o a t u g).row _ _ (Behind.the_type A T U S o a t u g).to_one
+      (struct_send (shape (Behind.the_type A T U S o a t u g)) (
+        book_send S g s,
+        (
+          search (sendable, crosses) depth 60 fits 30000,
+          (
+            search (sendable, crosses) depth 20,
+            (
+              ledger_book.the_send A a,
+              (
+                ledger_book.the_send T t,
+                (
+                  ledger_book.the_send U u,
+                  (
+                    share.the_send A a,
+                    (
+                      share.the_send T t,
+                      (
+                        share.the_send U u,
+                        (search (sendable, crosses) depth 20, tt),
+                      ),
+                    ),
+                  ),
+                ),
+              ),
+            ),
+          ),
+        ),
+      )))
+
+  pub shared_sync : IsSend S → IsSync (Shared.the_row A T U S o a t u g)
+  shared_sync s =
+      recorded_sync (Shared.the_field A T U S o a t u g).row _ _ (Shared.the_type A T U S o a t u g).to_one
+      (struct_sync (shape (Shared.the_type A T U S o a t u g)) (
+        mutex.the_sync _ (locked_send s),
+        (search (sendable, crosses) depth 60 fits 30000, (search (sendable, crosses) depth 20, tt)),
+      ))

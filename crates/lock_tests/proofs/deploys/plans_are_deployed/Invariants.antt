@@ -1,0 +1,16 @@
+use Rattle.std.proofs.Common.{length}
+use Rattle.book_core.specs.Counting.{counted}
+use Rattle.event_log.specs.History.{next_place, plan_in_force}
+use Rattle.lock_tests.proofs.deploys.plans_are_deployed.Given as goal
+
+abbrev pub ghosts-deploy_both-A-Opening : goal.ghosts-deploy_both-A-Opening
+ghosts-deploy_both-A-Opening g a = record { counts = counted a.book; first = next_place a.book; channels = length (plan_in_force a.book).channels }
+
+abbrev pub ghosts-deploy_both-A-Ledger : goal.ghosts-deploy_both-A-Ledger
+ghosts-deploy_both-A-Ledger g a = record { name = a.arrivals.name; parts = a.arrivals.parts }
+
+abbrev pub ghosts-deploy_both-T-Ledger : goal.ghosts-deploy_both-T-Ledger
+ghosts-deploy_both-T-Ledger g a = record { name = a.takes.name; parts = a.takes.parts }
+
+abbrev pub ghosts-deploy_both-U-Ledger : goal.ghosts-deploy_both-U-Ledger
+ghosts-deploy_both-U-Ledger g a = record { name = a.settlements.name; parts = a.settlements.parts }

@@ -1,0 +1,135 @@
+//! Two threads at a shared book.
+
+ghost use Rattle.std.specs.Prelude.{◌≡◌, ◌+◌, ◌<◌, length};
+ghost use Rattle.event_log.specs.History.{next_place, plan_in_force};
+ghost use Rattle.book_core.specs.Counting.{counted};
+
+use crate::stage::{Rows, UPDATE, waiting};
+use book_core::{Book, EVENTS_MAX, Letter};
+use book_lock::{Closed, Opening, Shared, Station};
+use conn_worker::nearest;
+use dest_queue::{Addressed, FailCause, Outcome, SlotState};
+use row_store::RowStore;
+use std::alloc::Global;
+use std::marker::Brand;
+use std::sync::Wait;
+use std::sync::ledger::{Blank, Ledger};
+use std::test::Fail;
+use std::thread;
+use std::thread::Threads;
+
+/// How often both are tried.
+const ROUNDS: u32 = 200;
+
+/// Takes the front of each of four queues, and has it delivered.
+fn deliver_all<A: Opening, T: Ledger, U: Ledger, S: RowStore<Addressed<Letter>>, H: Wait>(
+    rt: &H,
+    shared: &Shared<A, T, U, S>,
+    station: Station<T, U>,
+) -> Station<T, U> {
+    let mut station = station;
+    for d in 0..4 {
+        if let Ok(job) = shared.take(rt, &mut station, d, nearest(0)) {
+            let _ = shared.settle(
+                rt,
+                &mut station,
+                &job.ticket,
+                Outcome::Delivered,
+                nearest(0),
+            );
+        }
+    }
+    station
+}
+
+/// Cancels message 0. Whether a slot of it waited.
+fn cancel<A: Opening, T: Ledger, U: Ledger, S: RowStore<Addressed<Letter>>, H: Wait>(
+    rt: &H,
+    shared: &Shared<A, T, U, S>,
+) -> bool {
+    shared.cancel(rt, 0).is_ok()
+}
+
+/// Cancels message 0 on one thread, while another delivers what waits.
+fn beside<
+    A: Opening + Send + Sync,
+    T: Ledger + Send + Sync,
+    U: Ledger + Send + Sync,
+    S: RowStore<Addressed<Letter>> + Send,
+    H: Threads + Wait + Sync,
+>(rt: &H, shared: &Shared<A, T, U, S>, station: Station<T, U>) -> Station<T, U> {
+    let (_, station) = thread::join(
+        rt,
+        move || cancel(rt, shared),
+        move || deliver_all(rt, shared, station),
+    );
+    station
+}
+
+/// Shares a book, has its message 0 cancelled beside its deliveries, and closes it.
+fn cancel_and_deliver<
+    A: Opening + Send + Sync,
+    T: Ledger + Send + Sync,
+    U: Ledger + Send + Sync,
+    H: Threads + Wait + Sync,
+>(
+    rt: &H,
+    alloc: Global,
+    book: Book<Rows>,
+    arrivals: Blank,
+    takes: Blank,
+    settlements: Blank,
+) -> Result<Closed<Rows>, Fail>
+    requires counts { counted book ≡ A.counts }
+    requires first { next_place book ≡ A.first }
+    requires channels { length (plan_in_force book).channels ≡ A.channels }
+    requires arrivals { (arrivals.name ≡ A.name) × (arrivals.parts ≡ A.parts) × (A.parts ≡ 1) }
+    requires takes { (takes.name ≡ T.name) × (takes.parts ≡ T.parts) × (T.parts ≡ 2) }
+    requires settlements { (settlements.name ≡ U.name) × (settlements.parts ≡ U.parts) × (U.parts ≡ 2) }
+{
+    let opened = Shared::<A, T, U, Rows>::new(alloc, book, 0, 1, arrivals, takes, settlements);
+    let Ok((shared, desks, mut stations)) = opened else {
+        return Err("memory".into());
+    };
+    let Some(station) = stations.pop() else {
+        return Err("no station".into());
+    };
+    let station = beside(rt, &shared, station);
+    stations.push(station)?;
+    let Ok(closed) = shared.close(desks, stations) else {
+        return Err("shares".into());
+    };
+    Ok(closed)
+}
+
+/// Whether the slot at a destination came to its end, and is counted there once.
+fn is_over(book: &Book<Rows>, d: u32) -> bool
+    requires { d < 32 }
+{
+    let state = book.status(0, d);
+    let counts = book.counts().destination(d);
+    let ended = state == Some(SlotState::Delivered)
+        || state == Some(SlotState::Failed(FailCause::Cancelled));
+    ended && counts.delivered.saturating_add(counts.failed) == 1
+}
+
+/// Each slot is delivered or cancelled at the end, and the statistics count as many as there are.
+#[test]
+fn cancel_beside_deliveries(rt: HostRuntime) -> Result<(), Fail> {
+    for _ in 0..ROUNDS {
+        let book = waiting(&rt, true, EVENTS_MAX, &[UPDATE])?;
+        let closed = cancel_and_deliver::<Brand, Brand, Brand, HostRuntime>(
+            &rt,
+            rt.alloc(),
+            book,
+            Blank::new(1),
+            Blank::new(2),
+            Blank::new(2),
+        )?;
+        let book = closed.book();
+        let none = book.status(0, 0).is_none();
+        let over = is_over(book, 1) && is_over(book, 2) && is_over(book, 3);
+        assert!(rt; none && over);
+    }
+    Ok(())
+}
