@@ -1,0 +1,7 @@
+//! Tests of a running engine, whose doors, connections and links wait for one another.
+#![tactic(auto)]
+
+#[cfg(test)]
+mod held;
+#[cfg(test)]
+mod stage;

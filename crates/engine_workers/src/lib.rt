@@ -1,0 +1,24 @@
+//! The workers of a running engine, each on a thread of its own: for each channel one that opens its door, for each
+//! connection one that serves it, and for each destination one that delivers.
+//!
+//! The threads share the book under its lock, a clock that each has a copy of, and the runtime. What a worker works with is
+//! its own while it works: it takes a desk, a door or a station off its place, and puts it back with its report. So what
+//! the contracts of serving and of delivering say of a connection and of a destination is so on every thread, and each
+//! report that comes back is of a desk or of a station that comes back too.
+//!
+//! No contract says that a thread is started, gets on or ends, so none says that a connection is served, that a message is
+//! delivered or that `run_workers` returns, nor in which order the threads come by the book.
+#![tactic(auto)]
+
+mod door;
+mod inlet;
+mod loan;
+mod outlet;
+mod seat;
+mod site;
+mod tcp_door;
+mod workers;
+
+pub use door::{Door, DoorFault};
+pub use tcp_door::{Half, TcpDoor};
+pub use workers::{Staff, Understaffed, Worked, run_workers};
