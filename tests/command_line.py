@@ -43,6 +43,10 @@ def wrong(program, folder):
         return os.path.join(EXAMPLES, name)
 
     one = example('one_destination.toml')
+    # No machine has the first channel's address, so it can't listen there.
+    nowhere = ONE.replace('127.0.0.1:6660', '192.0.2.1:6660')
+    second = nowhere[nowhere.index('[[channel]]'):].replace('"ADT"', '"SECOND"', 1)
+    two = plan('two.toml', nowhere + second)
     # Words, what comes on standard input, and what has to come of it: the status, standard output, standard error.
     exact = [
         ([], ADMISSION, (0, accepted('20231114221320+0000'), b'')),
@@ -56,6 +60,9 @@ def wrong(program, folder):
         (['check', example('every_key.toml')], b'', (0, b'plan ok: 1 channels, 2 destinations\n', b'')),
         (['check', 'no/such.toml'], b'', (3, b'', b'file: no/such.toml\n')),
         (['answer', 'no/such.toml'], b'', (3, b'', b'file: no/such.toml\n')),
+        (['run', 'no/such.toml', '--accept', '1'], b'', (3, b'', b'file: no/such.toml\n')),
+        (['run', two, '--accept', '5000'], b'', (2, b'', b'limit: connections\n')),
+        (['run', two, '--events', '20', '--accept', '4999'], b'', (3, b'', b'device: listen ADT\n')),
         (['--version'], b'', (0, b'hl7_engine 0.1.0\n', b'')),
         (['-V'], b'', (0, b'hl7_engine 0.1.0\n', b'')),
     ]
@@ -67,20 +74,31 @@ def wrong(program, folder):
         ('toml.toml', '[[channel]]', '[[channel]', b'plan: NotToml\n'),
     ]:
         path = plan(name, ONE.replace(old, new, 1))
-        exact += [([command, path], b'', (1, b'', line)) for command in ('check', 'answer')]
+        exact += [(words, b'', (1, b'', line))
+                  for words in (['check', path], ['answer', path], ['run', path, '--accept=9999'])]
     exact.append((['check', plan('bytes.toml', b'name = "\xff"')], b'', (1, b'', b'plan: NotToml\n')))
     lines = [f'{words}: {got}, not {wanted}' for words, given, wanted in exact
              if (got := called(program, words, given)) != wanted]
 
     for words in [['reply'], ['--now', '5'], ['check'], ['check', 'a', 'b'], ['answer', 'a', 'b'], ['answer', '--now'],
                   ['answer', '--now=-1'], ['answer', '--now=253370764800'], ['answer', '--now=1', '--now=2'],
-                  ['answer', '--events=0'], ['answer', '--events=1000001'], ['answer', '--events=many']]:
+                  ['answer', '--events=0'], ['answer', '--events=1000001'], ['answer', '--events=many'],
+                  ['run', '--accept', '1'], ['run', one], ['run', one, '--accept'], ['run', one, '--accept=0'],
+                  ['run', one, '--accept=10000'], ['run', one, '--accept=-1'], ['run', one, '--accept=1', '--accept=2'],
+                  ['run', one, '--accept=1', '--now=5'], ['run', one, '--accept=1', '--events=0'], ['check', one, '--accept=1']]:
         status, out, err = called(program, words)
         if (status, out) != (2, b'') or not err.startswith(b'error: '):
             lines.append(f'{words}: {(status, out, err)}, not an error of status 2')
-    for words in [['--help'], ['-h'], ['answer', '--help'], ['help', 'check']]:
+    # Words, and what the help has to tell beside their use.
+    for words, told in [
+        (['--help'], [b'answer ', b'check ', b'run ', b'exit status', b'audit: NAME']),
+        (['-h'], [b'run ']),
+        (['answer', '--help'], [b'--now <SECS>']),
+        (['help', 'check'], [b'<PLAN>']),
+        (['run', '--help'], [b'--accept <N>', b'--events <N>', b'received A filtered B', b'waiting A inflight B', b'listening on']),
+    ]:
         status, out, err = called(program, words)
-        if (status, err) != (0, b'') or b'Usage: hl7_engine' not in out:
+        if (status, err) != (0, b'') or any(text not in out for text in [b'Usage: hl7_engine', *told]):
             lines.append(f'{words}: {(status, out, err)}, not the help')
     # Devices that fail: a full disk takes no byte, and a folder can't be read.
     with open('/dev/full', 'wb') as full:

@@ -5,11 +5,14 @@ use Rattle.hl7_engine.specs.declared.fault.Fault.TheVariants as fault
 use Rattle.conn_worker.specs.declared.report.ServeEnd.{ServeEnd}
 use Rattle.conn_worker.specs.declared.report.ServeEnd.TheVariants as end
 
--- the exit status: 1 of a faulty plan, 2 of words that aren't taken, 3 of a file, a device or memory
+-- the exit status: 1 of a faulty plan, 2 of words that aren't taken or ask for too much, 3 of a file, a device or memory,
+-- 4 of an audit
 abbrev pub status_of : Fault → ℕ
 status_of (fault.Plan _) = 1
 status_of (fault.Words _) = 2
 status_of fault.NoText = 2
+status_of fault.Limit = 2
+status_of (fault.Audit _) = 4
 status_of _ = 3
 
 -- the fault that is told where serving ends otherwise than at the reader's end

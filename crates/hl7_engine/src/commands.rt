@@ -1,17 +1,42 @@
 //! Doing what the command line asks.
 
+ghost use Rattle.std.specs.Prelude.{◌≡◌, IfErr};
 ghost use Rattle.hl7_engine.specs.Request.{IsWithinLimits};
 
 mod answer;
 mod check;
+mod devices;
+mod findings;
+mod run;
+mod statistics;
 
 use crate::command_line::Request;
 use crate::fault::Fault;
+use crate::handle::Handle;
 use answer::answer;
+use book_core::{Book, Letter};
 use check::check;
+use dest_queue::Addressed;
 use plan_text::Plan;
+use record_list::RecordList;
+use run::run;
 use std::fs;
+use std::hash::RandomState;
 use std::io::ErrorKind;
+use std::random::RandomSource;
+
+/// The store of a book's rows: linked nodes.
+type EngineRows = RecordList<Addressed<Letter>>;
+
+/// The book of the program.
+type EngineBook = Book<EngineRows>;
+
+/// A hasher for the keys of the book, of the runtime's random bytes, so that no sender can choose keys that fall together.
+fn hasher<'a>(rt: &impl RandomSource) -> Result<RandomState, Fault<'a>>
+    ensures { IfErr result (λ fault. fault ≡ Fault.Random) }
+{
+    RandomState::new(rt).map_err(|_| Fault::Random)
+}
 
 /// The plan in a file.
 fn read_plan<'a>(rt: &HostRuntime, path: &'a str) -> Result<Plan, Fault<'a>> {
@@ -23,12 +48,21 @@ fn read_plan<'a>(rt: &HostRuntime, path: &'a str) -> Result<Plan, Fault<'a>> {
     Ok(Plan::read(rt.alloc(), &text)?)
 }
 
-/// Does what is asked. The fault is the first that was found.
-pub fn run<'a>(rt: &HostRuntime, request: &Request<'a>) -> Result<(), Fault<'a>>
+/// Does what is asked. The fault is the first that was found. Threads are started, and waited for, by `handle`.
+pub fn obey<'a, H: Handle>(
+    rt: &HostRuntime,
+    handle: &H,
+    request: &Request<'a>,
+) -> Result<(), Fault<'a>>
     requires limits { IsWithinLimits request.now }
 {
     match request {
         Request::Answer { plan, now, events } => answer(rt, *plan, *now, *events),
+        Request::Run {
+            plan,
+            accept,
+            events,
+        } => run(rt, handle, *plan, *accept, *events),
         Request::Check { plan } => check(rt, *plan),
     }
 }

@@ -1,17 +1,29 @@
 //! An HL7 v2.5.1 interface engine: it answers the messages of one connection, from standard input to standard output,
-//! and checks plans.
+//! serves and delivers by a plan over TCP, and checks plans.
 #![tactic(auto)]
+
+ghost use Rattle.std.specs.Prelude.{◌≡◌, IfErr, OnOk};
+ghost use Rattle.std.specs.Process.{exit_status};
+ghost use Rattle.hl7_engine.specs.Ending.{status_of};
 
 mod command_line;
 mod commands;
 mod fault;
+mod handle;
 
 use command_line::ask;
-use commands::run;
+use commands::obey;
 use fault::Fault;
+use handle::Handle;
 use std::env;
 use std::io::ErrorKind;
+use std::marker::PhantomData;
+use std::net::{TcpListener, TcpStream};
 use std::process::ExitCode;
+
+/// The sockets that the program listens and connects by, for a parameter that makes them known where `main` calls: the
+/// bounds of `Handle` name them, and no value that `main` has is of their types.
+type Sockets = PhantomData<(TcpListener, TcpStream)>;
 
 /// The words of the command line, of which the first is the program's name.
 fn words_given<'a>(rt: &HostRuntime) -> Result<Vec<String>, Fault<'a>> {
@@ -32,15 +44,23 @@ fn explain<'a>(rt: &HostRuntime, error: clap::Error) -> Result<(), Fault<'a>> {
 }
 
 /// Does what the words ask.
-fn perform<'a>(rt: &HostRuntime, words: &'a [String]) -> Result<(), Fault<'a>> {
+fn perform<'a, H: Handle>(
+    rt: &HostRuntime,
+    handle: &H,
+    _sockets: Sockets,
+    words: &'a [String],
+) -> Result<(), Fault<'a>> {
     match ask(rt.alloc(), words) {
-        Ok(request) => run(rt, &request),
+        Ok(request) => obey(rt, handle, &request),
         Err(error) => explain(rt, error),
     }
 }
 
 /// Tells of the fault, if there is one, on standard error, and gives the exit status.
-fn finish(rt: &HostRuntime, ended: Result<(), Fault<'_>>) -> ExitCode {
+fn finish(rt: &HostRuntime, ended: Result<(), Fault<'_>>) -> ExitCode
+    ensures success { OnOk ended.entry (exit_status result ≡ 0) }
+    ensures failure { IfErr ended.entry (λ fault. exit_status result ≡ status_of fault) }
+{
     let Err(fault) = ended else {
         return ExitCode::SUCCESS;
     };
@@ -53,7 +73,7 @@ fn finish(rt: &HostRuntime, ended: Result<(), Fault<'_>>) -> ExitCode {
 
 fn main(rt: HostRuntime) -> ExitCode {
     match words_given(&rt) {
-        Ok(words) => finish(&rt, perform(&rt, &words)),
+        Ok(words) => finish(&rt, perform(&rt, &rt, PhantomData, &words)),
         Err(fault) => finish(&rt, Err(fault)),
     }
 }

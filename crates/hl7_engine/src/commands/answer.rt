@@ -6,7 +6,7 @@ ghost use Rattle.conn_worker.specs.Faults.{Rose};
 ghost use Rattle.conn_worker.specs.Serving.{Serves};
 ghost use Rattle.hl7_engine.specs.Ending.{fault_at};
 
-use crate::commands::read_plan;
+use crate::commands::{EngineBook, hasher, read_plan};
 use crate::fault::Fault;
 use book_core::{Book, EVENTS_MAX, Letter};
 use conn_core::Line;
@@ -14,12 +14,10 @@ use conn_worker::{Clock, Counted, Running, ServeEnd, ServeReport, Still, TURNS_M
 use dest_queue::Addressed;
 use hl7_head::Moment;
 use plan_text::Plan;
-use record_list::RecordList;
 use row_store::RowStore;
 use std::alloc::{AllocError, Global};
 use std::hash::RandomState;
 use std::io::{Read, Write};
-use std::random::RandomSource;
 use std::sync::Arc;
 
 /// The connection that is served.
@@ -27,9 +25,6 @@ const CONNECTION: u32 = 0;
 
 /// The channel that it is served for, by its place in the plan.
 const CHANNEL: u32 = 0;
-
-/// The book, with its rows in linked nodes.
-type EngineBook = Book<RecordList<Addressed<Letter>>>;
 
 /// Answers a stream as connection 0 of the plan's first channel: each message is booked and acknowledged as its header
 /// asks (HL7 v2.5.1, 2.9.2 and 2.9.3). The replies to a piece are written and flushed before the next read waits.
@@ -63,13 +58,6 @@ fn answer_stream<S: RowStore<Addressed<Letter>>, R: Read, W: Write, C: Clock>(
         channel: CHANNEL,
     };
     serve_within(&line, book, reader, writer, clock, TURNS_MAX)
-}
-
-/// A hasher for the keys of the book, of the runtime's random bytes, so that no sender can choose keys that fall together.
-fn hasher<'a>(rt: &impl RandomSource) -> Result<RandomState, Fault<'a>>
-    ensures { IfErr result (λ fault. fault ≡ Fault.Random) }
-{
-    RandomState::new(rt).map_err(|_| Fault::Random)
 }
 
 /// What the end of a connection comes to.

@@ -1,0 +1,8 @@
+use Rattle.std.proofs.Common.{◌≡◌, Some, map, take}
+use Rattle.std.specs.List.{filter_map, zip}
+use Rattle.hl7_engine.specs.Findings.{failed_channel, listening}
+use Rattle.hl7_engine.proofs.commands.devices.listen_faults.Given as goal
+
+abbrev pub invariant-loop-place : goal.invariant-loop-place
+invariant-loop-place g l =
+    map listening l.faults.items ≡ map Some (filter_map failed_channel (take l.place (zip l.plan.channels (map g.D.Door.fault_count l.doors))))

@@ -1,0 +1,103 @@
+//! The doors of the channels and the links of the destinations, over TCP.
+
+ghost use Rattle.std.specs.Prelude.{◌≡◌, ◌++◌, ◌⊎◌, ◌∷◌, [], Some, IfErr, IfOk, OnOk, length, map, vec_len};
+ghost use Rattle.hl7_engine.specs.Findings.{NamesChannel, failed_channels, listening};
+
+use crate::fault::Fault;
+use delivery_worker::TcpLink;
+use engine_workers::{Door, TcpDoor};
+use log::Log;
+use plan_text::{Channel, Plan};
+use std::alloc::{AllocError, Global};
+use std::net::{Net, TcpListener, TcpStream};
+
+/// The doors of all channels, each with room for so many connections.
+///
+/// The fault names the first channel of the plan that can't listen.
+pub fn open_doors<'a, 'f, H: Net<Listener = TcpListener, Stream = TcpStream> + Log>(
+    rt: &'a H,
+    alloc: Global,
+    plan: &'a Plan,
+    accept: u32,
+) -> Result<Vec<TcpDoor<'a, H>>, Fault<'f>>
+    ensures doors { IfOk result (λ doors. vec_len doors ≡ length plan.now.channels) }
+    ensures fault { IfErr result (λ fault. (fault ≡ Fault.Memory) ⊎ NamesChannel plan.now.channels fault) }
+{
+    let mut doors = Vec::new(alloc);
+    for place in 0..plan.channels() {
+        let Some(channel) = plan.channel(place) else {
+            break;
+        };
+        let first = place.saturating_mul(accept);
+        match TcpDoor::bind(rt, alloc, channel, first) {
+            Ok(door) => doors.push(door).map_err(AllocError::from)?,
+            Err(_) => return Err(Fault::Listen(channel.name().to_string(alloc)?)),
+        }
+    }
+    Ok(doors)
+}
+
+/// The links of all destinations, none of which is connected yet.
+pub fn make_links<'a, H: Net<Listener = TcpListener, Stream = TcpStream> + Log>(
+    rt: &'a H,
+    alloc: Global,
+    plan: &'a Plan,
+) -> Result<Vec<TcpLink<'a, H>>, AllocError>
+    ensures { IfOk result (λ links. vec_len links ≡ length plan.now.destinations) }
+{
+    let mut links = Vec::new(alloc);
+    for place in 0..plan.destinations() {
+        let Some(destination) = plan.destination(place) else {
+            break;
+        };
+        links.push(TcpLink::new(rt, destination))?;
+    }
+    Ok(links)
+}
+
+/// Tells where each channel listens.
+pub fn tell_doors<H: Net<Listener = TcpListener, Stream = TcpStream> + Log>(
+    rt: &HostRuntime,
+    plan: &Plan,
+    doors: &[TcpDoor<'_, H>],
+) {
+    for (place, door) in (0..plan.channels()).zip(doors) {
+        if let (Some(channel), Ok(address)) = (plan.channel(place), door.address()) {
+            let name = channel.name();
+            let _ = eprintln!(rt; "listening on {address} for channel {name}");
+        }
+    }
+}
+
+/// Adds a fault where the door of a channel failed.
+fn add_fault<'f, D: Door>(
+    alloc: Global,
+    faults: &mut Vec<Fault<'f>>,
+    channel: &Channel,
+    door: &D,
+) -> Result<(), AllocError>
+    ensures { OnOk result (map listening faults.new.items ≡ map listening faults.old.items ++ map Some (failed_channels (channel.now ∷ []) (D.fault_count door.now ∷ []))) }
+{
+    if door.faults() > 0 {
+        faults.push(Fault::Listen(channel.name().to_string(alloc)?))?;
+    }
+    Ok(())
+}
+
+/// A fault for each channel whose door failed, in the order of the plan.
+pub fn listen_faults<'f, D: Door>(
+    alloc: Global,
+    plan: &Plan,
+    doors: &[D],
+) -> Result<Vec<Fault<'f>>, AllocError>
+    ensures { IfOk result (λ faults. map listening faults.items ≡ map Some (failed_channels plan.now.channels (map D.fault_count doors.now))) }
+{
+    let mut faults = Vec::new(alloc);
+    for place in 0..plan.channels() {
+        let (Some(channel), Some(door)) = (plan.channel(place), doors.get(place as usize)) else {
+            break;
+        };
+        add_fault(alloc, &mut faults, channel, door)?;
+    }
+    Ok(faults)
+}

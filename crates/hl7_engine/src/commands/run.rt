@@ -1,0 +1,244 @@
+//! `run`: connections of all channels, and deliveries to all destinations, over one shared book.
+
+ghost use Rattle.std.specs.Prelude.{◌≡◌, ◌+◌, ◌*◌, ◌++◌, ◌≤◌, ◌⊎◌, Err, IfOk, IfSome, Ok, OnOk, length, string_bytes, if◌then◌else◌, nat_lt};
+ghost use Rattle.std.specs.Option.{option_copied};
+ghost use Rattle.event_log.specs.History.{next_place, plan_in_force};
+ghost use Rattle.book_core.specs.Counting.{counted};
+ghost use Rattle.hl7_engine.specs.Findings.{Concludes, audit_faults, last_told};
+ghost use Rattle.hl7_engine.specs.Lines.{lines_of_closed};
+
+use crate::commands::devices::{listen_faults, make_links, open_doors, tell_doors};
+use crate::commands::findings::find;
+use crate::commands::statistics::statistics_text;
+use crate::commands::{EngineBook, EngineRows, hasher, read_plan};
+use crate::fault::{Fault, Finding};
+use crate::handle::Handle;
+use book_core::EVENTS_MAX;
+use book_lock::{Closed, Opening, Shared};
+use conn_worker::{Clock, Running, ServeReport};
+use engine_workers::{Staff, TcpDoor, Worked, run_workers};
+use log::Log;
+use plan_text::Plan;
+use std::alloc::{AllocError, Global};
+use std::marker::Brand;
+use std::net::{Net, TcpListener, TcpStream};
+use std::sync::ledger::{Blank, Ledger};
+use std::sync::{Arc, Wait};
+use std::thread::Threads;
+use std::time;
+
+/// The most connections that the engine can number.
+const CONNECTIONS_MAX: u32 = 9_999;
+
+/// How the work ended: the book, unless shares of it are missing, what serving each connection came to, and a fault for
+/// each channel whose door failed.
+#[derive(Drop)]
+struct Ended<'f> {
+    closed: Option<Closed<EngineRows>>,
+    served: Vec<ServeReport>,
+    failed: Vec<Fault<'f>>,
+}
+
+/// How many connections come in all, where each channel of the plan takes `accept`.
+fn connections_of<'f>(plan: &Plan, accept: u32) -> Result<u32, Fault<'f>>
+    requires { accept ≤ 9_999 }
+    ensures { result ≡ (if nat_lt 9_999 (accept * length plan.now.channels) then Err Fault.Limit else Ok (accept * length plan.now.channels)) }
+{
+    plan.rules();
+    let connections = accept * plan.channels();
+    if connections > CONNECTIONS_MAX {
+        Err(Fault::Limit)
+    } else {
+        Ok(connections)
+    }
+}
+
+/// Shares the book, runs all workers over it, and closes it.
+fn work<
+    'a,
+    'f,
+    A: Opening + Sync,
+    T: Ledger + Sync,
+    U: Ledger + Sync,
+    C: Clock + Copy + Sync,
+    H: Net<Listener = TcpListener, Stream = TcpStream> + Log + Wait + Threads + time::Clock + Sync,
+>(
+    rt: &'a H,
+    alloc: Global,
+    plan: &'a Plan,
+    book: EngineBook,
+    doors: Vec<TcpDoor<'a, H>>,
+    accept: u32,
+    connections: u32,
+    arrivals: Blank,
+    takes: Blank,
+    settlements: Blank,
+    clock: C,
+) -> Result<Ended<'f>, AllocError>
+    requires counts { counted book ≡ A.counts }
+    requires first { next_place book ≡ A.first }
+    requires channels { length (plan_in_force book).channels ≡ A.channels }
+    requires arrivals { (arrivals.name ≡ A.name) × (arrivals.parts ≡ A.parts) × (A.parts ≡ connections + 1) }
+    requires takes { (takes.name ≡ T.name) × (takes.parts ≡ T.parts) × (T.parts ≡ length plan.now.destinations + 1) }
+    requires settlements { (settlements.name ≡ U.name) × (settlements.parts ≡ U.parts) × (U.parts ≡ length plan.now.destinations + 1) }
+    ensures opening { IfOk result (λ ended. IfSome ended.closed (λ closed. (closed.opening ≡ A.counts) × (closed.first ≡ A.first))) }
+{
+    let stations = plan.destinations() as usize;
+    let opened = Shared::<A, T, U, EngineRows>::new(
+        alloc,
+        book,
+        connections as usize,
+        stations,
+        arrivals,
+        takes,
+        settlements,
+    );
+    let Ok((shared, desks, stations)) = opened else {
+        return Err(AllocError);
+    };
+    let staff = Staff {
+        desks,
+        doors,
+        stations,
+        links: make_links(rt, alloc, plan)?,
+    };
+    let Ok(worked) = run_workers(rt, alloc, &shared, staff, accept, clock) else {
+        return Err(AllocError);
+    };
+    let Worked { staff, served, .. } = worked;
+    let Staff {
+        desks,
+        doors,
+        stations,
+        ..
+    } = staff;
+    let failed = listen_faults(alloc, plan, &doors)?;
+    let Ok(closed) = shared.close(desks, stations) else {
+        return Ok(Ended {
+            closed: None,
+            served,
+            failed,
+        });
+    };
+    Ok(Ended {
+        closed: Some(closed),
+        served,
+        failed,
+    })
+}
+
+/// The statistics that are printed: those of the closed book, which keeps its promise, and none where shares are missing.
+fn statistics_of(
+    alloc: Global,
+    plan: &Plan,
+    closed: Option<&Closed<EngineRows>>,
+) -> Result<String, AllocError>
+    ensures { IfOk result (λ text. string_bytes text ≡ lines_of_closed plan.now (option_copied closed.entry)) }
+{
+    match closed {
+        Some(closed) => {
+            let (_rows, counts) = closed.promise();
+            statistics_text(alloc, plan, counts)
+        }
+        None => Ok(String::new(alloc)),
+    }
+}
+
+/// Tells each fault but the last, which is given to be told by the caller; where there is none, what was before.
+fn tell_all<'f>(
+    rt: &HostRuntime,
+    before: Result<(), Fault<'f>>,
+    faults: Vec<Fault<'f>>,
+) -> Result<(), Fault<'f>>
+    ensures { result ≡ last_told before.entry faults.entry.items }
+{
+    let mut last = before;
+    for fault in faults {
+        if let Err(told) = &last {
+            let _ = eprintln!(rt; "{told}");
+        }
+        last = Err(fault);
+    }
+    last
+}
+
+/// Prints a text as it is.
+fn print_text<'f>(rt: &HostRuntime, text: &str) -> Result<(), Fault<'f>>
+    ensures { (result ≡ Ok tt) ⊎ (result ≡ Err Fault.Write) }
+{
+    print!(rt; "{text}").map_err(|_| Fault::Write)
+}
+
+/// Adds what was found, if anything was, to the faults of the doors.
+fn add_finding(faults: &mut Vec<Fault<'_>>, found: Option<Finding>) -> Result<(), AllocError>
+    ensures { OnOk result (faults.new.items ≡ faults.old.items ++ audit_faults found) }
+{
+    if let Some(found) = found {
+        faults.push(Fault::Audit(found))?;
+    }
+    Ok(())
+}
+
+/// Tells what came of the run: the statistics, then each fault. The last one is given.
+///
+/// Where memory is refused, nothing is told.
+fn conclude<'f>(
+    rt: &HostRuntime,
+    alloc: Global,
+    plan: &Plan,
+    ended: Ended<'f>,
+) -> Result<(), Fault<'f>>
+    ensures { (result ≡ Err Fault.Memory) ⊎ Concludes ended.entry.closed ended.entry.served.items ended.entry.failed.items result }
+{
+    let Ended {
+        closed,
+        served,
+        mut failed,
+    } = ended;
+    let found = find(alloc, closed.as_ref(), served)?;
+    add_finding(&mut failed, found)?;
+    let text = statistics_of(alloc, plan, closed.as_ref())?;
+    let written = print_text(rt, &text);
+    tell_all(rt, written, failed)
+}
+
+/// Listens for all channels of the plan in a file, takes `accept` connections on each, serves them, and delivers what they
+/// bring, in a book of at most so many entries. It ends after the last connection, once the queues are empty, and prints
+/// the statistics.
+pub fn run<'a, H: Handle>(
+    rt: &HostRuntime,
+    handle: &H,
+    path: &'a str,
+    accept: u32,
+    events: u32,
+) -> Result<(), Fault<'a>>
+    requires least { 1 ≤ accept }
+    requires most { accept ≤ 9_999 }
+    requires some { 1 ≤ events }
+    requires few { events ≤ EVENTS_MAX }
+{
+    let alloc = rt.alloc();
+    let plan = read_plan(rt, path)?;
+    let connections = connections_of(&plan, accept)?;
+    let hasher = hasher(rt)?;
+    let plan = Arc::new(alloc, plan).map_err(AllocError::from)?;
+    let doors = open_doors(handle, alloc, &plan, accept)?;
+    tell_doors(rt, &plan, &doors);
+    let shared_plan = Arc::try_clone(&plan)?;
+    let book = EngineBook::new(alloc, shared_plan, events, hasher);
+    let stations = u64::from(plan.destinations()) + 1;
+    let ended = work::<Brand, Brand, Brand, _, _>(
+        handle,
+        alloc,
+        &plan,
+        book,
+        doors,
+        accept,
+        connections,
+        Blank::new(u64::from(connections) + 1),
+        Blank::new(stations),
+        Blank::new(stations),
+        Running(handle),
+    )?;
+    conclude(rt, alloc, &plan, ended)
+}
