@@ -1,0 +1,132 @@
+"""The faults of `run` in their order, with their lines and statuses."""
+import os
+import resource
+import socket
+import subprocess
+import time
+
+from engine import Engine, channel_counts, one_channel, plan
+from mllp import Destination, Sender, block, free_ports, message
+
+
+def called(program, words):
+    ran = subprocess.run([program, 'run', *words], stdin=subprocess.DEVNULL, capture_output=True, timeout=30)
+    return ran.returncode, ran.stdout.decode(), ran.stderr.decode()
+
+
+def connected(port):
+    return socket.create_connection(('127.0.0.1', port), timeout=20)
+
+
+def speak(connection, text):
+    """Sends a text, and gives what came next: nothing at the end."""
+    try:
+        connection.sendall(block(text))
+        return connection.recv(65_536)
+    except OSError:
+        return b''
+
+
+def came(destination, number):
+    """Waits until so many messages came there, but not for ever."""
+    deadline = time.monotonic() + 20
+    while len(destination.came) < number and time.monotonic() < deadline:
+        time.sleep(0.01)
+
+
+def before_a_run(program, folder):
+    """What ends the program before it listens: the first fault is told, and nothing else."""
+    path, (free, used, lab) = os.path.join(folder, 'plan.toml'), free_ports(3)
+
+    def told(text, accept=1, more=()):
+        with open(path, 'w', encoding='utf-8') as file:
+            file.write(text)
+        return called(program, [path, '--accept', str(accept), *more])
+
+    holder = socket.socket()
+    holder.bind(('127.0.0.1', used))
+    holder.listen()
+    destination, route = [('LAB', lab, [])], [('LAB', None, None)]
+    taken = plan([('FREE', free, route), ('TAKEN', used, route), ('TAKEN2', used, route)], destination)
+    cases = [
+        ('no file', called(program, [os.path.join(folder, 'none.toml'), '--accept', '9999']),
+         (3, '', f'file: {folder}/none.toml\n')),
+        ('a faulty plan, with too many connections', told(taken.replace('TAKEN2', 'TAKEN'), 9_999),
+         (1, '', 'plan: DoubleName at channel[2].name\n')),
+        ('10,002 connections at an address in use', told(taken, 3_334), (2, '', 'limit: connections\n')),
+        ('9,999 connections at an address in use', told(taken, 3_333), (3, '', 'device: listen TAKEN\n')),
+        ('no address', told(one_channel(free, destination).replace(f'listen = "127.0.0.1:{free}"', 'listen = "nowhere"')),
+         (3, '', 'device: listen ADT\n')),
+    ]
+    holder.close()
+    return [f'{name}: {got}, not {due}' for name, got, due in cases if got != due]
+
+
+def failed_accept(program, folder):
+    """A channel for which no connection can be opened takes no more of them; those of the other go on. The counts come
+    first, then the fault."""
+    lab, ports = Destination(lambda text, before: b'AA'), free_ports(2)
+    text = plan([('A', ports[0], [('LAB', None, None)]), ('B', ports[1], [('LAB', None, None)])], [('LAB', lab.port, [])])
+    with Engine(program, text, 3, folder) as engine, connected(ports[1]) as b0, connected(ports[1]) as b1, \
+            connected(ports[1]) as b2, connected(ports[0]) as a0:
+        replies = [speak(peer, message(b'M%d' % n)) for n, peer in enumerate((b0, b1, b2, a0))]
+        came(lab, 4)
+        # From here on the program may open no further file. An accept that waits already has its own.
+        _, allowed = resource.prlimit(engine.process.pid, resource.RLIMIT_NOFILE)
+        resource.prlimit(engine.process.pid, resource.RLIMIT_NOFILE, (3, allowed))
+        with connected(ports[0]):
+            deadline = time.monotonic() + 10
+            while not engine.warnings() and time.monotonic() < deadline:
+                time.sleep(0.01)
+            replies += [speak(peer, message(b'N%d' % n)) for n, peer in enumerate((b0, b1, b2, a0))]
+        for peer in (b0, b1, b2, a0):
+            peer.close()
+        status, counts = engine.ended(30)
+    lab.close()
+    channels, due = [counts.get(('channel', name)) for name in 'AB'], [channel_counts(n, accepted=n) for n in (2, 6)]
+    if (status, engine.told[-1], channels, len(lab.came), b'' in replies) != (3, 'device: listen A', due, 8, False):
+        return [f'a failed accept: status {status}, {engine.told}, {channels}, {len(lab.came)} messages came, {replies}']
+    return []
+
+
+def refused_thread(program, folder):
+    """Where the system gives no further thread, no further worker is started; the others go on to their end. Then memory is
+    all that is told."""
+    lab, port = Destination(lambda text, before: b'AA'), free_ports(1)[0]
+    with Engine(program, one_channel(port, [('LAB', lab.port, [])]), 3, folder) as engine:
+        pid, texts = engine.process.pid, [message(b'A%d' % n) for n in range(2)]
+        with connected(port) as first:
+            coming = [speak(first, texts[0])]
+            came(lab, 1)
+            with open(f'/proc/{pid}/statm', encoding='utf-8') as file:
+                pages = int(file.read().split()[0])
+            allowed = resource.prlimit(pid, resource.RLIMIT_AS)
+            resource.prlimit(pid, resource.RLIMIT_AS, (pages * resource.getpagesize(), allowed[1]))
+            with connected(port):
+                time.sleep(0.5)
+                resource.prlimit(pid, resource.RLIMIT_AS, allowed)
+                coming.append(speak(first, texts[1]))
+        status, counts = engine.ended(30)
+    lab.close()
+    if (status, counts, engine.told[-1], len(coming), lab.came) != (3, {}, 'memory', 2, texts):
+        return [f'a refused thread: status {status}, {counts}, {engine.told}, {coming}, {lab.came}']
+    return []
+
+
+def full_disk(program, folder):
+    """Counts that can't be written are a fault of the device."""
+    port, = free_ports(1)
+    path = os.path.join(folder, 'plan.toml')
+    with open(path, 'w', encoding='utf-8') as file:
+        file.write(one_channel(port, [('LAB', port, [])]))
+    with open('/dev/full', 'wb') as full:
+        process = subprocess.Popen([program, 'run', path, '--accept', '1'], stdout=full, stderr=subprocess.PIPE)
+        process.stderr.readline()
+        Sender(port, []).run()
+        _, told = process.communicate(timeout=30)
+    return [] if (process.returncode, told) == (3, b'device: write\n') else [f'a full disk: {process.returncode}, {told}']
+
+
+def all_faults(program, folder):
+    return (before_a_run(program, folder) + failed_accept(program, folder) + refused_thread(program, folder)
+            + full_disk(program, folder))

@@ -1,0 +1,53 @@
+#!/usr/bin/env python3
+"""Plays senders and destinations around the built program, over loopback, and compares what came out with what went in.
+
+Usage: peers/play.py [PROGRAM] [--senders N] [--messages N] [--idle N] [--only WORD]
+
+PROGRAM is the built program, crates/hl7_engine/out/hl7_engine where left out ('rt run' in crates/hl7_engine builds it).
+Plain Python 3, no packages. The exit status is 0 where all went as it should, else 1; what didn't is told, a line each.
+"""
+import argparse
+import os
+import subprocess
+import sys
+import tempfile
+import time
+
+from crowd import many_senders
+from engine import PROGRAM
+from faults import all_faults
+from hostile import destinations, idle_connections, senders
+from plain import conversation, example, stock_peers
+
+
+def main():
+    words = argparse.ArgumentParser()
+    words.add_argument('program', nargs='?', default=PROGRAM)
+    words.add_argument('--senders', type=int, default=200)
+    words.add_argument('--messages', type=int, default=100)
+    words.add_argument('--idle', type=int, default=1_000)
+    words.add_argument('--only', default='')
+    asked = words.parse_args()
+    program, lines = os.path.abspath(asked.program), []
+    scenes = [('a conversation', conversation), ('an example', example), ('python3-hl7', stock_peers),
+              ('faults in their order', all_faults), ('hostile destinations', destinations), ('hostile senders', senders),
+              ('idle connections', lambda program, folder: idle_connections(program, folder, asked.idle)),
+              ('many senders', lambda program, folder: many_senders(program, folder, asked.senders, asked.messages))]
+    for name, scene in scenes:
+        if asked.only not in name:
+            continue
+        began = time.monotonic()
+        with tempfile.TemporaryDirectory() as folder:
+            try:
+                found = scene(program, folder)
+            except (OSError, RuntimeError, subprocess.SubprocessError) as error:
+                found = [f'{name}: {error!r}']
+        print(f'{name}: {"as it should be" if not found else "WRONG"}, {time.monotonic() - began:.1f} seconds', flush=True)
+        lines += found
+    for line in lines:
+        print(line)
+    return 1 if lines else 0
+
+
+if __name__ == '__main__':
+    sys.exit(main())
