@@ -25,7 +25,7 @@ import time
 HERE = os.path.dirname(os.path.abspath(__file__))
 PROGRAM = os.path.join(HERE, '..', 'crates', 'hl7_engine', 'out', 'hl7_engine')
 FEW, MANY, ROUTED = 2_000, 200_000, 5_000
-ROW = 700  # bytes that a message's row takes beside its text: 33 links of two words in a block of their own, and its slots
+ROW = 200  # bytes that a message takes beside its text: 72 of its row for the links, its slots, its key and its entry
 LARGE, LARGE_SEGMENTS = (2_000, 20_000), 660
 HELD_ONCE = 1.5
 NO_SLOWER = 1.05

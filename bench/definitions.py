@@ -32,6 +32,10 @@ CLAIMS = (
      ['delivery_worker.Delivering.Delivers']),
     ('A shared book', 'the clauses of `close` and `audit`: what adds up, which receipts are due, which fault is first',
      ['book_lock.Rises.AddsUp', 'book_lock.Auditing.receipts_due', 'book_lock.Auditing.IsFirstFault']),
+    ('The end of a run', 'the clauses of `conclude`, `find`, `listen_faults` and `statistics_of`: `Concludes`, `IsFinding`, '
+     '`failed_channels` and `lines_of_closed`, on top of a shared book',
+     ['hl7_engine.Findings.Concludes', 'hl7_engine.Findings.IsFinding', 'hl7_engine.Findings.failed_channels',
+      'hl7_engine.Lines.lines_of_closed']),
     ('Every order of steps', 'the clauses of `World::run`, `World::promise` and `steps_of`: `Runs`, `KeepsItsWord` and '
      '`IsRunOf`, on top of replies and of what a history is',
      ['engine_model.Steps.Runs', 'engine_model.Promise.KeepsItsWord', 'engine_model.Converse.IsRunOf']),
