@@ -81,7 +81,9 @@ taken_at at t = do
   Ok (types, (processing, versions))
 
 abbrev pub channel_keys : List (List ℕ)
-channel_keys = codes "name" ∷ codes "listen" ∷ codes "types" ∷ codes "processing" ∷ codes "versions" ∷ codes "filter" ∷ codes "steps" ∷ codes "route" ∷ []
+channel_keys =
+    codes "name" ∷ codes "listen" ∷ codes "types" ∷ codes "processing" ∷ codes "versions" ∷ codes "filter" ∷ codes "steps"
+    ∷ codes "route" ∷ []
 
 -- a table of [[channel]], behind those before it
 unfoldable pub channel : List DestinationEntry → List ChannelEntry → List ℕ → Data → Result ChannelEntry PlanFault
@@ -93,4 +95,13 @@ channel ds before at d = do
   taken ← taken_at at t
   way ← way_at at t
   routes ← routes_at ds (key_path at (codes "route")) (get_member (codes "route") t)
-  Ok (record { name = name; listen = listen; types = taken.0; processing = taken.1.0; versions = taken.1.1; filter = way.0; steps = way.1; routes = routes })
+  Ok (record {
+    name = name;
+    listen = listen;
+    types = taken.0;
+    processing = taken.1.0;
+    versions = taken.1.1;
+    filter = way.0;
+    steps = way.1;
+    routes = routes;
+  })

@@ -1,13 +1,14 @@
 -- When two plans say the same: the test that `==` is, and that it decides equality.
 use Rattle.std.specs.Prelude.{◌≡◌, refl, List, Option, Some, None, Bool, true, false, ◌&&◌, ◌==◌}
 use Rattle.std.specs.Bool.{Decides}
-use Rattle.std.specs.Cmp.{IsPartialEquivalence, both_ways}
+use Rattle.std.specs.Cmp.{IsPartialEquivalence}
 use Rattle.std.specs.Cmp.Lexicographic.{pointwise}
 use Rattle.std.specs.Option.{option_eq}
 use Rattle.std.specs.Str.{bytes_eq}
 use Rattle.hl7_filter.specs.Condition.{Condition}
+use Rattle.hl7_filter.specs.ByView.{by_view_laws}
 use Rattle.hl7_filter.specs.Same.{same_condition, same_condition-Decides}
-use Rattle.std.proofs.Common.{sym, ◌∙◌, ap}
+use Rattle.std.proofs.Common.{ap}
 use Rattle.std.proofs.lemmas.Bool.Decides.{Decides-and, Decides-like, Decides-eqb}
 use Rattle.std.proofs.lemmas.Slice.Eq.{bytes_eq-Decides, slice_eq-Decides}
 use Rattle.hl7_transform.specs.Same.{same_edit, same_edit-Decides}
@@ -21,15 +22,12 @@ use Rattle.plan_text.specs.declared.channel.VersionId.{VersionId}
 use Rattle.plan_text.specs.declared.channel.VersionId.TheVariants as version
 use Rattle.plan_text.specs.Entries.{DestinationEntry, RouteEntry, ChannelEntry, PlanEntry}
 
--- a test that decides equality meets the laws of `==`
-pub laws_from_Decides : {A : Type 0} (same : A → A → Bool) → ((x y : A) → Decides (same x y) (x ≡ y)) → IsPartialEquivalence same
-laws_from_Decides same d = record {
-  symm = λ x y. both_ways (same x y) (same y x) (λ h. (d y x).1 (sym ((d x y).0 h))) (λ h. (d x y).1 (sym ((d y x).0 h)));
-  trans = λ x y z h i. (d x z).1 ((d x y).0 h ∙ (d y z).0 i);
-}
+-- the laws of `==` of a test that decides equality
+laws : {A : Type 0} (same : A → A → Bool) → ((x y : A) → Decides (same x y) (x ≡ y)) → IsPartialEquivalence same
+laws same d = by_view_laws (λ x. x) same d
 
 pub text_laws : IsPartialEquivalence bytes_eq
-text_laws = laws_from_Decides bytes_eq bytes_eq-Decides
+text_laws = laws bytes_eq bytes_eq-Decides
 
 -- what a delivery waits for
 abbrev pub same_wait : Await → Await → Bool
@@ -38,7 +36,9 @@ same_wait await.None await.None = true
 same_wait _ _ = false
 
 abbrev pub same_destination : DestinationEntry → DestinationEntry → Bool
-same_destination d e = bytes_eq d.name e.name && (bytes_eq d.address e.address && ((d.attempts == e.attempts) && ((d.interval == e.interval) && ((d.timeout == e.timeout) && same_wait d.wait e.wait))))
+same_destination d e =
+    bytes_eq d.name e.name && (bytes_eq d.address e.address
+    && ((d.attempts == e.attempts) && ((d.interval == e.interval) && ((d.timeout == e.timeout) && same_wait d.wait e.wait))))
 
 abbrev pub same_type : MessageType → MessageType → Bool
 same_type type.Any type.Any = true
@@ -61,7 +61,10 @@ abbrev pub same_route : RouteEntry → RouteEntry → Bool
 same_route r s = (r.to == s.to) && (option_eq same_condition r.filter s.filter && pointwise same_edit r.steps s.steps)
 
 abbrev pub same_channel : ChannelEntry → ChannelEntry → Bool
-same_channel c d = bytes_eq c.name d.name && (bytes_eq c.listen d.listen && (pointwise same_type c.types d.types && (pointwise same_processing c.processing d.processing && (pointwise same_version c.versions d.versions && (option_eq same_condition c.filter d.filter && (pointwise same_edit c.steps d.steps && pointwise same_route c.routes d.routes))))))
+same_channel c d =
+    bytes_eq c.name d.name && (bytes_eq c.listen d.listen
+    && (pointwise same_type c.types d.types && (pointwise same_processing c.processing d.processing && (pointwise same_version c.versions d.versions
+    && (option_eq same_condition c.filter d.filter && (pointwise same_edit c.steps d.steps && pointwise same_route c.routes d.routes))))))
 
 abbrev pub same_plan : PlanEntry → PlanEntry → Bool
 same_plan p q = pointwise same_destination p.destinations q.destinations && pointwise same_channel p.channels q.channels
@@ -127,19 +130,19 @@ same_plan-Decides x y = Decides-like _
     (Decides-and _ _ (lists same_destination-Decides x.destinations y.destinations) (lists same_channel-Decides x.channels y.channels))
 
 pub type_laws : IsPartialEquivalence same_type
-type_laws = laws_from_Decides same_type same_type-Decides
+type_laws = laws same_type same_type-Decides
 
 pub version_laws : IsPartialEquivalence same_version
-version_laws = laws_from_Decides same_version same_version-Decides
+version_laws = laws same_version same_version-Decides
 
 pub destination_laws : IsPartialEquivalence same_destination
-destination_laws = laws_from_Decides same_destination same_destination-Decides
+destination_laws = laws same_destination same_destination-Decides
 
 pub route_laws : IsPartialEquivalence same_route
-route_laws = laws_from_Decides same_route same_route-Decides
+route_laws = laws same_route same_route-Decides
 
 pub channel_laws : IsPartialEquivalence same_channel
-channel_laws = laws_from_Decides same_channel same_channel-Decides
+channel_laws = laws same_channel same_channel-Decides
 
 pub plan_laws : IsPartialEquivalence same_plan
-plan_laws = laws_from_Decides same_plan same_plan-Decides
+plan_laws = laws same_plan same_plan-Decides

@@ -80,11 +80,19 @@ step_key at t = do
   known ← only_keys (known_keys t) at t
   one_key step_keys at t
 
+-- copy = [from, to]
+abbrev pub copy_at : List ℕ → List ℕ → Members → Result Edit PlanFault
+copy_at k at t = do
+  p ← key at t k (required two_texts)
+  from ← told (key_path at k) (path_in p.0)
+  to ← told (key_path at k) (path_in p.1)
+  Ok (copy from to)
+
 -- set = [path, text]; copy = [from, to]; clear = path; lookup = path; remove = name
 unfoldable pub step_by : List ℕ → List ℕ → Members → Result Edit PlanFault
 step_by k at t =
     if bytes_eq k (codes "set") then (key at t k (required path_and_text) >>= λ p. Ok (set p.0 p.1))
-    else if bytes_eq k (codes "copy") then (key at t k (required two_texts) >>= λ p. told (key_path at k) (path_in p.0) >>= λ from. told (key_path at k) (path_in p.1) >>= λ to. Ok (copy from to))
+    else if bytes_eq k (codes "copy") then copy_at k at t
     else if bytes_eq k (codes "clear") then (key at t k (required path) >>= λ p. Ok (clear p))
     else if bytes_eq k (codes "lookup") then lookup_at at t
     else (key at t k (required any_text) >>= λ name. Ok (remove name))

@@ -6,5 +6,6 @@ pub(crate) mod destinations;
 pub(crate) mod document;
 pub(crate) mod keys;
 pub(crate) mod kinds;
+pub(crate) mod members;
 pub(crate) mod names;
 pub(crate) mod steps;

@@ -2,20 +2,35 @@
 //! and `<>` is the empty text.
 #![tactic(auto)]
 
+ghost use Rattle.std.specs.Prelude.{◌≡◌, ◌==◌, ◌++◌, IfOk, OnOk, option_map, string_bytes};
+ghost use Rattle.std.specs.List.{before_first, after_first, flat_map};
+ghost use Rattle.play_script.specs.Script.{name_of, shown_byte, shown};
+
 use std::alloc::{AllocError, Global};
 
-/// The bytes that have a name, and the rest of the name behind its `<`.
-const NAMED: [(u8, &str); 6] = [
-    (b'\r', "CR>"),
-    (b'\n', "LF>"),
-    (0x0B, "VT>"),
-    (0x1C, "FS>"),
-    (b'\t', "TAB>"),
-    (b' ', "SP>"),
-];
+/// The bytes that have a name.
+const NAMED: [u8; 6] = [b'\r', b'\n', 0x0B, 0x1C, b'\t', b' '];
+
+/// The name of a byte that has one, behind its `<`.
+fn name_of(byte: u8) -> Option<&'static str>
+    ensures { option_map (λ name. name.now) result ≡ name_of byte }
+{
+    match byte {
+        b'\r' => Some("CR>"),
+        b'\n' => Some("LF>"),
+        0x0B => Some("VT>"),
+        0x1C => Some("FS>"),
+        b'\t' => Some("TAB>"),
+        b' ' => Some("SP>"),
+        _ => None,
+    }
+}
 
 /// The first word of a line, and what follows the space behind it.
-pub fn first_word(line: &str) -> (&str, &str) {
+pub fn first_word(line: &str) -> (&str, &str)
+    ensures word { result.0.now ≡ before_first (λ b. b == 32) line.now }
+    ensures rest { result.1.now ≡ after_first (λ b. b == 32) line.now }
+{
     line.split_once(' ').unwrap_or((line, ""))
 }
 
@@ -30,8 +45,8 @@ pub fn words_of(alloc: Global, line: &str) -> Result<Vec<&str>, AllocError> {
 
 /// The byte whose name a text begins with behind a `<`, and what follows; else the `<` itself.
 fn unnamed(text: &str) -> (u8, &str) {
-    for (byte, name) in NAMED {
-        if let Some(rest) = text.strip_prefix(name) {
+    for byte in NAMED {
+        if let Some(rest) = name_of(byte).and_then(|name| text.strip_prefix(name)) {
             return (byte, rest);
         }
     }
@@ -56,28 +71,36 @@ pub fn bytes_of(alloc: Global, word: &str) -> Result<Vec<u8>, AllocError> {
     Ok(bytes)
 }
 
-/// The name of a byte that has one.
-fn name_of(byte: u8) -> Option<&'static str> {
-    NAMED
-        .iter()
-        .find(|(named, _)| *named == byte)
-        .map(|(_, name)| *name)
+/// Adds a byte as a script writes it.
+fn push_shown(text: &mut Vec<u8>, byte: u8) -> Result<(), AllocError>
+    ensures { OnOk result (text.new.items ≡ text.old.items ++ shown_byte byte) }
+{
+    match name_of(byte) {
+        Some(name) => {
+            text.push(b'<')?;
+            text.extend_from_slice(name.as_bytes())
+        }
+        None => Ok(text.push(byte)?),
+    }
 }
 
-/// Bytes as a script writes them.
-pub fn shown(alloc: Global, bytes: &[u8]) -> Result<String, AllocError> {
+/// The bytes as a script writes them, one after the other.
+fn each_shown(alloc: Global, bytes: &[u8]) -> Result<Vec<u8>, AllocError>
+    ensures { IfOk result (λ text. text.items ≡ flat_map shown_byte bytes.now) }
+{
+    let mut text = Vec::new(alloc);
+    for byte in bytes {
+        push_shown(&mut text, *byte)?;
+    }
+    Ok(text)
+}
+
+/// Bytes as a script writes them; what is no UTF-8 is replaced.
+pub fn shown(alloc: Global, bytes: &[u8]) -> Result<String, AllocError>
+    ensures { IfOk result (λ text. string_bytes text ≡ shown bytes.now) }
+{
     if bytes.is_empty() {
         return String::from_str(alloc, "<>");
     }
-    let mut text = Vec::new(alloc);
-    for byte in bytes {
-        match name_of(*byte) {
-            Some(name) => {
-                text.push(b'<')?;
-                text.extend_from_slice(name.as_bytes())?;
-            }
-            None => text.push(*byte)?,
-        }
-    }
-    String::from_utf8_lossy(alloc, &text)
+    String::from_utf8_lossy(alloc, &each_shown(alloc, bytes)?)
 }

@@ -189,7 +189,8 @@ impl<T> Links<T> {
         requires linked { IsLinked d self.old }
         requires held { IsHeld at.ptr self.old.nodes.held }
         ensures stood { MatchOption (find_node at.ptr self.old.nodes.held) ⊥ (λ n. result ≡ is_some (link_at d n)) }
-        ensures items { items_at self.new.nodes.held ≡ (if result then items_at (change_node at.ptr (without_link d) self.old.nodes.held) else items_at self.old.nodes.held) }
+        ensures items { items_at self.new.nodes.held
+            ≡ (if result then items_at (change_node at.ptr (without_link d) self.old.nodes.held) else items_at self.old.nodes.held) }
         ensures linked { IsLinked d self.new }
         ensures others { (e : ℕ) → e ≢ d → IsSameChain e self.old self.new }
         ensures visits { self.new.visits ≤ self.old.visits + 3 }
@@ -212,7 +213,9 @@ impl<T: Drop> Links<T> {
 
     /// Gives the node a block, and hands it back where there is no memory.
     pub(crate) fn place(&mut self, alloc: Global, node: Node<T>) -> Result<Place, Node<T>>
-        ensures placed { MatchResult result (λ at. (find_node at.ptr self.old.nodes.held ≡ None) × (self.new.nodes.held ≡ self.old.nodes.held ++ held_at at.ptr node ∷ [])) (λ back. (back ≡ node) × (self.new ≡ self.old)) }
+        ensures placed { MatchResult result
+            (λ at. (find_node at.ptr self.old.nodes.held ≡ None) × (self.new.nodes.held ≡ self.old.nodes.held ++ held_at at.ptr node ∷ []))
+            (λ back. (back ≡ node) × (self.new ≡ self.old)) }
         ensures rest { (self.new.heads ≡ self.old.heads) × (self.new.tails ≡ self.old.tails) × (self.new.visits ≡ self.old.visits) }
     {
         match Box::new(alloc, node) {

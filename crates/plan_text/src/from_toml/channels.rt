@@ -1,20 +1,22 @@
 //! The channels of a plan.
 
-ghost use Rattle.std.specs.Prelude.{◌≡◌, ◌≤◌, [], codes, length, option_map};
+ghost use Rattle.std.specs.Prelude.{◌≡◌, ◌≤◌, [], codes, length, option_map, refl};
 ghost use Rattle.toml.specs.View.{view, array_view, table_view};
 ghost use Rattle.hl7_filter.specs.View.{view as condition_view};
 ghost use Rattle.hl7_transform.specs.View.{steps_view};
 ghost use Rattle.plan_text.specs.AtKey.{at_key, key_at, value_at};
 ghost use Rattle.plan_text.specs.Fault.{Gives};
-ghost use Rattle.plan_text.specs.Keys.{member_path, required, each, each_after};
+ghost use Rattle.plan_text.specs.Entries.{RouteEntry, ChannelEntry};
+ghost use Rattle.plan_text.specs.Keys.{required, each_after};
 ghost use Rattle.plan_text.specs.Channels.{place_of, leads_to, way_at, route_to, route, routes_at, entry_at, entries_at, taken_at, channel};
 
 use crate::channel::{Channel, MessageType, ProcessingId, Route, VersionId};
 use crate::destination::Destination;
 use crate::fault::{FaultName, Stop};
 use crate::from_toml::conditions::filter_of;
-use crate::from_toml::keys::{Key, Keys, member_fault, member_path};
+use crate::from_toml::keys::{Key, Keys, fault_at};
 use crate::from_toml::kinds::FromText;
+use crate::from_toml::members::{Reader, each};
 use crate::from_toml::names::new_name;
 use crate::from_toml::steps::steps_of;
 use crate::limits::MEMBERS_MAX;
@@ -22,6 +24,7 @@ use crate::literal::Literal;
 use hl7_filter::Cond;
 use hl7_transform::Step;
 use std::alloc::Global;
+use std::marker::PhantomData;
 use toml::Value;
 use toml::value::Array;
 
@@ -65,65 +68,56 @@ struct Way {
 
 #[tactic(auto, unfolding(crate::specs::Channels::way_at))]
 fn way_of(keys: &Keys<'_>) -> Result<Way, Stop>
-    ensures { Gives (λ w. (option_map condition_view w.filter, steps_view w.steps.items)) result (way_at keys.now.at.now (table_view keys.now.table.now)) }
+    ensures { Gives (λ w. (option_map condition_view w.filter, steps_view w.steps.items)) result
+        (way_at keys.now.at.now (table_view keys.now.table.now)) }
 {
     let filter = filter_of(&keys.key("filter"))?;
     let steps = steps_of(&keys.key("steps"))?;
     Ok(Way { filter, steps })
 }
 
-#[tactic(auto, unfolding(crate::specs::Channels::route))]
-fn route_of(
-    alloc: Global,
-    destinations: &[Destination],
-    before: &[Route],
-    at: &str,
-    value: &Value,
-) -> Result<Route, Stop>
-    requires { length destinations.now ≤ 32 }
-    ensures { Gives (λ r. r) result (route destinations.now before.now at.now (view value.now)) }
-{
-    let keys = Keys::of(alloc, at, value)?;
-    keys.only(&["to", "filter", "steps"])?;
-    let to = route_to(destinations, before, &keys.key("to"))?;
-    let way = way_of(&keys)?;
-    Ok(Route {
-        to,
-        filter: way.filter,
-        steps: way.steps,
-    })
+/// The reader of routes that lead to one of these.
+#[derive(Drop)]
+struct Routes<'a> {
+    destinations: &'a [Destination],
+    ghost few: { length destinations.now ≤ 32 },
 }
 
-/// The route that stands behind these in the list at `at`.
-fn next_route(
-    alloc: Global,
-    destinations: &[Destination],
-    before: &[Route],
-    at: &str,
-    value: &Value,
-) -> Result<Route, Stop>
-    requires { length destinations.now ≤ 32 }
-    ensures { Gives (λ r. r) result (route destinations.now before.now (member_path at.now (length before.now)) (view value.now)) }
-{
-    let at = member_path(alloc, at, before.len())?;
-    route_of(alloc, destinations, before, at.as_str(), value)
-}
+impl Reader for Routes<'_> {
+    type Item = Route;
 
-fn each_route(
-    alloc: Global,
-    destinations: &[Destination],
-    at: &str,
-    values: &Array,
-) -> Result<Vec<Route>, Stop>
-    requires { length destinations.now ≤ 32 }
-    ensures { Gives (λ v. v.items) result (each_after (route destinations.now) at.now [] (array_view values.now)) }
-{
-    let mut routes = Vec::new(alloc);
-    for value in values {
-        let route = next_route(alloc, destinations, routes.as_slice(), at, value)?;
-        routes.push(route)?;
+    ghost Said = { RouteEntry };
+
+    ghost said = { λ r. r };
+
+    ghost all_said = { λ rs. rs };
+
+    ghost reading = { λ s. route s.destinations.now };
+
+    ghost none_said = { refl };
+
+    ghost one_more = { λ xs x. refl };
+
+    ghost as_many = { λ xs. refl };
+
+    #[tactic(auto, unfolding(crate::specs::Channels::route))]
+    fn read(
+        &self,
+        alloc: Global,
+        before: &[Route],
+        at: &str,
+        value: &Value,
+    ) -> Result<Route, Stop> {
+        let keys = Keys::of(alloc, at, value)?;
+        keys.only(&["to", "filter", "steps"])?;
+        let to = route_to(self.destinations, before, &keys.key("to"))?;
+        let way = way_of(&keys)?;
+        Ok(Route {
+            to,
+            filter: way.filter,
+            steps: way.steps,
+        })
     }
-    Ok(routes)
 }
 
 /// The routes of a channel, none where the key is left out.
@@ -139,31 +133,41 @@ fn routes_of(key: &Key<'_>, destinations: &[Destination]) -> Result<Vec<Route>, 
         return Err(key.fault(FaultName::BadRange));
     };
     let at = key.path()?;
-    each_route(key.alloc, destinations, at.as_str(), values)
+    each(key.alloc, &Routes { destinations }, at.as_str(), values)
 }
 
-/// The entry at a place of the list at `at`.
-fn next_entry<E: FromText>(alloc: Global, at: &str, place: usize, value: &Value) -> Result<E, Stop>
-    ensures { Gives (λ e. e) result (entry_at E.form (member_path at.now place) (view value.now)) }
-{
-    let Some(text) = value.as_str() else {
-        return Err(member_fault(alloc, FaultName::BadRange, at, place));
-    };
-    match E::from_text(alloc, text)? {
-        Some(entry) => Ok(entry),
-        None => Err(member_fault(alloc, FaultName::BadRange, at, place)),
-    }
+/// The reader of texts that say such an entry.
+#[derive(Drop)]
+struct Entries<E: FromText> {
+    of: PhantomData<E>,
 }
 
-fn each_entry<E: FromText>(alloc: Global, at: &str, values: &Array) -> Result<Vec<E>, Stop>
-    ensures { Gives (λ v. v.items) result (each (entry_at E.form) at.now (array_view values.now)) }
-{
-    let mut entries = Vec::new(alloc);
-    for value in values {
-        let entry = next_entry(alloc, at, entries.len(), value)?;
-        entries.push(entry)?;
+impl<E: FromText> Reader for Entries<E> {
+    type Item = E;
+
+    ghost Said = { E };
+
+    ghost said = { λ e. e };
+
+    ghost all_said = { λ es. es };
+
+    ghost reading = { λ s before. entry_at E.form };
+
+    ghost none_said = { refl };
+
+    ghost one_more = { λ xs x. refl };
+
+    ghost as_many = { λ xs. refl };
+
+    fn read(&self, alloc: Global, _before: &[E], at: &str, value: &Value) -> Result<E, Stop> {
+        let Some(text) = value.as_str() else {
+            return Err(fault_at(alloc, FaultName::BadRange, at));
+        };
+        match E::from_text(alloc, text)? {
+            Some(entry) => Ok(entry),
+            None => Err(fault_at(alloc, FaultName::BadRange, at)),
+        }
     }
-    Ok(entries)
 }
 
 /// The entries of a list of texts, at most 256.
@@ -173,7 +177,8 @@ fn entries_of<E: FromText>(key: &Key<'_>) -> Result<Vec<E>, Stop>
 {
     let values = key.list(MEMBERS_MAX)?;
     let at = key.path()?;
-    each_entry(key.alloc, at.as_str(), values)
+    let entries: Entries<E> = Entries { of: PhantomData };
+    each(key.alloc, &entries, at.as_str(), values)
 }
 
 /// The messages that a channel takes.
@@ -186,7 +191,8 @@ struct Taken {
 
 #[tactic(auto, unfolding(crate::specs::Channels::taken_at))]
 fn taken_of(keys: &Keys<'_>) -> Result<Taken, Stop>
-    ensures { Gives (λ t. (t.types.items, (t.processing.items, t.versions.items))) result (taken_at keys.now.at.now (table_view keys.now.table.now)) }
+    ensures { Gives (λ t. (t.types.items, (t.processing.items, t.versions.items))) result
+        (taken_at keys.now.at.now (table_view keys.now.table.now)) }
 {
     let types = entries_of(&keys.key("types"))?;
     let processing = entries_of(&keys.key("processing"))?;
@@ -198,60 +204,69 @@ fn taken_of(keys: &Keys<'_>) -> Result<Taken, Stop>
     })
 }
 
-#[tactic(auto, unfolding(crate::specs::Channels::channel))]
-fn channel_of(
-    alloc: Global,
-    destinations: &[Destination],
-    before: &[Channel],
-    at: &str,
-    value: &Value,
-) -> Result<Channel, Stop>
-    requires { length destinations.now ≤ 32 }
-    ensures { Gives (λ c. c) result (channel destinations.now before.now at.now (view value.now)) }
-{
-    let keys = Keys::of(alloc, at, value)?;
-    keys.only(&[
-        "name",
-        "listen",
-        "types",
-        "processing",
-        "versions",
-        "filter",
-        "steps",
-        "route",
-    ])?;
-    let name = new_name(&keys.key("name"), before)?;
-    let listen = keys.key("listen").text(1, 255)?;
-    let taken = taken_of(&keys)?;
-    let way = way_of(&keys)?;
-    let routes = routes_of(&keys.key("route"), destinations)?;
-    Ok(Channel {
-        name: Literal::new(alloc, name)?,
-        listen: Literal::new(alloc, listen)?,
-        types: taken.types,
-        processing: taken.processing,
-        versions: taken.versions,
-        filter: way.filter,
-        steps: way.steps,
-        routes,
-    })
+/// The reader of channels whose routes lead to one of these.
+#[derive(Drop)]
+struct Channels<'a> {
+    destinations: &'a [Destination],
+    ghost few: { length destinations.now ≤ 32 },
 }
 
-/// The channel that stands behind these in the list.
-fn next_channel(
-    alloc: Global,
-    destinations: &[Destination],
-    before: &[Channel],
-    value: &Value,
-) -> Result<Channel, Stop>
-    requires { length destinations.now ≤ 32 }
-    ensures { Gives (λ c. c) result (channel destinations.now before.now (member_path (codes "channel") (length before.now)) (view value.now)) }
-{
-    let at = member_path(alloc, "channel", before.len())?;
-    channel_of(alloc, destinations, before, at.as_str(), value)
+impl Reader for Channels<'_> {
+    type Item = Channel;
+
+    ghost Said = { ChannelEntry };
+
+    ghost said = { λ c. c };
+
+    ghost all_said = { λ cs. cs };
+
+    ghost reading = { λ s. channel s.destinations.now };
+
+    ghost none_said = { refl };
+
+    ghost one_more = { λ xs x. refl };
+
+    ghost as_many = { λ xs. refl };
+
+    #[tactic(auto, unfolding(crate::specs::Channels::channel))]
+    fn read(
+        &self,
+        alloc: Global,
+        before: &[Channel],
+        at: &str,
+        value: &Value,
+    ) -> Result<Channel, Stop> {
+        let keys = Keys::of(alloc, at, value)?;
+        keys.only(&[
+            "name",
+            "listen",
+            "types",
+            "processing",
+            "versions",
+            "filter",
+            "steps",
+            "route",
+        ])?;
+        let name = new_name(&keys.key("name"), before)?;
+        let listen = keys.key("listen").text(1, 255)?;
+        let taken = taken_of(&keys)?;
+        let way = way_of(&keys)?;
+        let routes = routes_of(&keys.key("route"), self.destinations)?;
+        Ok(Channel {
+            name: Literal::new(alloc, name)?,
+            listen: Literal::new(alloc, listen)?,
+            types: taken.types,
+            processing: taken.processing,
+            versions: taken.versions,
+            filter: way.filter,
+            steps: way.steps,
+            routes,
+        })
+    }
 }
 
-pub(crate) fn each_channel(
+/// The channels of a list, whose routes lead to one of these destinations.
+pub(crate) fn channels_of(
     alloc: Global,
     destinations: &[Destination],
     values: &Array,
@@ -259,10 +274,5 @@ pub(crate) fn each_channel(
     requires { length destinations.now ≤ 32 }
     ensures { Gives (λ v. v.items) result (each_after (channel destinations.now) (codes "channel") [] (array_view values.now)) }
 {
-    let mut channels = Vec::new(alloc);
-    for value in values {
-        let channel = next_channel(alloc, destinations, channels.as_slice(), value)?;
-        channels.push(channel)?;
-    }
-    Ok(channels)
+    each(alloc, &Channels { destinations }, "channel", values)
 }

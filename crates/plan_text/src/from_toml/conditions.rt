@@ -146,7 +146,8 @@ fn condition_of(alloc: Global, levels: u32, at: &str, value: &Value) -> Result<C
 /// The condition on one piece of a message, at its key.
 #[tactic(auto, unfolding(crate::specs::Conditions::on_piece))]
 fn on_piece(key: &Key<'_>) -> Result<Cond, Stop>
-    ensures { (t : Members) → value_at key.now ≡ get_member key.now.name.now t → Gives condition_view result (on_piece key.now.at.now t key.now.name.now) }
+    ensures { (t : Members) → value_at key.now ≡ get_member key.now.name.now t →
+        Gives condition_view result (on_piece key.now.at.now t key.now.name.now) }
 {
     match key.name {
         "one_of" => {
@@ -173,7 +174,8 @@ fn on_piece(key: &Key<'_>) -> Result<Cond, Stop>
 #[cycle(condition)]
 #[tactic(auto, unfolding(crate::specs::Conditions::by_key))]
 fn by_key(alloc: Global, levels: u32, key: &Key<'_>) -> Result<Cond, Stop>
-    ensures { (t : Members) → value_at key.now ≡ get_member key.now.name.now t → Gives condition_view result (by_key (condition levels) key.now.at.now t key.now.name.now) }
+    ensures { (t : Members) → value_at key.now ≡ get_member key.now.name.now t →
+        Gives condition_view result (by_key (condition levels) key.now.at.now t key.now.name.now) }
 {
     match key.name {
         "all" => {

@@ -1,24 +1,25 @@
 //! The destinations of a plan.
 
-ghost use Rattle.std.specs.Prelude.{◌≡◌, [], codes, length};
-ghost use Rattle.toml.specs.View.{view, array_view, table_view};
+ghost use Rattle.std.specs.Prelude.{◌≡◌, [], refl};
+ghost use Rattle.toml.specs.View.{table_view};
 ghost use Rattle.plan_text.specs.AtKey.{at_key};
 ghost use Rattle.plan_text.specs.Fault.{Gives};
-ghost use Rattle.plan_text.specs.Keys.{member_path, required, or_else, each_after};
+ghost use Rattle.plan_text.specs.Entries.{DestinationEntry};
+ghost use Rattle.plan_text.specs.Keys.{or_else};
 ghost use Rattle.plan_text.specs.Kinds.{text_as, await_word};
 ghost use Rattle.plan_text.specs.Destinations.{sending, destination, destinations};
 ghost use Rattle.plan_text.specs.declared.destination.Await.TheVariants as await;
 
 use crate::destination::{Await, Destination};
 use crate::fault::{FaultName, Stop};
-use crate::from_toml::keys::{Key, Keys, member_path};
+use crate::from_toml::keys::{Key, Keys};
 use crate::from_toml::kinds::await_word;
+use crate::from_toml::members::{Reader, each};
 use crate::from_toml::names::new_name;
 use crate::limits::DESTINATIONS_MAX;
 use crate::literal::Literal;
 use std::alloc::Global;
 use toml::Value;
-use toml::value::Array;
 
 fn await_of(key: &Key<'_>) -> Result<Await, Stop>
     ensures { Gives (λ w. w) result (at_key key.now (or_else await.Ack (text_as await_word))) }
@@ -60,53 +61,51 @@ fn sending_of(keys: &Keys<'_>) -> Result<Sending, Stop>
     })
 }
 
-#[tactic(auto, unfolding(crate::specs::Destinations::destination))]
-fn destination_of(
-    alloc: Global,
-    before: &[Destination],
-    at: &str,
-    value: &Value,
-) -> Result<Destination, Stop>
-    ensures { Gives (λ d. d) result (destination before.now at.now (view value.now)) }
-{
-    let keys = Keys::of(alloc, at, value)?;
-    keys.only(&[
-        "name", "address", "attempts", "interval", "timeout", "await",
-    ])?;
-    let name = new_name(&keys.key("name"), before)?;
-    let address = keys.key("address").text(1, 255)?;
-    let sending = sending_of(&keys)?;
-    Ok(Destination {
-        name: Literal::new(alloc, name)?,
-        address: Literal::new(alloc, address)?,
-        attempts: sending.attempts,
-        interval: sending.interval,
-        timeout: sending.timeout,
-        wait: sending.wait,
-    })
-}
+/// The reader of destinations.
+#[derive(Clone, Copy)]
+struct Destinations;
 
-/// The destination that stands behind these in the list.
-fn next_destination(
-    alloc: Global,
-    before: &[Destination],
-    value: &Value,
-) -> Result<Destination, Stop>
-    ensures { Gives (λ d. d) result (destination before.now (member_path (codes "destination") (length before.now)) (view value.now)) }
-{
-    let at = member_path(alloc, "destination", before.len())?;
-    destination_of(alloc, before, at.as_str(), value)
-}
+impl Reader for Destinations {
+    type Item = Destination;
 
-fn each_destination(alloc: Global, values: &Array) -> Result<Vec<Destination>, Stop>
-    ensures { Gives (λ v. v.items) result (each_after destination (codes "destination") [] (array_view values.now)) }
-{
-    let mut destinations = Vec::new(alloc);
-    for value in values {
-        let destination = next_destination(alloc, destinations.as_slice(), value)?;
-        destinations.push(destination)?;
+    ghost Said = { DestinationEntry };
+
+    ghost said = { λ d. d };
+
+    ghost all_said = { λ ds. ds };
+
+    ghost reading = { λ s. destination };
+
+    ghost none_said = { refl };
+
+    ghost one_more = { λ xs x. refl };
+
+    ghost as_many = { λ xs. refl };
+
+    #[tactic(auto, unfolding(crate::specs::Destinations::destination))]
+    fn read(
+        &self,
+        alloc: Global,
+        before: &[Destination],
+        at: &str,
+        value: &Value,
+    ) -> Result<Destination, Stop> {
+        let keys = Keys::of(alloc, at, value)?;
+        keys.only(&[
+            "name", "address", "attempts", "interval", "timeout", "await",
+        ])?;
+        let name = new_name(&keys.key("name"), before)?;
+        let address = keys.key("address").text(1, 255)?;
+        let sending = sending_of(&keys)?;
+        Ok(Destination {
+            name: Literal::new(alloc, name)?,
+            address: Literal::new(alloc, address)?,
+            attempts: sending.attempts,
+            interval: sending.interval,
+            timeout: sending.timeout,
+            wait: sending.wait,
+        })
     }
-    Ok(destinations)
 }
 
 /// The destinations of a document.
@@ -115,5 +114,6 @@ pub(crate) fn destinations_of(alloc: Global, document: &Keys<'_>) -> Result<Vec<
     requires { document.now.at.now ≡ [] }
     ensures { Gives (λ v. v.items) result (destinations (table_view document.now.table.now)) }
 {
-    each_destination(alloc, document.key("destination").list(DESTINATIONS_MAX)?)
+    let values = document.key("destination").list(DESTINATIONS_MAX)?;
+    each(alloc, &Destinations, "destination", values)
 }

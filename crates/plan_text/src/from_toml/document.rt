@@ -9,7 +9,7 @@ ghost use Rattle.plan_text.specs.Keys.{required};
 ghost use Rattle.plan_text.specs.Document.{some_within, plan_of, plan_in};
 
 use crate::fault::{FaultName, PlanFault, Stop};
-use crate::from_toml::channels::each_channel;
+use crate::from_toml::channels::channels_of;
 use crate::from_toml::destinations::destinations_of;
 use crate::from_toml::keys::{Key, Keys};
 use crate::limits::CHANNELS_MAX;
@@ -41,7 +41,7 @@ fn plan_of(alloc: Global, document: &Table) -> Result<Plan, Stop>
     };
     keys.only(&["destination", "channel"])?;
     let destinations = destinations_of(alloc, &keys)?;
-    let channels = each_channel(
+    let channels = channels_of(
         alloc,
         destinations.as_slice(),
         some_of(&keys.key("channel"), CHANNELS_MAX)?,

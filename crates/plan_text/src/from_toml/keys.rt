@@ -54,13 +54,6 @@ pub(crate) fn fault_at(alloc: Global, name: FaultName, at: &str) -> Stop
     stop_at(name, String::from_str(alloc, at))
 }
 
-/// A fault at a member of the list at `at`.
-pub(crate) fn member_fault(alloc: Global, name: FaultName, at: &str, place: usize) -> Stop
-    ensures { IsStop result (fault_at name (member_path at.now place)) }
-{
-    stop_at(name, member_path(alloc, at, place))
-}
-
 /// The table at a path.
 #[derive(Drop)]
 pub(crate) struct Keys<'a> {
@@ -83,7 +76,8 @@ impl<'a> Keys<'a> {
 
     /// No key but these.
     pub(crate) fn only(&self, known: &[&str]) -> Result<(), Stop>
-        ensures { Gives (λ _. tt) result (no_key self.now.at.now (unknown_key (λ k. list_any (λ l. bytes_eq l.now k) known.now) (table_view self.now.table.now))) }
+        ensures { Gives (λ _. tt) result (no_key self.now.at.now
+            (unknown_key (λ k. list_any (λ l. bytes_eq l.now k) known.now) (table_view self.now.table.now))) }
     {
         match unknown_key(self.table, known) {
             None => Ok(()),
@@ -100,7 +94,8 @@ impl<'a> Keys<'a> {
 
     /// The one key that the table has of these.
     pub(crate) fn one_of(&self, names: &[&'static str]) -> Result<&'static str, Stop>
-        ensures { Gives (λ k. k.now) result (only_one self.now.at.now (filter (λ k. is_some (get_member k (table_view self.now.table.now))) (map (λ k. k.now) names.now))) }
+        ensures { Gives (λ k. k.now) result (only_one self.now.at.now
+            (filter (λ k. is_some (get_member k (table_view self.now.table.now))) (map (λ k. k.now) names.now))) }
     {
         let mut found = None;
         for name in names {

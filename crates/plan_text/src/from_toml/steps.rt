@@ -1,18 +1,21 @@
 //! The steps of a plan.
 
-ghost use Rattle.std.specs.Prelude.{◌≡◌, false, None, map, option_map};
+ghost use Rattle.std.specs.Prelude.{◌≡◌, ◌∷◌, [], false, None, option_map, refl};
+ghost use Rattle.std.proofs.lemmas.List.{map-append, length-map};
 ghost use Rattle.std.specs.Option.{option_map_or};
 ghost use Rattle.toml.specs.View.{view, table_view as members_of, items_view, array_view};
+ghost use Rattle.hl7_transform.specs.Step.{Edit};
 ghost use Rattle.hl7_transform.specs.View.{view as step_view, steps_view, table_view};
 ghost use Rattle.plan_text.specs.AtKey.{at_key, key_at, value_at};
 ghost use Rattle.plan_text.specs.Fault.{Gives};
 ghost use Rattle.plan_text.specs.Conditions.{text_pair};
-ghost use Rattle.plan_text.specs.Keys.{member_path, required, or_else, only_keys, each};
+ghost use Rattle.plan_text.specs.Keys.{each, required, or_else, only_keys};
 ghost use Rattle.plan_text.specs.Steps.{stands_at, two_texts, looks_up, any_looks_up, has_double, pairs, pair_at, any_text, default_text, lookup_at, known_keys, step_key, step_by, step, steps_at};
 
 use crate::fault::{FaultName, Stop};
 use crate::from_toml::conditions::{bytes_of, text_pair};
-use crate::from_toml::keys::{Key, Keys, member_fault, member_path};
+use crate::from_toml::keys::{Key, Keys, fault_at};
+use crate::from_toml::members::{Reader, each};
 use crate::limits::{MEMBERS_MAX, PAIRS_MAX};
 use hl7_filter::Bytes;
 use hl7_transform::{Pair, Step, StepCheck, check_step};
@@ -124,28 +127,44 @@ impl<'a> Key<'a> {
     }
 }
 
-/// The pair at a place of the list at `at`.
-fn next_pair(alloc: Global, at: &str, place: usize, value: &Value) -> Result<Pair, Stop>
-    ensures { Gives (λ p. (p.from, p.to)) result (pair_at (member_path at.now place) (view value.now)) }
-{
-    let Some((from, to)) = text_pair(value) else {
-        return Err(member_fault(alloc, FaultName::BadRange, at, place));
-    };
-    Ok(Pair {
-        from: bytes_of(alloc, from)?,
-        to: bytes_of(alloc, to)?,
-    })
+/// The reader of a lookup table's pairs.
+#[derive(Clone, Copy)]
+struct Pairs;
+
+impl Reader for Pairs {
+    ghost use Rattle.std.specs.Prelude.{ℕ, List};
+
+    type Item = Pair;
+
+    ghost Said = { List ℕ × List ℕ };
+
+    ghost said = { λ p. (p.from, p.to) };
+
+    ghost all_said = { table_view };
+
+    ghost reading = { λ s before. pair_at };
+
+    ghost none_said = { refl };
+
+    ghost one_more = { λ xs x. map-append (λ p. (p.from, p.to)) xs (x ∷ []) };
+
+    ghost as_many = { λ xs. length-map xs (λ p. (p.from, p.to)) };
+
+    fn read(&self, alloc: Global, _before: &[Pair], at: &str, value: &Value) -> Result<Pair, Stop> {
+        let Some((from, to)) = text_pair(value) else {
+            return Err(fault_at(alloc, FaultName::BadRange, at));
+        };
+        Ok(Pair {
+            from: bytes_of(alloc, from)?,
+            to: bytes_of(alloc, to)?,
+        })
+    }
 }
 
-fn each_pair(alloc: Global, at: &str, values: &Array) -> Result<Vec<Pair>, Stop>
+fn table_of(alloc: Global, at: &str, values: &Array) -> Result<Vec<Pair>, Stop>
     ensures { Gives (λ v. table_view v.items) result (each pair_at at.now (array_view values.now)) }
 {
-    let mut pairs = Vec::new(alloc);
-    for value in values {
-        let pair = next_pair(alloc, at, pairs.len(), value)?;
-        pairs.push(pair)?;
-    }
-    Ok(pairs)
+    each(alloc, &Pairs, at, values)
 }
 
 #[tactic(auto, unfolding(crate::specs::Steps::lookup_at))]
@@ -159,7 +178,7 @@ fn lookup_of(keys: &Keys<'_>) -> Result<Step, Stop>
     let table_key = keys.key("table");
     let values = table_key.pairs()?;
     let at = table_key.path()?;
-    let table = each_pair(keys.alloc, at.as_str(), values)?;
+    let table = table_of(keys.alloc, at.as_str(), values)?;
     let default = keys.key("default").default_text()?;
     Ok(Step::Lookup {
         path,
@@ -213,27 +232,35 @@ fn step_by(name: &str, keys: &Keys<'_>) -> Result<Step, Stop>
     }
 }
 
-#[tactic(auto, unfolding(crate::specs::Steps::step))]
-fn step_of(alloc: Global, at: &str, value: &Value) -> Result<Step, Stop>
-    ensures { Gives step_view result (step at.now (view value.now)) }
-{
-    let keys = Keys::of(alloc, at, value)?;
-    let name = step_key(&keys)?;
-    let step = step_by(name, &keys)?;
-    keys.key(name).stands(&step)?;
-    Ok(step)
-}
+/// The reader of steps.
+#[derive(Clone, Copy)]
+struct Steps;
 
-fn each_step(alloc: Global, at: &str, values: &Array) -> Result<Vec<Step>, Stop>
-    ensures { Gives (λ v. steps_view v.items) result (each step at.now (array_view values.now)) }
-{
-    let mut steps = Vec::new(alloc);
-    for value in values {
-        let at = member_path(alloc, at, steps.len())?;
-        let step = step_of(alloc, at.as_str(), value)?;
-        steps.push(step)?;
+impl Reader for Steps {
+    type Item = Step;
+
+    ghost Said = { Edit };
+
+    ghost said = { step_view };
+
+    ghost all_said = { steps_view };
+
+    ghost reading = { λ s before. step };
+
+    ghost none_said = { refl };
+
+    ghost one_more = { λ xs x. map-append step_view xs (x ∷ []) };
+
+    ghost as_many = { λ xs. length-map xs step_view };
+
+    #[tactic(auto, unfolding(crate::specs::Steps::step))]
+    fn read(&self, alloc: Global, _before: &[Step], at: &str, value: &Value) -> Result<Step, Stop> {
+        let keys = Keys::of(alloc, at, value)?;
+        let name = step_key(&keys)?;
+        let step = step_by(name, &keys)?;
+        keys.key(name).stands(&step)?;
+        Ok(step)
     }
-    Ok(steps)
 }
 
 /// The steps of a list, none where it is left out.
@@ -245,5 +272,5 @@ pub(crate) fn steps_of(key: &Key<'_>) -> Result<Vec<Step>, Stop>
         return Ok(Vec::new(key.alloc));
     }
     let at = key.path()?;
-    each_step(key.alloc, at.as_str(), key.list(MEMBERS_MAX)?)
+    each(key.alloc, &Steps, at.as_str(), key.list(MEMBERS_MAX)?)
 }

@@ -8,8 +8,8 @@ use Rattle.plan_text.proofs.Laws.{destinations-are}
 use Rattle.plan_text.proofs.ChannelLaws.{plan-is}
 use Rattle.plan_text.proofs.from_toml.document.plan_of.Goals as goal
 
-pub each_channel-requires : goal.each_channel-requires
-each_channel-requires c = rw c.as_slice.ensures.value (destinations-are (table_view c.args.document.now) c.in_ok-destinations.destinations.items c.in_ok-destinations.ensures).0
+pub channels_of-requires : goal.channels_of-requires
+channels_of-requires c = rw c.as_slice.ensures.value (destinations-are (table_view c.args.document.now) c.in_ok-destinations.destinations.items c.in_ok-destinations.ensures).0
 
 pub invariant_of-result : goal.invariant_of-result
 invariant_of-result c =
