@@ -7,16 +7,15 @@ use Rattle.hl7_head.specs.declared.ack.Cause.TheVariants.{IdReused}
 use Rattle.plan_text.specs.Entries.{PlanEntry}
 use Rattle.judge_core.specs.declared.judged.Verdict.{Verdict}
 use Rattle.judge_core.specs.declared.judged.Verdict.TheVariants as verdict
-use Rattle.judge_core.specs.Delivering.{destinations_of}
 use Rattle.judge_core.specs.Judging.{is_bookable, key_of, verdict as decided}
 use Rattle.event_log.specs.declared.entry.Told.{Told}
 use Rattle.event_log.specs.declared.entry.Told.TheVariants as told
 use Rattle.event_log.specs.History.{History, message_count, plan_in_force}
-use Rattle.event_log.specs.Answers.{answer, brings, is_kept, known, told_by}
-use Rattle.event_log.specs.Room.{exceeds, is_full, own, slots_added}
+use Rattle.event_log.specs.Answers.{answer, brings_at, is_kept, known, told_by}
+use Rattle.event_log.specs.Room.{exceeds, is_full, own}
 use Rattle.book_core.specs.declared.receipt.NotBooked.{NotBooked}
 use Rattle.book_core.specs.declared.receipt.NotBooked.TheVariants.{NoMemory, Full}
-use Rattle.book_core.specs.Sending.{IsAccepting, deliveries_if}
+use Rattle.book_core.specs.Sending.{IsAccepting}
 
 -- ---- what is told
 
@@ -51,7 +50,7 @@ pub told-accepting : (h : History) (plan : PlanEntry) (channel : ℕ) (raw : Lis
 unfolding answer
 told-accepting h plan channel raw v reply same says is =
     subst (IsAccepting reply) (sym (says ∙ ap (λ p. decided p channel raw) same))
-    (accepting-told (is_bookable raw) (known h (key_of channel raw)) (λ place. option_map_or (brings raw) (slice_get h.entries place) false) (decided (plan_in_force h) channel raw) (message_count h) reply is)
+    (accepting-told (is_bookable raw) (known h (key_of channel raw)) (brings_at h raw) (decided (plan_in_force h) channel raw) (message_count h) reply is)
 
 -- a message whose key is known is not kept by it again
 again-kept : (same : Bool) (place : ℕ) (reply : Told) → Some (if same then told.Repeat place else told.Refused IdReused) ≡ Some reply → is_kept reply ≡ true → ⊥
@@ -73,22 +72,7 @@ unknown-told true (Some place) same v count reply is keeps = absurd (again-kept 
 pub told-unknown : (h : History) (channel : ℕ) (raw : List ℕ) (reply : Told) → answer h channel raw ≡ Some reply → is_kept reply ≡ true → known h (key_of channel raw) ≡ None
 unfolding answer
 told-unknown h channel raw reply is keeps =
-    unknown-told (is_bookable raw) (known h (key_of channel raw)) (λ place. option_map_or (brings raw) (slice_get h.entries place) false) (decided (plan_in_force h) channel raw) (message_count h) reply is keeps
-
--- ---- what it owes
-
--- a message goes to the slots that it adds
-goes-added : (plan : PlanEntry) (channel : ℕ) (raw : List ℕ) (reply : Told) → destinations_of (deliveries_if reply (decided plan channel raw)) ≡ slots_added plan channel raw reply
-goes-added plan channel raw (told.Accepted number) = refl
-goes-added plan channel raw told.Filtered = refl
-goes-added plan channel raw (told.Refused cause) = refl
-goes-added plan channel raw (told.Repeat place) = refl
-
--- the same, by the verdict that was reached
-pub told-added : (h : History) (plan : PlanEntry) (channel : ℕ) (raw : List ℕ) (v : Verdict) (reply : Told) → plan ≡ plan_in_force h → v ≡ decided plan channel raw
-    → destinations_of (deliveries_if reply v) ≡ slots_added (plan_in_force h) channel raw reply
-told-added h plan channel raw v reply same says =
-    ap (λ w. destinations_of (deliveries_if reply w)) (says ∙ ap (λ p. decided p channel raw) same) ∙ goes-added (plan_in_force h) channel raw reply
+    unknown-told (is_bookable raw) (known h (key_of channel raw)) (brings_at h raw) (decided (plan_in_force h) channel raw) (message_count h) reply is keeps
 
 -- ---- its room
 

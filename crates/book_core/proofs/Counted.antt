@@ -1,5 +1,5 @@
 -- A tally is the statistics of a history if each of its counters is.
-use Rattle.std.proofs.Common.{◌≡◌, ◌≢◌, ℕ, ◌+◌, ◌<◌, ◌≤◌, ◌==◌, ◌&&◌, inl, inr, Bool, true, false, cond, not, List, [], ◌∷◌, length, map, get_or, refl, sym, ◌∙◌, ap, subst, arith, length-set, get_or-set_same, get_or-set_other, ext_get_or}
+use Rattle.std.proofs.Common.{◌≡◌, ◌≢◌, ℕ, ◌+◌, ◌*◌, ◌<◌, ◌≤◌, ◌==◌, ◌&&◌, inl, inr, Bool, true, false, cond, not, List, [], ◌∷◌, length, map, get_or, refl, sym, ◌∙◌, ap, subst, arith, length-set, get_or-set_same, get_or-set_other, ext_get_or}
 use Rattle.std.specs.Prelude.{sum_by}
 use Rattle.std.specs.List.{range_with_len}
 use Rattle.std.proofs.lemmas.Bool.Decides.{eqb_tells}
@@ -14,9 +14,11 @@ use Rattle.event_log.specs.declared.entry.Told.{Told}
 use Rattle.event_log.specs.declared.entry.Told.TheVariants as told
 use Rattle.event_log.specs.declared.entry.Entry.{Entry}
 use Rattle.event_log.specs.declared.entry.Entry.TheVariants.{Arrival, Take, Settle, Cancel, Deploy}
-use Rattle.event_log.specs.History.{History, opened_by}
-use Rattle.book_core.specs.Counting.{AreCounted, channel_counts, counted, destination_counts, is_accepted, is_filtered, is_refused, is_repeat, is_told}
-use Rattle.book_core.proofs.Slots.{slots-entries}
+use Rattle.event_log.specs.History.{History, next_place, opened_by}
+use Rattle.event_log.specs.Legal.{IsGoodOpening}
+use Rattle.event_log.specs.Counting.{channel_before, channel_counts, counted, destination_counts, is_accepted, is_filtered, is_refused, is_repeat, is_take_at, is_told, told_count}
+use Rattle.book_core.specs.Counting.{AreCounted}
+use Rattle.book_core.proofs.Slots.{all-at, slots-places}
 
 -- a list of which each place holds what a function gives there
 pub listed : {X : Type 0} (f : ℕ → X) (k : ℕ) (xs : List X) (d : X) → length xs ≡ k → ((n : ℕ) → n < k → get_or xs n d ≡ f n) → xs ≡ map f (range_with_len 0 k)
@@ -42,13 +44,23 @@ counted-are h = record {
   destination = λ d below. get_or-map-range_with_len (destination_counts h) 0 32 d d no_slots below (omega arith);
 }
 
+-- a channel's counters are equal if each is
+pub channels-equal : (a b : ChannelCounts) → a.received ≡ b.received → a.filtered ≡ b.filtered → a.accepted ≡ b.accepted → a.refused ≡ b.refused → a.repeats ≡ b.repeats → a ≡ b
+channels-equal a b received filtered accepted refused repeats = λ i. record { received = received i; filtered = filtered i; accepted = accepted i; refused = refused i; repeats = repeats i }
+
+-- a destination's counters are equal if each is
+pub counts-equal : (a b : DestinationCounts) → a.waiting ≡ b.waiting → a.inflight ≡ b.inflight → a.delivered ≡ b.delivered → a.failed ≡ b.failed → a.attempts ≡ b.attempts → a ≡ b
+counts-equal a b waiting inflight delivered failed attempts = λ i. record { waiting = waiting i; inflight = inflight i; delivered = delivered i; failed = failed i; attempts = attempts i }
+
 -- nothing is counted at first
 pub counted-opened : (plan : PlanEntry) (events_max : ℕ) → AreCounted (opened_by plan events_max) empty
 counted-opened plan events_max = record {
   all_channels = refl;
   all_destinations = refl;
-  channel = λ c below. get_or-replicate 64 c no_arrivals no_arrivals below;
-  destination = λ d below. get_or-replicate 32 d no_slots no_slots below;
+  channel = λ c below. channels-equal (channel_at c empty) (channel_counts (opened_by plan events_max) c) (omega arith) (omega arith) (omega arith) (omega arith) (omega arith);
+  destination = λ d below.
+      let none : destination_at d empty ≡ no_slots = get_or-replicate 32 d no_slots no_slots below in
+      counts-equal (destination_at d empty) (destination_counts (opened_by plan events_max) d) (ap (λ c. c.waiting) none) (ap (λ c. c.inflight) none) (omega arith) (omega arith) (omega arith);
 }
 
 -- the counters of one destination changed
@@ -67,23 +79,40 @@ counted-at h h' tally d change inside counts channels its others = record {
   ];
 }
 
--- a channel's counters are equal if each is
-pub channels-equal : (a b : ChannelCounts) → a.received ≡ b.received → a.filtered ≡ b.filtered → a.accepted ≡ b.accepted → a.refused ≡ b.refused → a.repeats ≡ b.repeats → a ≡ b
-channels-equal a b received filtered accepted refused repeats = λ i. record { received = received i; filtered = filtered i; accepted = accepted i; refused = refused i; repeats = repeats i }
+-- no more were counted at the opening of a channel than entries were folded
+channel-few : (h : History) → IsGoodOpening h.opening → (c : ℕ) → (channel_before h c).received + (channel_before h c).repeats ≤ h.opening.places
+channel-few h good c = all-at (λ c. c.received + c.repeats ≤ h.opening.places) h.opening.forgotten.channels no_arrivals good.forgotten.received (omega arith) c
 
--- no more are received than there are entries
-pub received-entries : (h : History) (tally : Statistics) (c : ℕ) → c < 64 → AreCounted h tally → (channel_at c tally).received ≤ length h.entries
-received-entries h tally c below counts =
-    let is = ap (λ t. t.received) (counts.channel c below) in let few = count_by-le-length (is_told c (λ told. not (is_repeat told))) h.entries in omega arith
+-- no more are received than there are places
+pub received-places : (h : History) → IsGoodOpening h.opening → (tally : Statistics) (c : ℕ) → c < 64 → AreCounted h tally → (channel_at c tally).received ≤ next_place h
+received-places h good tally c below counts =
+    let is = ap (λ t. t.received) (counts.channel c below) in
+    let few = count_by-le-length (is_told c (λ told. not (is_repeat told))) h.entries in
+    let before = channel-few h good c in omega arith
 
 -- no more are repeats
-pub repeats-entries : (h : History) (tally : Statistics) (c : ℕ) → c < 64 → AreCounted h tally → (channel_at c tally).repeats ≤ length h.entries
-repeats-entries h tally c below counts =
-    let is = ap (λ t. t.repeats) (counts.channel c below) in let few = count_by-le-length (is_told c is_repeat) h.entries in omega arith
+pub repeats-places : (h : History) → IsGoodOpening h.opening → (tally : Statistics) (c : ℕ) → c < 64 → AreCounted h tally → (channel_at c tally).repeats ≤ next_place h
+repeats-places h good tally c below counts =
+    let is = ap (λ t. t.repeats) (counts.channel c below) in
+    let few = count_by-le-length (is_told c is_repeat) h.entries in
+    let before = channel-few h good c in omega arith
 
--- no destination has more slots
-pub slots_of-entries : (h : History) (tally : Statistics) (d : ℕ) → d < 32 → AreCounted h tally → slots_of (destination_at d tally) ≤ length h.entries
-slots_of-entries h tally d below counts = let is = ap slots_of (counts.destination d below) in let few = slots-entries h d in omega arith
+-- both together are no more than two for each place
+pub channel-places : (h : History) → IsGoodOpening h.opening → (c : ℕ) → (channel_counts h c).received + (channel_counts h c).repeats ≤ 2 * next_place h
+channel-places h good c =
+    let first = count_by-le-length (is_told c (λ told. not (is_repeat told))) h.entries in
+    let again = count_by-le-length (is_told c is_repeat) h.entries in
+    let before = channel-few h good c in omega arith
+
+-- no more attempts were begun than there are places
+pub attempts-places : (h : History) → IsGoodOpening h.opening → (d : ℕ) → (destination_counts h d).attempts ≤ next_place h
+attempts-places h good d =
+    let most = count_by-le-length (is_take_at d) h.entries in
+    let before = all-at (λ c. c.attempts ≤ h.opening.places) h.opening.forgotten.destinations no_slots good.forgotten.taken (omega arith) d in omega arith
+
+-- no destination has more slots than two for each place
+pub slots_of-places : (h : History) → IsGoodOpening h.opening → (tally : Statistics) (d : ℕ) → d < 32 → AreCounted h tally → slots_of (destination_at d tally) ≤ 2 * next_place h
+slots_of-places h good tally d below counts = let is = ap slots_of (counts.destination d below) in let few = slots-places h good d in omega arith
 
 -- each entry is counted as received where it is counted as filtered, accepted or refused
 told-sum : (c : ℕ) (e : Entry) → cond (is_told c (λ told. not (is_repeat told)) e) 1 0 ≡ cond (is_told c is_filtered e) 1 0 + cond (is_told c is_accepted e) 1 0 + cond (is_told c is_refused e) 1 0
@@ -107,6 +136,12 @@ sum-three a f g k adds (x ∷ xs) =
     let here = adds x in let rest = sum-three a f g k adds xs in omega (arith, sum_by-cons a x xs, sum_by-cons f x xs, sum_by-cons g x xs, sum_by-cons k x xs)
 
 -- what is received is filtered, accepted or refused
-pub received-sum : (h : History) (c : ℕ) → (channel_counts h c).received ≡ (channel_counts h c).filtered + (channel_counts h c).accepted + (channel_counts h c).refused
-received-sum h c =
-    sum-three (λ e. cond (is_told c (λ told. not (is_repeat told)) e) 1 0) (λ e. cond (is_told c is_filtered e) 1 0) (λ e. cond (is_told c is_accepted e) 1 0) (λ e. cond (is_told c is_refused e) 1 0) (told-sum c) h.entries
+pub received-sum : (h : History) → IsGoodOpening h.opening → (c : ℕ) → (channel_counts h c).received ≡ (channel_counts h c).filtered + (channel_counts h c).accepted + (channel_counts h c).refused
+received-sum h good c =
+    let since = sum-three (λ e. cond (is_told c (λ told. not (is_repeat told)) e) 1 0) (λ e. cond (is_told c is_filtered e) 1 0) (λ e. cond (is_told c is_accepted e) 1 0) (λ e. cond (is_told c is_refused e) 1 0) (told-sum c) h.entries in
+    let before = all-at (λ c. c.received ≡ c.filtered + c.accepted + c.refused) h.opening.forgotten.channels no_arrivals good.forgotten.statistics.received_is_sum refl c in
+    sums (channel_before h c).received (channel_before h c).filtered (channel_before h c).accepted (channel_before h c).refused
+    (told_count h c (λ told. not (is_repeat told))) (told_count h c is_filtered) (told_count h c is_accepted) (told_count h c is_refused) before since
+  where
+    sums : (r f a x r' f' a' x' : ℕ) → r ≡ f + a + x → r' ≡ f' + a' + x' → r + r' ≡ f + f' + (a + a') + (x + x')
+    sums r f a x r' f' a' x' before since = omega arith

@@ -17,12 +17,13 @@ use Rattle.event_log.specs.declared.entry.Entry.TheVariants.{Arrival}
 use Rattle.event_log.specs.History.{History, Accepted, accepted, accepted_under, deliveries, followed_by, message_count, names, plan_in_force, slot, state}
 use Rattle.event_log.specs.Legal.{IsSound}
 use Rattle.event_log.specs.Room.{slots_added}
-use Rattle.event_log.proofs.Following.{get-below, get-last, message_count-same, slot-same}
+use Rattle.event_log.proofs.Following.{message-newest, message-older, message_count-longer, message_count-same, slot-same}
 use Rattle.event_log.proofs.Steps.{ArrivalStep}
-use Rattle.book_core.specs.Counting.{AreCounted, CountsArrival, channel_counts, destination_counts, is_accepted, is_filtered, is_refused, is_repeat, is_take_at, is_told, told_count, told_one}
+use Rattle.event_log.specs.Counting.{channel_before, channel_counts, destination_counts, is_accepted, is_filtered, is_refused, is_repeat, is_take_at, is_told, told_count}
+use Rattle.book_core.specs.Counting.{AreCounted, CountsArrival, told_one}
 use Rattle.book_core.proofs.Counted.{channels-equal}
 use Rattle.book_core.proofs.CountedCancels.{not-equal}
-use Rattle.book_core.proofs.CountedSteps.{count-kept}
+use Rattle.book_core.proofs.CountedSteps.{attempts-kept, count-kept}
 use Rattle.book_core.proofs.Moves.{moved-in, moved-nowhere, moves-in, moves-nowhere}
 use Rattle.book_core.proofs.Slots.{count-push}
 
@@ -43,15 +44,22 @@ module _ (h : History) (conn channel : ℕ) (raw : List ℕ) where
   -- the counters of its channel
   pub channel-told : (reply : Told) → channel_counts (followed_by h (Arrival conn channel raw reply)) channel ≡ told_one reply (channel_counts h channel)
   channel-told reply =
-      told_one-is reply (channel_counts h channel) (channel_counts (followed_by h (Arrival conn channel raw reply)) channel) (by (λ t. not (is_repeat t))) (by is_filtered) (by is_accepted) (by is_refused) (by is_repeat)
+      told_one-is reply (channel_counts h channel) (channel_counts (followed_by h (Arrival conn channel raw reply)) channel)
+      (more (channel_before h channel).received _ _ _ (by (λ t. not (is_repeat t)))) (more (channel_before h channel).filtered _ _ _ (by is_filtered)) (more (channel_before h channel).accepted _ _ _ (by is_accepted))
+      (more (channel_before h channel).refused _ _ _ (by is_refused)) (more (channel_before h channel).repeats _ _ _ (by is_repeat))
     where
+      more : (before new old own : ℕ) → new ≡ old + own → before + new ≡ before + old + own
+      more before new old own is = omega arith
+
       by : (so : Told → Bool) → told_count (followed_by h (Arrival conn channel raw reply)) channel so ≡ told_count h channel so + cond (so reply) 1 0
       by so = count-push (is_told channel so) h (Arrival conn channel raw reply) ∙ ap (λ b. told_count h channel so + cond (b && so reply) 1 0) (eq-eqb channel channel refl)
 
   -- the counters of another channel
   pub channel-kept : (reply : Told) (c : ℕ) → c ≢ channel → channel_counts (followed_by h (Arrival conn channel raw reply)) c ≡ channel_counts h c
   channel-kept reply c apart =
-      channels-equal (channel_counts (followed_by h (Arrival conn channel raw reply)) c) (channel_counts h c) (by (λ t. not (is_repeat t))) (by is_filtered) (by is_accepted) (by is_refused) (by is_repeat)
+      channels-equal (channel_counts (followed_by h (Arrival conn channel raw reply)) c) (channel_counts h c)
+      (ap (λ k. (channel_before h c).received + k) (by (λ t. not (is_repeat t)))) (ap (λ k. (channel_before h c).filtered + k) (by is_filtered)) (ap (λ k. (channel_before h c).accepted + k) (by is_accepted))
+      (ap (λ k. (channel_before h c).refused + k) (by is_refused)) (ap (λ k. (channel_before h c).repeats + k) (by is_repeat))
     where
       by : (so : Told → Bool) → told_count (followed_by h (Arrival conn channel raw reply)) c so ≡ told_count h c so
       by so = count-kept (is_told c so) h (Arrival conn channel raw reply) (ap (λ b. b && so reply) (not-equal channel c apart))
@@ -61,51 +69,41 @@ module _ (h : History) (conn channel : ℕ) (raw : List ℕ) where
       → (d : ℕ) → destination_counts (followed_by h (Arrival conn channel raw reply)) d ≡ destination_counts h d
   kept-counts reply same states d =
       moves-nowhere None (destination_counts h d) (destination_counts (followed_by h (Arrival conn channel raw reply)) d)
-      (moved-nowhere h (followed_by h (Arrival conn channel raw reply)) d (message_count-same h (followed_by h (Arrival conn channel raw reply)) same)
-      (λ m _. slot-same h (followed_by h (Arrival conn channel raw reply)) same m d ∙ ap (λ s. cond (names d (deliveries h m)) (Some s) None) (states m d)))
-      (count-kept (is_take_at d) h (Arrival conn channel raw reply) refl)
-
--- where a message that came goes
-new-deliveries : (h h' : History) (m : Accepted) → accepted h' ≡ accepted h ++ m ∷ [] → deliveries h' (message_count h) ≡ m.deliveries
-new-deliveries h h' m longer =
-    ap (λ ms. option_map_or (λ x. x.deliveries) (slice_get ms (message_count h)) []) longer ∙ ap (λ o. option_map_or (λ x. x.deliveries) o []) (get-last (accepted h) m)
-
--- where those before it go
-old-deliveries : (h h' : History) (m : Accepted) → accepted h' ≡ accepted h ++ m ∷ [] → (n : ℕ) → n < message_count h → deliveries h' n ≡ deliveries h n
-old-deliveries h h' m longer n below =
-    ap (λ ms. option_map_or (λ x. x.deliveries) (slice_get ms n) []) longer ∙ ap (λ o. option_map_or (λ x. x.deliveries) o []) (get-below (accepted h) (m ∷ []) n below)
+      (moved-nowhere h (followed_by h (Arrival conn channel raw reply)) refl d (message_count-same h (followed_by h (Arrival conn channel raw reply)) refl same)
+      (λ m _. slot-same h (followed_by h (Arrival conn channel raw reply)) refl same m d ∙ ap (λ s. cond (names d (deliveries h m)) (Some s) None) (states m d)))
+      (attempts-kept h (Arrival conn channel raw reply) d refl)
 
 -- a message that came waits at each destination that it names
-came-counts : (h h' : History) (m : Accepted) → accepted h' ≡ accepted h ++ m ∷ [] → ((n d : ℕ) → state h' n d ≡ state h n d) → ((d : ℕ) → state h (message_count h) d ≡ Waiting 0 0)
+came-counts : (h h' : History) → h'.opening ≡ h.opening → (m : Accepted) → accepted h' ≡ accepted h ++ m ∷ [] → ((n d : ℕ) → state h' n d ≡ state h n d) → ((d : ℕ) → state h (message_count h) d ≡ Waiting 0 0)
     → (d : ℕ) → (destination_counts h' d).attempts ≡ (destination_counts h d).attempts
     → destination_counts h' d ≡ cond (names d m.deliveries) (waits_one (destination_counts h d)) (destination_counts h d)
-came-counts h h' m longer states fresh d attempts = by (names d m.deliveries) refl
+came-counts h h' opening m longer states fresh d attempts = by (names d m.deliveries) refl
   where
     more : message_count h' ≡ message_count h + 1
-    more = ap length longer ∙ length-append (accepted h) (m ∷ [])
+    more = message_count-longer h h' opening m longer
 
     older : (n : ℕ) → n < message_count h → slot h' n d ≡ slot h n d
-    older n below = ap (λ ds. cond (names d ds) (Some (state h' n d)) None) (old-deliveries h h' m longer n below) ∙ ap (λ s. cond (names d (deliveries h n)) (Some s) None) (states n d)
+    older n below = ap (λ ds. cond (names d ds) (Some (state h' n d)) None) (ap (λ o. option_map_or (λ x. x.deliveries) o []) (message-older h h' opening m longer n (λ same. omega arith))) ∙ ap (λ s. cond (names d (deliveries h n)) (Some s) None) (states n d)
 
     own : (b : Bool) → names d m.deliveries ≡ b → slot h' (message_count h) d ≡ cond b (Some (Waiting 0 0)) None
     own b is =
-        ap (λ ds. cond (names d ds) (Some (state h' (message_count h) d)) None) (new-deliveries h h' m longer)
+        ap (λ ds. cond (names d ds) (Some (state h' (message_count h) d)) None) (ap (λ o. option_map_or (λ x. x.deliveries) o []) (message-newest h h' opening m longer))
         ∙ (ap (λ s. cond (names d m.deliveries) (Some s) None) (states (message_count h) d ∙ fresh d) ∙ ap (λ t. cond t (Some (Waiting 0 0)) None) is)
 
     by : (b : Bool) → names d m.deliveries ≡ b → destination_counts h' d ≡ cond (names d m.deliveries) (waits_one (destination_counts h d)) (destination_counts h d)
     by true is =
-        moves-in 0 0 (destination_counts h d) (destination_counts h' d) (moved-in h h' d (Some (Waiting 0 0)) more older (own true is)) attempts
+        moves-in 0 0 (destination_counts h d) (destination_counts h' d) (moved-in h h' opening d (Some (Waiting 0 0)) more older (own true is)) attempts
         ∙ sym (ap (λ t. cond t (waits_one (destination_counts h d)) (destination_counts h d)) is)
     by false is =
-        moves-nowhere None (destination_counts h d) (destination_counts h' d) (moved-in h h' d None more older (own false is)) attempts
+        moves-nowhere None (destination_counts h d) (destination_counts h' d) (moved-in h h' opening d None more older (own false is)) attempts
         ∙ sym (ap (λ t. cond t (waits_one (destination_counts h d)) (destination_counts h d)) is)
 
 -- a destination's counters after an arrival
 pub arrived-counts : (h : History) (conn channel : ℕ) (raw : List ℕ) (reply : Told) → IsSound h → ArrivalStep h conn channel raw reply → (d : ℕ)
     → destination_counts (followed_by h (Arrival conn channel raw reply)) d ≡ cond (list_any (λ e. e == d) (slots_added (plan_in_force h) channel raw reply)) (waits_one (destination_counts h d)) (destination_counts h d)
 arrived-counts h conn channel raw (told.Accepted number) sound step d =
-    came-counts h (followed_by h (Arrival conn channel raw (told.Accepted number))) (accepted_under (plan_in_force h) channel raw) step.accepted step.state
-    (λ e. sound.to_come (message_count h) e (omega arith)) d (count-kept (is_take_at d) h (Arrival conn channel raw (told.Accepted number)) refl)
+    came-counts h (followed_by h (Arrival conn channel raw (told.Accepted number))) refl (accepted_under (plan_in_force h) channel raw) step.accepted step.state
+    (λ e. sound.to_come (message_count h) e (omega arith)) d (attempts-kept h (Arrival conn channel raw (told.Accepted number)) d refl)
     ∙ sym (ap (λ b. cond b (waits_one (destination_counts h d)) (destination_counts h d)) (names-either d (deliveries_of (decided (plan_in_force h) channel raw))))
 arrived-counts h conn channel raw told.Filtered sound step d = kept-counts h conn channel raw told.Filtered (step.accepted ∙ append-nil (accepted h)) step.state d
 arrived-counts h conn channel raw (told.Refused cause) sound step d = kept-counts h conn channel raw (told.Refused cause) (step.accepted ∙ append-nil (accepted h)) step.state d

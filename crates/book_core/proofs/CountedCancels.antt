@@ -14,8 +14,9 @@ use Rattle.event_log.specs.History.{History, deliveries, followed_by, names, slo
 use Rattle.event_log.proofs.Following.{message_count-same, slot-same}
 use Rattle.event_log.proofs.Reading.{slot-state}
 use Rattle.event_log.proofs.Steps.{CancelStep}
-use Rattle.book_core.specs.Counting.{AreCounted, CountsCancel, destination_counts, is_take_at}
-use Rattle.book_core.proofs.CountedSteps.{channels-kept, count-kept}
+use Rattle.event_log.specs.Counting.{destination_counts, is_take_at}
+use Rattle.book_core.specs.Counting.{AreCounted, CountsCancel}
+use Rattle.book_core.proofs.CountedSteps.{attempts-kept, channels-kept}
 use Rattle.book_core.proofs.Moves.{moved, moves-nowhere, moves-off}
 
 -- a message that waits at a destination has a slot there, which waits
@@ -34,7 +35,7 @@ module _ (h : History) (number mask : ℕ) (step : CancelStep h number mask) whe
   -- the slots of another message stay
   others-kept : (m d : ℕ) → m ≢ number → slot (followed_by h (Cancel number mask)) m d ≡ slot h m d
   others-kept m d apart =
-      slot-same h (followed_by h (Cancel number mask)) step.nothing.accepted m d
+      slot-same h (followed_by h (Cancel number mask)) refl step.nothing.accepted m d
       ∙ ap (λ s. cond (names d (deliveries h m)) (Some s) None)
       (step.state m d ∙ ap (λ b. cond (b && (bit_at mask d == 1)) (Failed Cancelled) (state h m d)) (not-equal number m apart))
 
@@ -45,30 +46,26 @@ module _ (h : History) (number mask : ℕ) (step : CancelStep h number mask) whe
       ∙ (ap (λ t. cond (t && (bit_at mask d == 1)) (Failed Cancelled) (state h number d)) (eq-eqb number number refl)
       ∙ ap (λ t. cond t (Failed Cancelled) (state h number d)) bit)
 
-  -- no attempt is begun
-  attempts-kept : (d : ℕ) → (destination_counts (followed_by h (Cancel number mask)) d).attempts ≡ (destination_counts h d).attempts
-  attempts-kept d = count-kept (is_take_at d) h (Cancel number mask) refl
-
   -- where the mask names the destination, a slot that waits has failed
   off-counts : (d : ℕ) → (bit_at mask d == 1) ≡ true
       → (destination_counts (followed_by h (Cancel number mask)) d ≡ cancelled_one (destination_counts h d)) × (0 < (destination_counts h d).waiting)
   off-counts d bit =
       let waited = waits-slot (slot h number d) (sym (step.bits d) ∙ bit) in
       let failed : slot (followed_by h (Cancel number mask)) number d ≡ Some (Failed Cancelled) =
-      slot-same h (followed_by h (Cancel number mask)) step.nothing.accepted number d
+      slot-same h (followed_by h (Cancel number mask)) refl step.nothing.accepted number d
       ∙ (ap (λ s. cond (names d (deliveries h number)) (Some s) None) (own-state d true bit)
       ∙ ap (λ b. cond b (Some (Failed Cancelled)) None) (slot-state h number d (Waiting waited.0 waited.1) waited.2).0) in
       moves-off waited.0 waited.1 Cancelled (destination_counts h d) (destination_counts (followed_by h (Cancel number mask)) d)
-      (moved h (followed_by h (Cancel number mask)) number d (Some (Waiting waited.0 waited.1)) (Some (Failed Cancelled)) (message_count-same h (followed_by h (Cancel number mask)) step.nothing.accepted) step.exists
-      (λ m apart. others-kept m d apart) waited.2 failed) (attempts-kept d)
+      (moved h (followed_by h (Cancel number mask)) refl number d (Some (Waiting waited.0 waited.1)) (Some (Failed Cancelled)) (message_count-same h (followed_by h (Cancel number mask)) refl step.nothing.accepted) step.exists
+      (λ m apart. others-kept m d apart) waited.2 failed) (attempts-kept h (Cancel number mask) d refl)
 
   -- elsewhere all is counted as before
   on-counts : (d : ℕ) → (bit_at mask d == 1) ≡ false → destination_counts (followed_by h (Cancel number mask)) d ≡ destination_counts h d
   on-counts d bit =
       moves-nowhere (slot h number d) (destination_counts h d) (destination_counts (followed_by h (Cancel number mask)) d)
-      (moved h (followed_by h (Cancel number mask)) number d (slot h number d) (slot h number d) (message_count-same h (followed_by h (Cancel number mask)) step.nothing.accepted) step.exists
+      (moved h (followed_by h (Cancel number mask)) refl number d (slot h number d) (slot h number d) (message_count-same h (followed_by h (Cancel number mask)) refl step.nothing.accepted) step.exists
       (λ m apart. others-kept m d apart) refl
-      (slot-same h (followed_by h (Cancel number mask)) step.nothing.accepted number d ∙ ap (λ s. cond (names d (deliveries h number)) (Some s) None) (own-state d false bit))) (attempts-kept d)
+      (slot-same h (followed_by h (Cancel number mask)) refl step.nothing.accepted number d ∙ ap (λ s. cond (names d (deliveries h number)) (Some s) None) (own-state d false bit))) (attempts-kept h (Cancel number mask) d refl)
 
   -- a destination's counters after a cancellation
   pub cancelled-counts : (d : ℕ) → destination_counts (followed_by h (Cancel number mask)) d ≡ cond (bit_at mask d == 1) (cancelled_one (destination_counts h d)) (destination_counts h d)

@@ -1,5 +1,5 @@
 -- A book is kept by each event.
-use Rattle.std.proofs.Common.{◌≡◌, ℕ, ◌+◌, ◌-◌, ◌<◌, ◌≤◌, List, [], ◌∷◌, Ok, refl, sym, ◌∙◌, ap, arith, length-append}
+use Rattle.std.proofs.Common.{◌≡◌, ℕ, ◌+◌, ◌-◌, ◌<◌, ◌≤◌, List, [], ◌∷◌, Ok, refl, sym, ◌∙◌, ap, arith, length, length-append}
 use Rattle.plan_text.specs.Entries.{PlanEntry, IsPlan}
 use Rattle.row_store.specs.declared.Row.{Row}
 use Rattle.row_store.specs.Rows.{changed_at}
@@ -16,7 +16,8 @@ use Rattle.event_log.specs.declared.entry.Entry.TheVariants.{Settle}
 use Rattle.event_log.specs.History.{History, followed_by, next_place, opened_by, plan_in_force}
 use Rattle.event_log.specs.Answers.{attempts_max, interval, settle_answer}
 use Rattle.event_log.specs.Room.{owed, slot_owed}
-use Rattle.event_log.proofs.Reading.{opened-in_flight, opened-sound, slot-state}
+use Rattle.event_log.proofs.Beginning.{opened-sound}
+use Rattle.event_log.proofs.Reading.{opened-in_flight, slot-state}
 use Rattle.event_log.proofs.Settling.{settle-step}
 use Rattle.event_log.proofs.Steps.{SettleStep}
 use Rattle.event_log.proofs.Totals.{in_flight-owed}
@@ -84,14 +85,14 @@ module _ (h : History) (rows : List (Row (Addressed Letter))) (index : List Know
     pub settled-owed : owed h + slot_owed (attempts_max (plan_in_force h) ticket.destination) after - slot_owed (attempts_max (plan_in_force h) ticket.destination) (InFlight ticket.attempt) ≡ owed (followed_by h (Settle ticket outcome now after))
     settled-owed = omega (arith, settled.owed)
 
-    pub settled-within : next_place h + 1 + owed (followed_by h (Settle ticket outcome now after)) ≤ h.opening.events_max
+    pub settled-within : length h.entries + 1 + owed (followed_by h (Settle ticket outcome now after)) ≤ h.opening.events_max
     settled-within = omega (arith, settled.sound.room, length-append h.entries (Settle ticket outcome now after ∷ []))
 
     pub kept-settled : (room' : ℕ) → room ≤ room' + 1
         → IsKept (followed_by h (Settle ticket outcome now after)) (changed_at ticket.number (settle ticket.destination after) rows) index (on_destination ticket.destination (settled_one after) tally) (flights - 1) room'
     kept-settled room' left = let named = slot-state h ticket.number ticket.destination (InFlight ticket.attempt) settled.flew in record {
       sound = settled.sound;
-      rows_agree = rows-settled h _ ticket.number ticket.destination after settled.nothing.accepted settled.state named.0 (ap is_live named.1) rows kept.rows_agree;
+      rows_agree = rows-settled h _ refl ticket.number ticket.destination after settled.nothing.accepted settled.state named.0 (ap is_live named.1) rows kept.rows_agree;
       keys_agree = λ key. kept.keys_agree key ∙ sym (settled.nothing.known key);
       are_counted = counted-settle h ticket outcome now after tally settled kept.are_counted;
       flights_are = omega (arith, settled.in_flight, kept.flights_are);

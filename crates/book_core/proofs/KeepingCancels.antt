@@ -1,14 +1,13 @@
 -- A book is kept by a cancellation.
-use Rattle.std.proofs.Common.{◌≡◌, ◌≢◌, ℕ, ◌+◌, ◌-◌, ◌^◌, ◌<◌, ◌≤◌, true, false, cond, ◌==◌, inl, inr, List, [], ◌∷◌, None, Some, Result, Ok, Err, refl, sym, ◌∙◌, ap, arith, length-append, suc, zero}
-use Rattle.std.specs.List.{range_with_len}
-use Rattle.std.specs.Prelude.{find, nat_lt, if◌then◌else◌}
+use Rattle.std.proofs.Common.{◌≡◌, ◌≢◌, ℕ, ◌+◌, ◌-◌, ◌^◌, ◌<◌, ◌≤◌, true, false, cond, ◌==◌, inl, inr, List, [], ◌∷◌, None, Some, Result, Ok, Err, refl, sym, ◌∙◌, ap, arith, length, length-append, suc, zero}
+use Rattle.std.specs.List.{list_any}
+use Rattle.std.specs.Prelude.{is_some, if◌then◌else◌}
 use Rattle.std.specs.Int.{bit_at}
-use Rattle.std.specs.Option.{option_map}
 use Rattle.std.proofs.lemmas.Bool.Decides.{nat_tests}
 use Rattle.std.proofs.lemmas.Nat.Bits.{bit_at-lt, same_from_bits_below}
 use Rattle.plan_text.specs.Entries.{PlanEntry}
 use Rattle.row_store.specs.declared.Row.{Row}
-use Rattle.row_store.specs.Rows.{changed_at, is_row, item_at, numbers as numbers_of}
+use Rattle.row_store.specs.Rows.{changed_at, item_at}
 use Rattle.dest_queue.specs.declared.slots.Addressed.{Addressed}
 use Rattle.dest_queue.specs.Queues.{cancel, waits_in}
 use Rattle.dest_queue.specs.Slots.{state_at}
@@ -17,7 +16,7 @@ use Rattle.stat_count.specs.Statistics.{Statistics, destination_at}
 use Rattle.event_log.specs.declared.entry.Entry.TheVariants.{Cancel}
 use Rattle.event_log.specs.declared.refusal.CancelRefusal.{CancelRefusal}
 use Rattle.event_log.specs.declared.refusal.CancelRefusal.TheVariants.{NoSuchMessage, NothingWaiting}
-use Rattle.event_log.specs.History.{History, followed_by, message_count, next_place, plan_in_force, slot}
+use Rattle.event_log.specs.History.{History, followed_by, message_at, numbers, plan_in_force, slot}
 use Rattle.event_log.specs.Answers.{cancel_answer, mask_where, waits}
 use Rattle.event_log.specs.Room.{owed}
 use Rattle.event_log.proofs.Cancelling.{cancel-step}
@@ -29,17 +28,17 @@ use Rattle.book_core.specs.Counting.{CountsCancel}
 use Rattle.book_core.specs.Parts.{IsKept}
 use Rattle.book_core.specs.Sending.{owed_waiting}
 use Rattle.book_core.proofs.CountedCancels.{cancel-waits, counted-cancel}
-use Rattle.book_core.proofs.Rows.{kept-slot, kept-waits, row-of}
+use Rattle.book_core.proofs.Rows.{among-kept, found-among, kept-slot, kept-waits, row-of}
 use Rattle.book_core.proofs.RowsCancelled.{rows-cancelled}
 use Rattle.book_core.proofs.Waiting.{waits_by}
 
 -- the answer where there is no such message
-answer-beyond : (h : History) (n : ℕ) → message_count h ≤ n → cancel_answer h n ≡ Err NoSuchMessage
-answer-beyond h n beyond = let past : nat_lt n (message_count h) ≡ false = grind (arith, nat_tests) in rw past refl
+answer-gone : (h : History) (n : ℕ) → message_at h n ≡ None → cancel_answer h n ≡ Err NoSuchMessage
+answer-gone h n gone = rw gone refl
 
 -- the answer where there is one, by the mask of where it waits
-answer-inside : (h : History) (n : ℕ) → n < message_count h → cancel_answer h n ≡ (if mask_where (waits h n) == 0 then Err NothingWaiting else Ok (mask_where (waits h n)))
-answer-inside h n inside = let there : nat_lt n (message_count h) ≡ true = grind (arith, nat_tests) in rw there refl
+answer-there : (h : History) (n : ℕ) → is_some (message_at h n) ≡ true → cancel_answer h n ≡ (if mask_where (waits h n) == 0 then Err NothingWaiting else Ok (mask_where (waits h n)))
+answer-there h n there = ap (λ b. if b then (if mask_where (waits h n) == 0 then Err NothingWaiting else Ok (mask_where (waits h n))) else Err NoSuchMessage) there
 
 -- nothing waits
 answer-nothing : (mask : ℕ) → mask ≡ 0 → ◌≡◌ {A = Result ℕ CancelRefusal} (if mask == 0 then Err NothingWaiting else Ok mask) (Err NothingWaiting)
@@ -58,28 +57,16 @@ same-bit (suc zero) (suc zero) m n e = refl
 same-bit (suc (suc a)) b m n e = absurd (omega arith)
 same-bit a (suc (suc b)) m n e = absurd (omega arith)
 
--- rows whose numbers count up: a number that has a row is among them
-found-below : {T : Type 0} (n : ℕ) (item : T) (rows : List (Row T)) (a k : ℕ) → numbers_of rows ≡ range_with_len a k → item_at n rows ≡ Some item → n < a + k
-found-below n item [] a k e found = absurd cc
-found-below n item (row ∷ rows) a zero e found = absurd cc
-found-below {T} n item (row ∷ rows) a (suc k) e found =
-    let here : row.number ≡ a = cc in
-    let rest : numbers_of rows ≡ range_with_len (a + 1) k = cc in
-    elim (row.number == n) as (λ b. (row.number == n) ≡ b → option_map (λ (r : Row T). r.item) (cond b (Some row) (find (is_row n) rows)) ≡ Some item → n < a + suc k) [
-      | true ↦ λ t is. let same : row.number ≡ n = grind (arith, nat_tests) in omega arith
-      | false ↦ λ t is. omega (arith, found-below n item rows (a + 1) k rest is)
-    ] refl found
-
 module _ (h : History) (rows : List (Row (Addressed Letter))) (index : List Known) (tally : Statistics) (flights room : ℕ) (kept : IsKept h rows index tally flights room) where
   -- a number that has no row is no message's
   pub asked-none : (number : ℕ) → item_at number rows ≡ None → cancel_answer h number ≡ Err NoSuchMessage
   asked-none number none = elim (row-of h rows kept.rows_agree number)
-      [ inl w ↦ let found = w.3 in absurd cc | inr w ↦ answer-beyond h number w.1 ]
+      [ inl w ↦ let found = w.3 in absurd cc | inr w ↦ answer-gone h number w.1 ]
 
   module _ (number : ℕ) (message : Addressed Letter) (found : item_at number rows ≡ Some message) where
     -- a number that has a row is a message's
-    asked-exists : number < message_count h
-    asked-exists = omega (arith, found-below number message rows 0 (message_count h) kept.rows_agree.each_once found)
+    asked-exists : is_some (message_at h number) ≡ true
+    asked-exists = among-kept (λ n. is_some (message_at h n)) (numbers h) number (sym (ap (list_any (λ m. m == number)) kept.rows_agree.each_once) ∙ found-among number message rows found)
 
     -- its slots are as the history has them
     asked-slots : (λ d. state_at d message.slots) ≡ slot h number
@@ -100,12 +87,12 @@ module _ (h : History) (rows : List (Row (Addressed Letter))) (index : List Know
 
       -- it waits nowhere
       pub asked-nothing : mask ≡ 0 → cancel_answer h number ≡ Err NothingWaiting
-      asked-nothing none = answer-inside h number asked-exists ∙ answer-nothing (mask_where (waits h number)) (sym asked-mask ∙ none)
+      asked-nothing none = answer-there h number asked-exists ∙ answer-nothing (mask_where (waits h number)) (sym asked-mask ∙ none)
 
       module _ (some : mask ≢ 0) where
         -- it waits somewhere
         pub asked-cancel : cancel_answer h number ≡ Ok mask
-        asked-cancel = answer-inside h number asked-exists ∙ (ap (λ m. if m == 0 then Err NothingWaiting else Ok m) (sym asked-mask) ∙ answer-mask mask some)
+        asked-cancel = answer-there h number asked-exists ∙ (ap (λ m. if m == 0 then Err NothingWaiting else Ok m) (sym asked-mask) ∙ answer-mask mask some)
 
         cancelled : CancelStep h number mask
         cancelled = cancel-step h kept.sound number mask asked-cancel
@@ -119,7 +106,7 @@ module _ (h : History) (rows : List (Row (Addressed Letter))) (index : List Know
             → IsKept (followed_by h (Cancel number mask)) (changed_at number cancel rows) index tally' flights room'
         kept-cancelled tally' room' counts left = record {
           sound = cancelled.sound;
-          rows_agree = rows-cancelled h _ number mask cancelled.nothing.accepted cancelled.state cancelled.bits rows kept.rows_agree;
+          rows_agree = rows-cancelled h _ refl number mask cancelled.nothing.accepted cancelled.state cancelled.bits rows kept.rows_agree;
           keys_agree = λ key. kept.keys_agree key ∙ sym (cancelled.nothing.known key);
           are_counted = counted-cancel h number mask cancelled tally tally' kept.are_counted counts;
           flights_are = omega (arith, cancelled.in_flight, kept.flights_are);
@@ -141,5 +128,5 @@ module _ (h : History) (rows : List (Row (Addressed Letter))) (index : List Know
           cancelled-owed = omega (arith, cancelled.owed, asked-owed)
 
           -- there is room for the entry
-          pub cancelled-within : next_place h + 1 + (owed h - owes) ≤ h.opening.events_max
+          pub cancelled-within : length h.entries + 1 + (owed h - owes) ≤ h.opening.events_max
           cancelled-within = omega (arith, cancelled-owed, cancelled.sound.room, length-append h.entries (Cancel number mask ∷ []))

@@ -20,9 +20,10 @@ use Rattle.event_log.proofs.Deploying.{allowed-parts, deploy-step}
 use Rattle.event_log.proofs.Following.{message_count-same, slot-same}
 use Rattle.event_log.proofs.Steps.{DeployStep}
 use Rattle.book_core.specs.declared.letter.Letter.{Letter}
-use Rattle.book_core.specs.Counting.{AreCounted, destination_counts, is_take_at}
+use Rattle.event_log.specs.Counting.{destination_counts, is_take_at}
+use Rattle.book_core.specs.Counting.{AreCounted}
 use Rattle.book_core.specs.Parts.{IsKept}
-use Rattle.book_core.proofs.CountedSteps.{channels-kept, count-kept}
+use Rattle.book_core.proofs.CountedSteps.{attempts-kept, channels-kept}
 use Rattle.book_core.proofs.Moves.{moved-nowhere, moves-nowhere}
 use Rattle.book_core.proofs.RowsAdded.{rows-kept}
 
@@ -31,14 +32,14 @@ use Rattle.book_core.proofs.RowsAdded.{rows-kept}
 module _ (h : History) (plan : PlanEntry) (step : DeployStep h plan) where
   -- no slot changes
   slot-kept : (n d : ℕ) → slot (followed_by h (Deploy plan)) n d ≡ slot h n d
-  slot-kept n d = slot-same h (followed_by h (Deploy plan)) step.nothing.accepted n d ∙ ap (λ s. cond (names d (deliveries h n)) (Some s) None) (step.state n d)
+  slot-kept n d = slot-same h (followed_by h (Deploy plan)) refl step.nothing.accepted n d ∙ ap (λ s. cond (names d (deliveries h n)) (Some s) None) (step.state n d)
 
   -- no destination counts otherwise
   pub deployed-counts : (d : ℕ) → destination_counts (followed_by h (Deploy plan)) d ≡ destination_counts h d
   deployed-counts d =
       moves-nowhere None (destination_counts h d) (destination_counts (followed_by h (Deploy plan)) d)
-      (moved-nowhere h (followed_by h (Deploy plan)) d (message_count-same h (followed_by h (Deploy plan)) step.nothing.accepted) (λ m below. slot-kept m d))
-      (count-kept (is_take_at d) h (Deploy plan) refl)
+      (moved-nowhere h (followed_by h (Deploy plan)) refl d (message_count-same h (followed_by h (Deploy plan)) refl step.nothing.accepted) (λ m below. slot-kept m d))
+      (attempts-kept h (Deploy plan) d refl)
 
   pub counted-deploy : (tally : Statistics) → AreCounted h tally → AreCounted (followed_by h (Deploy plan)) tally
   counted-deploy tally counts = record {
@@ -131,7 +132,7 @@ module _ (h : History) (rows : List (Row (Addressed Letter))) (index : List Know
   pub kept-deployed : (room' : ℕ) → flights ≤ room' → IsKept (followed_by h (Deploy plan)) rows index tally flights room'
   kept-deployed room' left = record {
     sound = deployed.sound;
-    rows_agree = rows-kept h (followed_by h (Deploy plan)) deployed.nothing.accepted deployed.state rows kept.rows_agree;
+    rows_agree = rows-kept h (followed_by h (Deploy plan)) refl deployed.nothing.accepted deployed.state rows kept.rows_agree;
     keys_agree = λ key. kept.keys_agree key ∙ sym (deployed.nothing.known key);
     are_counted = counted-deploy h plan deployed tally kept.are_counted;
     flights_are = kept.flights_are ∙ sym deployed.in_flight;

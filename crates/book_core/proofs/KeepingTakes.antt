@@ -1,5 +1,5 @@
 -- A book is kept by a take.
-use Rattle.std.proofs.Common.{◌≡◌, ℕ, ◌+◌, ◌-◌, ◌<◌, ◌≤◌, true, false, cond, ◌==◌, ◌||◌, inl, inr, List, [], ◌∷◌, Option, None, Some, Ok, Err, refl, sym, ◌∙◌, ap, arith, length-append, subst}
+use Rattle.std.proofs.Common.{◌≡◌, ℕ, ◌+◌, ◌-◌, ◌<◌, ◌≤◌, true, false, cond, ◌==◌, ◌||◌, inl, inr, List, [], ◌∷◌, Option, None, Some, Ok, Err, refl, sym, ◌∙◌, ap, arith, length, length-append, subst}
 use Rattle.std.specs.Prelude.{IfSome, find, option_and_then, slice_get}
 use Rattle.std.specs.Option.{option_map, option_map_or}
 use Rattle.std.proofs.lemmas.Option.{same_Some, slice_get_past}
@@ -98,7 +98,7 @@ module _ (h : History) (rows : List (Row (Addressed Letter))) (index : List Know
   pub letter-exists : (n d : ℕ) → names d (deliveries h n) ≡ true → item_at n rows ≡ None → ⊥
   letter-exists n d named none = elim (row-of h rows kept.rows_agree n) [
     | inl w ↦ let found = w.3 in absurd cc
-    | inr w ↦ let nothing : deliveries h n ≡ [] = ap (λ m. option_map_or (λ m. m.deliveries) m []) (slice_get_past (accepted h) n w.1) in
+    | inr w ↦ let nothing : deliveries h n ≡ [] = ap (λ m. option_map_or (λ m. m.deliveries) m []) w.1 in
         let no : names d (deliveries h n) ≡ false = ap (names d) nothing in absurd cc
   ]
 
@@ -126,10 +126,10 @@ module _ (h : History) (rows : List (Row (Addressed Letter))) (index : List Know
     taken-inside = slot-inside h kept.sound ticket.number d (Waiting taking.attempts taking.due) waited
 
     pub taken-waits : 0 < (destination_at d tally).waiting
-    taken-waits = subst (λ e. 0 < (destination_at e tally).waiting) place (take-waits h now ticket tally taking (rw place taken-inside) kept.are_counted).0
+    taken-waits = subst (λ e. 0 < (destination_at e tally).waiting) place (take-waits h now ticket tally taking kept.sound.opening (rw place taken-inside) kept.are_counted).0
 
-    pub taken-attempts : (destination_at d tally).attempts ≤ 1000000
-    taken-attempts = subst (λ e. (destination_at e tally).attempts ≤ 1000000) place (omega (arith, (take-waits h now ticket tally taking (rw place taken-inside) kept.are_counted).1, kept.sound.room, kept.bound))
+    pub taken-attempts : (destination_at d tally).attempts ≤ 1001000000
+    taken-attempts = subst (λ e. (destination_at e tally).attempts ≤ 1001000000) place (omega (arith, (take-waits h now ticket tally taking kept.sound.opening (rw place taken-inside) kept.are_counted).1, kept.sound.room, kept.bound, kept.sound.opening.places_few, kept.sound.opening.prunings_few))
 
     pub taken-less : 1 ≤ owed h
     taken-less = omega (arith, taking.owed)
@@ -137,7 +137,7 @@ module _ (h : History) (rows : List (Row (Addressed Letter))) (index : List Know
     pub taken-owed : owed h - 1 ≡ owed (followed_by h (Take ticket now))
     taken-owed = omega (arith, taking.owed)
 
-    pub taken-within : next_place h + 1 + owed (followed_by h (Take ticket now)) ≤ h.opening.events_max
+    pub taken-within : length h.entries + 1 + owed (followed_by h (Take ticket now)) ≤ h.opening.events_max
     taken-within = omega (arith, taking.sound.room, length-append h.entries (Take ticket now ∷ []))
 
     -- the message names d
@@ -149,7 +149,7 @@ module _ (h : History) (rows : List (Row (Addressed Letter))) (index : List Know
     kept-taken room' left = subst (λ e. IsKept (followed_by h (Take ticket now)) (changed_at ticket.number (put e (InFlight ticket.attempt)) rows) index (on_destination e taken_one tally) (flights + 1) room') place (
         let named = slot-state h ticket.number ticket.destination (Waiting taking.attempts taking.due) taking.waited in record {
           sound = taking.sound;
-          rows_agree = rows-settled h _ ticket.number ticket.destination (InFlight ticket.attempt) taking.nothing.accepted taking.state named.0 (ap is_live named.1) rows kept.rows_agree;
+          rows_agree = rows-settled h _ refl ticket.number ticket.destination (InFlight ticket.attempt) taking.nothing.accepted taking.state named.0 (ap is_live named.1) rows kept.rows_agree;
           keys_agree = λ key. kept.keys_agree key ∙ sym (taking.nothing.known key);
           are_counted = counted-take h now ticket tally taking (rw place taken-inside) kept.are_counted;
           flights_are = omega (arith, taking.in_flight, kept.flights_are);

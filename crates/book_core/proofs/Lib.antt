@@ -3,6 +3,7 @@ pub mod Counted
 pub mod CountedArrivals
 pub mod CountedCancels
 pub mod CountedSteps
+pub mod Gains
 pub mod Keeping
 pub mod KeepingArrivals
 pub mod KeepingCancels

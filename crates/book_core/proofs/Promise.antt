@@ -20,7 +20,7 @@ use Rattle.event_log.proofs.Reading.{queue-rises}
 use Rattle.event_log.proofs.Replaying.{accepted-is, filtered-is, message-arrived, repeat-is}
 use Rattle.event_log.proofs.Rerun.{replay-same}
 use Rattle.book_core.specs.declared.letter.Letter.{Letter}
-use Rattle.book_core.specs.Counting.{channel_counts}
+use Rattle.event_log.specs.Counting.{channel_counts}
 use Rattle.book_core.specs.Headline.{KeepsItsPromise}
 use Rattle.book_core.specs.Parts.{IsAsTold, IsKept}
 use Rattle.book_core.proofs.Counted.{counted-is, received-sum}
@@ -74,7 +74,7 @@ module _ (h : History) (rows : List (Row (Addressed Letter))) (index : List Know
         acknowledged = accepted-is h kept.sound.legal;
         arrived = message-arrived h kept.sound.legal;
         filtered = filtered-is h kept.sound.legal;
-        repeated = repeat-is h kept.sound.legal;
+        repeated = repeat-is h kept.sound.opening kept.sound.legal;
         one_row = kept.rows_agree.each_once;
         standing = kept-slot h rows kept.rows_agree;
         once = all-listed (λ row. AllPairs (λ (a b : Slot). a.destination ≢ b.destination) row.item.slots) rows (rows-once rows kept.rows_agree.as_told);
@@ -84,6 +84,6 @@ module _ (h : History) (rows : List (Row (Addressed Letter))) (index : List Know
         statistics = statistics;
         received = subst (λ (t : Statistics). All (λ (c : ChannelCounts). c.received ≡ c.filtered + c.accepted + c.refused) t.channels) (sym statistics)
             (All-map (λ (c : ChannelCounts). c.received ≡ c.filtered + c.accepted + c.refused) (channel_counts h) (range_with_len 0 64)
-            (all-each (λ c. (channel_counts h c).received ≡ (channel_counts h c).filtered + (channel_counts h c).accepted + (channel_counts h c).refused) (received-sum h) (range_with_len 0 64)));
+            (all-each (λ c. (channel_counts h c).received ≡ (channel_counts h c).filtered + (channel_counts h c).accepted + (channel_counts h c).refused) (received-sum h kept.sound.opening) (range_with_len 0 64)));
         room = kept.sound.room;
       }

@@ -15,14 +15,14 @@ use Rattle.dest_queue.specs.Queues.{settle}
 use Rattle.dest_queue.specs.SlotsBy.{slots_by}
 use Rattle.dest_queue.specs.States.{is_live}
 use Rattle.dest_queue.proofs.SlotLaws.{with_state-slots_by}
-use Rattle.event_log.specs.History.{History, Accepted, accepted, control_id_of, deliveries, is_queued, named, names, state}
-use Rattle.event_log.proofs.Following.{funext}
+use Rattle.event_log.specs.History.{History, Accepted, accepted, control_id_of, deliveries, is_queued, message_at, named, names, state}
+use Rattle.event_log.proofs.Following.{deliveries-same, funext, message-same, remaining-same}
 use Rattle.book_core.specs.declared.letter.Letter.{Letter}
 use Rattle.book_core.specs.Parts.{IsAsTold, RowsAgree}
 use Rattle.book_core.proofs.Rows.{rows-changed}
 
 -- a row whose message and states are as before is as it was told
-pub same-row : (h g : History) (row : Row (Addressed Letter)) → slice_get (accepted g) row.number ≡ slice_get (accepted h) row.number → ((d : ℕ) → state g row.number d ≡ state h row.number d) → IsAsTold h row → IsAsTold g row
+pub same-row : (h g : History) (row : Row (Addressed Letter)) → message_at g row.number ≡ message_at h row.number → ((d : ℕ) → state g row.number d ≡ state h row.number d) → IsAsTold h row → IsAsTold g row
 same-row h g row message states told =
     let goes : deliveries g row.number ≡ deliveries h row.number = ap (λ m. option_map_or (λ m. m.deliveries) m []) message in record {
       slots = told.slots ∙ (ap (λ states. slots_by states (named h row.number)) (funext _ _ (λ d. sym (states d))) ∙ ap (λ ds. slots_by (state g row.number) (destinations_of ds)) (sym goes));
@@ -32,13 +32,13 @@ same-row h g row message states told =
     }
 
 -- an entry that changes the state of message n at d alone
-module _ (h g : History) (n d : ℕ) (after : SlotState) (messages : accepted g ≡ accepted h)
+module _ (h g : History) (opening : g.opening ≡ h.opening) (n d : ℕ) (after : SlotState) (messages : accepted g ≡ accepted h)
     (states : (m e : ℕ) → state g m e ≡ cond ((n == m) && (d == e)) after (state h m e)) where
   goes : (m : ℕ) → deliveries g m ≡ deliveries h m
-  goes m = ap (λ ms. option_map_or (λ m. m.deliveries) (slice_get ms m) []) messages
+  goes m = deliveries-same h g opening messages m
 
   elsewhere : (row : Row (Addressed Letter)) → row.number ≢ n → IsAsTold h row → IsAsTold g row
-  elsewhere row differs told = same-row h g row (ap (λ ms. slice_get ms row.number) messages)
+  elsewhere row differs told = same-row h g row (message-same h g opening messages row.number)
       (λ e. states row.number e ∙ elim (eqb_tells n row.number) [ inl w ↦ absurd (differs (sym w.1)) | inr w ↦ rw w.0 refl ]) told
 
   -- the state at another destination stays
@@ -57,7 +57,7 @@ module _ (h g : History) (n d : ℕ) (after : SlotState) (messages : accepted g 
     slots = rw told.slots (with_state-slots_by (state h row.number) (named h row.number) d after
         ∙ rw same (ap (λ states. slots_by states (named h n)) (funext _ _ states-now) ∙ ap (λ ds. slots_by (state g n) (destinations_of ds)) (sym (goes n))));
     queues = λ e within. rw same (queue-now e within);
-    control_id = told.control_id ∙ rw same (ap (λ ms. option_map_or (λ m. control_id_of m.raw) (slice_get ms n) []) (sym messages));
+    control_id = told.control_id ∙ rw same (ap (λ m. option_map_or (λ m. control_id_of m.raw) m []) (sym (message-same h g opening messages n)));
     deliveries = told.deliveries ∙ rw same (sym (goes n));
   }
     where
@@ -91,4 +91,4 @@ module _ (h g : History) (n d : ℕ) (after : SlotState) (messages : accepted g 
   -- the rows follow
   pub rows-settled : names d (deliveries h n) ≡ true → is_live (state h n d) ≡ true → (rows : List (Row (Addressed Letter))) → RowsAgree h rows → RowsAgree g (changed_at n (settle d after) rows)
   rows-settled named-it lived rows agree =
-      rows-changed h g n (settle d after) (λ row. refl) elsewhere (here named-it lived) rows (ap (λ (ms : List Accepted). range_with_len 0 (length ms)) messages) agree
+      rows-changed h g n (settle d after) (λ row. refl) elsewhere (here named-it lived) rows (remaining-same h g opening messages) agree

@@ -19,6 +19,7 @@ use Rattle.dest_queue.specs.States.{is_live, is_waiting}
 use Rattle.dest_queue.proofs.SlotLaws.{cancelled-slots_by, left-waiting_at, waits_at-slots_by}
 use Rattle.event_log.specs.History.{History, Accepted, accepted, control_id_of, deliveries, is_queued, named, names, state}
 use Rattle.event_log.specs.Answers.{waits}
+use Rattle.event_log.proofs.Following.{deliveries-same, message-same, remaining-same}
 use Rattle.book_core.specs.declared.letter.Letter.{Letter}
 use Rattle.book_core.specs.Parts.{IsAsTold, RowsAgree}
 use Rattle.book_core.proofs.Rows.{among-named, rows-changed}
@@ -48,13 +49,13 @@ left-is true (InFlight attempt) = refl
 left-is true Delivered = refl
 left-is true (Failed cause) = refl
 
-module _ (h g : History) (n mask : ℕ) (messages : accepted g ≡ accepted h)
+module _ (h g : History) (opening : g.opening ≡ h.opening) (n mask : ℕ) (messages : accepted g ≡ accepted h)
     (states : (m e : ℕ) → state g m e ≡ cond ((n == m) && (bit_at mask e == 1)) (Failed Cancelled) (state h m e)) (bits : (e : ℕ) → (bit_at mask e == 1) ≡ waits h n e) where
   goes : (m : ℕ) → deliveries g m ≡ deliveries h m
-  goes m = ap (λ ms. option_map_or (λ m. m.deliveries) (slice_get ms m) []) messages
+  goes m = deliveries-same h g opening messages m
 
   elsewhere : (row : Row (Addressed Letter)) → row.number ≢ n → IsAsTold h row → IsAsTold g row
-  elsewhere row differs told = same-row h g row (ap (λ ms. slice_get ms row.number) messages)
+  elsewhere row differs told = same-row h g row (message-same h g opening messages row.number)
       (λ e. states row.number e ∙ elim (eqb_tells n row.number) [ inl w ↦ absurd (differs (sym w.1)) | inr w ↦ rw w.0 refl ]) told
 
   state-now : (e : ℕ) → state g n e ≡ cond (names e (deliveries h n) && is_waiting (state h n e)) (Failed Cancelled) (state h n e)
@@ -67,7 +68,7 @@ module _ (h g : History) (n mask : ℕ) (messages : accepted g ≡ accepted h)
         ∙ rw same (slots_by-same _ _ (named h n) (λ e among. sym (state-now e ∙ ap (λ b. cond (b && is_waiting (state h n e)) (Failed Cancelled) (state h n e)) (sym (among-named e (deliveries h n)) ∙ among)))
         ∙ ap (λ ds. slots_by (state g n) (destinations_of ds)) (sym (goes n))));
     queues = λ e within. left-waiting_at row.item.slots row.mask e within ∙ (ap (λ b. b && not (waits_at e row.item.slots)) (was e within) ∙ (ap (λ b. is_queued h e n && not b) (waited e) ∙ (sym (queue-now e) ∙ ap (is_queued g e) (sym same))));
-    control_id = told.control_id ∙ rw same (ap (λ ms. option_map_or (λ m. control_id_of m.raw) (slice_get ms n) []) (sym messages));
+    control_id = told.control_id ∙ rw same (ap (λ m. option_map_or (λ m. control_id_of m.raw) m []) (sym (message-same h g opening messages n)));
     deliveries = told.deliveries ∙ rw same (sym (goes n));
   }
     where
@@ -85,4 +86,4 @@ module _ (h g : History) (n mask : ℕ) (messages : accepted g ≡ accepted h)
   -- the rows follow
   pub rows-cancelled : (rows : List (Row (Addressed Letter))) → RowsAgree h rows → RowsAgree g (changed_at n cancel rows)
   rows-cancelled rows agree =
-      rows-changed h g n cancel (λ row. refl) elsewhere here rows (ap (λ (ms : List Accepted). range_with_len 0 (length ms)) messages) agree
+      rows-changed h g n cancel (λ row. refl) elsewhere here rows (remaining-same h g opening messages) agree

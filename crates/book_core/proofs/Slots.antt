@@ -1,19 +1,21 @@
 -- How many slots there are, as one message's slots change.
-use Rattle.std.proofs.Common.{◌≡◌, ◌≢◌, ℕ, ◌+◌, ◌<◌, ◌≤◌, Bool, false, cond, List, [], ◌∷◌, length, Option, None, Some, refl, ◌∙◌, ap, arith, suc}
-use Rattle.std.specs.Prelude.{count_by, sum_by}
+use Rattle.std.proofs.Common.{◌≡◌, ◌≢◌, ℕ, ◌+◌, ◌*◌, ◌<◌, ◌≤◌, Bool, false, cond, List, [], ◌∷◌, length, get_or, Option, None, Some, refl, ◌∙◌, ap, arith, suc, zero}
+use Rattle.std.specs.Prelude.{All, count_by, sum_by}
 use Rattle.std.specs.List.{range_with_len}
 use Rattle.std.specs.Option.{option_map_or}
+use Rattle.std.proofs.lemmas.List.Elements.{All-head, All-tail}
 use Rattle.std.proofs.lemmas.List.FromFn.{length-range_with_len}
 use Rattle.std.proofs.lemmas.List.Sums.{length-filter, sum_by-cons, sum_by_push}
 use Rattle.dest_queue.specs.declared.SlotState.{SlotState}
 use Rattle.dest_queue.specs.declared.SlotState.TheVariants.{Waiting, InFlight, Delivered, Failed}
 use Rattle.dest_queue.specs.States.{is_live, is_waiting}
-use Rattle.stat_count.specs.Statistics.{slots_of}
+use Rattle.stat_count.specs.Statistics.{no_slots, slots_of}
 use Rattle.event_log.specs.declared.entry.Entry.{Entry}
-use Rattle.event_log.specs.History.{History, followed_by, message_count, numbers, queue, slot}
+use Rattle.event_log.specs.History.{History, followed_by, message_count, next_place, numbers, queue, slot}
+use Rattle.event_log.specs.Legal.{IsGoodOpening}
 use Rattle.event_log.specs.Room.{is_in_flight}
-use Rattle.event_log.proofs.Totals.{messages-entries, sum-alike, sum-changed, sum-more}
-use Rattle.book_core.specs.Counting.{destination_counts, is_delivered, is_failed, slot_count}
+use Rattle.event_log.proofs.Totals.{messages-places, sum-alike, sum-changed, sum-more}
+use Rattle.event_log.specs.Counting.{destination_before, destination_counts, is_delivered, is_failed, slot_count}
 
 -- 1 for a slot that is so
 abbrev pub one : (SlotState → Bool) → Option SlotState → ℕ
@@ -79,15 +81,24 @@ four-counts a b c d once [] = omega arith
 four-counts a b c d once (n ∷ ns) =
     let here = once n in let rest = four-counts a b c d once ns in omega (arith, sum_by-cons a n ns, sum_by-cons b n ns, sum_by-cons c n ns, sum_by-cons d n ns)
 
--- no more slots than messages
-pub slots-messages : (h : History) (d : ℕ) → slots_of (destination_counts h d) ≤ message_count h
+-- no more slots than messages, and those that are forgotten
+pub slots-messages : (h : History) (d : ℕ) → slots_of (destination_counts h d) ≤ (destination_before h d).delivered + (destination_before h d).failed + message_count h
 slots-messages h d =
     let counts = four-counts (λ n. one is_waiting (slot h n d)) (λ n. one is_in_flight (slot h n d)) (λ n. one is_delivered (slot h n d)) (λ n. one is_failed (slot h n d)) (λ n. one-state (slot h n d)) (numbers h) in
     omega (arith, counts, length-range_with_len 0 (message_count h))
 
--- no more slots than entries
-pub slots-entries : (h : History) (d : ℕ) → slots_of (destination_counts h d) ≤ length h.entries
-slots-entries h d = let few = slots-messages h d in let messages = messages-entries h in omega arith
+-- what holds of each item of a list, and of the default, holds at each place
+pub all-at : {X : Type 0} (P : X → Type 0) (xs : List X) (d : X) → All P xs → P d → (k : ℕ) → P (get_or xs k d)
+all-at P [] d all none k = none
+all-at P (x ∷ xs) d all none zero = All-head P x xs all
+all-at P (x ∷ xs) d all none (suc k) = all-at P xs d (All-tail P x xs all) none k
+
+-- no more slots than two for each place
+pub slots-places : (h : History) → IsGoodOpening h.opening → (d : ℕ) → slots_of (destination_counts h d) ≤ 2 * next_place h
+slots-places h good d =
+    let few = slots-messages h d in
+    let messages = messages-places h good.messages_few in
+    let before = all-at (λ c. c.delivered + c.failed ≤ h.opening.places) h.opening.forgotten.destinations no_slots good.forgotten.named (omega arith) d in omega arith
 
 -- a count with one more entry
 pub count-push : (so : Entry → Bool) (h : History) (e : Entry) → count_by so (followed_by h e).entries ≡ count_by so h.entries + cond (so e) 1 0

@@ -6,17 +6,17 @@ use Rattle.dup_index.specs.Known.{Known, place_of}
 use Rattle.hl7_head.specs.declared.ack.Cause.TheVariants.{IdReused}
 use Rattle.judge_core.specs.Judging.{is_bookable, key_of, verdict}
 use Rattle.event_log.specs.declared.entry.Told.TheVariants.{Refused, Repeat}
-use Rattle.event_log.specs.History.{History, entry_at, message_count, plan_in_force}
-use Rattle.event_log.specs.Answers.{answer, brings, known, told_again, told_by}
+use Rattle.event_log.specs.History.{History, message_count, plan_in_force}
+use Rattle.event_log.specs.Answers.{answer, brings_at, known, told_again, told_by}
 use Rattle.book_core.specs.Parts.{KeysAgree}
 
 -- what the index finds of a key is the place at which the history has it
 pub found-known : (h : History) (index : List Known) (key looked : List ℕ) (found place : Option ℕ) → KeysAgree h index → looked ≡ key → found ≡ place_of looked index → found ≡ place → known h key ≡ place
 found-known h index key looked found place agree same lookup is = sym (agree key) ∙ (ap (λ k. place_of k index) (sym same) ∙ (sym lookup ∙ is))
 
--- what is read of the entry at a place is what the history says of it
-pub brought : (h : History) (raw read : List ℕ) (place : ℕ) (test b : Bool) → read ≡ raw → test ≡ option_map_or (brings read) (entry_at h place) false → test ≡ b → option_map_or (brings raw) (entry_at h place) false ≡ b
-brought h raw read place test b same tested told = ap (λ r. option_map_or (brings r) (entry_at h place) false) (sym same) ∙ (sym tested ∙ told)
+-- what is read at a place is what the history says of it
+pub brought : (h : History) (raw read : List ℕ) (place : ℕ) (test b : Bool) → read ≡ raw → test ≡ brings_at h read place → test ≡ b → brings_at h raw place ≡ b
+brought h raw read place test b same tested told = ap (λ r. brings_at h r place) (sym same) ∙ (sym tested ∙ told)
 
 module _ (h : History) (channel : ℕ) (raw : List ℕ) (bookable : is_bookable raw ≡ true) where
   -- by the place of its key
@@ -26,11 +26,11 @@ module _ (h : History) (channel : ℕ) (raw : List ℕ) (bookable : is_bookable 
   by-place place found = rw (bookable, found) refl
 
   -- the same bytes came before
-  pub told-repeat : (place : ℕ) → known h (key_of channel raw) ≡ Some place → option_map_or (brings raw) (entry_at h place) false ≡ true → answer h channel raw ≡ Some (Repeat place)
+  pub told-repeat : (place : ℕ) → known h (key_of channel raw) ≡ Some place → brings_at h raw place ≡ true → answer h channel raw ≡ Some (Repeat place)
   told-repeat place found same = by-place (Some place) found ∙ ap (λ b. Some (if b then Repeat place else Refused IdReused)) same
 
   -- other bytes came before
-  pub told-reused : (place : ℕ) → known h (key_of channel raw) ≡ Some place → option_map_or (brings raw) (entry_at h place) false ≡ false → answer h channel raw ≡ Some (Refused IdReused)
+  pub told-reused : (place : ℕ) → known h (key_of channel raw) ≡ Some place → brings_at h raw place ≡ false → answer h channel raw ≡ Some (Refused IdReused)
   told-reused place found other = by-place (Some place) found ∙ ap (λ b. Some (if b then Repeat place else Refused IdReused)) other
 
   -- its key is not known

@@ -1,11 +1,11 @@
 -- What an entry adds to the sums of the statistics.
-use Rattle.std.proofs.Common.{◌≡◌, ℕ, ◌+◌, ◌-◌, ◌*◌, ◌<◌, ◌≤◌, inl, inr, Bool, true, false, cond, not, ◌==◌, List, [], ◌∷◌, length, map, None, Some, Ok, refl, sym, ◌∙◌, ap, subst, arith, suc, zero, add-zero, get_or, set, length-set, get_or-set_same, get_or-set_other}
+use Rattle.std.proofs.Common.{◌≡◌, ℕ, ◌+◌, ◌-◌, ◌*◌, ◌<◌, ◌≤◌, inl, inr, Bool, true, false, cond, not, ◌==◌, List, [], ◌∷◌, length, map, take, None, Some, Ok, refl, sym, ◌∙◌, ap, subst, arith, suc, zero, add-zero, get_or, set, length-set, get_or-set_same, get_or-set_other}
 use Rattle.std.specs.Prelude.{slice_get, sum_by}
 use Rattle.std.specs.List.{list_any, range_with_len}
 use Rattle.std.specs.Int.{bit_at}
 use Rattle.std.proofs.lemmas.Bool.Decides.{eqb_tells}
 use Rattle.std.proofs.lemmas.List.FromFn.{length-range_with_len}
-use Rattle.std.proofs.lemmas.List.Sums.{count_by-le-length, sum_by-cons}
+use Rattle.std.proofs.lemmas.List.Sums.{sum_by-cons}
 use Rattle.plan_text.specs.Entries.{PlanEntry}
 use Rattle.dest_queue.specs.declared.Outcome.{Outcome}
 use Rattle.dest_queue.specs.declared.SlotState.{SlotState}
@@ -20,7 +20,7 @@ use Rattle.event_log.specs.declared.entry.Told.{Told}
 use Rattle.event_log.specs.declared.entry.Told.TheVariants as told
 use Rattle.event_log.specs.declared.entry.Entry.{Entry}
 use Rattle.event_log.specs.declared.entry.Entry.TheVariants.{Arrival, Take, Settle, Cancel, Deploy}
-use Rattle.event_log.specs.History.{History, before, followed_by, plan_in_force}
+use Rattle.event_log.specs.History.{History, continued, followed_by, next_place, plan_in_force}
 use Rattle.event_log.specs.Answers.{cancel_answer, settle_answer, take_answer}
 use Rattle.event_log.specs.Legal.{IsSound, MayFollow}
 use Rattle.event_log.specs.Room.{is_in_flight, slots_added}
@@ -28,17 +28,18 @@ use Rattle.event_log.proofs.Arriving.{arrival-step}
 use Rattle.event_log.proofs.Cancelling.{cancel-step}
 use Rattle.event_log.proofs.Deploying.{deploy-step}
 use Rattle.event_log.proofs.Fitting.{sound-before, take-past}
-use Rattle.event_log.proofs.Following.{take-whole}
+use Rattle.event_log.proofs.Following.{follows-since, take-whole}
 use Rattle.event_log.proofs.Reading.{slot-inside}
 use Rattle.event_log.proofs.Replaying.{take-more}
 use Rattle.event_log.proofs.Settling.{settle-step}
 use Rattle.event_log.proofs.Taking.{take-step}
-use Rattle.book_core.specs.Counting.{SumsRise, channel_counts, counted, destination_counts, is_repeat, is_take_at, is_told, settled_one, told_one}
-use Rattle.book_core.proofs.Counted.{counted-are, counted-is, listed}
+use Rattle.event_log.specs.Counting.{channel_counts, counted, destination_counts, is_repeat, is_take_at, is_told}
+use Rattle.book_core.specs.Counting.{SumsRise, settled_one, told_one}
+use Rattle.book_core.proofs.Counted.{attempts-places, channel-places, counted-are, counted-is, listed}
 use Rattle.book_core.proofs.CountedArrivals.{arrived-counts, channel-kept, channel-told}
 use Rattle.book_core.proofs.CountedCancels.{cancelled-counts}
 use Rattle.book_core.proofs.KeepingDeployments.{deployed-counts}
-use Rattle.book_core.proofs.CountedSteps.{channels-kept, count-kept, counted-settle, counted-take, settle-flies, settle-inside}
+use Rattle.book_core.proofs.CountedSteps.{attempts-kept, channels-kept, counted-settle, counted-take, settle-flies, settle-inside}
 
 -- ---- sums over lists
 
@@ -111,19 +112,19 @@ taken-after h (Cancel number mask) sound may were d below = subst AreTaken (sym 
 taken-after h (Deploy plan) sound may were d below = subst AreTaken (sym (deployed-counts h plan (deploy-step h sound plan may) d)) (were d below)
 
 -- and holds of each sound history, as far as it was booked
-taken-before : (h : History) → IsSound h → (k d : ℕ) → d < 32 → AreTaken (destination_counts (before h k) d)
-taken-before h sound zero d below = omega arith
-taken-before h sound (suc k) d below = elim (slice_get h.entries k) as (λ o. slice_get h.entries k ≡ o → AreTaken (destination_counts (before h (suc k)) d)) [
-  | None ↦ λ none. subst (λ es. AreTaken (destination_counts (record { opening = h.opening; entries = es }) d)) (sym (take-past h.entries k none)) (taken-before h sound k d below)
+taken-before : (h : History) → IsSound h → (k d : ℕ) → d < 32 → AreTaken (destination_counts (continued h.opening (take k h.entries)) d)
+taken-before h sound zero d below = sound.opening.were_taken d below
+taken-before h sound (suc k) d below = elim (slice_get h.entries k) as (λ o. slice_get h.entries k ≡ o → AreTaken (destination_counts (continued h.opening (take (suc k) h.entries)) d)) [
+  | None ↦ λ none. subst (λ es. AreTaken (destination_counts (continued h.opening es) d)) (sym (take-past h.entries k none)) (taken-before h sound k d below)
   | Some e ↦ λ got.
-      subst (λ es. AreTaken (destination_counts (record { opening = h.opening; entries = es }) d)) (sym (take-more h.entries k e got))
-      (taken-after (before h k) e (sound-before h sound.opening sound.legal k) (sound.legal.follows k e got) (taken-before h sound k) d below)
+      subst (λ es. AreTaken (destination_counts (continued h.opening es) d)) (sym (take-more h.entries k e got))
+      (taken-after (continued h.opening (take k h.entries)) e (sound-before h sound.opening sound.legal k) (follows-since h sound.legal k e got) (taken-before h sound k) d below)
 ] refl
 
 -- to its end
 were-taken : (h : History) → IsSound h → (d : ℕ) → d < 32 → AreTaken (destination_counts h d)
 were-taken h sound d below =
-    subst (λ es. AreTaken (destination_counts (record { opening = h.opening; entries = es }) d)) (take-whole h.entries) (taken-before h sound (length h.entries) d below)
+    subst (λ es. AreTaken (destination_counts (continued h.opening es) d)) (take-whole h.entries) (taken-before h sound (length h.entries) d below)
 
 -- ---- the sums
 
@@ -177,7 +178,7 @@ cancel-sums h number mask sound is = record {
   arrivals = and-none _ _ (sum-same (λ (c : ChannelCounts). c.received + c.repeats) (channel_counts (followed_by h (Cancel number mask))) (channel_counts h)
       (λ c. ap (λ (k : ChannelCounts). k.received + k.repeats) (channels-kept h (Cancel number mask) (λ c so. refl) c)) (range_with_len 0 64));
   takes = and-none _ _ (sum-same (λ (c : DestinationCounts). c.attempts) (destination_counts (followed_by h (Cancel number mask))) (destination_counts h)
-      (λ d. count-kept (is_take_at d) h (Cancel number mask) refl) (range_with_len 0 32));
+      (λ d. attempts-kept h (Cancel number mask) d refl) (range_with_len 0 32));
   settlements = and-none _ _ (sum-same (λ (c : DestinationCounts). c.attempts - c.inflight) (destination_counts (followed_by h (Cancel number mask))) (destination_counts h)
       (λ d. ap (λ (k : DestinationCounts). k.attempts - k.inflight) (cancelled-counts h number mask (cancel-step h sound number mask is) d) ∙ by d (bit_at mask d == 1)) (range_with_len 0 32));
 }
@@ -193,7 +194,7 @@ deploy-sums h plan sound may = record {
   arrivals = and-none _ _ (sum-same (λ (c : ChannelCounts). c.received + c.repeats) (channel_counts (followed_by h (Deploy plan))) (channel_counts h)
       (λ c. ap (λ (k : ChannelCounts). k.received + k.repeats) (channels-kept h (Deploy plan) (λ c so. refl) c)) (range_with_len 0 64));
   takes = and-none _ _ (sum-same (λ (c : DestinationCounts). c.attempts) (destination_counts (followed_by h (Deploy plan))) (destination_counts h)
-      (λ d. count-kept (is_take_at d) h (Deploy plan) refl) (range_with_len 0 32));
+      (λ d. attempts-kept h (Deploy plan) d refl) (range_with_len 0 32));
   settlements = and-none _ _ (sum-same (λ (c : DestinationCounts). c.attempts - c.inflight) (destination_counts (followed_by h (Deploy plan))) (destination_counts h)
       (λ d. ap (λ (k : DestinationCounts). k.attempts - k.inflight) (deployed-counts h plan (deploy-step h sound plan may) d)) (range_with_len 0 32));
 }
@@ -233,7 +234,7 @@ arrival-sums h conn channel raw reply sound may known =
           ap (λ cs. sum_by (λ (c : ChannelCounts). c.received + c.repeats) cs) (sym (channels-after h conn channel raw reply below))
           ∙ arrivals-more (counted h) channel 1 (told_one reply) (omega arith) (told-more reply (channel_at channel (counted h)));
       takes = and-none _ _ (sum-same (λ (c : DestinationCounts). c.attempts) (destination_counts (followed_by h (Arrival conn channel raw reply))) (destination_counts h)
-          (λ d. count-kept (is_take_at d) h (Arrival conn channel raw reply) refl) (range_with_len 0 32));
+          (λ d. attempts-kept h (Arrival conn channel raw reply) d refl) (range_with_len 0 32));
       settlements = and-none _ _ (sum-same (λ (c : DestinationCounts). c.attempts - c.inflight) (destination_counts (followed_by h (Arrival conn channel raw reply))) (destination_counts h)
           (λ d. ap (λ (k : DestinationCounts). k.attempts - k.inflight) (arrived-counts h conn channel raw reply sound (arrival-step h sound conn channel raw reply may) d)
           ∙ by d (list_any (λ e. e == d) (slots_added (plan_in_force h) channel raw reply))) (range_with_len 0 32));
@@ -246,18 +247,11 @@ arrival-sums h conn channel raw reply sound may known =
 
 -- ---- their bound
 
--- the entries are few, and so are the sums
-pub sums-few : (h : History) → length h.entries ≤ 1000000 → (arrivals (counted h) ≤ 128000000) × (takes (counted h) ≤ 32000000) × (settlements (counted h) ≤ 32000000)
-sums-few h few =
-    let came = sum-within (λ (c : ChannelCounts). c.received + c.repeats) (channel_counts h) 2000000 (λ c. received h few c) (range_with_len 0 64) in
-    let begun = sum-within (λ (c : DestinationCounts). c.attempts) (destination_counts h) 1000000 (λ d. attempted h few d) (range_with_len 0 32) in
-    let ended = sum-within (λ (c : DestinationCounts). c.attempts - c.inflight) (destination_counts h) 1000000 (λ d. let most = attempted h few d in omega arith) (range_with_len 0 32) in
+-- the places are few, and so are the sums
+pub sums-few : (h : History) → IsSound h → length h.entries ≤ 1000000 → (arrivals (counted h) ≤ 128128000000) × (takes (counted h) ≤ 32032000000) × (settlements (counted h) ≤ 32032000000)
+sums-few h sound few =
+    let places : next_place h ≤ 1001000000 = omega (arith, sound.opening.places_few, sound.opening.prunings_few) in
+    let came = sum-within (λ (c : ChannelCounts). c.received + c.repeats) (channel_counts h) 2002000000 (λ c. let most = channel-places h sound.opening c in omega arith) (range_with_len 0 64) in
+    let begun = sum-within (λ (c : DestinationCounts). c.attempts) (destination_counts h) 1001000000 (λ d. let most = attempts-places h sound.opening d in omega arith) (range_with_len 0 32) in
+    let ended = sum-within (λ (c : DestinationCounts). c.attempts - c.inflight) (destination_counts h) 1001000000 (λ d. let most = attempts-places h sound.opening d in omega arith) (range_with_len 0 32) in
     (omega (arith, length-range_with_len 0 64), omega (arith, length-range_with_len 0 32), omega (arith, length-range_with_len 0 32))
-  where
-    received : (h : History) → length h.entries ≤ 1000000 → (c : ℕ) → (channel_counts h c).received + (channel_counts h c).repeats ≤ 2000000
-    received h few c =
-        let first = count_by-le-length (is_told c (λ told. not (is_repeat told))) h.entries in
-        let again = count_by-le-length (is_told c is_repeat) h.entries in omega arith
-
-    attempted : (h : History) → length h.entries ≤ 1000000 → (d : ℕ) → (destination_counts h d).attempts ≤ 1000000
-    attempted h few d = let most = count_by-le-length (is_take_at d) h.entries in omega arith

@@ -1,27 +1,21 @@
 -- What a book promises of its history, of the rows beside it and of the statistics.
-use Rattle.std.specs.Prelude.{◌≡◌, ◌≢◌, ◌<◌, ◌≤◌, ◌+◌, ◌&&◌, ℕ, Bool, true, false, List, [], Some, All, AllPairs, is_some, length}
+use Rattle.std.specs.Prelude.{◌≡◌, ◌≢◌, ◌<◌, ◌≤◌, ◌+◌, ◌⊎◌, ℕ, true, List, [], Some, All, AllPairs, is_some, length}
 use Rattle.std.specs.List.Sorted.{IsStrictlyIncreasing}
-use Rattle.std.specs.Option.{option_map_or}
-use Rattle.judge_core.specs.Judging.{verdict as decided, deliveries_of, key_of}
+use Rattle.judge_core.specs.Judging.{verdict as decided, deliveries_of}
 use Rattle.row_store.specs.declared.Row.{Row}
 use Rattle.row_store.specs.Rows.{numbers as numbers_of, queue_of}
 use Rattle.dest_queue.specs.declared.slots.Addressed.{Addressed}
 use Rattle.dest_queue.specs.Queues.{slot_of}
 use Rattle.stat_count.specs.Statistics.{Statistics}
-use Rattle.event_log.specs.declared.entry.Entry.{Entry}
 use Rattle.event_log.specs.declared.entry.Entry.TheVariants.{Arrival}
 use Rattle.event_log.specs.declared.entry.Told.TheVariants as told
-use Rattle.event_log.specs.History.{Accepted, History, accepted, accepted_under, before, deliveries, entry_at, message_at, names, numbers, plan_in_force, queue, slot}
-use Rattle.event_log.specs.Answers.{brings, keeps}
-use Rattle.event_log.specs.Legal.{HasArrival, IsLegal}
+use Rattle.event_log.specs.History.{Accepted, History, accepted, accepted_under, before, deliveries, entry_at, message_at, names, plan_in_force, queue, remaining, slot}
+use Rattle.event_log.specs.Answers.{is_first}
+use Rattle.event_log.specs.Legal.{HasArrival, IsLegal, IsRemembered}
 use Rattle.event_log.specs.Replay.{replay}
 use Rattle.event_log.specs.Room.{owed}
 use Rattle.book_core.specs.declared.letter.Letter.{Letter}
-use Rattle.book_core.specs.Counting.{counted}
-
--- whether an entry is an arrival that a text on this channel repeats: of the same message, told Accepted or Filtered, and byte for byte the same
-abbrev pub is_repeated_by : ℕ → List ℕ → Entry → Bool
-is_repeated_by channel raw e = keeps (key_of channel raw) e && brings raw e
+use Rattle.event_log.specs.Counting.{counted}
 
 -- what a book promises whenever it is free: these are its history, the rows that it keeps, and its statistics
 pub record KeepsItsPromise (h : History) (rows : List (Row (Addressed Letter))) (tally : Statistics) : Type 0 where
@@ -33,16 +27,17 @@ pub record KeepsItsPromise (h : History) (rows : List (Row (Addressed Letter))) 
   -- an arrival acknowledged as message n is message n: its channel, its bytes, and where they go
   pub acknowledged : (place conn channel n : ℕ) (raw : List ℕ) → entry_at h place ≡ Some (Arrival conn channel raw (told.Accepted n))
       → message_at h n ≡ Some (accepted_under (plan_in_force (before h place)) channel raw)
-  -- each message has its arrival, acknowledged with its number
-  pub arrived : (n : ℕ) (m : Accepted) → message_at h n ≡ Some m → HasArrival h n m
+  -- each message has its arrival, acknowledged with its number, or that arrival is remembered
+  pub arrived : (n : ℕ) (m : Accepted) → message_at h n ≡ Some m → HasArrival h n m ⊎ IsRemembered h n m
   -- an arrival acknowledged as filtered goes nowhere, and is no message
   pub filtered : (place conn channel : ℕ) (raw : List ℕ) → entry_at h place ≡ Some (Arrival conn channel raw told.Filtered)
       → (deliveries_of (decided (plan_in_force (before h place)) channel raw) ≡ []) × (accepted (before h (place + 1)) ≡ accepted (before h place))
-  -- an arrival acknowledged as a repeat repeats an arrival before it
+  -- an arrival acknowledged as a repeat repeats an arrival before it, or one that is remembered: of the same message, told Accepted or Filtered, and
+  -- byte for byte the same
   pub repeated : (place conn channel first : ℕ) (raw : List ℕ) → entry_at h place ≡ Some (Arrival conn channel raw (told.Repeat first))
-      → (first < place) × (option_map_or (is_repeated_by channel raw) (entry_at h first) false ≡ true)
-  -- each accepted message has one row, and the rows are in order of acceptance
-  pub one_row : numbers_of rows ≡ numbers h
+      → (first < place) × (is_first h channel raw first ≡ true)
+  -- each message that is not forgotten has one row, and the rows are in order of acceptance
+  pub one_row : numbers_of rows ≡ remaining h
   -- the row says how it stands with the message at each destination, waiting, in flight, delivered or failed, as the history does
   pub standing : (n d : ℕ) → slot_of n d rows ≡ slot h n d
   -- it stands there once

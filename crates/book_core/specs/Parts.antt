@@ -7,7 +7,7 @@ use Rattle.dest_queue.specs.declared.slots.Addressed.{Addressed}
 use Rattle.dest_queue.specs.SlotsBy.{slots_by}
 use Rattle.dup_index.specs.Known.{Known, place_of}
 use Rattle.stat_count.specs.Statistics.{Statistics}
-use Rattle.event_log.specs.History.{History, control_id, deliveries, is_queued, named, numbers, state}
+use Rattle.event_log.specs.History.{History, control_id, deliveries, is_queued, named, remaining, state}
 use Rattle.event_log.specs.Answers.{known}
 use Rattle.event_log.specs.Room.{in_flight}
 use Rattle.event_log.specs.Legal.{IsSound}
@@ -21,9 +21,9 @@ pub record IsAsTold (h : History) (row : Row (Addressed Letter)) : Type 0 where
   pub control_id : row.item.content.control_id ≡ control_id h row.number
   pub deliveries : row.item.content.deliveries ≡ deliveries h row.number
 
--- the rows are the accepted messages, each once and in order of acceptance
+-- the rows are the messages that are not forgotten, each once and in order of acceptance
 pub record RowsAgree (h : History) (rows : List (Row (Addressed Letter))) : Type 0 where
-  pub each_once : numbers_of rows ≡ numbers h
+  pub each_once : numbers_of rows ≡ remaining h
   pub as_told : AllByRecursion (IsAsTold h) rows
 
 -- the index finds each key where the history has it

@@ -22,6 +22,8 @@ use Rattle.event_log.specs.Room.{message_total, slot_owed}
 use Rattle.event_log.specs.declared.entry.Told.{Told}
 use Rattle.event_log.specs.declared.entry.Told.TheVariants as told
 use Rattle.book_core.specs.declared.letter.Letter.{Letter}
+use Rattle.book_core.specs.declared.arrival.Gain.{Gain}
+use Rattle.book_core.specs.declared.arrival.Gain.TheVariants as gain
 
 abbrev pub is_ack : Await → Bool
 is_ack await.Ack = true
@@ -38,13 +40,6 @@ IsAccepting told.Filtered v = Unit {0}
 IsAccepting (told.Refused cause) v = Unit {0}
 IsAccepting (told.Repeat place) v = Unit {0}
 
--- where a message goes that is told so; nowhere where it isn't accepted
-abbrev pub deliveries_if : Told → Verdict → List Delivery
-deliveries_if (told.Accepted number) v = deliveries_of v
-deliveries_if told.Filtered v = []
-deliveries_if (told.Refused cause) v = []
-deliveries_if (told.Repeat place) v = []
-
 -- a row was added for a message of this number, which waits wherever it goes
 pub record AddsRow (number : ℕ) (control_id : List ℕ) (deliveries : List Delivery) (old new : List (Row (Addressed Letter))) : Type 0 where
   pub mask : ℕ
@@ -55,19 +50,37 @@ pub record AddsRow (number : ℕ) (control_id : List ℕ) (deliveries : List Del
     mask = mask;
   } ∷ []
 
--- a row was added where a message is told Accepted, and none otherwise
-abbrev pub AddsMessage : Told → List ℕ → Verdict → List (Row (Addressed Letter)) → List (Row (Addressed Letter)) → Type 0
-AddsMessage (told.Accepted number) control_id v old new = AddsRow number control_id (deliveries_of v) old new
-AddsMessage told.Filtered control_id v old new = new ≡ old
-AddsMessage (told.Refused cause) control_id v old new = new ≡ old
-AddsMessage (told.Repeat place) control_id v old new = new ≡ old
+-- what is added by an arrival that is told so, of a message with this control id and this verdict
+abbrev pub IsGain : Told → List ℕ → Verdict → Gain → Type 0
+IsGain (told.Accepted number) control_id v (gain.Message own_number own_id deliveries) = (own_number ≡ number) × (own_id.now ≡ control_id) × (deliveries.now ≡ deliveries_of v)
+IsGain told.Filtered control_id v gain.Key = Unit {0}
+IsGain (told.Refused cause) control_id v gain.Nothing = Unit {0}
+IsGain (told.Repeat place) control_id v gain.Nothing = Unit {0}
+IsGain told control_id v gain = ⊥
 
--- the rows have room for the number that a message is told
-abbrev pub IsNextRow : Told → List (Row (Addressed Letter)) → Type 0
-IsNextRow (told.Accepted number) rows = All (λ row. row.number < number) rows
-IsNextRow told.Filtered rows = Unit {0}
-IsNextRow (told.Refused cause) rows = Unit {0}
-IsNextRow (told.Repeat place) rows = Unit {0}
+-- where a message goes that is added
+abbrev pub goes_to : Gain → List Delivery
+goes_to (gain.Message number control_id deliveries) = deliveries.now
+goes_to gain.Key = []
+goes_to gain.Nothing = []
+
+-- whether a key is added
+abbrev pub has_key : Gain → Bool
+has_key (gain.Message number control_id deliveries) = true
+has_key gain.Key = true
+has_key gain.Nothing = false
+
+-- the rows gained that of an arrival
+abbrev pub AddsGain : Gain → List (Row (Addressed Letter)) → List (Row (Addressed Letter)) → Type 0
+AddsGain (gain.Message number control_id deliveries) old new = AddsRow number control_id.now deliveries.now old new
+AddsGain gain.Key old new = new ≡ old
+AddsGain gain.Nothing old new = new ≡ old
+
+-- the rows have room for the number that is added
+abbrev pub HasRoomFor : Gain → List (Row (Addressed Letter)) → Type 0
+HasRoomFor (gain.Message number control_id deliveries) rows = All (λ row. row.number < number) rows
+HasRoomFor gain.Key rows = Unit {0}
+HasRoomFor gain.Nothing rows = Unit {0}
 
 -- what slots owe where they wait
 abbrev pub owed_waiting : PlanEntry → (ℕ → Option SlotState) → ℕ

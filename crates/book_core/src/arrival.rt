@@ -8,11 +8,11 @@ ghost use Rattle.judge_core.specs.Delivering.{destinations_of};
 ghost use Rattle.judge_core.specs.Judging.{is_bookable, verdict};
 ghost use Rattle.dest_queue.specs.declared.SlotState.{SlotState};
 ghost use Rattle.dest_queue.specs.SlotsBy.{slots_by};
-ghost use Rattle.event_log.specs.History.{control_id_of, entry_at, message_count, names, plan_in_force};
-ghost use Rattle.event_log.specs.Answers.{answer, brings, is_kept};
-ghost use Rattle.event_log.specs.Room.{own};
+ghost use Rattle.event_log.specs.History.{control_id_of, names, plan_in_force};
+ghost use Rattle.event_log.specs.Answers.{answer};
+ghost use Rattle.event_log.specs.Room.{own_owed};
 ghost use Rattle.book_core.specs.Parts.{KeysAgree};
-ghost use Rattle.book_core.specs.Sending.{AddsMessage, AddsRow, IsAccepting, IsNextRow, deliveries_if};
+ghost use Rattle.book_core.specs.Sending.{AddsGain, AddsRow, HasRoomFor, IsAccepting, IsGain, goes_to, has_key};
 
 use crate::letter::Letter;
 use dest_queue::{Addressed, Slots};
@@ -23,51 +23,70 @@ use judge_core::{Deliveries, Delivery, Judged, Text, Verdict};
 use row_store::RowStore;
 use std::alloc::{AllocError, Global};
 
-/// Whether the entry at a place is the arrival of these bytes.
-fn brings(log: &Log, place: usize, raw: &[u8]) -> bool
-    ensures { result ≡ option_map_or (brings raw.now) (entry_at log.now.history place) false }
-{
-    match log.entry(place) {
-        Some(entry) => entry.brings(raw),
-        None => false,
-    }
-}
-
 /// What the sender of a message is told: its key is looked up before its verdict is used.
-pub fn told(log: &Log, keys: &Keys, messages: u32, judged: &Judged) -> Told
+pub fn told(log: &Log, keys: &Keys, judged: &Judged) -> Told
     requires bookable { IsTrue (is_bookable judged.now.raw) }
     requires same_plan { judged.now.plan ≡ plan_in_force log.now.history }
     requires keys { KeysAgree log.now.history keys.now.known }
-    requires messages { messages ≡ message_count log.now.history }
     ensures { answer log.now.history judged.now.channel judged.now.raw ≡ Some result }
 {
     match keys.find(judged.key()) {
-        Some(place) if brings(log, place, judged.raw().as_slice()) => Told::Repeat(place),
+        Some(place) if log.brings(place, judged.raw().as_slice()) => Told::Repeat(place),
         Some(_) => Told::Refused(Cause::IdReused),
-        None => told_first(judged.verdict(), messages),
+        None => told_first(judged.verdict(), log.message_count()),
     }
 }
 
-/// Where a message goes that is told so: nowhere unless it is accepted.
-pub fn deliveries_if(told: Told, verdict: &Verdict) -> &[Delivery]
-    requires { IsAccepting told verdict.now }
-    ensures value { result.now ≡ deliveries_if told verdict.now }
-    ensures within { All (λ x. x.destination < 32) result.now }
-    ensures once { AllPairs (λ x y. x.destination ≢ y.destination) result.now }
+/// What an arrival adds to a book beside its entry.
+#[derive(Clone, Copy)]
+pub enum Gain<'a> {
+    /// The row and the key of a message that is accepted.
+    Message {
+        number: u32,
+        control_id: &'a [u8],
+        deliveries: &'a Deliveries,
+    },
+    /// The key of a message that is filtered.
+    Key,
+    /// Nothing, where it is refused or came before.
+    Nothing,
+}
+
+/// What an arrival adds that is told so.
+pub fn gain_of(told: Told, judged: &Judged) -> Gain<'_>
+    requires { IsAccepting told (verdict judged.now.plan judged.now.channel judged.now.raw) }
+    ensures { IsGain told (control_id_of judged.now.raw) (verdict judged.now.plan judged.now.channel judged.now.raw) result }
 {
-    match (told, verdict) {
-        (Told::Accepted(_), Verdict::Accept(deliveries)) => deliveries.as_slice(),
-        _ => &[],
+    match (told, judged.verdict(), judged.header()) {
+        (Told::Accepted(number), Verdict::Accept(deliveries), Some(header)) => Gain::Message {
+            number,
+            control_id: header.control_id(),
+            deliveries,
+        },
+        (Told::Filtered, _, _) => Gain::Key,
+        _ => Gain::Nothing,
     }
 }
 
-/// The entries that the new slots of an arrival owe that is told so.
-pub fn own_of(log: &Log, told: Told, judged: &Judged) -> u32
-    requires same_plan { judged.now.plan ≡ plan_in_force log.now.history }
-    requires answered { answer log.now.history judged.now.channel judged.now.raw ≡ Some told }
-    ensures { result ≡ own log.now.history judged.now.channel judged.now.raw }
+impl<'a> Gain<'a> {
+    /// Where the message goes; nowhere unless it is accepted.
+    pub fn deliveries(self) -> &'a [Delivery]
+        ensures value { result.now ≡ goes_to self.entry }
+        ensures within { All (λ x. x.destination < 32) result.now }
+        ensures once { AllPairs (λ x y. x.destination ≢ y.destination) result.now }
+    {
+        match self {
+            Gain::Message { deliveries, .. } => deliveries.as_slice(),
+            Gain::Key | Gain::Nothing => &[],
+        }
+    }
+}
+
+/// The entries that the slots owe that are added.
+pub fn own_of(log: &Log, gain: Gain<'_>) -> u32
+    ensures { result ≡ own_owed (plan_in_force log.now.history) (destinations_of (goes_to gain.entry)) }
 {
-    own_owed(log.plan(), deliveries_if(told, judged.verdict()))
+    own_owed(log.plan(), gain.deliveries())
 }
 
 /// The destinations of deliveries as a mask.
@@ -118,46 +137,47 @@ fn add_row<S: RowStore<Addressed<Letter>>>(
     }
 }
 
-/// Adds the row of a message that is told Accepted, and none otherwise.
+/// Adds the row, where one is added.
 pub fn add_message<S: RowStore<Addressed<Letter>>>(
     alloc: Global,
     rows: &mut S,
-    told: Told,
-    judged: &Judged,
+    gain: Gain<'_>,
 ) -> Result<(), AllocError>
-    requires accepting { IsAccepting told (verdict judged.now.plan judged.now.channel judged.now.raw) }
-    requires next { IsNextRow told (S.rows rows.old) }
-    ensures ok { OnOk result (AddsMessage told (control_id_of judged.now.raw) (verdict judged.now.plan judged.now.channel judged.now.raw) (S.rows rows.old) (S.rows rows.new)) }
+    requires { HasRoomFor gain (S.rows rows.old) }
+    ensures ok { OnOk result (AddsGain gain.entry (S.rows rows.old) (S.rows rows.new)) }
     ensures err { OnErr result (S.rows rows.new ≡ S.rows rows.old) }
 {
-    match (told, judged.verdict(), judged.header()) {
-        (Told::Accepted(number), Verdict::Accept(deliveries), Some(header)) => {
-            add_row(alloc, rows, number, header.control_id(), deliveries)
-        }
-        _ => Ok(()),
+    match gain {
+        Gain::Message {
+            number,
+            control_id,
+            deliveries,
+        } => add_row(alloc, rows, number, control_id, deliveries),
+        Gain::Key | Gain::Nothing => Ok(()),
     }
 }
 
-/// A copy of the key of a message that is kept by it, with room for it among the keys.
+/// A copy of the key, where one is added, with room for it among the keys.
 pub fn key_to_keep(
     alloc: Global,
     keys: &mut Keys,
     key: &[u8],
-    told: Told,
+    gain: Gain<'_>,
 ) -> Result<Option<Vec<u8>>, AllocError>
     ensures known { keys.new.known ≡ keys.old.known }
-    ensures copy { IfOk result (λ copy. MatchOption copy (is_kept told ≡ false) (λ copy. (is_kept told ≡ true) × (copy.items ≡ key.now) × (0 < keys.new.room))) }
+    ensures copy { IfOk result (λ copy. MatchOption copy (has_key gain.entry ≡ false)
+        (λ copy. (has_key gain.entry ≡ true) × (copy.items ≡ key.now) × (0 < keys.new.room))) }
 {
-    match told {
-        Told::Accepted(_) | Told::Filtered => {
+    match gain {
+        Gain::Message { .. } | Gain::Key => {
             keys.reserve(1)?;
             Ok(Some(Vec::from_slice(alloc, key)?))
         }
-        Told::Refused(_) | Told::Repeat(_) => Ok(None),
+        Gain::Nothing => Ok(None),
     }
 }
 
-/// Adds the key of a message that is kept by it, at the place of its entry.
+/// Adds the key, where one is added, at the place of the entry.
 pub fn keep_key(keys: &mut Keys, key: Option<Vec<u8>>, place: usize)
     requires unknown { IfSome key (λ key. place_of key.items keys.old.known ≡ None) }
     requires room { IfSome key (λ key. 0 < keys.old.room) }

@@ -8,11 +8,11 @@ ghost use Rattle.event_log.specs.Answers.{answer, cancel_answer, settle_answer, 
 ghost use Rattle.event_log.specs.Deployment.{deploy_answer, first_lost, is_lost};
 ghost use Rattle.event_log.specs.Legal.{IsSound, MayFollow};
 ghost use Rattle.event_log.specs.Room.{exceeds, is_full};
-ghost use Rattle.book_core.specs.Counting.{counted};
+ghost use Rattle.event_log.specs.Counting.{counted};
 ghost use Rattle.book_core.specs.Headline.{KeepsItsPromise};
 ghost use Rattle.book_core.specs.Sending.{awaits_ack};
 
-use crate::arrival::{add_message, deliveries_if, keep_key, key_to_keep, own_of, told};
+use crate::arrival::{add_message, gain_of, keep_key, key_to_keep, own_of, told};
 use crate::dispatch::{awaits_ack, owed_waiting, payload};
 use crate::event_counts::{count_arrival, count_cancelled, count_settled};
 use crate::letter::{Job, Letter};
@@ -87,28 +87,36 @@ impl<S: RowStore<Addressed<Letter>>> Book<S> {
         self.log.plan()
     }
 
-    /// How many entries the book holds: the place of the next.
+    /// How many entries were booked in all: the place of the next.
     pub fn len(&self) -> usize
         ensures { result ≡ next_place self.now }
     {
         self.log.len()
     }
 
+    /// How many entries were folded: the place of the first that the book holds.
+    pub fn first_place(&self) -> usize
+        ensures value { result ≡ self.now.opening.places }
+        ensures within { result ≤ next_place self.now }
+    {
+        self.log.first_place()
+    }
+
     /// How many messages were accepted: the number of the next.
     pub fn message_count(&self) -> u32
         ensures { result ≡ message_count self.now }
     {
-        self.rows.len() as u32
+        self.log.message_count()
     }
 
-    /// Whether nothing is booked.
+    /// Whether the book holds no entry.
     pub fn is_empty(&self) -> bool
         ensures { result ≡ (length self.now.entries == 0) }
     {
         self.log.is_empty()
     }
 
-    /// The entry at this place, counted from 0.
+    /// The entry at this place, counted from 0; nothing where it was folded.
     pub fn entry(&self, place: usize) -> Option<&Entry>
         ensures { option_copied result ≡ entry_at self.now place }
     {
@@ -137,7 +145,7 @@ impl<S: RowStore<Addressed<Letter>>> Book<S> {
         let _ = &self.log;
     }
 
-    /// The rows of the accepted messages, and the statistics. As long as they are lent the book is free of any event, and
+    /// The rows of the messages that are not forgotten, and the statistics. As long as they are lent the book is free of any event, and
     /// so it keeps its promise: it agrees with its history, and the history with the sequential engine.
     pub fn promise(&self) -> (&S, &Counts)
         ensures { KeepsItsPromise self.now (S.rows result.0.now) result.1.now }
@@ -201,8 +209,9 @@ impl<S: RowStore<Addressed<Letter>>> Book<S> {
         ensures plan { result ≢ Err NotBooked.PlanChanged }
         ensures err { OnErr result (self.new ≡ self.old) }
     {
-        let told = told(&self.log, &self.keys, self.message_count(), judged);
-        let own = own_of(&self.log, told, judged);
+        let told = told(&self.log, &self.keys, judged);
+        let gain = gain_of(told, judged);
+        let own = own_of(&self.log, gain);
         if !self.log.room(own) {
             return Err(NotBooked::Full);
         }
@@ -211,12 +220,11 @@ impl<S: RowStore<Addressed<Letter>>> Book<S> {
         let raw = judged.raw().share()?;
         let kept = judged.raw().share()?;
         self.log.reserve(self.flights as usize + 1)?;
-        let key = key_to_keep(self.alloc, &mut self.keys, judged.key(), told)?;
-        add_message(self.alloc, &mut self.rows, told, judged)?;
+        let key = key_to_keep(self.alloc, &mut self.keys, judged.key(), gain)?;
+        add_message(self.alloc, &mut self.rows, gain)?;
         // All growths are made: nothing below is refused.
         keep_key(&mut self.keys, key, entry);
-        let deliveries = deliveries_if(told, judged.verdict());
-        count_arrival(&mut self.counts, channel, told, deliveries);
+        count_arrival(&mut self.counts, channel, told, gain.deliveries());
         let owed = self.log.owed() + own;
         self.log.push(
             Entry::Arrival {

@@ -1,6 +1,6 @@
 //! Counting events.
 
-ghost use Rattle.std.specs.Prelude.{◌≡◌, ◌≢◌, ◌<◌, ◌≤◌, ◌==◌, ℕ, true, All, AllPairs, length};
+ghost use Rattle.std.specs.Prelude.{◌≡◌, ◌≢◌, ◌*◌, ◌<◌, ◌≤◌, ◌==◌, ℕ, true, All, AllPairs, length};
 ghost use Rattle.std.specs.Int.{bit_at};
 ghost use Rattle.stat_count.specs.Statistics.{channel_at, destination_at, on_destination, slots_of};
 ghost use Rattle.judge_core.specs.Delivering.{destinations_of};
@@ -8,7 +8,7 @@ ghost use Rattle.event_log.specs.Room.{is_in_flight};
 ghost use Rattle.book_core.specs.Counting.{CountsArrival, CountsCancel, settled_one};
 
 use dest_queue::SlotState;
-use event_log::{EVENTS_MAX, Told};
+use event_log::{PLACES_MAX, Told};
 use judge_core::Delivery;
 use stat_count::{CHANNELS, Counts, DESTINATIONS};
 
@@ -17,9 +17,9 @@ pub fn count_arrival(counts: &mut Counts, channel: u32, told: Told, deliveries: 
     requires channel { channel < CHANNELS }
     requires within { All (λ x. x.destination < DESTINATIONS) deliveries.now }
     requires once { AllPairs (λ x y. x.destination ≢ y.destination) deliveries.now }
-    requires few { (channel_at channel counts.old).received ≤ EVENTS_MAX }
-    requires few_repeats { (channel_at channel counts.old).repeats ≤ EVENTS_MAX }
-    requires few_slots { (d : ℕ) → d < DESTINATIONS → slots_of (destination_at d counts.old) ≤ EVENTS_MAX }
+    requires few { (channel_at channel counts.old).received ≤ PLACES_MAX }
+    requires few_repeats { (channel_at channel counts.old).repeats ≤ PLACES_MAX }
+    requires few_slots { (d : ℕ) → d < DESTINATIONS → slots_of (destination_at d counts.old) ≤ 2 * PLACES_MAX }
     requires sizes { length counts.old.channels ≡ 64 }
     requires slots { length counts.old.destinations ≡ 32 }
     ensures { CountsArrival channel told (destinations_of deliveries.now) counts.old counts.new }

@@ -11,7 +11,8 @@ ghost use Rattle.event_log.specs.declared.entry.Told.{Told};
 ghost use Rattle.event_log.specs.History.{History, followed_by, plan_in_force};
 ghost use Rattle.event_log.specs.Answers.{cancel_answer, settle_answer, take_answer};
 ghost use Rattle.event_log.specs.Legal.{IsSound, MayFollow};
-ghost use Rattle.book_core.specs.Counting.{SumsRise, counted};
+ghost use Rattle.event_log.specs.Counting.{counted};
+ghost use Rattle.book_core.specs.Counting.{SumsRise};
 
 /// The laws of the three sums of the statistics: an arrival adds one to the arrivals, a take one to the attempts begun, a
 /// settlement one to the attempts settled, and a cancellation and a deployment add to none.
@@ -27,8 +28,8 @@ pub fn three_sums()
     ensures deployment { (h : History) (plan : PlanEntry) → IsSound h → MayFollow h (Deploy plan) →
         SumsRise 0 0 0 (counted h) (counted (followed_by h (Deploy plan))) }
 
-    // A book's entries are few, and so is what they add up to.
-    ensures few_arrivals { (h : History) → length h.entries ≤ 1000000 → arrivals (counted h) ≤ 128000000 }
-    ensures few_takes { (h : History) → length h.entries ≤ 1000000 → takes (counted h) ≤ 32000000 }
-    ensures few_settlements { (h : History) → length h.entries ≤ 1000000 → settlements (counted h) ≤ 32000000 }
+    // A book's places are few, and so is what its statistics add up to.
+    ensures few_arrivals { (h : History) → IsSound h → length h.entries ≤ 1000000 → arrivals (counted h) ≤ 128128000000 }
+    ensures few_takes { (h : History) → IsSound h → length h.entries ≤ 1000000 → takes (counted h) ≤ 32032000000 }
+    ensures few_settlements { (h : History) → IsSound h → length h.entries ≤ 1000000 → settlements (counted h) ≤ 32032000000 }
 {}

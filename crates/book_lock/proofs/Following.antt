@@ -8,7 +8,8 @@ use Rattle.event_log.specs.declared.entry.Entry.{Entry}
 use Rattle.event_log.specs.History.{History, deployed_by, followed_by, next_place, plan_in_force}
 use Rattle.event_log.specs.Legal.{IsSound}
 use Rattle.event_log.proofs.Following.{plan-kept}
-use Rattle.book_core.specs.Counting.{SumsRise, channel_counts, counted, destination_counts}
+use Rattle.event_log.specs.Counting.{channel_counts, counted, destination_counts}
+use Rattle.book_core.specs.Counting.{SumsRise}
 use Rattle.book_lock.specs.Rises.{Held, IsCounted, IsOpened, arrived, settled, taken, with_book}
 use Rattle.book_lock.proofs.Naming.{split_by}
 
@@ -27,7 +28,7 @@ settled-is h = refl
 sum_more : (old new opening m x a b : ℕ) → old ≡ a → new ≡ b → old ≡ opening + m → b ≡ a + x → new ≡ opening + (m + x)
 sum_more old new opening m x a b p q r t = omega (arith, p, q, r, t)
 
-sum_fits : (old opening m a bound : ℕ) → old ≡ a → old ≡ opening + m → a ≤ bound → bound ≤ 128000000 → m + 1 < 2 ^ 64
+sum_fits : (old opening m a bound : ℕ) → old ≡ a → old ≡ opening + m → a ≤ bound → bound ≤ 128128000000 → m + 1 < 2 ^ 64
 sum_fits old opening m a bound p r few small = omega (arith, p, r, few, small)
 
 since_more : (h : History) (e : Entry) (first : ℕ) → first ≤ next_place h → first ≤ next_place (followed_by h e)
@@ -54,14 +55,14 @@ pub few_entries : (h : History) → IsSound h → h.opening.events_max ≤ 10000
 few_entries h sound few = omega (arith, sound.room, few)
 
 -- one more can be counted
-pub arrivals_fit : (h : Held) (m t s : ℕ) → IsCounted h m t s → arrivals (counted h.book) ≤ 128000000 → m + 1 < 2 ^ 64
-arrivals_fit h m t s known few = sum_fits (arrived h.book) (arrivals h.opening) m (arrivals (counted h.book)) 128000000 (arrived-is h.book) known.arrivals_are few (omega arith)
+pub arrivals_fit : (h : Held) (m t s : ℕ) → IsCounted h m t s → arrivals (counted h.book) ≤ 128128000000 → m + 1 < 2 ^ 64
+arrivals_fit h m t s known few = sum_fits (arrived h.book) (arrivals h.opening) m (arrivals (counted h.book)) 128128000000 (arrived-is h.book) known.arrivals_are few (omega arith)
 
-pub takes_fit : (h : Held) (m t s : ℕ) → IsCounted h m t s → takes (counted h.book) ≤ 32000000 → t + 1 < 2 ^ 64
-takes_fit h m t s known few = sum_fits (taken h.book) (takes h.opening) t (takes (counted h.book)) 32000000 (taken-is h.book) known.takes_are few (omega arith)
+pub takes_fit : (h : Held) (m t s : ℕ) → IsCounted h m t s → takes (counted h.book) ≤ 32032000000 → t + 1 < 2 ^ 64
+takes_fit h m t s known few = sum_fits (taken h.book) (takes h.opening) t (takes (counted h.book)) 32032000000 (taken-is h.book) known.takes_are few (omega arith)
 
-pub settlements_fit : (h : Held) (m t s : ℕ) → IsCounted h m t s → settlements (counted h.book) ≤ 32000000 → s + 1 < 2 ^ 64
-settlements_fit h m t s known few = sum_fits (settled h.book) (settlements h.opening) s (settlements (counted h.book)) 32000000 (settled-is h.book) known.settlements_are few (omega arith)
+pub settlements_fit : (h : Held) (m t s : ℕ) → IsCounted h m t s → settlements (counted h.book) ≤ 32032000000 → s + 1 < 2 ^ 64
+settlements_fit h m t s known few = sum_fits (settled h.book) (settlements h.opening) s (settlements (counted h.book)) 32032000000 (settled-is h.book) known.settlements_are few (omega arith)
 
 -- a channel of the one plan is one of the other, where they don't differ
 pub known_channel : (p q : PlanEntry) (channel : ℕ) → (p ≢ q → ⊥) → channel < length p.channels → channel < length q.channels

@@ -1,7 +1,8 @@
 -- Which receipts of a history name a place.
-use Rattle.std.proofs.Common.{◌≡◌, ◌≢◌, ℕ, ◌+◌, ◌<◌, ◌≤◌, zero, suc, Bool, true, false, eqb, ltb, List, [], ◌∷◌, Option, Some, None, length, get_or, map, slice_index, All, sym, ap, refl, ◌∙◌, arith, option_to_list, ◌-◌, ◌⊎◌, ◌↔◌, inl, inr, Result, Ok, Err, OnOk, IfErr, IsOk}
+use Rattle.std.proofs.Common.{◌≡◌, ◌≢◌, ℕ, ◌+◌, ◌<◌, ◌≤◌, zero, suc, Bool, true, false, not, ◌&&◌, cond, nat_lt, eqb, ltb, List, [], ◌∷◌, Option, Some, None, length, get_or, map, slice_index, All, sym, ap, refl, ◌∙◌, arith, option_to_list, ◌-◌, ◌⊎◌, ◌↔◌, inl, inr, Result, Ok, Err, OnOk, IfErr, IsOk}
 use Rattle.std.specs.Prelude.{IsTrue, is_some, option_and_then}
-use Rattle.std.specs.List.{filter_map, cons_option, range_with_len}
+use Rattle.std.specs.Prelude.{slice_get}
+use Rattle.std.specs.List.{filter, filter_map, cons_option, range_with_len}
 use Rattle.std.specs.List.Sorted.{IsPermutation}
 use Rattle.std.proofs.lemmas.Bool.{eqb-true, eq-eqb, false≢true}
 use Rattle.std.proofs.lemmas.List.Elements.{All-tail}
@@ -12,7 +13,7 @@ use Rattle.event_log.specs.declared.entry.Entry.{Entry}
 use Rattle.event_log.specs.declared.entry.Entry.TheVariants.{Arrival, Take, Settle, Cancel, Deploy}
 use Rattle.event_log.specs.History.{entry_at, next_place}
 use Rattle.book_core.specs.declared.receipt.Receipt.{Receipt}
-use Rattle.book_lock.specs.Auditing.{receipt_at, receipt_due, receipts_due, naming, IsRightAt, IsFault, IsFirstFault}
+use Rattle.book_lock.specs.Auditing.{receipt_at, receipt_due, receipts_due, naming, IsRightAt, IsFault, IsFirstFault, IsUnfolded, is_folded, unfolded}
 use Rattle.book_lock.specs.Rises.{Held}
 use Rattle.book_lock.specs.declared.receipt_audit.AuditFault.{AuditFault}
 use Rattle.book_lock.specs.declared.receipt_audit.AuditFault.TheVariants.{Missing, Doubled, Differs}
@@ -83,7 +84,10 @@ pub due_past : (h : Held) (p : ℕ) → h.first ≤ next_place h.book → next_p
 due_past h p within past = given_past (receipt_due h) (owned h) p h.first (next_place h.book - h.first) (omega arith)
 
 none_past : (h : Held) (p : ℕ) → next_place h.book ≤ p → receipt_due h p ≡ None
-none_past h p past = ap (λ o. option_and_then (receipt_at p) o) (slice_get_past h.book.entries p past)
+none_past h p past =
+    let since : nat_lt p h.book.opening.places ≡ false = grind (arith, nat_tests) in
+    ap (λ b. option_and_then (receipt_at p) (cond b None (slice_get h.book.entries (p - h.book.opening.places)))) since
+    ∙ ap (λ o. option_and_then (receipt_at p) o) (slice_get_past h.book.entries (p - h.book.opening.places) (omega arith))
 
 -- what is due at a place since the book was shared
 pub due_here : (h : Held) (p : ℕ) → h.first ≤ next_place h.book → h.first ≤ p → naming p (receipts_due h) ≡ option_to_list (receipt_due h p)
@@ -105,12 +109,75 @@ due_once h within p =
       | inr before ↦ rw (due_before h p before) (omega arith)
     ]
 
--- the receipts are a permutation of those that are due exactly where they are right at each place
-permuted : (h : Held) (receipts : List Receipt) → ((p : ℕ) → IsRightAt h receipts p) → IsPermutation receipts (receipts_due h)
-permuted h receipts right = permutation_from_alike (λ r. r.entry) (receipts_due h) receipts right
+both : (a b : Bool) → a && b ≡ true → (a ≡ true) × (b ≡ true)
+both true true is = (refl, refl)
+both true false is = absurd (false≢true is)
+both false true is = absurd (false≢true is)
+both false false is = absurd (false≢true is)
 
-named_alike : (h : Held) (receipts : List Receipt) → h.first ≤ next_place h.book → IsPermutation receipts (receipts_due h) → (p : ℕ) → IsRightAt h receipts p
-named_alike h receipts within all = alike_from_permutation (λ r. r.entry) receipts (receipts_due h) (due_once h within) all
+not_either : (a : Bool) → a && false ≡ false
+not_either true = refl
+not_either false = refl
+
+not_true : (a : Bool) → not a ≡ true → a ≡ false
+not_true true is = absurd (false≢true is)
+not_true false is = refl
+
+-- a folded place is below those that are held, and not below the first
+folded_is : (h : Held) (p : ℕ) → is_folded h p ≡ true → (h.first ≤ p) × (p < h.book.opening.places) × (nat_lt p h.book.opening.places ≡ true)
+folded_is h p is =
+    let tests = both (not (nat_lt p h.first)) (nat_lt p h.book.opening.places) is in
+    let after = not_true (nat_lt p h.first) tests.0 in
+    let below = tests.1 in (grind (arith, nat_tests), grind (arith, nat_tests), below)
+
+-- nothing is due at a folded place
+pub due_folded : (h : Held) (p : ℕ) → is_folded h p ≡ true → naming p (receipts_due h) ≡ []
+due_folded h p is =
+    let at = folded_is h p is in
+    let after : h.first ≤ p = at.0 in
+    let below : p < h.book.opening.places = at.1 in
+    due_here h p (omega arith) after
+    ∙ ap (λ b. option_to_list (option_and_then (receipt_at p) (cond b None (slice_get h.book.entries (p - h.book.opening.places))))) at.2
+
+-- a place past the history is not folded
+pub open_past : (h : Held) (p : ℕ) → next_place h.book ≤ p → is_folded h p ≡ false
+open_past h p past =
+    let test : nat_lt p h.book.opening.places ≡ false = grind (arith, nat_tests) in
+    ap (λ b. not (nat_lt p h.first) && b) test ∙ not_either (not (nat_lt p h.first))
+
+-- the receipts that name a place that isn't folded are still there without the others
+naming_open : (f : ℕ → Bool) (receipts : List Receipt) (p : ℕ) → f p ≡ false → naming p (filter (λ r. not (f r.entry)) receipts) ≡ naming p receipts
+naming_open f [] p stays = refl
+naming_open f (r ∷ rs) p stays = by (f r.entry) refl (naming_open f rs p stays)
+  where
+    by : (b : Bool) → f r.entry ≡ b → naming p (filter (λ w. not (f w.entry)) rs) ≡ naming p rs → naming p (filter (λ w. not (f w.entry)) (r ∷ rs)) ≡ naming p (r ∷ rs)
+    by true is rest =
+        let other : eqb r.entry p ≡ false = differ r.entry p (λ same. absurd (false≢true (sym stays ∙ ap f (sym same) ∙ is))) in
+        rw (is, other) rest
+    by false is rest = rw is (ap (λ l. cond (eqb r.entry p) (r ∷ l) l) rest)
+
+-- and none names one that is
+naming_folded : (f : ℕ → Bool) (receipts : List Receipt) (p : ℕ) → f p ≡ true → naming p (filter (λ r. not (f r.entry)) receipts) ≡ []
+naming_folded f [] p folded = refl
+naming_folded f (r ∷ rs) p folded = by (f r.entry) refl (naming_folded f rs p folded)
+  where
+    by : (b : Bool) → f r.entry ≡ b → naming p (filter (λ w. not (f w.entry)) rs) ≡ [] → naming p (filter (λ w. not (f w.entry)) (r ∷ rs)) ≡ []
+    by true is rest = rw is rest
+    by false is rest =
+        let other : eqb r.entry p ≡ false = differ r.entry p (λ same. absurd (false≢true (sym is ∙ ap f same ∙ folded))) in
+        rw (is, other) rest
+
+-- the receipts are a permutation of those that are due, folded places aside, exactly where they are right at each place
+permuted : (h : Held) (receipts : List Receipt) → ((p : ℕ) → IsRightAt h receipts p) → IsPermutation (unfolded h receipts) (receipts_due h)
+permuted h receipts right = permutation_from_alike (λ r. r.entry) (receipts_due h) (unfolded h receipts) (λ p. by p (is_folded h p) refl)
+  where
+    by : (p : ℕ) (b : Bool) → is_folded h p ≡ b → naming p (unfolded h receipts) ≡ naming p (receipts_due h)
+    by p true folded = naming_folded (is_folded h) receipts p folded ∙ sym (due_folded h p folded)
+    by p false stays = naming_open (is_folded h) receipts p stays ∙ right p stays
+
+named_alike : (h : Held) (receipts : List Receipt) → h.first ≤ next_place h.book → IsPermutation (unfolded h receipts) (receipts_due h) → (p : ℕ) → IsRightAt h receipts p
+named_alike h receipts within all p stays =
+    sym (naming_open (is_folded h) receipts p stays) ∙ alike_from_permutation (λ r. r.entry) (unfolded h receipts) (receipts_due h) (due_once h within) all p
 
 -- no receipt of places below `m` names one at `m` or past it
 naming_none : (m p : ℕ) (receipts : List Receipt) → All (λ r. r.entry < m) receipts → m ≤ p → naming p receipts ≡ []
@@ -168,7 +235,7 @@ none_due h p none = (λ f. absurd (false≢true f), λ some. absurd (some none))
 pub all_right : (h : Held) (receipts : List Receipt) → h.first ≤ next_place h.book → ((p : ℕ) → p < next_place h.book → IsRightAt h receipts p) → All (λ r. r.entry < next_place h.book) receipts → (p : ℕ) → IsRightAt h receipts p
 all_right h receipts within below none p =
     elim (split_by (next_place h.book) p (ltb p (next_place h.book)) refl) [
-      | inl past ↦ naming_none (next_place h.book) p receipts none past ∙ sym (due_past h p within past)
+      | inl past ↦ λ stays. naming_none (next_place h.book) p receipts none past ∙ sym (due_past h p within past)
       | inr before ↦ below p before
     ]
 
@@ -176,7 +243,7 @@ all_right h receipts within below none p =
 pub right_before : (h : Held) (receipts : List Receipt) (place : ℕ) → h.first ≤ next_place h.book → ((p : ℕ) → p < next_place h.book → IsRightAt h receipts p) → All (λ r. next_place h.book ≤ r.entry → place ≤ r.entry) receipts → (p : ℕ) → p < place → IsRightAt h receipts p
 right_before h receipts place within below least p before =
     elim (split_by (next_place h.book) p (ltb p (next_place h.book)) refl) [
-      | inl past ↦ naming_between (next_place h.book) place p receipts least past before ∙ sym (due_past h p within past)
+      | inl past ↦ λ stays. naming_between (next_place h.book) place p receipts least past before ∙ sym (due_past h p within past)
       | inr here ↦ below p here
     ]
 
@@ -184,18 +251,18 @@ right_before h receipts place within below least p before =
 pub stray : (h : Held) (receipts : List Receipt) (place : ℕ) → h.first ≤ next_place h.book → next_place h.book ≤ place → 0 < length (naming place receipts) → naming place receipts ≢ naming place (receipts_due h)
 stray h receipts place within past some same = omega (arith, ap length (same ∙ due_past h place within past))
 
-fault_differs : (h : Held) (receipts : List Receipt) (f : AuditFault) → h.first ≤ next_place h.book → IsFault h receipts f → IsPermutation receipts (receipts_due h) → ⊥
-fault_differs h receipts (Missing p) within fault all = fault.1 (sym (named_alike h receipts within all p) ∙ fault.0)
-fault_differs h receipts (Doubled p) within fault all = omega (arith, fault, due_once h within p, ap length (named_alike h receipts within all p))
-fault_differs h receipts (Differs p) within fault all = fault.1 (named_alike h receipts within all p)
+fault_differs : (h : Held) (receipts : List Receipt) (f : AuditFault) → h.first ≤ next_place h.book → IsFault h receipts f → IsUnfolded h f → IsPermutation (unfolded h receipts) (receipts_due h) → ⊥
+fault_differs h receipts (Missing p) within fault stays all = fault.1 (sym (named_alike h receipts within all p stays) ∙ fault.0)
+fault_differs h receipts (Doubled p) within fault stays all = omega (arith, fault, due_once h within p, ap length (named_alike h receipts within all p stays))
+fault_differs h receipts (Differs p) within fault stays all = fault.1 (named_alike h receipts within all p stays)
 
--- the answer is Ok exactly where the receipts are those that are due, in any order
+-- the answer is Ok exactly where the receipts are those that are due, in any order, folded places aside
 pub audit_ok : (h : Held) (receipts : List Receipt) (r : Result Unit AuditFault) → h.first ≤ next_place h.book
     → OnOk r ((p : ℕ) → IsRightAt h receipts p)
     → IfErr r (IsFirstFault h receipts)
-    → IsOk r ↔ IsPermutation receipts (receipts_due h)
+    → IsOk r ↔ IsPermutation (unfolded h receipts) (receipts_due h)
 audit_ok h receipts (Ok u) within right fault = (λ _. permuted h receipts right, λ _. refl)
-audit_ok h receipts (Err f) within right fault = (λ e. cc, λ all. absurd (fault_differs h receipts f within fault.0 all))
+audit_ok h receipts (Err f) within right fault = (λ e. cc, λ all. absurd (fault_differs h receipts f within fault.0.0 fault.0.1 all))
 
 -- one more place that rises
 pub rises_more : (xs : List ℕ) (i : ℕ) → 1 ≤ i → ((k : ℕ) → k + 1 < i → slice_index xs k < slice_index xs (k + 1)) → slice_index xs (i - 1) < slice_index xs i → (k : ℕ) → k + 1 < i + 1 → slice_index xs k < slice_index xs (k + 1)

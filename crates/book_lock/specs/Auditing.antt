@@ -1,5 +1,5 @@
 -- The audit: the receipts that were handed out, against the arrivals of the history.
-use Rattle.std.specs.Prelude.{◌≡◌, ◌≢◌, ℕ, ◌-◌, ◌<◌, ◌==◌, List, [], Option, Some, None, length, option_and_then}
+use Rattle.std.specs.Prelude.{◌≡◌, ◌≢◌, ℕ, ◌-◌, ◌<◌, ◌==◌, Bool, false, not, ◌&&◌, nat_lt, List, [], Option, Some, None, length, option_and_then}
 use Rattle.std.specs.List.{filter, filter_map, range_with_len}
 use Rattle.event_log.specs.declared.entry.Entry.{Entry}
 use Rattle.event_log.specs.declared.entry.Entry.TheVariants.{Arrival, Take, Settle, Cancel, Deploy}
@@ -27,9 +27,17 @@ receipt_at place (Deploy plan) = None
 abbrev pub receipt_due : Held → ℕ → Option Receipt
 receipt_due h place = option_and_then (receipt_at place) (entry_at h.book place)
 
--- the receipts of the arrivals since the book was shared, in order
+-- the receipts of the arrivals since the book was shared, in order; that of a folded one is not due
 abbrev pub receipts_due : Held → List Receipt
 receipts_due h = filter_map (receipt_due h) (range_with_len h.first (next_place h.book - h.first))
+
+-- whether a place was folded since the book was shared
+abbrev pub is_folded : Held → ℕ → Bool
+is_folded h place = not (nat_lt place h.first) && nat_lt place h.book.opening.places
+
+-- the receipts without those that name a folded place
+abbrev pub unfolded : Held → List Receipt → List Receipt
+unfolded h receipts = filter (λ r. not (is_folded h r.entry)) receipts
 
 -- the receipts that name a place
 abbrev pub naming : ℕ → List Receipt → List Receipt
@@ -41,9 +49,13 @@ place_of (Missing place) = place
 place_of (Doubled place) = place
 place_of (Differs place) = place
 
--- the receipts that name a place are those that are due there
+-- the receipts that name a place are those that are due there, if it isn't folded
 abbrev pub IsRightAt : Held → List Receipt → ℕ → Type 0
-IsRightAt h receipts place = naming place receipts ≡ naming place (receipts_due h)
+IsRightAt h receipts place = is_folded h place ≡ false → naming place receipts ≡ naming place (receipts_due h)
+
+-- a fault is at a place that isn't folded
+abbrev pub IsUnfolded : Held → AuditFault → Type 0
+IsUnfolded h fault = is_folded h (place_of fault) ≡ false
 
 -- what is wrong with the receipts that name the fault's place
 abbrev pub IsFault : Held → List Receipt → AuditFault → Type 0
@@ -51,6 +63,6 @@ IsFault h receipts (Missing place) = (naming place receipts ≡ []) × (naming p
 IsFault h receipts (Doubled place) = 1 < length (naming place receipts)
 IsFault h receipts (Differs place) = (length (naming place receipts) ≡ 1) × (naming place receipts ≢ naming place (receipts_due h))
 
--- it is the first: at each place before it, the receipts are those that are due
+-- it is the first: at each place before it that isn't folded, the receipts are those that are due
 abbrev pub IsFirstFault : Held → List Receipt → AuditFault → Type 0
-IsFirstFault h receipts fault = IsFault h receipts fault × ((p : ℕ) → p < place_of fault → IsRightAt h receipts p)
+IsFirstFault h receipts fault = (IsFault h receipts fault × IsUnfolded h fault) × ((p : ℕ) → p < place_of fault → IsRightAt h receipts p)

@@ -3,7 +3,7 @@ use Rattle.std.specs.Prelude.{◌≡◌, ℕ, ◌+◌, ◌-◌, ◌≤◌, List,
 use Rattle.stat_count.specs.Statistics.{Statistics}
 use Rattle.stat_count.specs.Sums.{arrivals, settlements, takes}
 use Rattle.event_log.specs.History.{History, next_place, plan_in_force}
-use Rattle.book_core.specs.Counting.{counted}
+use Rattle.event_log.specs.Counting.{counted}
 use Rattle.book_lock.specs.Shares.{Made}
 
 -- the arrivals of a book, by its statistics

@@ -9,7 +9,7 @@ ghost use Rattle.event_log.specs.Answers.{answer, cancel_answer, settle_answer, 
 ghost use Rattle.event_log.specs.Deployment.{deploy_answer};
 ghost use Rattle.event_log.specs.Legal.{MayFollow};
 ghost use Rattle.event_log.specs.Room.{exceeds, is_full};
-ghost use Rattle.book_core.specs.Counting.{counted};
+ghost use Rattle.event_log.specs.Counting.{counted};
 ghost use Rattle.book_core.specs.Headline.{KeepsItsPromise};
 ghost use Rattle.book_core.specs.Sending.{awaits_ack};
 ghost use Rattle.book_lock.specs.Rises.{AddsUp, arrivals_rise, settlements_rise, takes_rise, with_book};

@@ -3,7 +3,7 @@
 ghost use Rattle.std.specs.Prelude.{◌≡◌, ◌<◌, ◌≤◌, ◌↔◌, All, IsOk, IsTrue, IfErr, IfNone, IfSome, OnOk, length, map};
 ghost use Rattle.std.specs.List.Sorted.{IsPermutation, IsStrictlyIncreasing};
 ghost use Rattle.event_log.specs.History.{next_place};
-ghost use Rattle.book_lock.specs.Auditing.{IsFirstFault, IsRightAt, fault_code, naming, receipts_due};
+ghost use Rattle.book_lock.specs.Auditing.{IsFirstFault, IsRightAt, fault_code, naming, receipts_due, unfolded};
 
 use crate::locked::Closed;
 use crate::windows::{Named, WINDOW, check_windows};
@@ -40,7 +40,7 @@ impl AuditFault {
 }
 
 /// Whether the receipts, in any order, are those of the arrivals since the book was shared, each once, with its
-/// connection, channel, bytes and told. It asks for no memory.
+/// connection, channel, bytes and told. The places that were folded since then are left aside. It asks for no memory.
 ///
 /// # Errors
 ///
@@ -49,7 +49,7 @@ pub fn audit<S: RowStore<Addressed<Letter>>>(
     closed: &Closed<S>,
     receipts: &[Receipt],
 ) -> Result<(), AuditFault>
-    ensures ok { IsOk result ↔ IsPermutation receipts.now (receipts_due closed.now) }
+    ensures ok { IsOk result ↔ IsPermutation (unfolded closed.now receipts.now) (receipts_due closed.now) }
     ensures fault { IfErr result (IsFirstFault closed.now receipts.now) }
 {
     let _first = closed.first();

@@ -5,7 +5,7 @@ ghost use Rattle.std.specs.Arc.{arc_value};
 ghost use Rattle.judge_core.specs.Judging.{is_bookable};
 ghost use Rattle.stat_count.specs.Sums.{arrivals};
 ghost use Rattle.event_log.specs.History.{next_place, plan_in_force};
-ghost use Rattle.book_core.specs.Counting.{counted};
+ghost use Rattle.event_log.specs.Counting.{counted};
 ghost use Rattle.book_lock.specs.Closing.{HandsBack};
 ghost use Rattle.book_lock.specs.Rises.{AddsUp};
 ghost use Rattle.book_lock.specs.Shares.{no_calls, with_settlement, with_take};

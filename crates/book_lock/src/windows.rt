@@ -1,9 +1,9 @@
 //! The places of the history, a window of them at a time: each window costs one pass over the receipts, and no memory
 //! but a table of a byte for each of its places.
 
-ghost use Rattle.std.specs.Prelude.{◌≡◌, ◌≢◌, ◌+◌, ◌<◌, ◌≤◌, ◌↔◌, [], ◌∷◌, Some, is_some, IsTrue, IfErr, OnOk, All, length, slice_index_or};
+ghost use Rattle.std.specs.Prelude.{◌≡◌, ◌≢◌, ◌+◌, ◌<◌, ◌≤◌, ◌↔◌, [], ◌∷◌, if◌then◌else◌, Some, is_some, IsTrue, IfErr, OnOk, All, length, slice_index_or};
 ghost use Rattle.event_log.specs.History.{next_place};
-ghost use Rattle.book_lock.specs.Auditing.{IsFault, IsFirstFault, IsRightAt, naming, place_of, receipt_at, receipts_due};
+ghost use Rattle.book_lock.specs.Auditing.{IsFault, IsFirstFault, IsRightAt, IsUnfolded, is_folded, naming, place_of, receipt_at, receipts_due};
 ghost use Rattle.book_lock.specs.Windows.{Tells, fault_at, named_again};
 
 use crate::locked::Closed;
@@ -41,7 +41,7 @@ impl Named {
     }
 }
 
-/// Whether the receipts are right at every place of the history, in windows of the table's size.
+/// Whether the receipts are right at every place of the history that isn't folded, in windows of the table's size.
 ///
 /// # Errors
 ///
@@ -78,18 +78,30 @@ fn check_window<S: RowStore<Addressed<Letter>>>(
 ) -> Result<(), AuditFault>
     requires within { from + length table.old ≤ next_place closed.now.book }
     ensures right { OnOk result ((p : _) → from ≤ p → p < from + length table.old → IsRightAt closed.now receipts.now p) }
-    ensures fault { IfErr result (IsFault closed.now receipts.now) }
+    ensures fault { IfErr result (λ fault. IsFault closed.now receipts.now fault × IsUnfolded closed.now fault) }
     ensures before { IfErr result (λ fault. (p : _) → from ≤ p → p < place_of fault → IsRightAt closed.now receipts.now p) }
 {
     tell(closed, receipts, from, table);
     let _end = closed.book().len();
     for k in 0..table.len() {
         let place = from + k;
-        if let Some(fault) = fault_at(place, table[k], is_due_at(closed, place)) {
+        let named = named_at(closed, place, table[k]);
+        if let Some(fault) = fault_at(place, named, is_due_at(closed, place)) {
             return Err(fault);
         }
     }
     Ok(())
+}
+
+/// How a place is named. One that was folded since the book was shared is left aside: nothing is due there, and
+/// none is taken to name it.
+fn named_at<S: RowStore<Addressed<Letter>>>(closed: &Closed<S>, place: usize, named: Named) -> Named
+    ensures { result ≡ (if is_folded closed.now place then Named.Never else named) }
+{
+    if closed.first() <= place && place < closed.book().first_place() {
+        return Named::Never;
+    }
+    named
 }
 
 /// What is wrong at a place, by how it is named, and by whether a receipt is due there.

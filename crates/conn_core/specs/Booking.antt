@@ -60,8 +60,7 @@ books_none book = record { history = ap (with_entries book) (sym (append-nil boo
 pub books_trans : (a b c : History) (xs ys : List Receipt) → Books a b xs → Books b c ys → Books a c (xs ++ ys)
 books_trans a b c xs ys one two =
     let place : Receipt → ℕ = λ r. r.entry in
-    let grown : b.entries ≡ a.entries ++ map arrival_by xs = ap (λ (l : History). l.entries) one.history in
-    let size : length b.entries ≡ length a.entries + length xs = ap length grown ∙ length-append a.entries (map arrival_by xs) ∙ ap (λ n. length a.entries + n) (length-map arrival_by xs) in
+    let size : next_place b ≡ next_place a + length xs = omega (arith, ap next_place one.history, length-append a.entries (map arrival_by xs), length-map arrival_by xs) in
     record {
       history =
           two.history
@@ -70,12 +69,12 @@ books_trans a b c xs ys one two =
       places =
           map-append (λ (r : Receipt). r.entry) xs ys
           ∙ ap (λ l. l ++ map (λ (r : Receipt). r.entry) ys) one.places
-          ∙ ap (λ l. range_with_len (length a.entries) (length xs) ++ l) (two.places ∙ ap (λ n. range_with_len n (length ys)) size)
-          ∙ sym (range-append (length a.entries) (length xs) (length ys))
-          ∙ ap (range_with_len (length a.entries)) (sym (length-append xs ys));
+          ∙ ap (λ l. range_with_len (next_place a) (length xs) ++ l) (two.places ∙ ap (λ n. range_with_len n (length ys)) size)
+          ∙ sym (range-append (next_place a) (length xs) (length ys))
+          ∙ ap (range_with_len (next_place a)) (sym (length-append xs ys));
     }
 
-pub books_one : (old new : History) (r : Receipt) → new ≡ record old { entries = old.entries ++ arrival_by r ∷ [] } → r.entry ≡ length old.entries → Books old new (r ∷ [])
+pub books_one : (old new : History) (r : Receipt) → new ≡ record old { entries = old.entries ++ arrival_by r ∷ [] } → r.entry ≡ next_place old → Books old new (r ∷ [])
 books_one old new r grown place = record { history = grown; places = ap (λ n. n ∷ []) place }
 
 -- arrivals deploy no plan

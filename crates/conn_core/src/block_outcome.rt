@@ -69,7 +69,8 @@ pub fn book_and_reply<B: Booking>(
     requires few { replies.old.made + 2 ≤ u32.MAX }
 
     // It is booked here, or nothing is. The receipt has the connection, the channel and the bytes.
-    ensures receipt { IfOk result.outcome (λ receipt. (receipt.conn ≡ line.now.conn) × (receipt.channel ≡ judged.now.channel) × (receipt.raw ≡ judged.now.raw)) }
+    ensures receipt { IfOk result.outcome (λ receipt.
+        (receipt.conn ≡ line.now.conn) × (receipt.channel ≡ judged.now.channel) × (receipt.raw ≡ judged.now.raw)) }
     ensures booked { IfOk result.outcome (λ receipt. B.books book.old book.new (receipt ∷ [])) }
     ensures unbooked { OnErr result.outcome (B.books book.old book.new []) }
 
@@ -122,7 +123,8 @@ pub fn answer_block<B: Booking>(
     // The replies that it is due are appended, or the front of them where memory was refused.
     ensures replies { IfOk result (λ outcome. IsTrue (is_whole outcome) → replies.new.bytes.items ≡ replies.old.bytes.items
         ++ numbered line.now.conn (replies.old.made + 1) (dues_in raw.items now outcome)) }
-    ensures counted { IfOk result (λ outcome. IsTrue (is_whole outcome) → replies.new.made ≡ replies.old.made + length (dues_in raw.items now outcome)) }
+    ensures counted { IfOk result (λ outcome. IsTrue (is_whole outcome) →
+        replies.new.made ≡ replies.old.made + length (dues_in raw.items now outcome)) }
     ensures front { IfOk result (λ outcome. IsFalse (is_whole outcome) → AppendsFront replies.old.bytes.items replies.new.bytes.items
         (numbered line.now.conn (replies.old.made + 1) (dues_in raw.items now outcome))) }
     ensures few { replies.new.made ≤ replies.old.made + 2 }

@@ -5,7 +5,7 @@ use Rattle.event_log.specs.declared.entry.Entry.{Entry}
 use Rattle.event_log.specs.declared.entry.Entry.TheVariants.{Arrival, Take, Settle, Cancel, Deploy}
 use Rattle.event_log.specs.History.{History, entry_at}
 use Rattle.event_log.specs.Legal.{IsLegal, IsSound}
-use Rattle.event_log.proofs.Following.{take-whole}
+use Rattle.event_log.proofs.Following.{entry-since, follows-since, take-whole}
 use Rattle.engine_model.specs.declared.connection.Connected.{Connected}
 use Rattle.engine_model.specs.declared.step.Step.{Step}
 use Rattle.engine_model.specs.Converse.{CameInBlock, IsRunOf, KeepsTo, step_of, steps_of}
@@ -16,12 +16,16 @@ use Rattle.engine_model.specs.View.{connection_of, turn_by}
 use Rattle.engine_model.proofs.Reaching.{reaches}
 
 -- the text of an arrival that was booked came in a block
-pub came : (h : History) (place : ℕ) (e : Entry) → IsLegal h → Some e ≡ entry_at h place → CameInBlock e
-came h place (Arrival conn channel raw told) legal at = (legal.follows place (Arrival conn channel raw told) (sym at)).fits.plain
+pub came : (h : History) (place : ℕ) (e : Entry) → IsLegal h → Some e ≡ slice_get h.entries place → CameInBlock e
+came h place (Arrival conn channel raw told) legal at = (follows-since h legal place (Arrival conn channel raw told) (sym at)).fits.plain
 came h place (Take ticket now) legal at = tt
 came h place (Settle ticket outcome now state) legal at = tt
 came h place (Cancel number mask) legal at = tt
 came h place (Deploy plan) legal at = tt
+
+-- an entry that is held, by its place
+pub at : (h : History) (k first : ℕ) (e : Entry) → first ≡ h.opening.places → Some e ≡ entry_at h (first + k) → Some e ≡ slice_get h.entries k
+at h k first e is there = there ∙ (ap (λ n. entry_at h (n + k)) is ∙ entry-since h k)
 
 take-push : {A : Type 0} (xs : List A) (i : ℕ) (x : A) → slice_get xs i ≡ Some x → take (suc i) xs ≡ take i xs ++ x ∷ []
 take-push [] i x is = absurd cc

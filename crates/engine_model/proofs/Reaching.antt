@@ -14,11 +14,11 @@ use Rattle.event_log.specs.declared.entry.Told.{Told}
 use Rattle.event_log.specs.Answers.{answer}
 use Rattle.event_log.specs.History.{History, followed_by}
 use Rattle.event_log.specs.Legal.{IsLegal, MayArrive, MayFollow}
-use Rattle.event_log.proofs.Following.{take-below, take-whole}
+use Rattle.event_log.proofs.Following.{follows-since, take-below, take-whole}
 use Rattle.event_log.proofs.Rerun.{answered-again}
 use Rattle.conn_core.specs.Messages.{message_of, messages, messages_of}
 use Rattle.conn_core.specs.Replies.{Answer, dues, numbered}
-use Rattle.engine_model.specs.Run.{Connection, Run, opened, silent}
+use Rattle.engine_model.specs.Run.{Connection, Run, silent, started}
 use Rattle.engine_model.specs.Turn.{Turn}
 use Rattle.engine_model.specs.Steps.{HearsAt, HearsIf, ReadsOn, Runs, Steps, frame_events_max, with_history}
 use Rattle.engine_model.specs.Converse.{IsRunOf, KeepsTo, step_of, steps_of}
@@ -185,7 +185,7 @@ walk : (channels : List ℕ) (es : List Entry) (n : ℕ) (r : Run) → AllReady 
 walk channels [] n r ready legal keep few =
     record { to = r; runs = refl; history = ap (λ es. record { opening = r.history.opening; entries = es }) (sym (append-nil r.history.entries)) }
 walk channels (e ∷ es) n r ready legal keep few =
-    let may : MayFollow r.history e = subst (λ xs. MayFollow (record { opening = r.history.opening; entries = xs }) e) (take-before r.history.entries (e ∷ es)) (legal.follows (length r.history.entries) e (get-after r.history.entries es e)) in
+    let may : MayFollow r.history e = subst (λ xs. MayFollow (record { opening = r.history.opening; entries = xs }) e) (take-before r.history.entries (e ∷ es)) (follows-since (continued r.history (e ∷ es)) legal (length r.history.entries) e (get-after r.history.entries es e)) in
     let one = step channels n r ready e may (first e es channels keep) (omega arith) in
     let joined : (r.history.entries ++ e ∷ []) ++ es ≡ r.history.entries ++ (e ∷ es) = append_assoc r.history.entries (e ∷ []) es in
     let goes : continued one.to.history es ≡ continued r.history (e ∷ es) = ap (λ (h : History). continued h es) one.history ∙ ap (λ xs. record { opening = r.history.opening; entries = xs }) joined in
@@ -201,7 +201,7 @@ silent-ready (x ∷ channels) (suc conn) channel is = silent-ready channels conn
 -- a legal history in which each connection keeps to its channel comes of its steps
 pub reaches : (h : History) (channels : List ℕ) → IsLegal h → KeepsTo channels h.entries → length h.entries < frame_events_max → IsRunOf (steps_of h) h channels
 reaches h channels legal keep few =
-    let from : Run = opened h.opening.plan h.opening.events_max channels in
+    let from : Run = started h.opening channels in
     let all : AllReady channels 0 from = λ conn channel is. record { c = silent channel; at = silent-ready channels conn channel is; ready = record { channel_is = refl; stays = refl; outside = refl; few = omega arith } } in
     let w = walk channels h.entries 0 from all legal keep (omega arith) in
     record { run = w.to; runs = w.runs; history = w.history }

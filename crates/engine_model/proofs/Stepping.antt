@@ -2,10 +2,11 @@
 use Rattle.std.proofs.Common.{◌≡◌, ℕ, zero, suc, List, [], ◌∷◌, ◌++◌, map, slice_get, Some, inl, inr, refl, sym, ◌∙◌, subst}
 use Rattle.std.specs.Option.{option_map_or}
 use Rattle.plan_text.specs.Entries.{PlanEntry}
-use Rattle.event_log.specs.History.{History}
+use Rattle.event_log.proofs.Following.{legal-since}
+use Rattle.event_log.specs.History.{History, Opening, begun, blank}
 use Rattle.event_log.specs.Replay.{next, asked, ended, revoked, planned}
 use Rattle.conn_core.specs.Messages.{booked}
-use Rattle.engine_model.specs.Run.{Connection, Run, opened, silent}
+use Rattle.engine_model.specs.Run.{Connection, Run, opened, silent, started}
 use Rattle.engine_model.specs.Turn.{Turn, chunk, taking, settling, cancelling, deploying}
 use Rattle.engine_model.specs.Steps.{Runs, Steps, with_history}
 use Rattle.engine_model.specs.Promise.{AreRead, AreWritten, KeepsItsWord}
@@ -62,11 +63,14 @@ none_booked conn [] k = refl
 none_booked conn (channel ∷ channels) zero = refl
 none_booked conn (channel ∷ channels) (suc k) = none_booked conn channels k
 
-pub opened-keeps : (plan : PlanEntry) (events_max : ℕ) (channels : List ℕ) → KeepsItsWord (opened plan events_max channels)
-opened-keeps plan events_max channels =
+pub started-keeps : (opening : Opening) (channels : List ℕ) → KeepsItsWord (started opening channels)
+started-keeps opening channels =
     record {
-      legal = record { follows = λ place e is. absurd cc };
+      legal = legal-since (begun opening) (λ k e is. absurd cc);
       read = λ conn c is. let one = silent_at channels conn c is in subst (λ (c : Connection). AreRead c.ended c.stream c.answers) one.1 refl;
       written = λ conn c is. let one = silent_at channels conn c is in subst (λ (c : Connection). AreWritten c.ended conn c.answers c.output) one.1 refl;
       booked = λ conn. sym (none_booked conn channels conn);
     }
+
+pub opened-keeps : (plan : PlanEntry) (events_max : ℕ) (channels : List ℕ) → KeepsItsWord (opened plan events_max channels)
+opened-keeps plan events_max channels = started-keeps (blank plan events_max) channels

@@ -5,7 +5,7 @@ use Rattle.event_log.specs.declared.entry.Entry.TheVariants.{Arrival, Take, Sett
 use Rattle.event_log.specs.declared.entry.Told.{Told}
 use Rattle.event_log.specs.History.{History}
 use Rattle.mllp_frame.specs.Framing.{IsData, block_bytes}
-use Rattle.engine_model.specs.Run.{Run, opened}
+use Rattle.engine_model.specs.Run.{Run, started}
 use Rattle.engine_model.specs.Turn.{Turn, chunk, taking, settling, cancelling, deploying}
 use Rattle.engine_model.specs.Steps.{Runs}
 
@@ -38,7 +38,7 @@ pub record HaveChannels (entries : List Entry) : Type 0 where
 -- a run by these steps, from the opening of this history on, has this history
 pub record IsRunOf (steps : List Turn) (h : History) (channels : List ℕ) : Type 0 where
   pub run : Run
-  pub runs : Runs steps (opened h.opening.plan h.opening.events_max channels) run
+  pub runs : Runs steps (started h.opening channels) run
   pub history : run.history ≡ h
 
 -- the text of an arrival can be framed

@@ -4,7 +4,7 @@ use Rattle.std.specs.List.{filter_map}
 use Rattle.std.specs.Option.{option_map_or}
 use Rattle.event_log.specs.declared.entry.Entry.{Entry}
 use Rattle.event_log.specs.declared.entry.Entry.TheVariants.{Arrival, Take, Settle, Cancel, Deploy}
-use Rattle.event_log.specs.History.{History, opened_by}
+use Rattle.event_log.specs.History.{History, Opening, begun, blank}
 use Rattle.plan_text.specs.Entries.{PlanEntry}
 use Rattle.conn_core.specs.Messages.{BookedMessage}
 use Rattle.conn_core.specs.Replies.{Answer}
@@ -27,9 +27,13 @@ pub record Run : Type 0 where
 abbrev pub silent : ℕ → Connection
 silent channel = record { channel = channel; stream = []; answers = []; output = []; ended = false }
 
--- the run of no step, with a connection on each of these channels
+-- the run of no step from an opening on, with a connection on each of these channels
+abbrev pub started : Opening → List ℕ → Run
+started opening channels = record { history = begun opening; connections = map silent channels }
+
+-- the same where nothing was booked before
 abbrev pub opened : PlanEntry → ℕ → List ℕ → Run
-opened plan events_max channels = record { history = opened_by plan events_max; connections = map silent channels }
+opened plan events_max channels = started (blank plan events_max) channels
 
 -- what an entry books for a connection, if it is an arrival there
 abbrev pub arrival_on : ℕ → Entry → Option BookedMessage

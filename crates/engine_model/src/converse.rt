@@ -50,8 +50,8 @@ fn step_of(alloc: Global, entry: &Entry, first: Moment) -> Result<Step, AllocErr
     }
 }
 
-/// The steps by which the history of a book comes, one an entry: a run of them, from a world of the same plan and bound,
-/// has this history, if each connection keeps to the channel that it has there.
+/// The steps by which the history of a book comes, one an entry that it holds: a run of them, from the book's opening on, has
+/// this history, if each connection keeps to the channel that it has there.
 pub fn steps_of<S: RowStore<Addressed<Letter>>>(
     alloc: Global,
     book: &Book<S>,
@@ -63,9 +63,11 @@ pub fn steps_of<S: RowStore<Addressed<Letter>>>(
     let Ok(first) = Moment::of_unix(0) else {
         unreachable!();
     };
-    let mut steps = Vec::with_capacity(alloc, book.len())?;
-    for place in 0..book.len() {
-        let Some(entry) = book.entry(place) else {
+    let first_place = book.first_place();
+    let held = book.len() - first_place;
+    let mut steps = Vec::with_capacity(alloc, held)?;
+    for place in 0..held {
+        let Some(entry) = book.entry(first_place + place) else {
             unreachable!();
         };
         steps.push_reserved(step_of(alloc, entry, first)?);

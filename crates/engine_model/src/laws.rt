@@ -1,11 +1,11 @@
 //! What holds of every run.
 
 ghost use Rattle.std.specs.Prelude.{◌≡◌, ◌<◌, ◌≤◌, ◌++◌, List, ℕ, length, map};
-ghost use Rattle.event_log.specs.History.{History};
+ghost use Rattle.event_log.specs.History.{History, Opening};
 ghost use Rattle.event_log.specs.Legal.{IsLegal};
 ghost use Rattle.plan_text.specs.Entries.{PlanEntry};
 ghost use Rattle.conn_core.specs.Replies.{Answer, replies};
-ghost use Rattle.engine_model.specs.Run.{Connection, Run, opened};
+ghost use Rattle.engine_model.specs.Run.{Connection, Run, opened, started};
 ghost use Rattle.engine_model.specs.Turn.{Turn, chunk};
 ghost use Rattle.engine_model.specs.Steps.{ReadsOn, RepliesFront, Runs, Steps, frame_events_max};
 ghost use Rattle.engine_model.specs.Converse.{HaveChannels, IsRunOf, KeepToOne, KeepsTo, steps_of};
@@ -13,7 +13,8 @@ ghost use Rattle.engine_model.specs.Promise.{IsFrontOf, KeepsItsWord, NoneLacked
 
 /// The laws of runs, for every plan, bound, connections and steps.
 pub fn run_rules()
-    // A run keeps its word at first, after each step, and after any steps.
+    // A run keeps its word at first, from any opening on, after each step, and after any steps.
+    ensures started { (opening : Opening) (channels : List ℕ) → KeepsItsWord (started opening channels) }
     ensures opened { (plan : PlanEntry) (events_max : ℕ) (channels : List ℕ) → KeepsItsWord (opened plan events_max channels) }
     ensures stepped { (step : Turn) (r r' : Run) → KeepsItsWord r → Steps step r r' → KeepsItsWord r' }
     ensures ran { (steps : List Turn) (r r' : Run) → KeepsItsWord r → Runs steps r r' → KeepsItsWord r' }

@@ -19,11 +19,11 @@ use Rattle.event_log.specs.declared.entry.Entry.TheVariants.{Arrival}
 use Rattle.event_log.specs.declared.entry.Told.{Told}
 use Rattle.event_log.specs.declared.entry.Told.TheVariants as told
 use Rattle.event_log.specs.History.{History, accepted, accepted_by, accepted_under, deliveries, followed_by, message_count, names, plan_in_force, slot, state}
-use Rattle.event_log.specs.Answers.{answer, attempts_max, brings, known, told_by}
+use Rattle.event_log.specs.Answers.{answer, attempts_max, brings_at, known, told_by}
 use Rattle.event_log.specs.Room.{in_flight, is_full, is_in_flight, message_total, owed, own, own_owed, slot_owed, slots_added, total}
 use Rattle.event_log.specs.Legal.{IsSound, IsWithin, MayArrive}
 use Rattle.event_log.proofs.Adding.{fresh, fresh-in_flight, fresh-owed}
-use Rattle.event_log.proofs.Following.{accepted-followed_by, accepted-kept, deliveries-same, funext, get-last, known-followed_by, legal-followed_by, message_count-same, plan-kept, slot-same, state-followed_by}
+use Rattle.event_log.proofs.Following.{accepted-followed_by, accepted-kept, deliveries-same, funext, known-followed_by, legal-followed_by, message-newest, message-older, message_count-longer, message_count-same, plan-kept, slot-same, state-followed_by}
 use Rattle.event_log.proofs.Steps.{ArrivalStep, IsNumbered}
 use Rattle.event_log.proofs.Totals.{total-grown, total-same}
 
@@ -53,16 +53,9 @@ told-number true (Some place) same v count number is = again-number (same place)
 pub accepted-number : (h : History) (channel : ℕ) (raw : List ℕ) (number : ℕ) → answer h channel raw ≡ Some (told.Accepted number) → number ≡ message_count h
 unfolding answer
 accepted-number h channel raw number is =
-    told-number (is_bookable raw) (known h (key_of channel raw)) (λ place. option_map_or (brings raw) (slice_get h.entries place) false) (decided (plan_in_force h) channel raw) (message_count h) number is
+    told-number (is_bookable raw) (known h (key_of channel raw)) (brings_at h raw) (decided (plan_in_force h) channel raw) (message_count h) number is
 
 -- ---- the slots of a new message
-
--- a place other than that of the new item
-get-other : {A : Type 0} (xs : List A) (x : A) (k : ℕ) → k ≢ length xs → slice_get (xs ++ x ∷ []) k ≡ slice_get xs k
-get-other [] x zero apart = absurd (apart refl)
-get-other [] x (suc k) apart = refl
-get-other (y ∷ xs) x zero apart = refl
-get-other (y ∷ xs) x (suc k) apart = get-other xs x k (λ same. apart (ap suc same))
 
 -- a destination that deliveries name is as they all are
 names-all : (P : ℕ → Type 0) (ds : List Delivery) (d : ℕ) → All P (destinations_of ds) → names d ds ≡ true → P d
@@ -149,12 +142,12 @@ module _ (h : History) (sound : IsSound h) (conn channel : ℕ) (raw : List ℕ)
 
     -- there are as many
     same-count : message_count (followed_by h (Arrival conn channel raw reply)) ≡ message_count h
-    same-count = message_count-same h (followed_by h (Arrival conn channel raw reply)) same-messages
+    same-count = message_count-same h (followed_by h (Arrival conn channel raw reply)) refl same-messages
 
     -- no slot changes
     slot-kept : (n d : ℕ) → slot (followed_by h (Arrival conn channel raw reply)) n d ≡ slot h n d
     slot-kept n d =
-        slot-same h (followed_by h (Arrival conn channel raw reply)) same-messages n d
+        slot-same h (followed_by h (Arrival conn channel raw reply)) refl same-messages n d
         ∙ ap (λ s. cond (names d (deliveries h n)) (Some s) None) (state-after n d)
 
     -- no sum over slots changes
@@ -171,7 +164,7 @@ module _ (h : History) (sound : IsSound h) (conn channel : ℕ) (raw : List ℕ)
     step-kept : IsNumbered (message_count h) reply → ArrivalStep h conn channel raw reply
     step-kept numbered =
         step-when numbered
-        (λ n. subst AreDeliveries (sym (deliveries-same h (followed_by h (Arrival conn channel raw reply)) same-messages n)) (sound.deliveries n))
+        (λ n. subst AreDeliveries (sym (deliveries-same h (followed_by h (Arrival conn channel raw reply)) refl same-messages n)) (sound.deliveries n))
         (λ n d. subst (λ o. IfSome o (IsWithin (attempts_max (plan_in_force h) d))) (sym (slot-kept n d)) (sound.attempts n d))
         (omega (arith, same-count)) owed-kept (total-kept (λ d state. if is_in_flight state then 1 else 0))
 
@@ -184,7 +177,7 @@ module _ (h : History) (sound : IsSound h) (conn channel : ℕ) (raw : List ℕ)
 
     -- there is one more
     more-count : message_count (followed_by h (Arrival conn channel raw reply)) ≡ message_count h + 1
-    more-count = ap length more-messages ∙ length-append (accepted h) (accepted_under (plan_in_force h) channel raw ∷ [])
+    more-count = message_count-longer h (followed_by h (Arrival conn channel raw reply)) refl (accepted_under (plan_in_force h) channel raw) more-messages
 
     -- its deliveries
     new-goes : AreDeliveries (deliveries_of (decided (plan_in_force h) channel raw))
@@ -197,15 +190,13 @@ module _ (h : History) (sound : IsSound h) (conn channel : ℕ) (raw : List ℕ)
     -- the other messages go where they went
     deliveries-old : (n : ℕ) → n ≢ message_count h → deliveries (followed_by h (Arrival conn channel raw reply)) n ≡ deliveries h n
     deliveries-old n apart =
-        ap (λ ms. option_map_or (λ m. m.deliveries) (slice_get ms n) []) more-messages
-        ∙ ap (λ o. option_map_or (λ m. m.deliveries) o []) (get-other (accepted h) (accepted_under (plan_in_force h) channel raw) n apart)
+        ap (λ o. option_map_or (λ m. m.deliveries) o []) (message-older h (followed_by h (Arrival conn channel raw reply)) refl (accepted_under (plan_in_force h) channel raw) more-messages n apart)
 
     -- the new message goes by its deliveries
     deliveries-new : (n : ℕ) → n ≡ message_count h → deliveries (followed_by h (Arrival conn channel raw reply)) n ≡ deliveries_of (decided (plan_in_force h) channel raw)
     deliveries-new n same =
-        ap (λ ms. option_map_or (λ m. m.deliveries) (slice_get ms n) []) more-messages
-        ∙ ap (λ k. option_map_or (λ m. m.deliveries) (slice_get (accepted h ++ accepted_under (plan_in_force h) channel raw ∷ []) k) []) same
-        ∙ ap (λ o. option_map_or (λ m. m.deliveries) o []) (get-last (accepted h) (accepted_under (plan_in_force h) channel raw))
+        ap (deliveries (followed_by h (Arrival conn channel raw reply))) same
+        ∙ ap (λ o. option_map_or (λ m. m.deliveries) o []) (message-newest h (followed_by h (Arrival conn channel raw reply)) refl (accepted_under (plan_in_force h) channel raw) more-messages)
 
     -- the slots of other messages stay
     slot-old : (n : ℕ) → n ≢ message_count h → (d : ℕ) → slot (followed_by h (Arrival conn channel raw reply)) n d ≡ slot h n d

@@ -1,6 +1,6 @@
 -- A cancellation that may be booked next.
 use Rattle.std.proofs.Common.{◌≡◌, ◌≢◌, ℕ, ◌+◌, ◌^◌, ◌<◌, ◌≤◌, Bool, true, false, cond, ◌==◌, ◌&&◌, inl, inr, List, [], ◌∷◌, ◌++◌, length, Option, None, Some, Result, Ok, Err, refl, sym, ◌∙◌, ap, subst, arith, length-append}
-use Rattle.std.specs.Prelude.{IfSome, sum_by, nat_lt, if◌then◌else◌}
+use Rattle.std.specs.Prelude.{IfSome, is_some, sum_by, if◌then◌else◌}
 use Rattle.std.specs.Int.{bit_at}
 use Rattle.std.specs.List.{range_with_len}
 use Rattle.std.specs.Option.{option_map, option_map_or}
@@ -16,13 +16,13 @@ use Rattle.dest_queue.specs.States.{is_waiting}
 use Rattle.event_log.specs.declared.entry.Entry.TheVariants.{Cancel}
 use Rattle.event_log.specs.declared.refusal.CancelRefusal.{CancelRefusal}
 use Rattle.event_log.specs.declared.refusal.CancelRefusal.TheVariants.{NoSuchMessage, NothingWaiting}
-use Rattle.event_log.specs.History.{History, accepted, deliveries, followed_by, message_count, names, plan_in_force, slot, state}
+use Rattle.event_log.specs.History.{History, accepted, deliveries, followed_by, message_at, message_count, names, plan_in_force, slot, state}
 use Rattle.event_log.specs.Answers.{attempts_max, cancel_answer, mask_where, waits}
 use Rattle.event_log.specs.Room.{in_flight, is_in_flight, message_total, owed, slot_owed, total}
 use Rattle.event_log.specs.Legal.{IsSound, IsWithin}
 use Rattle.event_log.proofs.Following.{accepted-kept, known-kept, legal-followed_by, message_count-same, deliveries-same, plan-kept, slot-same, state-followed_by}
 use Rattle.event_log.proofs.Masks.{mask_where-bits, mask_where-beyond}
-use Rattle.event_log.proofs.Reading.{slot-outside}
+use Rattle.event_log.proofs.Reading.{message-exists, slot-outside}
 use Rattle.event_log.proofs.Steps.{CancelStep, waiting_owed}
 use Rattle.event_log.proofs.Totals.{sum-alike, total-changed}
 use Rattle.event_log.proofs.Touching.{state-picked}
@@ -133,12 +133,12 @@ room-left count more bound new old waiting longer left owes room = omega arith
 
 module _ (h : History) (sound : IsSound h) (n mask : ℕ) (is : cancel_answer h n ≡ Ok mask) where
   -- the parts of the answer
-  parts : (nat_lt n (message_count h) ≡ true) × ((mask_where (waits h n) == 0) ≡ false) × (mask ≡ mask_where (waits h n))
-  parts = answered (nat_lt n (message_count h)) (mask_where (waits h n) == 0) (mask_where (waits h n)) mask is
+  parts : (is_some (message_at h n) ≡ true) × ((mask_where (waits h n) == 0) ≡ false) × (mask ≡ mask_where (waits h n))
+  parts = answered (is_some (message_at h n)) (mask_where (waits h n) == 0) (mask_where (waits h n)) mask is
 
   -- the message exists
   exists : n < message_count h
-  exists = let t = parts.0 in grind (arith, nat_tests)
+  exists = message-exists h n parts.0
 
   -- it waits somewhere
   some-wait : mask_where (waits h n) ≢ 0
@@ -168,13 +168,13 @@ module _ (h : History) (sound : IsSound h) (n mask : ℕ) (is : cancel_answer h 
   -- the slots of other messages stay
   slot-other : (m : ℕ) → m ≢ n → (d : ℕ) → slot (followed_by h (Cancel n mask)) m d ≡ slot h m d
   slot-other m apart d =
-      slot-same h (followed_by h (Cancel n mask)) same-messages m d
+      slot-same h (followed_by h (Cancel n mask)) refl same-messages m d
       ∙ ap (λ s. cond (names d (deliveries h m)) (Some s) None) (state-after m d ∙ ap (λ b. cond b (Failed Cancelled) (state h m d)) (and-apart n m (bit_at mask d == 1) apart))
 
   -- those of the message fail where they wait
   slot-own : (d : ℕ) → slot (followed_by h (Cancel n mask)) n d ≡ option_map cancelled_state (slot h n d)
   slot-own d =
-      slot-same h (followed_by h (Cancel n mask)) same-messages n d
+      slot-same h (followed_by h (Cancel n mask)) refl same-messages n d
       ∙ ap (λ s. cond (names d (deliveries h n)) (Some s) None) (state-after n d ∙ ap (λ b. cond b (Failed Cancelled) (state h n d)) (and-same n (bit_at mask d == 1) ∙ bits d))
       ∙ slot-cancelled (names d (deliveries h n)) (state h n d)
 
@@ -184,7 +184,7 @@ module _ (h : History) (sound : IsSound h) (n mask : ℕ) (is : cancel_answer h 
       let weight : ℕ → SlotState → ℕ = λ d. slot_owed (attempts_max (plan_in_force h) d) in
       ap (λ p. total (λ d. slot_owed (attempts_max p d)) (followed_by h (Cancel n mask)) + waiting_owed h n) plan
       ∙ left-owed (total weight (followed_by h (Cancel n mask))) (owed h) (message_total weight (slot h n)) (message_total weight (slot (followed_by h (Cancel n mask)) n)) (waiting_owed h n)
-      (total-changed weight h (followed_by h (Cancel n mask)) n (message_count-same h (followed_by h (Cancel n mask)) same-messages) exists slot-other)
+      (total-changed weight h (followed_by h (Cancel n mask)) n (message_count-same h (followed_by h (Cancel n mask)) refl same-messages) exists slot-other)
       (sum-split (λ d. option_map_or (weight d) (slot h n d) 0) (λ d. option_map_or (weight d) (slot (followed_by h (Cancel n mask)) n d) 0)
       (λ d. option_map_or (owed_waiting (attempts_max (plan_in_force h) d)) (slot h n d) 0)
       (λ d. rw (slot-own d) (owed-cancelled (attempts_max (plan_in_force h) d) (slot h n d))) (range_with_len 0 32))
@@ -194,7 +194,7 @@ module _ (h : History) (sound : IsSound h) (n mask : ℕ) (is : cancel_answer h 
   flight-after =
       let weight : ℕ → SlotState → ℕ = λ d. flight in
       left-flight (in_flight (followed_by h (Cancel n mask))) (in_flight h) (message_total weight (slot h n)) (message_total weight (slot (followed_by h (Cancel n mask)) n))
-      (total-changed weight h (followed_by h (Cancel n mask)) n (message_count-same h (followed_by h (Cancel n mask)) same-messages) exists slot-other)
+      (total-changed weight h (followed_by h (Cancel n mask)) n (message_count-same h (followed_by h (Cancel n mask)) refl same-messages) exists slot-other)
       (sum-alike (λ d. option_map_or flight (slot h n d) 0) (λ d. option_map_or flight (slot (followed_by h (Cancel n mask)) n d) 0) 0 32
       (λ d low below. ap (λ o. option_map_or flight o 0) (slot-own d) ∙ flight-cancelled (slot h n d)))
 
@@ -214,7 +214,7 @@ module _ (h : History) (sound : IsSound h) (n mask : ℕ) (is : cancel_answer h 
   -- messages to come wait for their first attempt
   to_come-after : (m d : ℕ) → message_count (followed_by h (Cancel n mask)) ≤ m → state (followed_by h (Cancel n mask)) m d ≡ Waiting 0 0
   to_come-after m d beyond =
-      let past : message_count h ≤ m = subst (λ k. k ≤ m) (message_count-same h (followed_by h (Cancel n mask)) same-messages) beyond in
+      let past : message_count h ≤ m = subst (λ k. k ≤ m) (message_count-same h (followed_by h (Cancel n mask)) refl same-messages) beyond in
       let inside = exists in
       let apart : m ≢ n = λ same. omega arith in
       state-after m d ∙ ap (λ b. cond b (Failed Cancelled) (state h m d)) (and-apart n m (bit_at mask d == 1) apart) ∙ sound.to_come m d past
@@ -225,7 +225,7 @@ module _ (h : History) (sound : IsSound h) (n mask : ℕ) (is : cancel_answer h 
     opening = sound.opening;
     plan = subst IsPlan (sym plan) sound.plan;
     legal = legal-followed_by h (Cancel n mask) sound.legal is;
-    deliveries = λ m. subst AreDeliveries (sym (deliveries-same h (followed_by h (Cancel n mask)) same-messages m)) (sound.deliveries m);
+    deliveries = λ m. subst AreDeliveries (sym (deliveries-same h (followed_by h (Cancel n mask)) refl same-messages m)) (sound.deliveries m);
     attempts = λ m d. subst (λ p. IfSome (slot (followed_by h (Cancel n mask)) m d) (IsWithin (attempts_max p d))) (sym plan) (within-after m d);
     to_come = to_come-after;
     room = room-left (length h.entries) (length (h.entries ++ Cancel n mask ∷ [])) h.opening.events_max (owed (followed_by h (Cancel n mask))) (owed h) (waiting_owed h n)

@@ -14,11 +14,11 @@ use Rattle.dest_queue.specs.declared.SlotState.TheVariants.{Waiting, InFlight, D
 use Rattle.dest_queue.specs.States.{is_live}
 use Rattle.event_log.specs.declared.entry.Entry.TheVariants.{Deploy}
 use Rattle.event_log.specs.declared.refusal.DeployRefusal.TheVariants.{ChannelsDiffer, DestinationInUse, TooMany}
-use Rattle.event_log.specs.History.{History, accepted, deliveries, followed_by, is_queued, message_count, names, numbers, plan_in_force, queue, slot, state}
+use Rattle.event_log.specs.History.{History, accepted, deliveries, followed_by, is_queued, message_count, names, plan_in_force, queue, slot, state}
 use Rattle.event_log.specs.Answers.{attempts_max}
 use Rattle.event_log.specs.Deployment.{deploy_answer, deployments, first_lost, is_lost, same_channels, same_name, stays}
 use Rattle.event_log.specs.Legal.{IsSound, IsWithin, MayDeploy}
-use Rattle.event_log.specs.Room.{exceeds, in_flight, is_in_flight, message_total, owed, slot_owed, total}
+use Rattle.event_log.specs.Room.{in_flight, is_in_flight, message_total, owed, slot_owed, total}
 use Rattle.event_log.proofs.Following.{accepted-kept, deliveries-same, known-kept, legal-followed_by, message_count-same, plan-followed_by, slot-same, state-followed_by}
 use Rattle.event_log.proofs.Reading.{slot-exists, slot-inside}
 use Rattle.event_log.proofs.Steps.{DeployStep}
@@ -111,7 +111,7 @@ module _ (h : History) (sound : IsSound h) (plan : PlanEntry) (may : MayDeploy h
   state-after n d = state-followed_by h (Deploy plan) n d
 
   slot-after : (n d : ℕ) → slot (followed_by h (Deploy plan)) n d ≡ slot h n d
-  slot-after n d = slot-same h (followed_by h (Deploy plan)) same-messages n d ∙ ap (λ s. cond (names d (deliveries h n)) (Some s) None) (state-after n d)
+  slot-after n d = slot-same h (followed_by h (Deploy plan)) refl same-messages n d ∙ ap (λ s. cond (names d (deliveries h n)) (Some s) None) (state-after n d)
 
   -- a destination to which a message is still to be delivered is tried as often
   tried-same : (n d : ℕ) (s : SlotState) → slot h n d ≡ Some s → is_live s ≡ true → attempts_max plan d ≡ attempts_max (plan_in_force h) d
@@ -151,13 +151,13 @@ module _ (h : History) (sound : IsSound h) (plan : PlanEntry) (may : MayDeploy h
   owed-after : owed (followed_by h (Deploy plan)) ≡ owed h
   owed-after =
       ap (λ p. total (λ d. slot_owed (attempts_max p d)) (followed_by h (Deploy plan))) in-force
-      ∙ (total-same (λ d. slot_owed (attempts_max plan d)) h (followed_by h (Deploy plan)) (message_count-same h (followed_by h (Deploy plan)) same-messages) (λ n below d. slot-after n d)
+      ∙ (total-same (λ d. slot_owed (attempts_max plan d)) h (followed_by h (Deploy plan)) (message_count-same h (followed_by h (Deploy plan)) refl same-messages) (λ n below d. slot-after n d)
       ∙ total-alike (λ d. slot_owed (attempts_max plan d)) (λ d. slot_owed (attempts_max (plan_in_force h) d)) h (λ n d inside. owes-same n d))
 
   -- attempts under way go on
   flight-after : in_flight (followed_by h (Deploy plan)) ≡ in_flight h
   flight-after =
-      total-same (λ d state. if is_in_flight state then 1 else 0) h (followed_by h (Deploy plan)) (message_count-same h (followed_by h (Deploy plan)) same-messages) (λ n below d. slot-after n d)
+      total-same (λ d state. if is_in_flight state then 1 else 0) h (followed_by h (Deploy plan)) (message_count-same h (followed_by h (Deploy plan)) refl same-messages) (λ n below d. slot-after n d)
 
   -- the history stays sound
   sound-after : IsSound (followed_by h (Deploy plan))
@@ -165,10 +165,10 @@ module _ (h : History) (sound : IsSound h) (plan : PlanEntry) (may : MayDeploy h
     opening = sound.opening;
     plan = subst IsPlan (sym in-force) may.good;
     legal = legal-followed_by h (Deploy plan) sound.legal may;
-    deliveries = λ n. subst AreDeliveries (sym (deliveries-same h (followed_by h (Deploy plan)) same-messages n)) (sound.deliveries n);
+    deliveries = λ n. subst AreDeliveries (sym (deliveries-same h (followed_by h (Deploy plan)) refl same-messages n)) (sound.deliveries n);
     attempts = λ n d. subst (λ p. IfSome (slot (followed_by h (Deploy plan)) n d) (IsWithin (attempts_max p d))) (sym in-force)
         (subst (λ o. IfSome o (IsWithin (attempts_max plan d))) (sym (slot-after n d)) (within-same n d));
-    to_come = λ n d beyond. state-after n d ∙ sound.to_come n d (subst (λ k. k ≤ n) (message_count-same h (followed_by h (Deploy plan)) same-messages) beyond);
+    to_come = λ n d beyond. state-after n d ∙ sound.to_come n d (subst (λ k. k ≤ n) (message_count-same h (followed_by h (Deploy plan)) refl same-messages) beyond);
     room = room-left (length h.entries) (length (h.entries ++ Deploy plan ∷ [])) h.opening.events_max (owed h) (owed (followed_by h (Deploy plan))) may.room
         (length-append h.entries (Deploy plan ∷ [])) owed-after;
   }

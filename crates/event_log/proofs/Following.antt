@@ -1,23 +1,25 @@
 -- What one more entry changes.
-use Rattle.std.proofs.Common.{◌≡◌, ℕ, ◌+◌, ◌<◌, ◌≤◌, ◌⊎◌, inl, inr, Bool, true, false, cond, not, ◌==◌, nat_lt, List, [], ◌∷◌, ◌++◌, length, take, Option, None, Some, refl, sym, ◌∙◌, ap, subst, arith, suc, zero, length-append}
-use Rattle.std.specs.Prelude.{slice_get, option_to_list}
-use Rattle.std.specs.List.{filter_map, cons_option, position_or_len, range_with_len}
-use Rattle.std.specs.Option.{option_map_or}
+use Rattle.std.proofs.Common.{◌≡◌, ◌≢◌, ℕ, ◌+◌, ◌-◌, ◌<◌, ◌≤◌, ◌⊎◌, inl, inr, Bool, true, false, cond, not, ◌==◌, nat_lt, List, [], ◌∷◌, ◌++◌, length, take, Option, None, Some, refl, sym, ◌∙◌, ap, subst, arith, suc, zero, length-append}
+use Rattle.std.specs.Prelude.{filter, is_some, slice_get, option_to_list, if◌then◌else◌}
+use Rattle.std.specs.List.{filter_map, cons_option, position, position_or_len, range_with_len}
+use Rattle.std.specs.Option.{option_map, option_map_or}
 use Rattle.std.proofs.lemmas.Bool.Decides.{eqb_tells, nat_tests}
 use Rattle.std.proofs.lemmas.List.{append-nil}
-use Rattle.std.proofs.lemmas.List.Elements.{filter_map-append}
+use Rattle.std.proofs.lemmas.List.Elements.{filter-append, filter_map-append}
 use Rattle.std.proofs.lemmas.List.Folds.{position_or_len_push}
 use Rattle.std.proofs.lemmas.List.Sums.{prefix_len-le-length}
 use Rattle.std.proofs.lemmas.Option.{slice_get_past, same_Some}
 use Rattle.judge_core.specs.Delivering.{destinations_of}
-use Rattle.dest_queue.specs.declared.SlotState.{SlotState}
-use Rattle.dest_queue.specs.declared.SlotState.TheVariants.{Waiting}
 use Rattle.event_log.specs.declared.entry.Entry.{Entry}
-use Rattle.event_log.specs.declared.entry.Entry.TheVariants.{Deploy}
+use Rattle.event_log.specs.declared.entry.Told.TheVariants as told
+use Rattle.event_log.specs.declared.entry.Entry.TheVariants.{Arrival, Take, Settle, Cancel, Deploy}
 use Rattle.plan_text.specs.Entries.{PlanEntry}
-use Rattle.event_log.specs.History.{Accepted, History, accepted, accepted_by, accepted_from, deliveries, deployed, deployed_by, followed_by, last_from, message_count, named, names, numbers, plan_after, plan_in_force, slot, state, state_by}
-use Rattle.event_log.specs.Answers.{keeps, known}
+use Rattle.event_log.specs.History.{Accepted, History, Opening, accepted, accepted_by, accepted_from, before, deliveries, deployed, deployed_by, entry_at, first_state, followed_by, last_from, message_at, message_count, message_of, named, names, next_place, numbers, plan_after, plan_in_force, remaining, remembered_as, slot, state, state_by}
+use Rattle.event_log.specs.Answers.{keeps, known, known_before}
+use Rattle.event_log.specs.Counting.{is_acceptance}
+use Rattle.event_log.specs.Deployment.{deployments}
 use Rattle.event_log.specs.Legal.{IsLegal, MayFollow}
+use Rattle.event_log.proofs.Masks.{range-push}
 
 -- functions that agree everywhere are equal
 pub funext : {A B : Type 0} (f g : A → B) → ((x : A) → f x ≡ g x) → f ≡ g
@@ -55,25 +57,49 @@ trichotomy (suc a) (suc b) = elim (trichotomy a b) [
   | inr w ↦ elim w [ inl e ↦ inr (inl (ap (λ n. suc n) e)) | inr l ↦ inr (inr (omega arith)) ]
 ]
 
+-- an entry that stands at a place is held there
+held : (folded : Bool) (o : Option Entry) (x : Entry) → cond folded None o ≡ Some x → (folded ≡ false) × (o ≡ Some x)
+held true o x is = absurd cc
+held false o x is = (refl, is)
+
+pub entry-held : (h : History) (place : ℕ) (x : Entry) → entry_at h place ≡ Some x → (nat_lt place h.opening.places ≡ false) × (slice_get h.entries (place - h.opening.places) ≡ Some x)
+entry-held h place x got = held (nat_lt place h.opening.places) (slice_get h.entries (place - h.opening.places)) x got
+
+-- the entries that are held have the places after those that were folded
+pub entry-since : (h : History) (k : ℕ) → entry_at h (h.opening.places + k) ≡ slice_get h.entries k
+entry-since h k =
+    let past : nat_lt (h.opening.places + k) h.opening.places ≡ false = grind (arith, nat_tests) in
+    let own : h.opening.places + k - h.opening.places ≡ k = omega arith in
+    rw (past, own) refl
+
+pub before-since : (h : History) (k : ℕ) → before h (h.opening.places + k) ≡ record { opening = h.opening; entries = take k h.entries }
+before-since h k = let own : h.opening.places + k - h.opening.places ≡ k = omega arith in rw own refl
+
+-- each entry that is held may follow those before it
+pub follows-since : (h : History) → IsLegal h → (k : ℕ) (e : Entry) → slice_get h.entries k ≡ Some e → MayFollow (record { opening = h.opening; entries = take k h.entries }) e
+follows-since h legal k e got = subst (λ g. MayFollow g e) (before-since h k) (legal.follows (h.opening.places + k) e (entry-since h k ∙ got))
+
+-- and a history in which each may is legal
+pub legal-since : (h : History) → ((k : ℕ) (e : Entry) → slice_get h.entries k ≡ Some e → MayFollow (record { opening = h.opening; entries = take k h.entries }) e) → IsLegal h
+legal-since h follows = record { follows = λ place x got. follows (place - h.opening.places) x (entry-held h place x got).1 }
+
 -- a legal history stays legal with an entry that may follow
 pub legal-followed_by : (h : History) (e : Entry) → IsLegal h → MayFollow h e → IsLegal (followed_by h e)
-legal-followed_by h e legal may = record {
-  follows = λ place x got. elim (trichotomy place (length h.entries)) [
-    | inl below ↦
-        subst (λ es. MayFollow (record { opening = h.opening; entries = es }) x) (sym (take-below h.entries (e ∷ []) place (omega arith)))
-        (legal.follows place x (sym (get-below h.entries (e ∷ []) place below) ∙ got))
-    | inr w ↦ elim w [
-      | inl same ↦
-          let last : slice_get (h.entries ++ e ∷ []) place ≡ Some e = rw same (get-last h.entries e) in
-          let is : e ≡ x = same_Some e x (sym last ∙ got) in
-          let whole : take place (h.entries ++ e ∷ []) ≡ h.entries = rw same (take-below h.entries (e ∷ []) (length h.entries) (omega arith) ∙ take-whole h.entries) in
-          subst (λ y. MayFollow (record { opening = h.opening; entries = take place (h.entries ++ e ∷ []) }) y) is
-          (subst (λ es. MayFollow (record { opening = h.opening; entries = es }) e) (sym whole) may)
-      | inr past ↦
-          let none = slice_get_past (h.entries ++ e ∷ []) place (simp length-append (omega arith)) in absurd cc
-    ]
-  ];
-}
+legal-followed_by h e legal may = legal-since (followed_by h e) (λ place x got. elim (trichotomy place (length h.entries)) [
+  | inl below ↦
+      subst (λ es. MayFollow (record { opening = h.opening; entries = es }) x) (sym (take-below h.entries (e ∷ []) place (omega arith)))
+      (follows-since h legal place x (sym (get-below h.entries (e ∷ []) place below) ∙ got))
+  | inr w ↦ elim w [
+    | inl same ↦
+        let last : slice_get (h.entries ++ e ∷ []) place ≡ Some e = rw same (get-last h.entries e) in
+        let is : e ≡ x = same_Some e x (sym last ∙ got) in
+        let whole : take place (h.entries ++ e ∷ []) ≡ h.entries = rw same (take-below h.entries (e ∷ []) (length h.entries) (omega arith) ∙ take-whole h.entries) in
+        subst (λ y. MayFollow (record { opening = h.opening; entries = take place (h.entries ++ e ∷ []) }) y) is
+        (subst (λ es. MayFollow (record { opening = h.opening; entries = es }) e) (sym whole) may)
+    | inr past ↦
+        let none = slice_get_past (h.entries ++ e ∷ []) place (simp length-append (omega arith)) in absurd cc
+  ]
+])
 
 -- the one item of an option
 cons-none : {A : Type 0} (o : Option A) → cons_option o [] ≡ option_to_list o
@@ -105,12 +131,14 @@ pub deployed-followed_by : (h : History) (e : Entry) → deployed (followed_by h
 deployed-followed_by h e = filter_map-append deployed_by h.entries (e ∷ []) ∙ ap (λ ps. deployed h ++ ps) (cons-none (deployed_by e))
 
 -- an entry that deploys none leaves as many
-pub deployments-kept : (h : History) (e : Entry) → deployed_by e ≡ None → length (deployed (followed_by h e)) ≡ length (deployed h)
-deployments-kept h e none = ap length (deployed-followed_by h e ∙ (ap (λ o. deployed h ++ option_to_list o) none ∙ append-nil (deployed h)))
+pub deployments-kept : (h : History) (e : Entry) → deployed_by e ≡ None → deployments (followed_by h e) ≡ deployments h
+deployments-kept h e none = ap (λ ps. h.opening.deployments + length ps) (deployed-followed_by h e ∙ (ap (λ o. deployed h ++ option_to_list o) none ∙ append-nil (deployed h)))
 
 -- a deployment is one more
-pub deployments-more : (h : History) (plan : PlanEntry) → length (deployed (followed_by h (Deploy plan))) ≡ length (deployed h) + 1
-deployments-more h plan = ap length (deployed-followed_by h (Deploy plan)) ∙ length-append (deployed h) (plan ∷ [])
+pub deployments-more : (h : History) (plan : PlanEntry) → deployments (followed_by h (Deploy plan)) ≡ deployments h + 1
+deployments-more h plan =
+    ap (λ ps. h.opening.deployments + length ps) (deployed-followed_by h (Deploy plan))
+    ∙ omega (arith, length-append (deployed h) (plan ∷ []))
 
 -- the plan in force is the one that an entry deploys, or as it was
 pub plan-followed_by : (h : History) (e : Entry) → plan_in_force (followed_by h e) ≡ plan_after (plan_in_force h) e
@@ -142,6 +170,25 @@ accepted-push plan (x ∷ es) e =
 pub accepted-followed_by : (h : History) (e : Entry) → accepted (followed_by h e) ≡ accepted h ++ option_to_list (accepted_by (plan_in_force h) e)
 accepted-followed_by h e = accepted-push h.opening.plan h.entries e
 
+-- there are as many as before, and that which the entry brings
+pub message_count-push : (h : History) (e : Entry) → message_count (followed_by h e) ≡ message_count h + option_map_or (λ m. 1) (accepted_by (plan_in_force h) e) 0
+message_count-push h e = ap (λ ms. h.opening.messages + length ms) (accepted-followed_by h e) ∙ by (accepted_by (plan_in_force h) e)
+  where
+    by : (o : Option Accepted) → h.opening.messages + length (accepted h ++ option_to_list o) ≡ message_count h + option_map_or (λ m. 1) o 0
+    by None = omega (arith, length-append (accepted h) [])
+    by (Some m) = omega (arith, length-append (accepted h) (m ∷ []))
+
+-- only the arrival of an accepted message brings one
+pub accepts-one : (plan : PlanEntry) (e : Entry) → ◌≡◌ {A = ℕ} (option_map_or (λ m. 1) (accepted_by plan e) 0) (cond (is_acceptance e) 1 0)
+accepts-one plan (Arrival conn channel raw (told.Accepted number)) = refl
+accepts-one plan (Arrival conn channel raw told.Filtered) = refl
+accepts-one plan (Arrival conn channel raw (told.Refused cause)) = refl
+accepts-one plan (Arrival conn channel raw (told.Repeat place)) = refl
+accepts-one plan (Take ticket now) = refl
+accepts-one plan (Settle ticket outcome now after) = refl
+accepts-one plan (Cancel number mask) = refl
+accepts-one plan (Deploy next) = refl
+
 -- an entry that brings no message leaves the messages as they are
 pub accepted-kept : (h : History) (e : Entry) → accepted_by (plan_in_force h) e ≡ None → accepted (followed_by h e) ≡ accepted h
 accepted-kept h e none = accepted-followed_by h e ∙ (ap (λ o. accepted h ++ option_to_list o) none ∙ append-nil (accepted h))
@@ -149,8 +196,8 @@ accepted-kept h e none = accepted-followed_by h e ∙ (ap (λ o. accepted h ++ o
 -- a slot's state is as the entry leaves it, or as it was
 pub state-followed_by : (h : History) (e : Entry) (n d : ℕ) → state (followed_by h e) n d ≡ option_map_or (λ s. s) (state_by n d e) (state h n d)
 state-followed_by h e n d =
-    ap (last_from (Waiting 0 0)) (filter_map-append (state_by n d) h.entries (e ∷ []) ∙ ap (λ ss. filter_map (state_by n d) h.entries ++ ss) (cons-none (state_by n d e)))
-    ∙ last-push (Waiting 0 0) (filter_map (state_by n d) h.entries) (state_by n d e)
+    ap (last_from (first_state h.opening n d)) (filter_map-append (state_by n d) h.entries (e ∷ []) ∙ ap (λ ss. filter_map (state_by n d) h.entries ++ ss) (cons-none (state_by n d e)))
+    ∙ last-push (first_state h.opening n d) (filter_map (state_by n d) h.entries) (state_by n d e)
 
 -- the place found in a longer list
 place-push : (q n : ℕ) (b : Bool) → q ≤ n → cond (nat_lt (cond (q == n) (n + cond b 0 1) q) (n + 1)) (Some (cond (q == n) (n + cond b 0 1) q)) None ≡ option_map_or (λ place. Some place) (cond (nat_lt q n) (Some q) None) (cond b (Some n) None)
@@ -165,36 +212,59 @@ place-push q n b within = elim (eqb_tells q n) [
     last true = let inside : nat_lt (n + 0) (n + 1) ≡ true = grind (arith, nat_tests) in let same : n + 0 ≡ n = omega arith in rw (inside, same) refl
     last false = let past : nat_lt (n + 1) (n + 1) ≡ false = grind (arith, nat_tests) in rw past refl
 
+-- the first entry that keeps a key is where it was, or the new one
+position-push : (key : List ℕ) (es : List Entry) (e : Entry) → position (keeps key) (es ++ e ∷ []) ≡ option_map_or (λ place. Some place) (position (keeps key) es) (cond (keeps key e) (Some (length es)) None)
+position-push key es e =
+    let longer : length (es ++ e ∷ []) ≡ length es + 1 = omega (arith, length-append es (e ∷ [])) in
+    ap (λ q. cond (nat_lt q (length (es ++ e ∷ []))) (Some q) None) (position_or_len_push (keeps key) es e)
+    ∙ (ap (λ m. cond (nat_lt (cond (position_or_len (keeps key) es == length es) (length es + cond (keeps key e) 0 1) (position_or_len (keeps key) es)) m)
+    (Some (cond (position_or_len (keeps key) es == length es) (length es + cond (keeps key e) 0 1) (position_or_len (keeps key) es))) None) longer
+    ∙ place-push (position_or_len (keeps key) es) (length es) (keeps key e) (prefix_len-le-length (λ x. not (keeps key x)) es))
+
 -- a key is known where it was, and else by the entry
-pub known-followed_by : (h : History) (e : Entry) (key : List ℕ) → known (followed_by h e) key ≡ option_map_or (λ place. Some place) (known h key) (cond (keeps key e) (Some (length h.entries)) None)
+pub known-followed_by : (h : History) (e : Entry) (key : List ℕ) → known (followed_by h e) key ≡ option_map_or (λ place. Some place) (known h key) (cond (keeps key e) (Some (next_place h)) None)
 known-followed_by h e key =
-    let longer : length (h.entries ++ e ∷ []) ≡ length h.entries + 1 = omega (arith, length-append h.entries (e ∷ [])) in
-    ap (λ q. cond (nat_lt q (length (h.entries ++ e ∷ []))) (Some q) None) (position_or_len_push (keeps key) h.entries e)
-    ∙ (ap (λ m. cond (nat_lt (cond (position_or_len (keeps key) h.entries == length h.entries) (length h.entries + cond (keeps key e) 0 1) (position_or_len (keeps key) h.entries)) m)
-    (Some (cond (position_or_len (keeps key) h.entries == length h.entries) (length h.entries + cond (keeps key e) 0 1) (position_or_len (keeps key) h.entries))) None) longer
-    ∙ place-push (position_or_len (keeps key) h.entries) (length h.entries) (keeps key e) (prefix_len-le-length (λ x. not (keeps key x)) h.entries))
+    ap (λ o. option_map_or (λ place. Some place) (known_before h.opening key) (option_map (λ k. h.opening.places + k) o)) (position-push key h.entries e)
+    ∙ by (known_before h.opening key) (position (keeps key) h.entries) (keeps key e)
+  where
+    by : (o p : Option ℕ) (b : Bool) → option_map_or (λ place. Some place) o (option_map (λ k. h.opening.places + k) (option_map_or (λ place. Some place) p (cond b (Some (length h.entries)) None)))
+        ≡ option_map_or (λ place. Some place) (option_map_or (λ place. Some place) o (option_map (λ k. h.opening.places + k) p)) (cond b (Some (h.opening.places + length h.entries)) None)
+    by (Some place) p b = refl
+    by None (Some k) b = refl
+    by None None true = refl
+    by None None false = refl
 
 -- an entry that keeps no key leaves what is known
 pub known-kept : (h : History) (e : Entry) (key : List ℕ) → keeps key e ≡ false → known (followed_by h e) key ≡ known h key
-known-kept h e key none = known-followed_by h e key ∙ (ap (λ b. option_map_or (λ place. Some place) (known h key) (cond b (Some (length h.entries)) None)) none ∙ same-place (known h key))
+known-kept h e key none = known-followed_by h e key ∙ (ap (λ b. option_map_or (λ place. Some place) (known h key) (cond b (Some (next_place h)) None)) none ∙ same-place (known h key))
   where
     same-place : (o : Option ℕ) → option_map_or (λ place. Some place) o None ≡ o
     same-place None = refl
     same-place (Some place) = refl
 
--- histories with the same messages have the same numbers, and their messages go the same ways
-module _ (h h' : History) (same : accepted h' ≡ accepted h) where
+-- histories that go on from one opening with the same messages have the same numbers, and their messages go the same ways
+module _ (h h' : History) (opening : h'.opening ≡ h.opening) (same : accepted h' ≡ accepted h) where
   -- as many
   pub message_count-same : message_count h' ≡ message_count h
-  message_count-same = ap length same
+  message_count-same = ap (λ o. o.messages + length (accepted h')) opening ∙ ap (λ ms. h.opening.messages + length ms) same
 
   -- their numbers
   pub numbers-same : numbers h' ≡ numbers h
-  numbers-same = ap (λ ms. range_with_len 0 (length ms)) same
+  numbers-same = ap (λ k. range_with_len 0 k) message_count-same
+
+  -- each of them
+  pub message-same : (n : ℕ) → message_at h' n ≡ message_at h n
+  message-same n =
+      ap (λ o. if nat_lt n o.messages then option_map message_of (remembered_as o n) else slice_get (accepted h') (n - o.messages)) opening
+      ∙ ap (λ ms. if nat_lt n h.opening.messages then option_map message_of (remembered_as h.opening n) else slice_get ms (n - h.opening.messages)) same
+
+  -- those that are not forgotten
+  pub remaining-same : remaining h' ≡ remaining h
+  remaining-same = ap (filter (λ n. is_some (message_at h' n))) numbers-same ∙ ap (λ p. filter p (numbers h)) (funext (λ n. is_some (message_at h' n)) (λ n. is_some (message_at h n)) (λ n. ap is_some (message-same n)))
 
   -- where each goes
   pub deliveries-same : (n : ℕ) → deliveries h' n ≡ deliveries h n
-  deliveries-same n = ap (λ ms. option_map_or (λ m. m.deliveries) (slice_get ms n) []) same
+  deliveries-same n = ap (λ o. option_map_or (λ m. m.deliveries) o []) (message-same n)
 
   -- the destinations that each names
   pub named-same : (n : ℕ) → named h' n ≡ named h n
@@ -203,3 +273,68 @@ module _ (h h' : History) (same : accepted h' ≡ accepted h) where
   -- the slots, each in its new state
   pub slot-same : (n d : ℕ) → slot h' n d ≡ cond (names d (deliveries h n)) (Some (state h' n d)) None
   slot-same n d = ap (λ ds. cond (names d ds) (Some (state h' n d)) None) (deliveries-same n)
+
+-- ---- one message more
+
+-- a place other than that of the new item
+get-other : {A : Type 0} (xs : List A) (x : A) (k : ℕ) → k ≢ length xs → slice_get (xs ++ x ∷ []) k ≡ slice_get xs k
+get-other [] x zero apart = absurd (apart refl)
+get-other [] x (suc k) apart = refl
+get-other (y ∷ xs) x zero apart = refl
+get-other (y ∷ xs) x (suc k) apart = get-other xs x k (λ same. apart (ap suc same))
+
+-- other messages than the new one are as they were
+other-message : (m n : ℕ) (old : Option Accepted) (ms : List Accepted) (a : Accepted) → n ≢ m + length ms
+    → (if nat_lt n m then old else slice_get (ms ++ a ∷ []) (n - m)) ≡ (if nat_lt n m then old else slice_get ms (n - m))
+other-message m n old ms a apart = elim (nat_lt n m) as (λ b. nat_lt n m ≡ b → cond b old (slice_get (ms ++ a ∷ []) (n - m)) ≡ cond b old (slice_get ms (n - m))) [
+  | true ↦ λ before. refl
+  | false ↦ λ since. let past : m ≤ n = grind (arith, nat_tests) in get-other ms a (n - m) (λ same. apart (omega arith))
+] refl
+
+-- and the new one has the next number
+new-message : (m n : ℕ) (old : Option Accepted) (ms : List Accepted) (a : Accepted) → n ≡ m + length ms → (if nat_lt n m then old else slice_get (ms ++ a ∷ []) (n - m)) ≡ Some a
+new-message m n old ms a next =
+    let since : nat_lt n m ≡ false = grind (arith, nat_tests) in
+    let own : n - m ≡ length ms = omega arith in
+    rw (since, own) (get-last ms a)
+
+-- a test that agrees at each number leaves the same of them
+filter-alike : (p q : ℕ → Bool) (a k : ℕ) → ((n : ℕ) → a ≤ n → n < a + k → p n ≡ q n) → filter p (range_with_len a k) ≡ filter q (range_with_len a k)
+filter-alike p q a zero alike = refl
+filter-alike p q a (suc k) alike =
+    let rest = filter-alike p q (a + 1) k (λ n low high. alike n (omega arith) (omega arith)) in
+    rw (alike a (omega arith) (omega arith)) (ap (λ ns. cond (q a) (a ∷ ns) ns) rest)
+
+-- a history that goes on from the same opening with one message more
+module _ (h h' : History) (opening : h'.opening ≡ h.opening) (m : Accepted) (longer : accepted h' ≡ accepted h ++ m ∷ []) where
+  -- there is one more
+  pub message_count-longer : message_count h' ≡ message_count h + 1
+  message_count-longer =
+      ap (λ o. o.messages + length (accepted h')) opening ∙ (ap (λ ms. h.opening.messages + length ms) longer
+      ∙ omega (arith, length-append (accepted h) (m ∷ [])))
+
+  -- message n, with these messages since the opening
+  abbrev since : ℕ → Opening → List Accepted → Option Accepted
+  since n o ms = if nat_lt n o.messages then option_map message_of (remembered_as o n) else slice_get ms (n - o.messages)
+
+  -- the others are as they were
+  pub message-older : (n : ℕ) → n ≢ message_count h → message_at h' n ≡ message_at h n
+  message-older n apart =
+      ap (λ o. since n o (accepted h')) opening ∙ (ap (since n h.opening) longer
+      ∙ other-message h.opening.messages n (option_map message_of (remembered_as h.opening n)) (accepted h) m apart)
+
+  -- the new one has the next number
+  pub message-newest : message_at h' (message_count h) ≡ Some m
+  message-newest =
+      ap (λ o. since (message_count h) o (accepted h')) opening ∙ (ap (since (message_count h) h.opening) longer
+      ∙ new-message h.opening.messages (message_count h) (option_map message_of (remembered_as h.opening (message_count h))) (accepted h) m refl)
+
+  -- it is not forgotten
+  pub remaining-longer : remaining h' ≡ remaining h ++ message_count h ∷ []
+  remaining-longer =
+      ap (λ k. filter (λ n. is_some (message_at h' n)) (range_with_len 0 k)) message_count-longer
+      ∙ (ap (filter (λ n. is_some (message_at h' n))) (range-push (message_count h))
+      ∙ (filter-append (λ n. is_some (message_at h' n)) (range_with_len 0 (message_count h)) (message_count h ∷ [])
+      ∙ (ap (λ ns. ns ++ filter (λ n. is_some (message_at h' n)) (message_count h ∷ []))
+      (filter-alike (λ n. is_some (message_at h' n)) (λ n. is_some (message_at h n)) 0 (message_count h) (λ n low below. ap is_some (message-older n (λ same. omega arith))))
+      ∙ ap (λ o. remaining h ++ cond (is_some o) (message_count h ∷ []) []) message-newest)))

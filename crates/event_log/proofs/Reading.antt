@@ -1,30 +1,22 @@
 -- What single slots and queues say.
-use Rattle.std.proofs.Common.{◌≡◌, ℕ, ◌+◌, ◌<◌, ◌≤◌, ◌⊎◌, inl, inr, Bool, true, false, cond, List, [], ◌∷◌, Option, None, Some, refl, ap, arith, suc, zero}
-use Rattle.std.specs.Prelude.{slice_get, filter}
+use Rattle.std.proofs.Common.{◌≡◌, ℕ, ◌+◌, ◌-◌, ◌<◌, ◌≤◌, ◌⊎◌, inl, inr, Bool, true, false, cond, List, [], ◌∷◌, Option, None, Some, refl, ap, arith, nat_lt, suc, zero}
+use Rattle.std.specs.Prelude.{slice_get, filter, is_some}
 use Rattle.std.specs.List.{AllByRecursion, range_with_len}
 use Rattle.std.specs.List.Sorted.{IsStrictlyIncreasing}
 use Rattle.std.specs.Option.{option_map_or}
-use Rattle.std.proofs.lemmas.Bool.Decides.{eqb_tells}
-use Rattle.std.proofs.lemmas.List.Elements.{All-nil, recursion_from_All}
+use Rattle.std.proofs.lemmas.Bool.Decides.{eqb_tells, nat_tests}
+use Rattle.std.proofs.lemmas.List.Elements.{recursion_from_All}
 use Rattle.std.proofs.lemmas.List.FromFn.{length-range_with_len, get_or-range_with_len}
 use Rattle.std.proofs.lemmas.List.Kept.{IsStrictlyIncreasing-filter}
 use Rattle.std.proofs.lemmas.Option.{cond_some, slice_get_past}
-use Rattle.plan_text.specs.Entries.{PlanEntry, IsPlan}
+use Rattle.plan_text.specs.Entries.{PlanEntry}
 use Rattle.judge_core.specs.declared.delivery.Delivery.{Delivery}
 use Rattle.dest_queue.specs.declared.SlotState.{SlotState}
 use Rattle.dest_queue.specs.States.{is_live}
-use Rattle.event_log.specs.History.{History, accepted, deliveries, is_queued, message_count, names, numbers, opened_by, queue, slot, state}
+use Rattle.event_log.specs.History.{History, accepted, deliveries, is_queued, message_at, message_count, names, numbers, opened_by, queue, slot, state}
 use Rattle.event_log.specs.Answers.{known}
 use Rattle.event_log.specs.Room.{in_flight, owed, total}
 use Rattle.event_log.specs.Legal.{IsSound}
-
--- a message to come has no slot
-pub slot-beyond : (h : History) (n d : ℕ) → message_count h ≤ n → slot h n d ≡ None
-slot-beyond h n d beyond = rw (slice_get_past (accepted h) n beyond) refl
-
--- a slot that there is: the message names the destination, and that is its state
-pub slot-state : (h : History) (n d : ℕ) (s : SlotState) → slot h n d ≡ Some s → (names d (deliveries h n) ≡ true) × (state h n d ≡ s)
-slot-state h n d s is = cond_some (names d (deliveries h n)) (state h n d) s is
 
 -- one number is below another, or it is not
 below-or-not : (a b : ℕ) → (a < b) ⊎ (b ≤ a)
@@ -32,6 +24,24 @@ below-or-not zero zero = inr (omega arith)
 below-or-not zero (suc b) = inl (omega arith)
 below-or-not (suc a) zero = inr (omega arith)
 below-or-not (suc a) (suc b) = elim (below-or-not a b) [ inl w ↦ inl (omega arith) | inr w ↦ inr (omega arith) ]
+
+-- there is no message to come
+pub message-beyond : (h : History) (n : ℕ) → message_count h ≤ n → message_at h n ≡ None
+message-beyond h n beyond =
+    let since : nat_lt n h.opening.messages ≡ false = grind (arith, nat_tests) in
+    rw since (slice_get_past (accepted h) (n - h.opening.messages) (omega arith))
+
+-- it has no slot
+pub slot-beyond : (h : History) (n d : ℕ) → message_count h ≤ n → slot h n d ≡ None
+slot-beyond h n d beyond = rw (message-beyond h n beyond) refl
+
+-- a message that there is came before
+pub message-exists : (h : History) (n : ℕ) → is_some (message_at h n) ≡ true → n < message_count h
+message-exists h n is = elim (below-or-not n (message_count h)) [ inl w ↦ w | inr w ↦ let none : is_some (message_at h n) ≡ false = ap is_some (message-beyond h n w) in absurd cc ]
+
+-- a slot that there is: the message names the destination, and that is its state
+pub slot-state : (h : History) (n d : ℕ) (s : SlotState) → slot h n d ≡ Some s → (names d (deliveries h n) ≡ true) × (state h n d ≡ s)
+slot-state h n d s is = cond_some (names d (deliveries h n)) (state h n d) s is
 
 -- where there is a slot, there is the message
 pub slot-exists : (h : History) (n d : ℕ) (s : SlotState) → slot h n d ≡ Some s → n < message_count h
@@ -111,15 +121,3 @@ opened-in_flight plan events_max = refl
 -- no key is known at first
 pub opened-known : (plan : PlanEntry) (events_max : ℕ) (key : List ℕ) → known (opened_by plan events_max) key ≡ None
 opened-known plan events_max key = refl
-
--- a history of which nothing is booked is sound
-pub opened-sound : (plan : PlanEntry) (events_max : ℕ) → IsPlan plan → IsSound (opened_by plan events_max)
-opened-sound plan events_max good = record {
-  opening = good;
-  plan = good;
-  legal = record { follows = λ place e got. absurd cc };
-  deliveries = λ n. record { within = All-nil (λ x. x.destination < 32); once = λ i j d before inside. absurd (omega arith); plain = λ k d inside. absurd (omega arith) };
-  attempts = λ n d. tt;
-  to_come = λ n d beyond. refl;
-  room = rw (opened-owed plan events_max) (omega arith);
-}

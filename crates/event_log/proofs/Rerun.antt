@@ -6,12 +6,12 @@ use Rattle.std.specs.Result.{result_ok}
 use Rattle.std.proofs.lemmas.List.{append-nil, append_assoc}
 use Rattle.event_log.specs.declared.entry.Entry.{Entry}
 use Rattle.event_log.specs.declared.entry.Entry.TheVariants.{Arrival, Take, Settle, Cancel, Deploy}
-use Rattle.event_log.specs.History.{History, before, followed_by}
+use Rattle.event_log.specs.History.{History, begun, followed_by}
 use Rattle.event_log.specs.Answers.{answer}
 use Rattle.event_log.specs.Deployment.{deploy_answer}
 use Rattle.event_log.specs.Legal.{IsLegal, MayFollow}
 use Rattle.event_log.specs.Replay.{answered_by, request_of, replay, run}
-use Rattle.event_log.proofs.Following.{take-below, take-whole}
+use Rattle.event_log.proofs.Following.{follows-since, take-below, take-whole}
 
 -- the item after the first ones
 get-after : {A : Type 0} (xs ys : List A) (x : A) → slice_get (xs ++ x ∷ ys) (length xs) ≡ Some x
@@ -40,7 +40,7 @@ continued h es = record { opening = h.opening; entries = h.entries ++ es }
 run-again : (h : History) (es : List Entry) → IsLegal (continued h es) → run h (map request_of es) ≡ continued h es
 run-again h [] legal = ap (λ xs. record { opening = h.opening; entries = xs }) (sym (append-nil h.entries))
 run-again h (e ∷ es) legal =
-    let may : MayFollow h e = subst (λ xs. MayFollow (record { opening = h.opening; entries = xs }) e) (take-before h.entries (e ∷ es)) (legal.follows (length h.entries) e (get-after h.entries es e)) in
+    let may : MayFollow h e = subst (λ xs. MayFollow (record { opening = h.opening; entries = xs }) e) (take-before h.entries (e ∷ es)) (follows-since (continued h (e ∷ es)) legal (length h.entries) e (get-after h.entries es e)) in
     let joined : h.entries ++ e ∷ [] ++ es ≡ h.entries ++ (e ∷ es) = append_assoc h.entries (e ∷ []) es in
     ap (λ o. run (option_map_or (λ x. followed_by h x) o h) (map request_of es)) (answered-again h e may)
     ∙ (run-again (followed_by h e) es (subst (λ xs. IsLegal (record { opening = h.opening; entries = xs })) (sym joined) legal)
@@ -48,4 +48,4 @@ run-again h (e ∷ es) legal =
 
 -- a legal history is its own replay
 pub replay-same : (h : History) → IsLegal h → replay h ≡ h
-replay-same h legal = run-again (before h 0) h.entries legal
+replay-same h legal = run-again (begun h.opening) h.entries legal

@@ -1,5 +1,5 @@
 -- What each event changes.
-use Rattle.std.proofs.Common.{◌≡◌, ℕ, ◌+◌, ◌<◌, ◌≤◌, false, cond, ◌==◌, ◌&&◌, List, ◌++◌, length, None, Some}
+use Rattle.std.proofs.Common.{◌≡◌, ℕ, ◌+◌, ◌<◌, ◌≤◌, false, cond, ◌==◌, ◌&&◌, List, ◌++◌, None, Some}
 use Rattle.std.specs.Prelude.{slice_get, option_to_list}
 use Rattle.std.specs.Int.{bit_at}
 use Rattle.std.specs.Option.{option_map_or}
@@ -14,7 +14,7 @@ use Rattle.event_log.specs.declared.entry.Told.{Told}
 use Rattle.event_log.specs.declared.entry.Told.TheVariants as told
 use Rattle.event_log.specs.declared.entry.Entry.{Entry}
 use Rattle.event_log.specs.declared.entry.Entry.TheVariants.{Arrival, Take, Settle, Cancel, Deploy}
-use Rattle.event_log.specs.History.{History, accepted, accepted_by, followed_by, is_for, message_count, plan_in_force, queue, slot, state}
+use Rattle.event_log.specs.History.{History, accepted, accepted_by, followed_by, is_for, message_count, next_place, plan_in_force, queue, slot, state}
 use Rattle.event_log.specs.Answers.{attempts_max, interval, keeps, known, mask_where, waits}
 use Rattle.event_log.specs.Room.{in_flight, is_in_flight, message_total, owed, own, slot_owed}
 use Rattle.event_log.specs.Legal.{IsSound}
@@ -90,7 +90,7 @@ pub record ArrivalStep (h : History) (conn channel : ℕ) (raw : List ℕ) (repl
   pub sound : IsSound (followed_by h (Arrival conn channel raw reply))
   pub accepted : accepted (followed_by h (Arrival conn channel raw reply)) ≡ accepted h ++ option_to_list (accepted_by (plan_in_force h) (Arrival conn channel raw reply))
   pub known : (key : List ℕ) → known (followed_by h (Arrival conn channel raw reply)) key
-      ≡ option_map_or (λ place. Some place) (known h key) (cond (keeps key (Arrival conn channel raw reply)) (Some (length h.entries)) None)
+      ≡ option_map_or (λ place. Some place) (known h key) (cond (keeps key (Arrival conn channel raw reply)) (Some (next_place h)) None)
   pub state : (n d : ℕ) → state (followed_by h (Arrival conn channel raw reply)) n d ≡ state h n d
   pub owed : owed (followed_by h (Arrival conn channel raw reply)) ≡ owed h + own h channel raw
   pub in_flight : in_flight (followed_by h (Arrival conn channel raw reply)) ≡ in_flight h

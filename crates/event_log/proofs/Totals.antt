@@ -9,7 +9,7 @@ use Rattle.dest_queue.specs.declared.SlotState.{SlotState}
 use Rattle.dest_queue.specs.declared.SlotState.TheVariants.{Waiting, InFlight, Delivered, Failed}
 use Rattle.plan_text.specs.Entries.{PlanEntry}
 use Rattle.event_log.specs.declared.entry.Entry.{Entry}
-use Rattle.event_log.specs.History.{History, accepted_by, accepted_from, message_count, numbers, plan_after, plan_in_force, slot}
+use Rattle.event_log.specs.History.{History, accepted, accepted_by, accepted_from, message_count, next_place, numbers, plan_after, plan_in_force, slot}
 use Rattle.event_log.specs.Answers.{attempts_max}
 use Rattle.event_log.specs.Room.{in_flight, is_in_flight, message_total, owed, slot_owed, total}
 use Rattle.event_log.proofs.Following.{funext}
@@ -119,6 +119,10 @@ few plan (e ∷ es) =
     let rest = few (plan_after plan e) es in
     elim (accepted_by plan e) as (λ o. length (cons_option o (accepted_from (plan_after plan e) es)) ≤ suc (length es)) [ None ↦ omega (arith, rest) | Some m ↦ omega (arith, rest) ]
 
--- no more messages than entries
-pub messages-entries : (h : History) → message_count h ≤ length h.entries
-messages-entries h = few h.opening.plan h.entries
+-- no more messages since the opening than entries
+pub accepted-entries : (h : History) → length (accepted h) ≤ length h.entries
+accepted-entries h = few h.opening.plan h.entries
+
+-- no more messages than places
+pub messages-places : (h : History) → h.opening.messages ≤ h.opening.places → message_count h ≤ next_place h
+messages-places h fewer = omega (arith, accepted-entries h)

@@ -68,7 +68,7 @@ module _ (h : History) (e : Entry) (n d : ℕ) (was is : SlotState) (touches : T
   pub touched-slot : slot (followed_by h e) n d ≡ Some is
   touched-slot =
       let was_there = slot-state h n d was touches.found in
-      slot-same h (followed_by h e) same n d
+      slot-same h (followed_by h e) refl same n d
       ∙ (ap (λ b. cond b (Some (state (followed_by h e) n d)) None) was_there.0
       ∙ ap (λ s. Some s) (state-followed_by h e n d ∙ ap (λ o. option_map_or (λ s. s) o (state h n d)) touches.leaves))
 
@@ -78,7 +78,7 @@ module _ (h : History) (e : Entry) (n d : ℕ) (was is : SlotState) (touches : T
 
   -- another slot is as it was
   pub untouched-slot : (m k : ℕ) → (m ≡ n → k ≢ d) → slot (followed_by h e) m k ≡ slot h m k
-  untouched-slot m k away = slot-same h (followed_by h e) same m k ∙ ap (λ s. cond (names k (deliveries h m)) (Some s) None) (untouched-state m k away)
+  untouched-slot m k away = slot-same h (followed_by h e) refl same m k ∙ ap (λ s. cond (names k (deliveries h m)) (Some s) None) (untouched-state m k away)
 
   module _ (sound : IsSound h) where
     -- a sum over all slots changes by that slot
@@ -86,7 +86,7 @@ module _ (h : History) (e : Entry) (n d : ℕ) (was is : SlotState) (touches : T
     touched-total weight =
         sums (total weight h) (total weight (followed_by h e)) (message_total weight (slot h n)) (message_total weight (slot (followed_by h e) n))
         (option_map_or (weight d) (slot h n d) 0) (option_map_or (weight d) (slot (followed_by h e) n d) 0) (weight d was) (weight d is)
-        (total-changed weight h (followed_by h e) n (message_count-same h (followed_by h e) same) (slot-exists h n d was touches.found) (λ m apart k. untouched-slot m k (λ e. absurd (apart e))))
+        (total-changed weight h (followed_by h e) n (message_count-same h (followed_by h e) refl same) (slot-exists h n d was touches.found) (λ m apart k. untouched-slot m k (λ e. absurd (apart e))))
         (message-changed weight (slot h n) (slot (followed_by h e) n) d (slot-inside h sound n d was touches.found) (λ k apart. untouched-slot n k (λ _. apart)))
         (ap (λ o. option_map_or (weight d) o 0) touches.found) (ap (λ o. option_map_or (weight d) o 0) touched-slot)
 
@@ -103,7 +103,7 @@ module _ (h : History) (e : Entry) (n d : ℕ) (was is : SlotState) (touches : T
       opening = sound.opening;
       plan = subst IsPlan (sym plan) sound.plan;
       legal = legal-followed_by h e sound.legal may;
-      deliveries = λ m. subst AreDeliveries (sym (deliveries-same h (followed_by h e) same m)) (sound.deliveries m);
+      deliveries = λ m. subst AreDeliveries (sym (deliveries-same h (followed_by h e) refl same m)) (sound.deliveries m);
       attempts = λ m k. subst (λ p. IfSome (slot (followed_by h e) m k) (IsWithin (attempts_max p k))) (sym plan) (elim (eqb_tells m n) [
         | inl v ↦ elim (eqb_tells k d) [
           | inl w ↦
@@ -114,7 +114,7 @@ module _ (h : History) (e : Entry) (n d : ℕ) (was is : SlotState) (touches : T
         | inr v ↦ as_before m k (λ e. absurd (v.1 e))
       ]);
       to_come = λ m k beyond.
-          let later : message_count h ≤ m = rw (message_count-same h (followed_by h e) same) at beyond in
+          let later : message_count h ≤ m = rw (message_count-same h (followed_by h e) refl same) at beyond in
           let exists = slot-exists h n d was touches.found in
           untouched-state m k (λ e. absurd (passed m n (message_count h) later exists e)) ∙ sound.to_come m k later;
       room = room-kept (length h.entries) (length (h.entries ++ e ∷ [])) (owed h) (owed (followed_by h e)) (slot_owed (attempts_max (plan_in_force h) d) was)

@@ -14,7 +14,7 @@ use Rattle.event_log.specs.Answers.{answer, settle_answer, take_answer}
 use Rattle.event_log.specs.Legal.{IsLegal}
 use Rattle.event_log.specs.Room.{is_full, total}
 use Rattle.event_log.specs.Rows.{attempt, came, exhausted, first, is_accepted, first_attempt, first_retry, second_attempt, third_failed, last_taken, taken, tried, waits}
-use Rattle.event_log.proofs.Following.{legal-followed_by}
+use Rattle.event_log.proofs.Following.{legal-followed_by, legal-since}
 
 -- the message fits a block
 fits : IsBlockData first
@@ -31,7 +31,7 @@ has-room = refl
 
 legal-came : IsLegal (history_of built_in 20 came)
 legal-came =
-    legal-followed_by (opened_by built_in 20) (Arrival 0 0 first (Accepted 0)) (record { follows = λ place e got. absurd cc })
+    legal-followed_by (opened_by built_in 20) (Arrival 0 0 first (Accepted 0)) (legal-since (opened_by built_in 20) (λ k e got. absurd cc))
     (record { fits = fits; room = has-room; answered = is_accepted })
 
 legal-taken : IsLegal (history_of built_in 20 taken)

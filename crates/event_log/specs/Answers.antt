@@ -1,7 +1,7 @@
 -- The sequential engine: its answer to each event, from what was booked before.
-use Rattle.std.specs.Prelude.{ℕ, ◌+◌, ◌^◌, Bool, true, false, ◌&&◌, ◌==◌, nat_lt, if◌then◌else◌, List, sum_by, slice_get, Option, None, Some, Result, Ok, Err}
-use Rattle.std.specs.List.{position, range_with_len}
-use Rattle.std.specs.Option.{option_map_or}
+use Rattle.std.specs.Prelude.{ℕ, ◌+◌, ◌^◌, Bool, true, false, ◌&&◌, ◌||◌, ◌==◌, nat_lt, if◌then◌else◌, List, find, sum_by, slice_get, Option, None, Some, is_some, Result, Ok, Err}
+use Rattle.std.specs.List.{list_any, position, range_with_len}
+use Rattle.std.specs.Option.{option_map, option_map_or}
 use Rattle.std.specs.Str.{bytes_eq}
 use Rattle.hl7_head.specs.declared.ack.Cause.TheVariants.{IdReused}
 use Rattle.plan_text.specs.Entries.{PlanEntry}
@@ -24,7 +24,7 @@ use Rattle.event_log.specs.declared.refusal.TakeRefusal.TheVariants as take_refu
 use Rattle.event_log.specs.declared.refusal.CancelRefusal.{CancelRefusal}
 use Rattle.event_log.specs.declared.refusal.CancelRefusal.TheVariants.{NoSuchMessage, NothingWaiting}
 use Rattle.event_log.specs.declared.refusal.CancelRefusal.TheVariants as cancel_refusal
-use Rattle.event_log.specs.History.{History, entry_at, message_count, plan_in_force, queue, slot}
+use Rattle.event_log.specs.History.{History, Opening, Remembered, entry_at, message_at, message_count, plan_in_force, queue, slot}
 
 -- whether a message is kept by its key: it was accepted or filtered
 abbrev pub is_kept : Told → Bool
@@ -41,9 +41,17 @@ keeps key (Settle ticket outcome now state) = false
 keeps key (Cancel number mask) = false
 keeps key (Deploy plan) = false
 
--- the place of the message with this key, if one was accepted or filtered
+-- whether a remembered arrival has this key
+abbrev pub has_key : List ℕ → Remembered → Bool
+has_key key r = bytes_eq key (key_of r.channel r.raw)
+
+-- the place of the remembered arrival with this key
+abbrev pub known_before : Opening → List ℕ → Option ℕ
+known_before opening key = option_map (λ r. r.place) (find (has_key key) opening.remembered)
+
+-- the place of the message with this key, if one was accepted or filtered and isn't forgotten
 abbrev pub known : History → List ℕ → Option ℕ
-known h key = position (keeps key) h.entries
+known h key = option_map_or (λ place. Some place) (known_before h.opening key) (option_map (λ k. h.opening.places + k) (position (keeps key) h.entries))
 
 -- whether an entry is the arrival of these bytes
 abbrev pub brings : List ℕ → Entry → Bool
@@ -53,9 +61,23 @@ brings raw (Settle ticket outcome now state) = false
 brings raw (Cancel number mask) = false
 brings raw (Deploy plan) = false
 
+-- whether a remembered arrival stood at this place and brought these bytes
+abbrev pub brought_before : ℕ → List ℕ → Remembered → Bool
+brought_before place raw r = (r.place == place) && bytes_eq raw r.raw
+
+-- whether these bytes came at this place, as a remembered arrival or as an entry says
+abbrev pub brings_at : History → List ℕ → ℕ → Bool
+brings_at h raw place = list_any (brought_before place raw) h.opening.remembered || option_map_or (brings raw) (entry_at h place) false
+
+-- whether these bytes came on this channel at this place and were accepted or filtered, as a remembered arrival or as an entry says
+abbrev pub is_first : History → ℕ → List ℕ → ℕ → Bool
+is_first h channel raw place =
+    list_any (λ r. has_key (key_of channel raw) r && brought_before place raw r) h.opening.remembered
+    || option_map_or (λ e. keeps (key_of channel raw) e && brings raw e) (entry_at h place) false
+
 -- what the sender is told of a message whose key is known: the same bytes are a repeat, others a control id used again
 abbrev pub told_again : History → List ℕ → ℕ → Told
-told_again h raw place = if option_map_or (brings raw) (entry_at h place) false then told.Repeat place else told.Refused IdReused
+told_again h raw place = if brings_at h raw place then told.Repeat place else told.Refused IdReused
 
 -- what the sender is told of a text with this verdict, where the next message gets this number;
 -- nothing of a text that is no message, or an acknowledgment
@@ -122,5 +144,5 @@ cancel_refusal_code cancel_refusal.NoMemory = 3
 -- the answer to a cancellation
 abbrev pub cancel_answer : History → ℕ → Result ℕ CancelRefusal
 cancel_answer h n =
-    if nat_lt n (message_count h) then (if mask_where (waits h n) == 0 then Err NothingWaiting else Ok (mask_where (waits h n)))
+    if is_some (message_at h n) then (if mask_where (waits h n) == 0 then Err NothingWaiting else Ok (mask_where (waits h n)))
     else Err NoSuchMessage

@@ -1,5 +1,5 @@
 -- Whether a plan may take the place of the one in force.
-use Rattle.std.specs.Prelude.{ℕ, Bool, false, not, ◌&&◌, ◌==◌, nat_lt, if◌then◌else◌, length, find, slice_get, Option, None, Some}
+use Rattle.std.specs.Prelude.{ℕ, ◌+◌, Bool, false, not, ◌&&◌, ◌==◌, nat_lt, if◌then◌else◌, length, find, slice_get, Option, None, Some}
 use Rattle.std.specs.Cmp.Lexicographic.{pointwise}
 use Rattle.std.specs.List.{range_with_len}
 use Rattle.std.specs.Option.{option_map_or}
@@ -18,9 +18,9 @@ deploy_refusal_code ChannelsDiffer = 3
 deploy_refusal_code deploy_refusal.Full = 4
 deploy_refusal_code deploy_refusal.NoMemory = 5
 
--- how many plans were deployed
+-- how many plans were deployed in all
 abbrev pub deployments : History → ℕ
-deployments h = length (deployed h)
+deployments h = h.opening.deployments + length (deployed h)
 
 abbrev pub same_name : ChannelEntry → ChannelEntry → Bool
 same_name old new = bytes_eq old.name new.name

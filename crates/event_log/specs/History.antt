@@ -1,7 +1,7 @@
 -- What was booked, and what it says: the messages, their slots and the queues.
-use Rattle.std.specs.Prelude.{ℕ, Bool, false, ◌&&◌, ◌==◌, if◌then◌else◌, List, [], ◌∷◌, ◌++◌, length, take, filter, find, slice_get, Option, None, Some}
+use Rattle.std.specs.Prelude.{ℕ, ◌+◌, ◌-◌, Bool, false, ◌&&◌, ◌==◌, nat_lt, if◌then◌else◌, List, [], ◌∷◌, ◌++◌, length, take, filter, find, slice_get, Option, None, Some, is_some}
 use Rattle.std.specs.List.{filter_map, cons_option, list_any, range_with_len}
-use Rattle.std.specs.Option.{option_map_or}
+use Rattle.std.specs.Option.{option_map, option_map_or}
 use Rattle.std.specs.Int.{bit_at}
 use Rattle.hl7_head.specs.Header.{header_of}
 use Rattle.plan_text.specs.Entries.{PlanEntry}
@@ -11,25 +11,58 @@ use Rattle.judge_core.specs.Judging.{verdict as decided, deliveries_of}
 use Rattle.dest_queue.specs.declared.SlotState.{SlotState}
 use Rattle.dest_queue.specs.declared.SlotState.TheVariants.{Waiting, InFlight, Failed}
 use Rattle.dest_queue.specs.declared.FailCause.TheVariants.{Cancelled}
+use Rattle.dest_queue.specs.declared.slots.Slot.{Slot}
+use Rattle.dest_queue.specs.Slots.{state_at}
 use Rattle.dest_queue.specs.States.{is_live}
+use Rattle.stat_count.specs.Statistics.{Statistics, empty}
 use Rattle.event_log.specs.declared.entry.Ticket.{Ticket}
+use Rattle.event_log.specs.declared.entry.Told.{Told}
 use Rattle.event_log.specs.declared.entry.Told.TheVariants as told
 use Rattle.event_log.specs.declared.entry.Entry.{Entry}
 use Rattle.event_log.specs.declared.entry.Entry.TheVariants.{Arrival, Take, Settle, Cancel, Deploy}
 
--- what a book starts with: the plan, and the most entries that it may hold
+-- an arrival that is remembered of entries that were folded: where it stood, what came and what its sender was told, Accepted or Filtered,
+-- where it goes, and how it stood with it there
+pub record Remembered : Type 0 where
+  pub place : ℕ
+  pub channel : ℕ
+  pub raw : List ℕ
+  pub told : Told
+  pub deliveries : List Delivery
+  pub slots : List Slot
+
+-- what a book starts with, or goes on from: the plan in force there, and the most entries that the book may hold; how many entries were folded, messages
+-- accepted, plans deployed and prunings made before it; what is counted of what was folded and isn't remembered; and what is remembered, in its order
 pub record Opening : Type 0 where
   pub plan : PlanEntry
   pub events_max : ℕ
+  pub places : ℕ
+  pub messages : ℕ
+  pub deployments : ℕ
+  pub prunings : ℕ
+  pub forgotten : Statistics
+  pub remembered : List Remembered
 
--- all that was booked, in its order; an entry's place counts from 0
+-- an opening, and all that was booked since, in its order
 pub record History : Type 0 where
   pub opening : Opening
   pub entries : List Entry
 
+-- the opening of a book with this plan and bound, before which nothing was booked
+abbrev pub blank : PlanEntry → ℕ → Opening
+blank plan events_max = record { plan = plan; events_max = events_max; places = 0; messages = 0; deployments = 0; prunings = 0; forgotten = empty; remembered = [] }
+
+-- an opening, and what was booked since
+abbrev pub continued : Opening → List Entry → History
+continued opening entries = record { opening = opening; entries = entries }
+
+-- an opening, since which nothing was booked
+abbrev pub begun : Opening → History
+begun opening = continued opening []
+
 -- the history of a book with this plan and bound
 abbrev pub history_of : PlanEntry → ℕ → List Entry → History
-history_of plan events_max entries = record { opening = record { plan = plan; events_max = events_max }; entries = entries }
+history_of plan events_max entries = record { opening = blank plan events_max; entries = entries }
 
 -- a history of which nothing is booked yet
 abbrev pub opened_by : PlanEntry → ℕ → History
@@ -41,7 +74,7 @@ followed_by h e = record { opening = h.opening; entries = h.entries ++ e ∷ [] 
 
 -- the history before the entry at this place
 abbrev pub before : History → ℕ → History
-before h place = record { opening = h.opening; entries = take place h.entries }
+before h place = record { opening = h.opening; entries = take (place - h.opening.places) h.entries }
 
 -- the last of some values, or the one before them
 abbrev pub last_from : {A : Type 0} → A → List A → A
@@ -60,7 +93,7 @@ deployed_by (Deploy plan) = Some plan
 abbrev pub plan_after : PlanEntry → Entry → PlanEntry
 plan_after plan e = option_map_or (λ p. p) (deployed_by e) plan
 
--- the plans that were deployed, in their order
+-- the plans that were deployed since the opening, in their order
 abbrev pub deployed : History → List PlanEntry
 deployed h = filter_map deployed_by h.entries
 
@@ -68,13 +101,13 @@ deployed h = filter_map deployed_by h.entries
 abbrev pub plan_in_force : History → PlanEntry
 plan_in_force h = last_from h.opening.plan (deployed h)
 
--- the place of the next entry
+-- the place of the next entry; places go on from the folded entries
 abbrev pub next_place : History → ℕ
-next_place h = length h.entries
+next_place h = h.opening.places + length h.entries
 
--- the entry at this place
+-- the entry at this place; a folded one is gone
 abbrev pub entry_at : History → ℕ → Option Entry
-entry_at h place = slice_get h.entries place
+entry_at h place = if nat_lt place h.opening.places then None else slice_get h.entries (place - h.opening.places)
 
 -- an accepted message: the channel and the bytes that came, and where it goes
 pub record Accepted : Type 0 where
@@ -102,21 +135,51 @@ abbrev pub accepted_from : PlanEntry → List Entry → List Accepted
 accepted_from plan [] = []
 accepted_from plan (e ∷ es) = cons_option (accepted_by plan e) (accepted_from (plan_after plan e) es)
 
--- the accepted messages, in order of acceptance
+-- the messages that were accepted since the opening, in order of acceptance
 abbrev pub accepted : History → List Accepted
 accepted h = accepted_from h.opening.plan h.entries
 
--- how many messages were accepted: the number of the next
+-- how many messages were accepted in all: the number of the next
 abbrev pub message_count : History → ℕ
-message_count h = length (accepted h)
+message_count h = h.opening.messages + length (accepted h)
 
--- message n
+-- the number that a sender was told
+abbrev pub number_told : Told → Option ℕ
+number_told (told.Accepted number) = Some number
+number_told told.Filtered = None
+number_told (told.Refused cause) = None
+number_told (told.Repeat place) = None
+
+-- whether a sender was told that its message has this number
+abbrev pub is_numbered : ℕ → Told → Bool
+is_numbered n (told.Accepted number) = number == n
+is_numbered n told.Filtered = false
+is_numbered n (told.Refused cause) = false
+is_numbered n (told.Repeat place) = false
+
+-- the number of an arrival, if it was accepted
+abbrev pub number_of : Remembered → Option ℕ
+number_of r = number_told r.told
+
+-- the arrival of message n, where it is remembered
+abbrev pub remembered_as : Opening → ℕ → Option Remembered
+remembered_as opening n = find (λ r. is_numbered n r.told) opening.remembered
+
+-- a message that is remembered
+abbrev pub message_of : Remembered → Accepted
+message_of r = record { channel = r.channel; raw = r.raw; deliveries = r.deliveries }
+
+-- message n: one that is remembered, or one accepted since the opening; a forgotten one is gone
 abbrev pub message_at : History → ℕ → Option Accepted
-message_at h n = slice_get (accepted h) n
+message_at h n = if nat_lt n h.opening.messages then option_map message_of (remembered_as h.opening n) else slice_get (accepted h) (n - h.opening.messages)
 
--- the numbers of the messages
+-- the numbers of all messages that were accepted, in order
 abbrev pub numbers : History → List ℕ
 numbers h = range_with_len 0 (message_count h)
+
+-- the numbers of the messages that are not forgotten, in order
+abbrev pub remaining : History → List ℕ
+remaining h = filter (λ n. is_some (message_at h n)) (numbers h)
 
 -- where message n goes; nowhere where there is no such message
 abbrev pub deliveries : History → ℕ → List Delivery
@@ -154,9 +217,13 @@ state_by n d (Settle ticket outcome now state) = if is_for n d ticket then Some 
 state_by n d (Cancel number mask) = if (number == n) && (bit_at mask d == 1) then Some (Failed Cancelled) else None
 state_by n d (Deploy plan) = None
 
--- the state of message n at d as the last entry that touches it leaves it; before, it waits for its first attempt
+-- the state of message n at d at the opening: as it is remembered, and else it waits for its first attempt
+abbrev pub first_state : Opening → ℕ → ℕ → SlotState
+first_state opening n d = option_map_or (λ r. option_map_or (λ s. s) (state_at d r.slots) (Waiting 0 0)) (remembered_as opening n) (Waiting 0 0)
+
+-- the state of message n at d as the last entry that touches it leaves it; before, as it is at the opening
 abbrev pub state : History → ℕ → ℕ → SlotState
-state h n d = last_from (Waiting 0 0) (filter_map (state_by n d) h.entries)
+state h n d = last_from (first_state h.opening n d) (filter_map (state_by n d) h.entries)
 
 -- the slot of message n at d: its state there, if it names d
 abbrev pub slot : History → ℕ → ℕ → Option SlotState

@@ -1,16 +1,21 @@
 -- Histories that a sequential engine gives.
-use Rattle.std.specs.Prelude.{◌≡◌, ◌<◌, ◌≤◌, ◌+◌, ℕ, false, List, length, None, Some, Ok, IfSome}
+use Rattle.std.specs.Prelude.{◌≡◌, ◌<◌, ◌≤◌, ◌+◌, ◌*◌, ℕ, true, false, List, [], length, map, None, Some, Ok, IfSome, All, AllPairs}
+use Rattle.std.specs.List.{filter_map}
+use Rattle.std.specs.List.Sorted.{IsStrictlyIncreasing}
 use Rattle.mllp_frame.specs.Framing.{IsBlockData}
 use Rattle.plan_text.specs.Entries.{IsPlan, PlanEntry}
-use Rattle.judge_core.specs.Delivering.{AreDeliveries}
+use Rattle.judge_core.specs.Delivering.{AreDeliveries, destinations_of}
+use Rattle.judge_core.specs.Judging.{key_of}
 use Rattle.dest_queue.specs.declared.SlotState.{SlotState}
 use Rattle.dest_queue.specs.declared.SlotState.TheVariants.{Waiting, InFlight, Delivered, Failed}
+use Rattle.stat_count.specs.Statistics.{IsStatistics, Statistics}
 use Rattle.event_log.specs.declared.entry.Told.{Told}
 use Rattle.event_log.specs.declared.entry.Told.TheVariants as told
 use Rattle.event_log.specs.declared.entry.Entry.{Entry}
 use Rattle.event_log.specs.declared.entry.Entry.TheVariants.{Arrival, Take, Settle, Cancel, Deploy}
-use Rattle.event_log.specs.History.{Accepted, History, before, deliveries, entry_at, message_count, plan_in_force, slot, state}
-use Rattle.event_log.specs.Answers.{answer, attempts_max, take_answer, settle_answer, cancel_answer}
+use Rattle.event_log.specs.History.{Accepted, History, Opening, Remembered, before, begun, deliveries, entry_at, message_count, message_of, number_of, plan_in_force, remembered_as, slot, state}
+use Rattle.event_log.specs.Answers.{answer, attempts_max, cancel_answer, has_key, is_kept, settle_answer, take_answer}
+use Rattle.event_log.specs.Counting.{destination_counts}
 use Rattle.event_log.specs.Deployment.{deploy_answer}
 use Rattle.event_log.specs.Room.{exceeds, is_full, owed}
 
@@ -44,6 +49,12 @@ pub record HasArrival (h : History) (n : ℕ) (m : Accepted) : Type 0 where
   pub conn : ℕ
   pub entry : entry_at h place ≡ Some (Arrival conn m.channel m.raw (told.Accepted n))
 
+-- message n is remembered of entries that were folded
+pub record IsRemembered (h : History) (n : ℕ) (m : Accepted) : Type 0 where
+  pub arrival : Remembered
+  pub found : remembered_as h.opening n ≡ Some arrival
+  pub is : m ≡ message_of arrival
+
 -- no attempt is past the last that is allowed, and a slot that waits has one left
 abbrev pub IsWithin : ℕ → SlotState → Type 0
 IsWithin max (Waiting attempts due) = attempts < max
@@ -51,10 +62,45 @@ IsWithin max (InFlight attempt) = attempt ≤ max
 IsWithin max Delivered = Unit {0}
 IsWithin max (Failed cause) = Unit {0}
 
--- what follows of a legal history from an opening with a plan: each message goes to each destination once, its attempts are within the bound
+-- what is remembered of an arrival, where this plan is in force: it can have come in a block, it was accepted or filtered, and a filtered one goes nowhere;
+-- it stands once at each destination that it names, within the attempts that the plan allows
+pub record IsMemory (plan : PlanEntry) (r : Remembered) : Type 0 where
+  pub fits : IsBlockData r.raw
+  pub kept : is_kept r.told ≡ true
+  pub nowhere : r.told ≡ told.Filtered → r.deliveries ≡ []
+  pub deliveries : AreDeliveries r.deliveries
+  pub slots : map (λ s. s.destination) r.slots ≡ destinations_of r.deliveries
+  pub attempts : All (λ s. IsWithin (attempts_max plan s.destination) s.state) r.slots
+
+-- what is counted of what was folded: no more than could be, and no forgotten message waits or is in flight
+pub record AreForgotten (places : ℕ) (forgotten : Statistics) : Type 0 where
+  pub statistics : IsStatistics forgotten
+  pub received : All (λ c. c.received + c.repeats ≤ places) forgotten.channels
+  pub settled : All (λ d. (d.waiting ≡ 0) × (d.inflight ≡ 0)) forgotten.destinations
+  pub named : All (λ d. d.delivered + d.failed ≤ places) forgotten.destinations
+  pub taken : All (λ d. d.attempts ≤ places) forgotten.destinations
+
+-- an opening that a book may go on from: its plan is one; what is remembered has places, numbers and keys of its own, in order; and what its messages
+-- owe is within the bound; no more of them were delivered or are in flight than attempts were begun
+pub record IsGoodOpening (opening : Opening) : Type 0 where
+  pub plan : IsPlan opening.plan
+  pub memories : All (IsMemory opening.plan) opening.remembered
+  pub places : IsStrictlyIncreasing (map (λ r. r.place) opening.remembered)
+  pub places_within : All (λ r. r.place < opening.places) opening.remembered
+  pub numbers : IsStrictlyIncreasing (filter_map number_of opening.remembered)
+  pub numbers_within : All (λ n. n < opening.messages) (filter_map number_of opening.remembered)
+  pub keys : AllPairs (λ r s. has_key (key_of r.channel r.raw) s ≡ false) opening.remembered
+  pub forgotten : AreForgotten opening.places opening.forgotten
+  pub were_taken : (d : ℕ) → d < 32 → (destination_counts (begun opening) d).inflight + (destination_counts (begun opening) d).delivered ≤ (destination_counts (begun opening) d).attempts
+  pub messages_few : opening.messages ≤ opening.places
+  pub places_few : opening.places ≤ opening.prunings * 1000000
+  pub prunings_few : opening.prunings ≤ 1000
+  pub room : owed (begun opening) ≤ opening.events_max
+
+-- what follows of a legal history from a good opening: each message goes to each destination once, its attempts are within the bound
 -- of the plan in force, no entry speaks of a message to come, and the entries with those owed are within the book's
 pub record IsSound (h : History) : Type 0 where
-  pub opening : IsPlan h.opening.plan
+  pub opening : IsGoodOpening h.opening
   pub plan : IsPlan (plan_in_force h)
   pub legal : IsLegal h
   pub deliveries : (n : ℕ) → AreDeliveries (deliveries h n)

@@ -3,7 +3,11 @@ pub mod History
 pub mod Answers
 pub mod Deployment
 pub mod Room
+pub mod Counting
 pub mod Legal
 pub mod Coding
 pub mod Rows
 pub mod Replay
+pub mod Folding
+pub mod Alike
+pub mod PruningRows

@@ -7,7 +7,7 @@ use Rattle.dest_queue.specs.declared.Outcome.{Outcome}
 use Rattle.event_log.specs.declared.entry.Ticket.{Ticket}
 use Rattle.event_log.specs.declared.entry.Entry.{Entry}
 use Rattle.event_log.specs.declared.entry.Entry.TheVariants as entry
-use Rattle.event_log.specs.History.{History, before, followed_by}
+use Rattle.event_log.specs.History.{History, begun, followed_by}
 use Rattle.event_log.specs.Answers.{answer, cancel_answer, settle_answer, take_answer}
 use Rattle.event_log.specs.Deployment.{deploy_answer}
 use Rattle.event_log.specs.Room.{exceeds, is_full}
@@ -48,4 +48,4 @@ run h (request ∷ requests) = run (next h request) requests
 
 -- the history that the sequential engine gives of the same requests, from the opening on
 abbrev pub replay : History → History
-replay h = run (before h 0) (map request_of h.entries)
+replay h = run (begun h.opening) (map request_of h.entries)

@@ -15,7 +15,7 @@ use Rattle.event_log.specs.Answers.{answer, attempts_max}
 abbrev pub message_total : (ℕ → SlotState → ℕ) → (ℕ → Option SlotState) → ℕ
 message_total weight slots = sum_by (λ d. option_map_or (weight d) (slots d) 0) (range_with_len 0 32)
 
--- the sum of a weight over the slots of all messages
+-- the sum of a weight over the slots of all messages; a forgotten one has none
 unfoldable pub total : (ℕ → SlotState → ℕ) → History → ℕ
 total weight h = sum_by (λ n. message_total weight (slot h n)) (numbers h)
 
@@ -57,7 +57,7 @@ slots_added plan channel raw (told.Repeat place) = []
 abbrev pub own : History → ℕ → List ℕ → ℕ
 own h channel raw = option_map_or (λ told. own_owed (plan_in_force h) (slots_added (plan_in_force h) channel raw told)) (answer h channel raw) 0
 
--- one more entry, with so many owed by its own slots, goes past what the history may hold
+-- one more entry, with so many owed by its own slots, goes past what the history may hold; folded entries take no room
 abbrev pub exceeds : History → ℕ → Bool
 exceeds h own = nat_lt h.opening.events_max (length h.entries + owed h + 1 + own)
 

@@ -3,6 +3,7 @@
 ghost use Rattle.std.specs.Prelude.{◌≡◌, option_map};
 ghost use Rattle.std.specs.Arc.{arc_value};
 ghost use Rattle.event_log.specs.Answers.{brings};
+ghost use Rattle.event_log.specs.Counting.{is_acceptance};
 ghost use Rattle.event_log.specs.History.{deployed_by};
 
 use dest_queue::{Outcome, SlotState};
@@ -112,6 +113,19 @@ impl Entry {
             Entry::Arrival { raw: came, .. } => raw == came.as_slice(),
             _ => false,
         }
+    }
+
+    /// Whether it is the arrival of an accepted message.
+    pub fn accepts(&self) -> bool
+        ensures { result ≡ is_acceptance self.now }
+    {
+        matches!(
+            self,
+            Entry::Arrival {
+                told: Told::Accepted(_),
+                ..
+            }
+        )
     }
 
     /// The plan that it deploys, if it deploys one.

@@ -4,13 +4,17 @@
 mod answers;
 mod deployment;
 mod entry;
+mod folding;
 mod laws;
 mod log;
+mod opening;
 mod refusal;
 
 pub use answers::{attempts_max, front_answer, interval, own_owed, told_first};
 pub use deployment::{DEPLOYMENTS_MAX, keeps_destination, same_channels};
 pub use entry::{DeployedPlan, Entry, Ticket, Told};
+pub use folding::folding_rules;
 pub use laws::history_rules;
-pub use log::{EVENTS_MAX, Log, slot_owed};
-pub use refusal::{CancelRefusal, DeployRefusal, TakeRefusal};
+pub use log::{EVENTS_MAX, Log, PLACES_MAX, slot_owed};
+pub use opening::{Opening, Remembered};
+pub use refusal::{CancelRefusal, DeployRefusal, PruneRefusal, TakeRefusal};

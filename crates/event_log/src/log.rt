@@ -2,12 +2,14 @@
 
 ghost use Rattle.std.specs.Prelude.{◌≡◌, ◌<◌, ◌≤◌, ◌+◌, ◌*◌, ◌==◌, None, OnOk, OnErr, length, not, option_copied};
 ghost use Rattle.std.specs.Arc.{arc_value};
+ghost use Rattle.event_log.specs.Answers.{brings_at};
 ghost use Rattle.event_log.specs.Deployment.{deployments};
-ghost use Rattle.event_log.specs.History.{deployed_by, entry_at, followed_by, next_place, opened_by, plan_in_force};
+ghost use Rattle.event_log.specs.History.{deployed_by, entry_at, followed_by, message_count, next_place, opened_by, plan_in_force};
 ghost use Rattle.event_log.specs.Room.{exceeds, owed, slot_owed};
 
 use crate::deployment::DEPLOYMENTS_MAX;
 use crate::entry::{DeployedPlan, Entry};
+use crate::opening::Opening;
 use dest_queue::{ATTEMPTS_MAX, SlotState};
 use plan_text::Plan;
 use std::alloc::{AllocError, Global};
@@ -17,15 +19,18 @@ use std::sync::Arc;
 /// The most entries that any history may hold.
 pub const EVENTS_MAX: u32 = 1_000_000;
 
-/// The history: the plan at the start, the plan in force where another was deployed, and how many were; the entries in their
-/// order, how many more are owed to the slots of its messages, and the room that was made for more. The entries and those
-/// owed are together never more than the history may hold.
+/// The most places that entries may ever have: 1,000 prunings fold 1,000,000 entries each, and 1,000,000 are held.
+pub const PLACES_MAX: u32 = 1_001_000_000;
+
+/// The history: its opening, the plan in force where another was deployed since, how many were deployed and how many messages
+/// accepted in all; the entries since the opening in their order, how many more are owed to the slots of its messages, and the
+/// room that was made for more. The entries and those owed are together never more than the history may hold.
 #[derive(Drop)]
 pub struct Log {
-    plan: Arc<Plan>,
+    opening: Opening,
     deployed: Option<Arc<Plan>>,
     deployments: u32,
-    events_max: u32,
+    messages: u32,
     entries: Vec<Entry>,
     owed: u32,
 }
@@ -37,21 +42,24 @@ impl Model for Log {
     ghost use Rattle.event_log.specs.Deployment.{deployments as deployments_of};
     ghost use Rattle.event_log.specs.Kept.{Kept};
     ghost use Rattle.event_log.specs.Coding.{kept_code};
-    ghost use Rattle.event_log.specs.History.{history_of, plan_in_force};
+    ghost use Rattle.event_log.specs.History.{continued, message_count, plan_in_force};
     ghost use Rattle.event_log.specs.Room.{owed as owed_by};
 
     ghost Value = { Kept };
 
     ghost coded = { kept_code };
 
-    ghost view = { λ l. record { history = history_of (arc_value l.plan) l.events_max l.entries.items; room = vec_capacity l.entries - vec_len l.entries } };
+    ghost view = { λ l. record { history = continued l.opening l.entries.items; room = vec_capacity l.entries - vec_len l.entries } };
 
     ghost invariant = { λ l. record {
-      plan_is : option_map_or (λ p. arc_value p) l.deployed (arc_value l.plan) ≡ plan_in_force (history_of (arc_value l.plan) l.events_max l.entries.items);
-      deployments_are : l.deployments ≡ deployments_of (history_of (arc_value l.plan) l.events_max l.entries.items);
-      owed_is : l.owed ≡ owed_by (history_of (arc_value l.plan) l.events_max l.entries.items);
-      within : length l.entries.items + l.owed ≤ l.events_max;
-      few : l.events_max ≤ 1000000;
+      plan_is : option_map_or (λ p. arc_value p) l.deployed l.opening.plan ≡ plan_in_force (continued l.opening l.entries.items);
+      deployments_are : l.deployments ≡ deployments_of (continued l.opening l.entries.items);
+      messages_are : l.messages ≡ message_count (continued l.opening l.entries.items);
+      owed_is : l.owed ≡ owed_by (continued l.opening l.entries.items);
+      within : length l.entries.items + l.owed ≤ l.opening.events_max;
+      few : l.opening.events_max ≤ 1000000;
+      few_places : l.opening.places ≤ 1000000000;
+      few_messages : l.opening.messages ≤ 1000000000;
     } };
 }
 
@@ -74,10 +82,10 @@ impl Log {
         ensures { result.history ≡ opened_by (arc_value plan) events_max }
     {
         Log {
-            plan,
+            opening: Opening::blank(alloc, plan, events_max),
             deployed: None,
             deployments: 0,
-            events_max,
+            messages: 0,
             entries: Vec::new(alloc),
             owed: 0,
         }
@@ -87,7 +95,7 @@ impl Log {
     pub fn plan(&self) -> &Arc<Plan>
         ensures { arc_value result.now ≡ plan_in_force self.now.history }
     {
-        self.deployed.as_ref().unwrap_or(&self.plan)
+        self.deployed.as_ref().unwrap_or(&self.opening.plan)
     }
 
     /// How many plans were deployed.
@@ -97,25 +105,50 @@ impl Log {
         self.deployments
     }
 
-    /// How many entries there are: the place of the next.
+    /// How many entries were booked in all: the place of the next.
     pub fn len(&self) -> usize
         ensures { result ≡ next_place self.now.history }
     {
-        self.entries.len()
+        self.opening.places + self.entries.len()
     }
 
-    /// Whether there is no entry.
+    /// How many entries were folded: the place of the first that is held.
+    pub fn first_place(&self) -> usize
+        ensures value { result ≡ self.now.history.opening.places }
+        ensures within { result ≤ next_place self.now.history }
+    {
+        self.opening.places
+    }
+
+    /// How many messages were accepted in all: the number of the next.
+    pub fn message_count(&self) -> u32
+        ensures { result ≡ message_count self.now.history }
+    {
+        self.messages
+    }
+
+    /// Whether no entry is held.
     pub fn is_empty(&self) -> bool
         ensures { result ≡ (length self.now.history.entries == 0) }
     {
         self.entries.is_empty()
     }
 
-    /// The entry at this place, counted from 0.
+    /// The entry at this place, counted from 0; nothing where it was folded.
     pub fn entry(&self, place: usize) -> Option<&Entry>
         ensures { option_copied result ≡ entry_at self.now.history place }
     {
-        self.entries.get(place)
+        if place < self.opening.places {
+            return None;
+        }
+        self.entries.get(place - self.opening.places)
+    }
+
+    /// Whether these bytes came at this place, as an entry or a remembered arrival says.
+    pub fn brings(&self, place: usize, raw: &[u8]) -> bool
+        ensures { result ≡ brings_at self.now.history raw.now place }
+    {
+        self.opening.brought(place, raw) || self.entry(place).is_some_and(|entry| entry.brings(raw))
     }
 
     /// The entries that may still come of the slots of all messages.
@@ -131,7 +164,7 @@ impl Log {
         ensures { result ≡ not (exceeds self.now.history own) }
     {
         let entries = self.entries.len() as u64;
-        entries + u64::from(self.owed) + 1 + u64::from(own) <= u64::from(self.events_max)
+        entries + u64::from(self.owed) + 1 + u64::from(own) <= u64::from(self.opening.events_max)
     }
 
     /// Makes room for this many more entries, so that so many pushes need no memory.
@@ -153,6 +186,7 @@ impl Log {
         ensures history { self.new.history ≡ followed_by self.old.history entry }
         ensures room { self.old.room ≤ self.new.room + 1 }
     {
+        self.messages += u32::from(entry.accepts());
         self.entries.push(entry).unwrap();
         self.owed = still_owed;
     }

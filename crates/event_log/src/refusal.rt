@@ -3,6 +3,7 @@
 ghost use Rattle.std.specs.Prelude.{◌≡◌};
 ghost use Rattle.event_log.specs.Answers.{cancel_refusal_code, take_refusal_code};
 ghost use Rattle.event_log.specs.Deployment.{deploy_refusal_code};
+ghost use Rattle.event_log.specs.Folding.{prune_refusal_code};
 
 use std::alloc::AllocError;
 use thiserror::Error;
@@ -33,6 +34,23 @@ pub enum CancelRefusal {
     /// The message waits at no destination.
     #[error("the message waits nowhere")]
     NothingWaiting,
+    /// A growth was refused.
+    #[error("out of memory")]
+    NoMemory,
+}
+
+/// Why nothing was forgotten.
+#[derive(Clone, Copy, Debug, PartialEq, Eq, Error)]
+pub enum PruneRefusal {
+    /// The message of this number, the least of those that were to be forgotten, is still to be delivered.
+    #[error("message {0} is still to be delivered")]
+    StillLive(u32),
+    /// Not so many messages were accepted.
+    #[error("there is no such message")]
+    NoSuchMessage,
+    /// As many prunings were made as may be.
+    #[error("too many prunings were made")]
+    TooMany,
     /// A growth was refused.
     #[error("out of memory")]
     NoMemory,
@@ -102,6 +120,20 @@ impl DeployRefusal {
     }
 }
 
+impl PruneRefusal {
+    /// The number of the refusal: 1 for `StillLive`, 2 for `NoSuchMessage`, 3 for `TooMany`, 4 for `NoMemory`.
+    pub fn code(self) -> u32
+        ensures { result ≡ prune_refusal_code self }
+    {
+        match self {
+            PruneRefusal::StillLive(_) => 1,
+            PruneRefusal::NoSuchMessage => 2,
+            PruneRefusal::TooMany => 3,
+            PruneRefusal::NoMemory => 4,
+        }
+    }
+}
+
 impl From<AllocError> for TakeRefusal {
     ghost use Rattle.std.specs.Prelude.{◌≡◌};
     ghost use Rattle.event_log.specs.declared.refusal.TakeRefusal.TheVariants.{NoMemory};
@@ -132,5 +164,16 @@ impl From<AllocError> for DeployRefusal {
 
     fn from(_: AllocError) -> DeployRefusal {
         DeployRefusal::NoMemory
+    }
+}
+
+impl From<AllocError> for PruneRefusal {
+    ghost use Rattle.std.specs.Prelude.{◌≡◌};
+    ghost use Rattle.event_log.specs.declared.refusal.PruneRefusal.TheVariants.{NoMemory};
+
+    ghost from_gives = { λ _ e. e ≡ NoMemory };
+
+    fn from(_: AllocError) -> PruneRefusal {
+        PruneRefusal::NoMemory
     }
 }

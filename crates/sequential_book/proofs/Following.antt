@@ -6,16 +6,16 @@ use Rattle.std.proofs.lemmas.List.Elements.{All-head, All-nil, All-push, All-tai
 use Rattle.plan_text.specs.Entries.{PlanEntry, IsPlan}
 use Rattle.event_log.specs.declared.entry.Entry.{Entry}
 use Rattle.event_log.specs.declared.entry.Entry.TheVariants.{Arrival, Take, Settle, Cancel, Deploy}
-use Rattle.event_log.specs.History.{History, deployed_by, followed_by, last_from, message_count, opened_by, plan_after, plan_in_force}
+use Rattle.event_log.specs.History.{History, accepted, deployed_by, followed_by, last_from, opened_by, plan_after, plan_in_force}
 use Rattle.event_log.specs.Legal.{IsSound, MayFollow}
 use Rattle.event_log.proofs.Arriving.{arrival-step}
 use Rattle.event_log.proofs.Cancelling.{cancel-step}
 use Rattle.event_log.proofs.Deploying.{deploy-step}
 use Rattle.event_log.proofs.Following.{last-after}
-use Rattle.event_log.proofs.Reading.{opened-sound}
+use Rattle.event_log.proofs.Beginning.{opened-sound}
 use Rattle.event_log.proofs.Settling.{settle-step}
 use Rattle.event_log.proofs.Taking.{take-step}
-use Rattle.event_log.proofs.Totals.{messages-entries}
+use Rattle.event_log.proofs.Totals.{accepted-entries}
 use Rattle.sequential_book.specs.Reading.{IsJudgeable, IsPlain}
 
 -- a sound history stays sound with an entry that may follow
@@ -59,5 +59,5 @@ pub channels-kept : (h : History) → IsPlain h → length (plan_in_force h).cha
 channels-kept h plain = last-channels h.opening.plan h.entries plain.judgeable
 
 -- there are no more messages than entries, and no more entries than there may be
-pub few-messages : (h : History) → IsPlain h → message_count h ≤ 1000000
-few-messages h plain = let room = plain.sound.room in let bound = plain.bound in omega (arith, messages-entries h)
+pub few-messages : (h : History) → IsPlain h → length (accepted h) ≤ 1000000
+few-messages h plain = let room = plain.sound.room in let bound = plain.bound in omega (arith, accepted-entries h)

@@ -4,3 +4,4 @@ pub mod Replies
 pub mod Following
 pub mod Messages
 pub mod Walks
+pub mod Blank

@@ -1,9 +1,9 @@
 //! What the plain engine reads of messages, their slots and the queues.
 
-ghost use Rattle.std.specs.Prelude.{◌≡◌, ◌≤◌, [], IfOk};
+ghost use Rattle.std.specs.Prelude.{◌≡◌, ◌<◌, ◌≤◌, ℕ, [], true, is_some, IfOk};
 ghost use Rattle.std.specs.Option.{option_map_or};
 ghost use Rattle.event_log.specs.Deployment.{deployments};
-ghost use Rattle.event_log.specs.History.{deliveries, is_queued, message_count, plan_in_force, queue, slot, state};
+ghost use Rattle.event_log.specs.History.{deliveries, is_queued, message_at, message_count, plan_in_force, queue, slot, state};
 ghost use Rattle.event_log.specs.Answers.{attempts_max, mask_where, waits};
 ghost use Rattle.event_log.specs.Room.{message_total, owed, slot_owed};
 ghost use Rattle.sequential_book.specs.Reading.{IsPlain};
@@ -27,6 +27,7 @@ impl SequentialBook {
     pub(crate) fn message_count(&self) -> u32
         ensures value { result ≡ message_count self.now }
         ensures bound { result ≤ EVENTS_MAX }
+        ensures there { (n : ℕ) → n < result → is_some (message_at self.now n) ≡ true }
     {
         acceptances(&self.entries) as u32
     }

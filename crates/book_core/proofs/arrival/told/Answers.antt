@@ -27,6 +27,6 @@ returns-in-None c =
     let judged = c.args.judged.now in
     told-first h judged.channel judged.raw c.requires.bookable
     (found-known h c.args.keys.now.known (key_of judged.channel judged.raw) c.key.result.now c.find.result None c.requires.keys c.key.ensures c.find.ensures c.in-None.is)
-    ∙ (ap (λ number. told_by number (verdict (plan_in_force h) judged.channel judged.raw)) (sym c.requires.messages)
-    ∙ (ap (λ plan. told_by c.args.messages (verdict plan judged.channel judged.raw)) (sym c.requires.same_plan)
-    ∙ (ap (told_by c.args.messages) (sym c.verdict.ensures.value) ∙ c.told_first.ensures)))
+    ∙ (ap (λ number. told_by number (verdict (plan_in_force h) judged.channel judged.raw)) (sym c.message_count.ensures)
+    ∙ (ap (λ plan. told_by c.message_count.result (verdict plan judged.channel judged.raw)) (sym c.requires.same_plan)
+    ∙ (ap (told_by c.message_count.result) (sym c.verdict.ensures.value) ∙ c.told_first.ensures)))

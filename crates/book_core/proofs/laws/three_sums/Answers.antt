@@ -17,10 +17,10 @@ pub returns-clause-deployment : goal.returns-clause-deployment
 returns-clause-deployment c = deploy-sums
 
 pub returns-clause-few_arrivals : goal.returns-clause-few_arrivals
-returns-clause-few_arrivals c = λ h few. (sums-few h few).0
+returns-clause-few_arrivals c = λ h sound few. (sums-few h sound few).0
 
 pub returns-clause-few_takes : goal.returns-clause-few_takes
-returns-clause-few_takes c = λ h few. (sums-few h few).1
+returns-clause-few_takes c = λ h sound few. (sums-few h sound few).1
 
 pub returns-clause-few_settlements : goal.returns-clause-few_settlements
-returns-clause-few_settlements c = λ h few. (sums-few h few).2
+returns-clause-few_settlements c = λ h sound few. (sums-few h sound few).2

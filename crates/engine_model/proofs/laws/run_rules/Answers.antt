@@ -1,9 +1,12 @@
 use Rattle.engine_model.proofs.Channels.{have-channels, run-keeps}
 use Rattle.engine_model.proofs.Determined.{front-replies, reads_on-same}
 use Rattle.engine_model.proofs.Reaching.{reaches}
-use Rattle.engine_model.proofs.Stepping.{opened-keeps, runs-append, runs-keep, step-keeps}
+use Rattle.engine_model.proofs.Stepping.{opened-keeps, runs-append, runs-keep, started-keeps, step-keeps}
 use Rattle.engine_model.proofs.Stretches.{pieces-joined, runs-cut}
 use Rattle.engine_model.proofs.laws.run_rules.Goals as goal
+
+pub returns-clause-started : goal.returns-clause-started
+returns-clause-started c = started-keeps
 
 pub returns-clause-opened : goal.returns-clause-opened
 returns-clause-opened c = opened-keeps

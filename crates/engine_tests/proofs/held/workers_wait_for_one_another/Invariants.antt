@@ -1,5 +1,5 @@
 use Rattle.std.proofs.Common.{length}
-use Rattle.book_core.specs.Counting.{counted}
+use Rattle.event_log.specs.Counting.{counted}
 use Rattle.event_log.specs.History.{next_place, plan_in_force}
 use Rattle.engine_tests.proofs.held.workers_wait_for_one_another.Given as goal
 

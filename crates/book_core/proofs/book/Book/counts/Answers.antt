@@ -1,5 +1,5 @@
 use Rattle.std.proofs.Common.{◌∙◌, ap}
-use Rattle.book_core.specs.Counting.{counted}
+use Rattle.event_log.specs.Counting.{counted}
 use Rattle.book_core.proofs.Counted.{counted-is}
 use Rattle.book_core.proofs.book.Book.counts.Goals as goal
 

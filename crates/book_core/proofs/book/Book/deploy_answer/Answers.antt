@@ -1,5 +1,5 @@
-use Rattle.std.proofs.Common.{◌≡◌, ◌≤◌, ◌<◌, true, false, None, Some, sym, ◌∙◌, ap, arith}
-use Rattle.event_log.specs.Deployment.{deployments, first_lost, same_channels}
+use Rattle.std.proofs.Common.{◌≡◌, sym, ◌∙◌, ap, arith}
+use Rattle.event_log.specs.Deployment.{deployments, same_channels}
 use Rattle.event_log.specs.History.{plan_in_force}
 use Rattle.book_core.proofs.KeepingDeployments.{said-channels, said-many, said-none, said-used}
 use Rattle.book_core.proofs.book.Book.deploy_answer.Goals as goal

@@ -1,6 +1,4 @@
-use Rattle.std.proofs.Common.{◌≡◌, ◌-◌, None, refl, sym, ◌∙◌, ap, arith, true, false}
-use Rattle.std.specs.Prelude.{find}
-use Rattle.std.specs.List.{range_with_len}
+use Rattle.std.proofs.Common.{◌≡◌, sym, ◌∙◌, arith, true, false}
 use Rattle.event_log.specs.Deployment.{is_lost}
 use Rattle.book_core.proofs.KeepingDeployments.{found-here, found-later, none-left}
 use Rattle.book_core.proofs.book.Book.first_lost.Goals as goal

@@ -2,7 +2,7 @@ use Rattle.std.proofs.Common.{◌+◌, ◌∙◌, ap, arith, sym, length}
 use Rattle.event_log.specs.History.{queue}
 use Rattle.event_log.proofs.Reading.{queue-outside}
 use Rattle.book_core.proofs.Slots.{queue-counted}
-use Rattle.book_core.proofs.Counted.{slots_of-entries}
+use Rattle.book_core.proofs.KeepingArrivals.{few-slots}
 use Rattle.stat_count.specs.declared.DestinationCounts.{DestinationCounts}
 use Rattle.book_core.proofs.book.Book.queue_len.Goals as goal
 
@@ -11,8 +11,8 @@ returns-then-d-ge-QUEUES g c = sym (ap length (queue-outside _ c.self.invariant.
 
 pub overflow_add-result : goal.overflow_add-result
 overflow_add-result g c =
-    let few = slots_of-entries c.self.inside.log.history c.self.inside.counts c.args.d c.if-d-ge-QUEUES.false c.self.invariant.are_counted in
-    rw c.destination-here.ensures.value (omega (arith, few, c.self.invariant.sound.room, c.self.invariant.bound))
+    let few = few-slots _ _ _ _ _ _ c.self.invariant c.args.d c.if-d-ge-QUEUES.false in
+    rw c.destination-here.ensures.value (omega (arith, few))
 
 pub returns : goal.returns
 returns g c =

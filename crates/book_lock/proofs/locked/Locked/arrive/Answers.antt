@@ -1,5 +1,8 @@
-use Rattle.std.proofs.Common.{arith, refl}
-use Rattle.event_log.specs.History.{plan_in_force}
+use Rattle.std.proofs.Common.{rules, ◌≡◌, ◌↔◌, ap, subst, arith, refl}
+use Rattle.std.specs.Prelude.{IsErrOf, IsTrue}
+use Rattle.book_core.specs.declared.receipt.NotBooked.TheVariants.{Full}
+use Rattle.event_log.specs.History.{History, plan_in_force}
+use Rattle.event_log.specs.Room.{is_full}
 use Rattle.event_log.specs.declared.entry.Entry.TheVariants.{Arrival}
 use Rattle.book_lock.specs.Rises.{Held}
 use Rattle.book_lock.proofs.Following.{arrivals_fit, few_entries, known_channel, next, still}
@@ -9,7 +12,7 @@ pub count-requires : goal.count-requires
 count-requires g c =
     let h : Held = record { book = c.self.inside.book; opening = c.self.inside.opening; first = c.self.inside.first } in
     arrivals_fit h c.self.inside.arrivals.total c.self.inside.takes.total c.self.inside.settlements.total c.self.invariant.1
-    (c.three_sums.ensures.few_arrivals h.book (few_entries h.book c.rules.ensures.sound c.rules.ensures.few))
+    (c.three_sums.ensures.few_arrivals h.book c.rules.ensures.sound (few_entries h.book c.rules.ensures.sound c.rules.ensures.few))
 
 pub invariant_of-self-2 : goal.invariant_of-self-2
 invariant_of-self-2 g c =
@@ -22,3 +25,10 @@ invariant_of-self-2 g c =
     c.self.inside.arrivals.total c.self.inside.takes.total c.self.inside.settlements.total 1 0 0 c.count.new.book.total c.self.inside.takes.total c.self.inside.settlements.total
     c.in_ok-receipt.ensures.booked (still h (Arrival c.args.conn judged.channel judged.raw told) refl) c.self.invariant.0 c.self.invariant.1 rise c.count.ensures.total (omega arith) (omega arith) in
     (n.0, n.1, c.self.invariant.2, c.self.invariant.3, c.self.invariant.4)
+
+pub returns-in_err-receipt-clause-full : goal.returns-in_err-receipt-clause-full
+returns-in_err-receipt-clause-full g c =
+    let b : c.self.inside.book ≡ c.args.self.now.book = ap (λ (h : Held). h.book) c.self.view_is in
+    let judged = c.args.judged.now in
+    let there : IsErrOf c.from_residual.result Full ↔ (judged.plan ≡ plan_in_force c.self.inside.book) × IsTrue (is_full c.self.inside.book judged.channel judged.raw) = search rules in
+    subst (λ (h : History). IsErrOf c.from_residual.result Full ↔ (judged.plan ≡ plan_in_force h) × IsTrue (is_full h judged.channel judged.raw)) b there

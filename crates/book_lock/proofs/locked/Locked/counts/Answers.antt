@@ -1,6 +1,6 @@
 use Rattle.std.proofs.Common.{◌≡◌, ap, sym, ◌∙◌}
 use Rattle.stat_count.specs.Sums.{arrivals}
-use Rattle.book_core.specs.Counting.{counted}
+use Rattle.event_log.specs.Counting.{counted}
 use Rattle.book_lock.specs.Rises.{Held, arrived}
 use Rattle.book_lock.proofs.Following.{arrived-is, shown}
 use Rattle.book_lock.proofs.locked.Locked.counts.Goals as goal

@@ -1,7 +1,7 @@
 use Rattle.std.proofs.Common.{length, ap, ◌∙◌}
 use Rattle.stat_count.specs.Statistics.{Statistics}
 use Rattle.stat_count.specs.Sums.{settlements}
-use Rattle.book_core.specs.Counting.{counted}
+use Rattle.event_log.specs.Counting.{counted}
 use Rattle.book_lock.specs.Rises.{Held, settled, settlements_rise}
 use Rattle.book_lock.proofs.Following.{settled-is, counted_destinations, rise_fits, rise_is}
 use Rattle.book_lock.proofs.locked.Locked.ended.Goals as goal

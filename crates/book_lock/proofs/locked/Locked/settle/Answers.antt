@@ -11,7 +11,7 @@ pub count_settlement-requires : goal.count_settlement-requires
 count_settlement-requires g c =
     let h : Held = record { book = c.self.inside.book; opening = c.self.inside.opening; first = c.self.inside.first } in
     settlements_fit h c.self.inside.arrivals.total c.self.inside.takes.total c.self.inside.settlements.total c.self.invariant.1
-    (c.three_sums.ensures.few_settlements h.book (few_entries h.book c.rules.ensures.sound c.rules.ensures.few))
+    (c.three_sums.ensures.few_settlements h.book c.rules.ensures.sound (few_entries h.book c.rules.ensures.sound c.rules.ensures.few))
 
 pub invariant_of-self-2 : goal.invariant_of-self-2
 invariant_of-self-2 g c =

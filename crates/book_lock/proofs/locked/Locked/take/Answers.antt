@@ -13,7 +13,7 @@ pub count_take-requires : goal.count_take-requires
 count_take-requires g c =
     let h : Held = record { book = c.self.inside.book; opening = c.self.inside.opening; first = c.self.inside.first } in
     takes_fit h c.self.inside.arrivals.total c.self.inside.takes.total c.self.inside.settlements.total c.self.invariant.1
-    (c.three_sums.ensures.few_takes h.book (few_entries h.book c.rules.ensures.sound c.rules.ensures.few))
+    (c.three_sums.ensures.few_takes h.book c.rules.ensures.sound (few_entries h.book c.rules.ensures.sound c.rules.ensures.few))
 
 pub invariant_of-self-2 : goal.invariant_of-self-2
 invariant_of-self-2 g c =

@@ -1,0 +1,82 @@
+-- Histories that are alike answer alike.
+use Rattle.std.proofs.Common.{◌≡◌, ℕ, Bool, true, false, cond, List, Option, None, Some, Ok, Err, refl, ◌∙◌, ap, nat_lt, ◌&&◌, not, ◌==◌, length}
+use Rattle.std.specs.Prelude.{find, is_some, slice_get}
+use Rattle.std.specs.List.{range_with_len}
+use Rattle.std.specs.Option.{option_map_or}
+use Rattle.judge_core.specs.Judging.{verdict as decided, is_bookable, key_of}
+use Rattle.dest_queue.specs.declared.Outcome.{Outcome}
+use Rattle.dest_queue.specs.States.{is_live, is_waiting, settle_answer as slot_answer}
+use Rattle.plan_text.specs.Entries.{PlanEntry}
+use Rattle.event_log.specs.declared.entry.Ticket.{Ticket}
+use Rattle.event_log.specs.declared.entry.Told.TheVariants as told
+use Rattle.event_log.specs.declared.refusal.CancelRefusal.TheVariants.{NoSuchMessage, NothingWaiting}
+use Rattle.event_log.specs.declared.refusal.DeployRefusal.TheVariants.{ChannelsDiffer, DestinationInUse, TooMany}
+use Rattle.event_log.specs.declared.refusal.TakeRefusal.TheVariants.{Idle}
+use Rattle.hl7_head.specs.declared.ack.Cause.TheVariants.{IdReused}
+use Rattle.event_log.specs.History.{History, is_queued, message_at, message_count, plan_in_force, queue, slot}
+use Rattle.event_log.specs.Alike.{AnswersAlike, Aside, IsAlike, IsApart}
+use Rattle.event_log.specs.Answers.{answer, attempts_max, cancel_answer, front_answer, interval, known, mask_where, settle_answer, take_answer, told_again, told_by, waits}
+use Rattle.event_log.specs.Deployment.{deploy_answer, is_lost, same_channels, stays}
+use Rattle.event_log.specs.Replay.{Request, asked, came, ended, planned, revoked}
+use Rattle.event_log.proofs.Reading.{front-lives}
+
+module _ (aside : Aside) (h k : History) (alike : IsAlike aside h k) where
+  -- a message that stands in a queue isn't left aside
+  pub queued-outside : (n d : ℕ) → is_queued h d n ≡ true → aside.messages n ≡ false
+  queued-outside n d queued = by (aside.messages n) (alike.settled n d)
+    where
+      by : (b : Bool) → (b ≡ true → is_queued h d n ≡ false) → b ≡ false
+      by true settled = let no = settled refl in absurd cc
+      by false settled = refl
+
+  -- nor is a queue's front
+  pub front-outside : (n d : ℕ) → slice_get (queue h d) 0 ≡ Some n → aside.messages n ≡ false
+  front-outside n d front = let lives = front-lives h d n front in queued-outside n d (ap (λ o. option_map_or is_live o false) lives.1 ∙ lives.2)
+
+  take-alike : (d now : ℕ) → take_answer k d now ≡ take_answer h d now
+  take-alike d now = ap (λ ns. option_map_or (λ n. front_answer d now n (slot k n d)) (slice_get ns 0) (Err Idle)) (alike.queues d) ∙ by (slice_get (queue h d) 0) refl
+    where
+      by : (o : Option ℕ) → slice_get (queue h d) 0 ≡ o → option_map_or (λ n. front_answer d now n (slot k n d)) o (Err Idle) ≡ option_map_or (λ n. front_answer d now n (slot h n d)) o (Err Idle)
+      by None is = refl
+      by (Some n) is = ap (front_answer d now n) (alike.slots n d (front-outside n d is))
+
+  settle-alike : (ticket : Ticket) (outcome : Outcome) (now : ℕ) → aside.messages ticket.number ≡ false → settle_answer k ticket outcome now ≡ settle_answer h ticket outcome now
+  settle-alike ticket outcome now apart =
+      ap (λ plan. slot_answer (slot k ticket.number ticket.destination) outcome ticket.attempt now (attempts_max plan ticket.destination) (interval plan ticket.destination)) alike.plan
+      ∙ ap (λ s. slot_answer s outcome ticket.attempt now (attempts_max (plan_in_force h) ticket.destination) (interval (plan_in_force h) ticket.destination))
+      (alike.slots ticket.number ticket.destination apart)
+
+  -- a message waits at the same destinations
+  waits-alike : (n : ℕ) → aside.messages n ≡ false → mask_where (waits k n) ≡ mask_where (waits h n)
+  waits-alike n apart = ap mask_where (λ i d. option_map_or is_waiting (alike.slots n d apart i) false)
+
+  cancel-alike : (n : ℕ) → aside.messages n ≡ false → cancel_answer k n ≡ cancel_answer h n
+  cancel-alike n apart =
+      ap (λ b. cond b (cond (mask_where (waits k n) == 0) (Err NothingWaiting) (Ok (mask_where (waits k n)))) (Err NoSuchMessage)) (ap is_some (alike.message n apart))
+      ∙ ap (λ mask. cond (is_some (message_at h n)) (cond (mask == 0) (Err NothingWaiting) (Ok mask)) (Err NoSuchMessage)) (waits-alike n apart)
+
+  deploy-alike : (plan : PlanEntry) → deploy_answer k plan ≡ deploy_answer h plan
+  unfolding deploy_answer
+  deploy-alike plan =
+      let lost : is_lost k plan ≡ is_lost h plan = λ i d. nat_lt 0 (length (alike.queues d i)) && not (stays (slice_get (alike.plan i).destinations d) (slice_get plan.destinations d)) in
+      λ i. cond (same_channels (alike.plan i) plan) (option_map_or (λ d. Some (DestinationInUse d)) (find (lost i) (range_with_len 0 32)) (cond (nat_lt (alike.deployments i) 1000) None (Some TooMany))) (Some ChannelsDiffer)
+
+  answer-alike : (channel : ℕ) (raw : List ℕ) → aside.keys (key_of channel raw) ≡ false → answer k channel raw ≡ answer h channel raw
+  unfolding answer
+  answer-alike channel raw apart =
+      (λ i. cond (is_bookable raw) (option_map_or (λ place. Some (told_again k raw place)) (alike.keys (key_of channel raw) apart i) (told_by (alike.messages i) (decided (alike.plan i) channel raw))) None)
+      ∙ ap (λ o. cond (is_bookable raw) o None) (by (known h (key_of channel raw)) refl)
+    where
+      by : (o : Option ℕ) → known h (key_of channel raw) ≡ o
+          → option_map_or (λ place. Some (told_again k raw place)) o (told_by (message_count h) (decided (plan_in_force h) channel raw))
+          ≡ option_map_or (λ place. Some (told_again h raw place)) o (told_by (message_count h) (decided (plan_in_force h) channel raw))
+      by None is = refl
+      by (Some place) is = ap (λ b. Some (cond b (told.Repeat place) (told.Refused IdReused))) (alike.bytes (key_of channel raw) raw place apart is)
+
+  -- an event that names nothing left aside gets the same answer
+  pub answers-alike : (request : Request) → IsApart aside request → AnswersAlike h k request
+  answers-alike (came conn channel raw) apart = answer-alike channel raw apart
+  answers-alike (asked d now) apart = take-alike d now
+  answers-alike (ended ticket outcome now) apart = settle-alike ticket outcome now apart
+  answers-alike (revoked n) apart = cancel-alike n apart
+  answers-alike (planned plan) apart = deploy-alike plan

@@ -1,0 +1,246 @@
+-- Histories that are alike stay alike with each event that they answer, and with every list of events.
+use Rattle.std.proofs.Common.{◌≡◌, ◌≢◌, ℕ, ◌+◌, ◌<◌, inl, inr, Bool, true, false, cond, ◌==◌, ◌&&◌, nat_lt, List, [], ◌∷◌, length, Option, None, Some, Result, Ok, Err, refl, sym, ◌∙◌, ap, subst, arith}
+use Rattle.std.specs.Prelude.{find, is_some, slice_get}
+use Rattle.std.specs.List.{AllByRecursion, position_or_len}
+use Rattle.std.specs.Option.{is_none, option_map, option_map_or}
+use Rattle.std.specs.Result.{result_ok}
+use Rattle.std.specs.Int.{bit_at}
+use Rattle.std.proofs.lemmas.Bool.Decides.{eqb_tells, nat_tests}
+use Rattle.std.proofs.lemmas.List.Elements.{recursion_from_All}
+use Rattle.dest_queue.specs.declared.SlotState.{SlotState}
+use Rattle.dest_queue.specs.declared.SlotState.TheVariants.{Waiting, InFlight, Delivered, Failed}
+use Rattle.dest_queue.specs.declared.FailCause.TheVariants.{Cancelled}
+use Rattle.dest_queue.specs.declared.Outcome.{Outcome}
+use Rattle.dest_queue.specs.States.{is_live, settle_answer as slot_answer}
+use Rattle.plan_text.specs.Entries.{PlanEntry}
+use Rattle.event_log.specs.declared.entry.Entry.{Entry}
+use Rattle.event_log.specs.declared.entry.Entry.TheVariants.{Arrival, Take, Settle, Cancel, Deploy}
+use Rattle.event_log.specs.declared.entry.Ticket.{Ticket}
+use Rattle.event_log.specs.declared.entry.Told.{Told}
+use Rattle.event_log.specs.declared.refusal.CancelRefusal.TheVariants.{NoSuchMessage, NothingWaiting}
+use Rattle.event_log.specs.declared.refusal.TakeRefusal.TheVariants.{Idle}
+use Rattle.event_log.specs.declared.refusal.TakeRefusal.TheVariants as take_refusal
+use Rattle.event_log.specs.History.{History, Remembered, followed_by, is_for, is_queued, message_at, next_place, plan_in_force, queue, slot}
+use Rattle.event_log.specs.Alike.{AllAnswerAlike, AreMet, Aside, IsAlike, IsMet}
+use Rattle.event_log.specs.Answers.{answer, attempts_max, cancel_answer, front_answer, has_key, interval, keeps, known, known_before, mask_where, settle_answer, take_answer, waits}
+use Rattle.event_log.specs.Deployment.{deploy_answer}
+use Rattle.event_log.specs.Legal.{IsSound}
+use Rattle.event_log.specs.Replay.{Request, answered_by, asked, came, ended, next, planned, revoked, run}
+use Rattle.event_log.proofs.AnsweringAlike.{answers-alike, front-outside}
+use Rattle.event_log.proofs.Reading.{front-exists, front-lives, message-exists, slot-exists}
+use Rattle.event_log.proofs.StayingAlike.{Moves, Orderly, added-alike, moved-alike}
+
+-- ---- what is sound is orderly
+
+-- an arrival that is found stands where all do
+pub found-within : (key : List ℕ) (opened : ℕ) (rs : List Remembered) (place : ℕ) → AllByRecursion (λ r. r.place < opened) rs → option_map (λ r. r.place) (find (has_key key) rs) ≡ Some place → place < opened
+found-within key opened [] place within is = absurd cc
+found-within key opened (r ∷ rs) place within is = by (has_key key r) (λ e. found-within key opened rs place within.1 e) is
+  where
+    by : (b : Bool) → (option_map (λ r. r.place) (find (has_key key) rs) ≡ Some place → place < opened) → option_map (λ r. r.place) (cond b (Some r) (find (has_key key) rs)) ≡ Some place → place < opened
+    by true rest is = let same : r.place ≡ place = cc in let first = within.0 in omega arith
+    by false rest is = rest is
+
+-- a key is known at a place before the next
+pub known-inside : (h : History) → AllByRecursion (λ r. r.place < h.opening.places) h.opening.remembered → (key : List ℕ) (place : ℕ) → known h key ≡ Some place → place < next_place h
+known-inside h within key place is = by (known_before h.opening key) (position_or_len (keeps key) h.entries) refl is
+  where
+    at : (b : Bool) (q : ℕ) → nat_lt q (length h.entries) ≡ b → option_map (λ k. h.opening.places + k) (cond b (Some q) None) ≡ Some place → place < next_place h
+    at true q inside is = let same : h.opening.places + q ≡ place = cc in let low : q < length h.entries = grind (arith, nat_tests) in omega arith
+    at false q inside is = absurd cc
+
+    by : (o : Option ℕ) (q : ℕ) → known_before h.opening key ≡ o → option_map_or (λ p. Some p) o (option_map (λ k. h.opening.places + k) (cond (nat_lt q (length h.entries)) (Some q) None)) ≡ Some place
+        → place < next_place h
+    by (Some p) q was is = let low = found-within key h.opening.places h.opening.remembered p within was in let same : p ≡ place = cc in omega arith
+    by None q was is = at (nat_lt q (length h.entries)) q refl is
+
+pub sound-orderly : (h : History) → IsSound h → Orderly h
+sound-orderly h sound =
+    let within = recursion_from_All (λ r. r.place < h.opening.places) h.opening.remembered sound.opening.places_within in
+    record { places = within; inside = known-inside h within; to_come = sound.to_come }
+
+-- ---- the entry of an answer
+
+-- the front that was taken
+record Taken (h : History) (d : ℕ) (ticket : Ticket) : Type 0 where
+  front : slice_get (queue h d) 0 ≡ Some ticket.number
+  there : ticket.destination ≡ d
+
+taken : (h : History) (d now : ℕ) (ticket : Ticket) → take_answer h d now ≡ Ok ticket → Taken h d ticket
+taken h d now ticket is = by (slice_get (queue h d) 0) refl is
+  where
+    at : (n : ℕ) (s : Option SlotState) → front_answer d now n s ≡ Ok ticket → (n ≡ ticket.number) × (ticket.destination ≡ d)
+    at n None is = absurd cc
+    at n (Some (Waiting attempts due)) is = elim (nat_lt now due) as (λ b. cond b (Err (take_refusal.NotDue due)) (Ok (record { number = n; destination = d; attempt = attempts + 1 })) ≡ Ok ticket → (n ≡ ticket.number) × (ticket.destination ≡ d)) [
+      | true ↦ λ e. absurd cc
+      | false ↦ λ e. let same : ◌≡◌ {A = Ticket} (record { number = n; destination = d; attempt = attempts + 1 }) ticket = cc in (ap (λ t. t.number) same, sym (ap (λ t. t.destination) same))
+    ] is
+    at n (Some (InFlight attempt)) is = absurd cc
+    at n (Some Delivered) is = absurd cc
+    at n (Some (Failed cause)) is = absurd cc
+
+    by : (o : Option ℕ) → slice_get (queue h d) 0 ≡ o → option_map_or (λ n. front_answer d now n (slot h n d)) o (Err Idle) ≡ Ok ticket → Taken h d ticket
+    by None first is = absurd cc
+    by (Some n) first is = let e = at n (slot h n d) is in record { front = first ∙ ap (λ x. Some x) e.0; there = e.1 }
+
+-- the attempt that was settled
+settled-flew : (o : Option SlotState) (outcome : Outcome) (attempt now max interval : ℕ) (s : SlotState) → slot_answer o outcome attempt now max interval ≡ Ok s → (a : ℕ) × (o ≡ Some (InFlight a))
+settled-flew None outcome attempt now max interval s is = absurd cc
+settled-flew (Some (InFlight a)) outcome attempt now max interval s is = (a, refl)
+settled-flew (Some (Waiting a due)) outcome attempt now max interval s is = absurd cc
+settled-flew (Some Delivered) outcome attempt now max interval s is = absurd cc
+settled-flew (Some (Failed cause)) outcome attempt now max interval s is = absurd cc
+
+-- a ticket is for its own message and destination alone
+for-other : (n d : ℕ) (ticket : Ticket) → n ≢ ticket.number → is_for n d ticket ≡ false
+for-other n d ticket apart = elim (eqb_tells ticket.number n) [ inl w ↦ absurd (apart (sym w.1)) | inr w ↦ rw w.0 refl ]
+
+for-there : (n d : ℕ) (ticket : Ticket) → is_for n d ticket ≡ true → ticket.destination ≡ d
+for-there n d ticket is = elim (eqb_tells ticket.destination d) [ inl w ↦ w.1 | inr w ↦ absurd (no (ticket.number == n) (ap (λ b. (ticket.number == n) && b) (sym w.0) ∙ is)) ]
+  where
+    no : (b : Bool) → (b && false) ≡ true → ⊥
+    no true e = absurd cc
+    no false e = absurd cc
+
+picked : (b : Bool) (x s : SlotState) → cond b (Some x) None ≡ Some s → b ≡ true
+picked true x s is = refl
+picked false x s is = absurd cc
+
+-- a message that has a live slot stands in that queue
+queued-live : (h : History) (n d : ℕ) (s : SlotState) → slot h n d ≡ Some s → is_live s ≡ true → is_queued h d n ≡ true
+queued-live h n d s is live = ap (λ o. option_map_or is_live o false) is ∙ live
+
+take-moves : (aside : Aside) (h k : History) → IsAlike aside h k → (d now : ℕ) (ticket : Ticket) → take_answer h d now ≡ Ok ticket → Moves aside h (Take ticket now) ticket.number
+take-moves aside h k alike d now ticket is =
+    let t = taken h d now ticket is in
+    let lives = front-lives h d ticket.number t.front in
+    record {
+      brings = λ plan. refl;
+      others = λ n d' apart. ap (λ b. cond b (Some (InFlight ticket.attempt)) None) (for-other n d' ticket apart);
+      exists = front-exists h d ticket.number t.front;
+      apart = front-outside aside h k alike ticket.number d t.front;
+      lived = λ d' s leaves live.
+          let there = for-there ticket.number d' ticket (picked (is_for ticket.number d' ticket) (InFlight ticket.attempt) s leaves) in
+          subst (λ x. is_queued h x ticket.number ≡ true) (sym t.there ∙ there) (queued-live h ticket.number d lives.0 lives.1 lives.2);
+    }
+
+settle-moves : (aside : Aside) (h : History) (ticket : Ticket) (outcome : Outcome) (now : ℕ) (after : SlotState) → aside.messages ticket.number ≡ false → settle_answer h ticket outcome now ≡ Ok after
+    → Moves aside h (Settle ticket outcome now after) ticket.number
+settle-moves aside h ticket outcome now after apart is =
+    let flew = settled-flew (slot h ticket.number ticket.destination) outcome ticket.attempt now (attempts_max (plan_in_force h) ticket.destination) (interval (plan_in_force h) ticket.destination) after is in
+    record {
+      brings = λ plan. refl;
+      others = λ n d' apart. ap (λ b. cond b (Some after) None) (for-other n d' ticket apart);
+      exists = slot-exists h ticket.number ticket.destination (InFlight flew.0) flew.1;
+      apart = apart;
+      lived = λ d' s leaves live.
+          let there = for-there ticket.number d' ticket (picked (is_for ticket.number d' ticket) after s leaves) in
+          subst (λ x. is_queued h x ticket.number ≡ true) there (queued-live h ticket.number ticket.destination (InFlight flew.0) flew.1 refl);
+    }
+
+cancel-moves : (aside : Aside) (h : History) (n mask : ℕ) → aside.messages n ≡ false → cancel_answer h n ≡ Ok mask → Moves aside h (Cancel n mask) n
+cancel-moves aside h n mask apart is = record {
+  brings = λ plan. refl;
+  others = λ m d other. elim (eqb_tells n m) [ inl w ↦ absurd (other (sym w.1)) | inr w ↦ rw w.0 refl ];
+  exists = message-exists h n (by (is_some (message_at h n)) is);
+  apart = apart;
+  lived = λ d s leaves live. failed ((n == n) && (bit_at mask d == 1)) s leaves live;
+}
+  where
+    by : (b : Bool) → cond b (cond (mask_where (waits h n) == 0) (Err NothingWaiting) (Ok (mask_where (waits h n)))) (Err NoSuchMessage) ≡ Ok mask → b ≡ true
+    by true e = refl
+    by false e = absurd cc
+
+    failed : {A : Type 0} → (b : Bool) (s : SlotState) → cond b (Some (Failed Cancelled)) None ≡ Some s → is_live s ≡ true → A
+    failed true s leaves live = let same : Failed Cancelled ≡ s = cc in let no : is_live s ≡ false = ap is_live (sym same) in absurd cc
+    failed false s leaves live = absurd cc
+
+-- ---- one event
+
+-- two histories that are alike and orderly
+pub record Both (aside : Aside) (h k : History) : Type 0 where
+  pub alike : IsAlike aside h k
+  pub orderly : Orderly h
+  pub its_orderly : Orderly k
+
+both : (aside : Aside) (h k : History) → IsAlike aside h k × Orderly h × Orderly k → Both aside h k
+both aside h k w = record { alike = w.0; orderly = w.1; its_orderly = w.2 }
+
+module _ (aside : Aside) (h k : History) (now_both : Both aside h k) where
+  -- an entry that touches no slot is booked by both
+  came-both : (conn channel : ℕ) (raw : List ℕ) → IsMet aside h k (came conn channel raw) → Both aside (next h (came conn channel raw)) (next k (came conn channel raw))
+  came-both conn channel raw met =
+      subst (λ o. Both aside (option_map_or (λ e. followed_by h e) o h) (next k (came conn channel raw))) (sym mine)
+      (subst (λ o. Both aside (option_map_or (λ e. followed_by h e) (option_map (λ t. Arrival conn channel raw t) (answer h channel raw)) h) (option_map_or (λ e. followed_by k e) o k)) (sym yours)
+      (by (answer h channel raw)))
+    where
+      mine : answered_by h (came conn channel raw) ≡ option_map (λ t. Arrival conn channel raw t) (answer h channel raw)
+      mine = ap (λ b. cond b None (option_map (λ t. Arrival conn channel raw t) (answer h channel raw))) met.room
+
+      yours : answered_by k (came conn channel raw) ≡ option_map (λ t. Arrival conn channel raw t) (answer h channel raw)
+      yours =
+          ap (λ b. cond b None (option_map (λ t. Arrival conn channel raw t) (answer k channel raw))) met.its_room
+          ∙ ap (option_map (λ t. Arrival conn channel raw t)) (answers-alike aside h k now_both.alike (came conn channel raw) met.apart)
+
+      by : (o : Option Told) → Both aside (option_map_or (λ e. followed_by h e) (option_map (λ t. Arrival conn channel raw t) o) h) (option_map_or (λ e. followed_by k e) (option_map (λ t. Arrival conn channel raw t) o) k)
+      by None = now_both
+      by (Some t) =
+          both aside (followed_by h (Arrival conn channel raw t)) (followed_by k (Arrival conn channel raw t))
+          (added-alike aside h k now_both.alike now_both.orderly now_both.its_orderly (Arrival conn channel raw t) (λ n d. refl))
+
+  planned-both : (plan : PlanEntry) → IsMet aside h k (planned plan) → Both aside (next h (planned plan)) (next k (planned plan))
+  planned-both plan met =
+      subst (λ o. Both aside (option_map_or (λ e. followed_by h e) o h) (next k (planned plan))) (sym mine)
+      (subst (λ o. Both aside (option_map_or (λ e. followed_by h e) (cond (is_none (deploy_answer h plan)) (Some (Deploy plan)) None) h) (option_map_or (λ e. followed_by k e) o k)) (sym yours)
+      (by (is_none (deploy_answer h plan))))
+    where
+      mine : answered_by h (planned plan) ≡ cond (is_none (deploy_answer h plan)) (Some (Deploy plan)) None
+      mine = ap (λ b. cond b None (cond (is_none (deploy_answer h plan)) (Some (Deploy plan)) None)) met.room
+
+      yours : answered_by k (planned plan) ≡ cond (is_none (deploy_answer h plan)) (Some (Deploy plan)) None
+      yours =
+          ap (λ b. cond b None (cond (is_none (deploy_answer k plan)) (Some (Deploy plan)) None)) met.its_room
+          ∙ ap (λ o. cond (is_none o) (Some (Deploy plan)) None) (answers-alike aside h k now_both.alike (planned plan) met.apart)
+
+      by : (b : Bool) → Both aside (option_map_or (λ e. followed_by h e) (cond b (Some (Deploy plan)) None) h) (option_map_or (λ e. followed_by k e) (cond b (Some (Deploy plan)) None) k)
+      by false = now_both
+      by true =
+          both aside (followed_by h (Deploy plan)) (followed_by k (Deploy plan)) (added-alike aside h k now_both.alike now_both.orderly now_both.its_orderly (Deploy plan) (λ n d. refl))
+
+  -- an entry that leaves slots of one message in another state
+  moved-both : {A E : Type 0} → (entry : A → Entry) (number : A → ℕ) (answered its_answered : Result A E) → its_answered ≡ answered → ((a : A) → answered ≡ Ok a → Moves aside h (entry a) (number a))
+      → Both aside (option_map_or (λ e. followed_by h e) (option_map entry (result_ok answered)) h) (option_map_or (λ e. followed_by k e) (option_map entry (result_ok its_answered)) k)
+  moved-both entry number (Ok a) its_answered same moves =
+      subst (λ r. Both aside (followed_by h (entry a)) (option_map_or (λ e. followed_by k e) (option_map entry (result_ok r)) k)) (sym same)
+      (both aside (followed_by h (entry a)) (followed_by k (entry a)) (moved-alike aside h k now_both.alike now_both.orderly now_both.its_orderly (entry a) (number a) (moves a refl)))
+  moved-both entry number (Err e) its_answered same moves =
+      subst (λ r. Both aside h (option_map_or (λ e. followed_by k e) (option_map entry (result_ok r)) k)) (sym same) now_both
+
+  -- each event is booked by both, or by none
+  pub next-both : (request : Request) → IsMet aside h k request → Both aside (next h request) (next k request)
+  next-both (came conn channel raw) met = came-both conn channel raw met
+  next-both (planned plan) met = planned-both plan met
+  next-both (asked d now) met =
+      moved-both (λ ticket. Take ticket now) (λ ticket. ticket.number) (take_answer h d now) (take_answer k d now)
+      (answers-alike aside h k now_both.alike (asked d now) met.apart) (λ ticket is. take-moves aside h k now_both.alike d now ticket is)
+  next-both (ended ticket outcome now) met =
+      moved-both (λ s. Settle ticket outcome now s) (λ s. ticket.number) (settle_answer h ticket outcome now) (settle_answer k ticket outcome now)
+      (answers-alike aside h k now_both.alike (ended ticket outcome now) met.apart) (λ s is. settle-moves aside h ticket outcome now s met.apart is)
+  next-both (revoked n) met =
+      moved-both (λ mask. Cancel n mask) (λ mask. n) (cancel_answer h n) (cancel_answer k n)
+      (answers-alike aside h k now_both.alike (revoked n) met.apart) (λ mask is. cancel-moves aside h n mask met.apart is)
+
+-- ---- every list of events
+
+pub run-both : (aside : Aside) (h k : History) → Both aside h k → (requests : List Request) → AreMet aside h k requests → Both aside (run h requests) (run k requests)
+run-both aside h k now_both [] met = now_both
+run-both aside h k now_both (request ∷ requests) met = run-both aside (next h request) (next k request) (next-both aside h k now_both request met.0) requests met.1
+
+pub answers-both : (aside : Aside) (h k : History) → Both aside h k → (requests : List Request) → AreMet aside h k requests → AllAnswerAlike h k requests
+answers-both aside h k now_both [] met = tt
+answers-both aside h k now_both (request ∷ requests) met =
+    let here = met.0 in
+    (answers-alike aside h k now_both.alike request here.apart, answers-both aside (next h request) (next k request) (next-both aside h k now_both request here) requests met.1)
+
+pub sound-both : (aside : Aside) (h k : History) → IsSound h → IsSound k → IsAlike aside h k → Both aside h k
+sound-both aside h k sound its_sound alike = record { alike = alike; orderly = sound-orderly h sound; its_orderly = sound-orderly k its_sound }

@@ -1,0 +1,86 @@
+-- Histories that are alike outside what one of them has forgotten.
+use Rattle.std.specs.Prelude.{◌≡◌, ◌<◌, ℕ, Bool, true, false, ◌&&◌, nat_lt, List, [], ◌∷◌, Some}
+use Rattle.std.specs.List.{list_any}
+use Rattle.judge_core.specs.Judging.{key_of}
+use Rattle.event_log.specs.History.{History, entry_at, is_queued, message_at, message_count, next_place, plan_in_force, queue, slot}
+use Rattle.event_log.specs.Answers.{answer, brings_at, cancel_answer, has_key, known, settle_answer, take_answer}
+use Rattle.event_log.specs.Counting.{channel_counts, destination_counts}
+use Rattle.event_log.specs.Deployment.{deploy_answer, deployments}
+use Rattle.event_log.specs.Folding.{arrivals, is_forgotten}
+use Rattle.event_log.specs.Replay.{Request, asked, came, ended, next, planned, revoked}
+use Rattle.event_log.specs.Room.{exceeds, is_full}
+
+-- messages, keys and places that are left aside
+pub record Aside : Type 0 where
+  pub messages : ℕ → Bool
+  pub keys : List ℕ → Bool
+  pub places : ℕ → Bool
+
+-- what a history has no more, once the messages below a bound are forgotten and its entries are folded
+abbrev pub forgotten_by : ℕ → History → Aside
+forgotten_by bound h = record {
+  messages = λ n. nat_lt n bound;
+  keys = λ key. list_any (λ r. has_key key r && is_forgotten h bound r) (arrivals h);
+  places = λ place. nat_lt place (next_place h);
+}
+
+-- two histories are alike, but for earlier messages, keys and places that are left aside, and no such message stands in a queue
+pub record IsAlike (aside : Aside) (h k : History) : Type 0 where
+  pub plan : plan_in_force k ≡ plan_in_force h
+  pub bound : k.opening.events_max ≡ h.opening.events_max
+  pub places : next_place k ≡ next_place h
+  pub messages : message_count k ≡ message_count h
+  pub deployments : deployments k ≡ deployments h
+  pub channels : (c : ℕ) → c < 64 → channel_counts k c ≡ channel_counts h c
+  pub destinations : (d : ℕ) → d < 32 → destination_counts k d ≡ destination_counts h d
+  pub queues : (d : ℕ) → queue k d ≡ queue h d
+  -- the set is of the past, and nothing in it is still to be delivered
+  pub earlier : (n : ℕ) → aside.messages n ≡ true → n < message_count h
+  pub folded : (place : ℕ) → aside.places place ≡ true → place < next_place h
+  pub settled : (n d : ℕ) → aside.messages n ≡ true → is_queued h d n ≡ false
+  -- what is outside it
+  pub entries : (place : ℕ) → aside.places place ≡ false → entry_at k place ≡ entry_at h place
+  pub message : (n : ℕ) → aside.messages n ≡ false → message_at k n ≡ message_at h n
+  pub slots : (n d : ℕ) → aside.messages n ≡ false → slot k n d ≡ slot h n d
+  pub keys : (key : List ℕ) → aside.keys key ≡ false → known k key ≡ known h key
+  pub bytes : (key raw : List ℕ) (place : ℕ) → aside.keys key ≡ false → known h key ≡ Some place → brings_at k raw place ≡ brings_at h raw place
+
+-- an event names nothing that is left aside: not the key of the text that came, and not the message of a settlement or a cancellation
+abbrev pub IsApart : Aside → Request → Type 0
+IsApart aside (came conn channel raw) = aside.keys (key_of channel raw) ≡ false
+IsApart aside (asked d now) = Unit {0}
+IsApart aside (ended ticket outcome now) = aside.messages ticket.number ≡ false
+IsApart aside (revoked number) = aside.messages number ≡ false
+IsApart aside (planned plan) = Unit {0}
+
+-- there is room for an event; a take, a settlement and a cancellation need none
+abbrev pub Fits : History → Request → Type 0
+Fits h (came conn channel raw) = is_full h channel raw ≡ false
+Fits h (asked d now) = Unit {0}
+Fits h (ended ticket outcome now) = Unit {0}
+Fits h (revoked number) = Unit {0}
+Fits h (planned plan) = exceeds h 0 ≡ false
+
+-- an event that names nothing aside and for which both histories have room
+pub record IsMet (aside : Aside) (h k : History) (request : Request) : Type 0 where
+  pub apart : IsApart aside request
+  pub room : Fits h request
+  pub its_room : Fits k request
+
+-- both histories give the same answer to an event, also where they refuse it
+abbrev pub AnswersAlike : History → History → Request → Type 0
+AnswersAlike h k (came conn channel raw) = answer k channel raw ≡ answer h channel raw
+AnswersAlike h k (asked d now) = take_answer k d now ≡ take_answer h d now
+AnswersAlike h k (ended ticket outcome now) = settle_answer k ticket outcome now ≡ settle_answer h ticket outcome now
+AnswersAlike h k (revoked number) = cancel_answer k number ≡ cancel_answer h number
+AnswersAlike h k (planned plan) = deploy_answer k plan ≡ deploy_answer h plan
+
+-- each of these events, in this order, is met so by the histories that those before it have left
+abbrev pub AreMet : Aside → History → History → List Request → Type 0
+AreMet aside h k [] = Unit {0}
+AreMet aside h k (request ∷ requests) = IsMet aside h k request × AreMet aside (next h request) (next k request) requests
+
+-- and gets the same answer
+abbrev pub AllAnswerAlike : History → History → List Request → Type 0
+AllAnswerAlike h k [] = Unit {0}
+AllAnswerAlike h k (request ∷ requests) = AnswersAlike h k request × AllAnswerAlike (next h request) (next k request) requests

@@ -1,0 +1,54 @@
+//! What a pruned history still says.
+
+ghost use Rattle.std.specs.Prelude.{◌≡◌, ◌<◌, ◌≤◌, ◌+◌, ℕ, List, None, false, All, AllPairs, map};
+ghost use Rattle.std.specs.List.{filter_map};
+ghost use Rattle.std.specs.List.Sorted.{IsStrictlyIncreasing};
+ghost use Rattle.judge_core.specs.Judging.{key_of};
+ghost use Rattle.event_log.specs.Alike.{AllAnswerAlike, AnswersAlike, AreMet, Aside, IsAlike, IsMet, forgotten_by};
+ghost use Rattle.event_log.specs.Answers.{has_key};
+ghost use Rattle.event_log.specs.Counting.{destination_counts};
+ghost use Rattle.event_log.specs.Folding.{folded, forgotten_at, prune_answer, pruned};
+ghost use Rattle.event_log.specs.History.{History, message_count, next_place, number_of, plan_in_force};
+ghost use Rattle.event_log.specs.Legal.{IsGoodOpening, IsMemory, IsSound};
+ghost use Rattle.event_log.specs.Replay.{Request, next, run};
+ghost use Rattle.event_log.specs.Room.{owed};
+
+use crate::log::EVENTS_MAX;
+
+/// The laws of pruning, for every history and every number of messages that are forgotten of it.
+pub fn folding_rules()
+    // A pruned history is alike the one that was pruned, but for what was forgotten.
+    ensures folded { (h : History) (bound : ℕ) → IsSound h → prune_answer h bound ≡ None → IsAlike (forgotten_by bound h) h (pruned bound h) }
+
+    // What remains is remembered in order of place and of number, each arrival as an opening may have it, with a key
+    // of its own. As much is owed as before.
+    ensures memories { (h : History) (bound : ℕ) → IsSound h → All (IsMemory (plan_in_force h)) (folded bound h).remembered }
+    ensures places { (h : History) (bound : ℕ) → IsSound h → IsStrictlyIncreasing (map (λ r. r.place) (folded bound h).remembered) }
+    ensures numbers { (h : History) (bound : ℕ) → IsSound h → IsStrictlyIncreasing (filter_map number_of (folded bound h).remembered) }
+    ensures numbers_within { (h : History) (bound : ℕ) → IsSound h → All (λ n. n < message_count h) (filter_map number_of (folded bound h).remembered) }
+    ensures keys { (h : History) (bound : ℕ) → IsSound h → AllPairs (λ r s. has_key (key_of r.channel r.raw) s ≡ false) (folded bound h).remembered }
+    ensures owes { (h : History) (bound : ℕ) → IsSound h → prune_answer h bound ≡ None → owed (pruned bound h) ≡ owed h }
+
+    // So a book may go on from it, where no more of the forgotten messages were delivered or failed at a destination than there were entries, and no more
+    // messages were delivered or are in flight than attempts were begun.
+    ensures good { (h : History) (bound : ℕ) → IsSound h → prune_answer h bound ≡ None → h.opening.events_max ≤ EVENTS_MAX
+        → ((d : ℕ) → d < 32 → (forgotten_at h bound d).delivered + (forgotten_at h bound d).failed ≤ next_place h)
+        → ((d : ℕ) → d < 32 → (destination_counts h d).inflight + (destination_counts h d).delivered ≤ (destination_counts h d).attempts) → IsGoodOpening (folded bound h) }
+
+    // Two histories that are alike, but for what is left aside, answer alike each event that names nothing of it, where both have room for it. They
+    // stay alike with it.
+    ensures answered { (aside : Aside) (h k : History) (request : Request) → IsSound h → IsSound k → IsAlike aside h k → IsMet aside h k request → AnswersAlike h k request }
+    ensures followed { (aside : Aside) (h k : History) (request : Request) → IsSound h → IsSound k → IsAlike aside h k → IsMet aside h k request
+        → IsAlike aside (next h request) (next k request) }
+
+    // So it is with every list of such events.
+    ensures answered_all { (aside : Aside) (h k : History) (requests : List Request) → IsSound h → IsSound k → IsAlike aside h k → AreMet aside h k requests → AllAnswerAlike h k requests }
+    ensures run_on { (aside : Aside) (h k : History) (requests : List Request) → IsSound h → IsSound k → IsAlike aside h k → AreMet aside h k requests
+        → IsAlike aside (run h requests) (run k requests) }
+
+    // So a pruned history answers like the one that was pruned, event by event, as long as they name nothing that was forgotten and both have room.
+    ensures pruned_answers { (h : History) (bound : ℕ) (requests : List Request) → IsSound h → prune_answer h bound ≡ None
+        → AreMet (forgotten_by bound h) h (pruned bound h) requests → AllAnswerAlike h (pruned bound h) requests }
+    ensures pruned_runs { (h : History) (bound : ℕ) (requests : List Request) → IsSound h → prune_answer h bound ≡ None
+        → AreMet (forgotten_by bound h) h (pruned bound h) requests → IsAlike (forgotten_by bound h) (run h requests) (run (pruned bound h) requests) }
+{}
