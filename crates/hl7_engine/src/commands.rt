@@ -1,42 +1,30 @@
 //! Doing what the command line asks.
 
-ghost use Rattle.std.specs.Prelude.{◌≡◌, IfErr};
-ghost use Rattle.hl7_engine.specs.Request.{IsWithinLimits};
+ghost use Rattle.engine_words.specs.Request.{IsWithinLimits};
 
 mod answer;
 mod check;
 mod devices;
-mod findings;
 mod run;
-mod statistics;
 
-use crate::command_line::Request;
-use crate::fault::Fault;
 use crate::handle::Handle;
 use answer::answer;
 use book_core::{Book, Letter};
 use check::check;
 use dest_queue::Addressed;
+use engine_report::Fault;
+use engine_words::Request;
 use plan_text::Plan;
 use record_list::RecordList;
 use run::run;
 use std::fs;
-use std::hash::RandomState;
 use std::io::ErrorKind;
-use std::random::RandomSource;
 
 /// The store of a book's rows: linked nodes.
 type EngineRows = RecordList<Addressed<Letter>>;
 
 /// The book of the program.
 type EngineBook = Book<EngineRows>;
-
-/// A hasher for the keys of the book, of the runtime's random bytes, so that no sender can choose keys that fall together.
-fn hasher<'a>(rt: &impl RandomSource) -> Result<RandomState, Fault<'a>>
-    ensures { IfErr result (λ fault. fault ≡ Fault.Random) }
-{
-    RandomState::new(rt).map_err(|_| Fault::Random)
-}
 
 /// The plan in a file.
 fn read_plan<'a>(rt: &HostRuntime, path: &'a str) -> Result<Plan, Fault<'a>> {

@@ -4,16 +4,14 @@
 
 ghost use Rattle.std.specs.Prelude.{◌≡◌, IfErr, OnOk};
 ghost use Rattle.std.specs.Process.{exit_status};
-ghost use Rattle.hl7_engine.specs.Ending.{status_of};
+ghost use Rattle.engine_report.specs.Ending.{status_of};
 
-mod command_line;
 mod commands;
-mod fault;
 mod handle;
 
-use command_line::ask;
 use commands::obey;
-use fault::Fault;
+use engine_report::Fault;
+use engine_words::ask;
 use handle::Handle;
 use std::env;
 use std::io::ErrorKind;

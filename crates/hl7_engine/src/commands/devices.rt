@@ -1,13 +1,13 @@
 //! The doors of the channels and the links of the destinations, over TCP.
 
-ghost use Rattle.std.specs.Prelude.{◌≡◌, ◌++◌, ◌⊎◌, ◌∷◌, [], Some, IfErr, IfOk, OnOk, length, map, vec_len};
-ghost use Rattle.hl7_engine.specs.Findings.{NamesChannel, failed_channels, listening};
+ghost use Rattle.std.specs.Prelude.{◌≡◌, ◌⊎◌, Some, IfErr, IfOk, length, map, vec_len};
+ghost use Rattle.engine_report.specs.Findings.{NamesChannel, failed_channels, listening};
 
-use crate::fault::Fault;
 use delivery_worker::TcpLink;
+use engine_report::{Fault, add_listen_fault};
 use engine_workers::{Door, TcpDoor};
 use log::Log;
-use plan_text::{Channel, Plan};
+use plan_text::Plan;
 use std::alloc::{AllocError, Global};
 use std::net::{Net, TcpListener, TcpStream};
 
@@ -69,21 +69,6 @@ pub fn tell_doors<H: Net<Listener = TcpListener, Stream = TcpStream> + Log>(
     }
 }
 
-/// Adds a fault where the door of a channel failed.
-fn add_fault<'f, D: Door>(
-    alloc: Global,
-    faults: &mut Vec<Fault<'f>>,
-    channel: &Channel,
-    door: &D,
-) -> Result<(), AllocError>
-    ensures { OnOk result (map listening faults.new.items ≡ map listening faults.old.items ++ map Some (failed_channels (channel.now ∷ []) (D.fault_count door.now ∷ []))) }
-{
-    if door.faults() > 0 {
-        faults.push(Fault::Listen(channel.name().to_string(alloc)?))?;
-    }
-    Ok(())
-}
-
 /// A fault for each channel whose door failed, in the order of the plan.
 pub fn listen_faults<'f, D: Door>(
     alloc: Global,
@@ -97,7 +82,7 @@ pub fn listen_faults<'f, D: Door>(
         let (Some(channel), Some(door)) = (plan.channel(place), doors.get(place as usize)) else {
             break;
         };
-        add_fault(alloc, &mut faults, channel, door)?;
+        add_listen_fault(alloc, &mut faults, channel, door.faults())?;
     }
     Ok(faults)
 }

@@ -1,21 +1,19 @@
 //! `run`: connections of all channels, and deliveries to all destinations, over one shared book.
 
-ghost use Rattle.std.specs.Prelude.{◌≡◌, ◌+◌, ◌*◌, ◌++◌, ◌≤◌, ◌⊎◌, Err, IfOk, IfSome, Ok, OnOk, length, string_bytes, if◌then◌else◌, nat_lt};
+ghost use Rattle.std.specs.Prelude.{◌≡◌, ◌+◌, ◌≤◌, ◌⊎◌, Err, IfOk, IfSome, Ok, length, string_bytes};
 ghost use Rattle.std.specs.Option.{option_copied};
 ghost use Rattle.event_log.specs.History.{next_place, plan_in_force};
-ghost use Rattle.book_core.specs.Counting.{counted};
-ghost use Rattle.hl7_engine.specs.Findings.{Concludes, audit_faults, last_told};
-ghost use Rattle.hl7_engine.specs.Lines.{lines_of_closed};
+ghost use Rattle.event_log.specs.Counting.{counted};
+ghost use Rattle.engine_report.specs.Findings.{Concludes, last_told};
+ghost use Rattle.engine_report.specs.Lines.{lines_of_closed};
 
 use crate::commands::devices::{listen_faults, make_links, open_doors, tell_doors};
-use crate::commands::findings::find;
-use crate::commands::statistics::statistics_text;
-use crate::commands::{EngineBook, EngineRows, hasher, read_plan};
-use crate::fault::{Fault, Finding};
+use crate::commands::{EngineBook, EngineRows, read_plan};
 use crate::handle::Handle;
 use book_core::EVENTS_MAX;
 use book_lock::{Closed, Opening, Shared};
 use conn_worker::{Clock, Running, ServeReport};
+use engine_report::{Fault, add_finding, connections_of, find, hasher, statistics_text};
 use engine_workers::{Staff, TcpDoor, Worked, run_workers};
 use log::Log;
 use plan_text::Plan;
@@ -27,9 +25,6 @@ use std::sync::{Arc, Wait};
 use std::thread::Threads;
 use std::time;
 
-/// The most connections that the engine can number.
-const CONNECTIONS_MAX: u32 = 9_999;
-
 /// How the work ended: the book, unless shares of it are missing, what serving each connection came to, and a fault for
 /// each channel whose door failed.
 #[derive(Drop)]
@@ -37,20 +32,6 @@ struct Ended<'f> {
     closed: Option<Closed<EngineRows>>,
     served: Vec<ServeReport>,
     failed: Vec<Fault<'f>>,
-}
-
-/// How many connections come in all, where each channel of the plan takes `accept`.
-fn connections_of<'f>(plan: &Plan, accept: u32) -> Result<u32, Fault<'f>>
-    requires { accept ≤ 9_999 }
-    ensures { result ≡ (if nat_lt 9_999 (accept * length plan.now.channels) then Err Fault.Limit else Ok (accept * length plan.now.channels)) }
-{
-    plan.rules();
-    let connections = accept * plan.channels();
-    if connections > CONNECTIONS_MAX {
-        Err(Fault::Limit)
-    } else {
-        Ok(connections)
-    }
 }
 
 /// Shares the book, runs all workers over it, and closes it.
@@ -167,16 +148,6 @@ fn print_text<'f>(rt: &HostRuntime, text: &str) -> Result<(), Fault<'f>>
     ensures { (result ≡ Ok tt) ⊎ (result ≡ Err Fault.Write) }
 {
     print!(rt; "{text}").map_err(|_| Fault::Write)
-}
-
-/// Adds what was found, if anything was, to the faults of the doors.
-fn add_finding(faults: &mut Vec<Fault<'_>>, found: Option<Finding>) -> Result<(), AllocError>
-    ensures { OnOk result (faults.new.items ≡ faults.old.items ++ audit_faults found) }
-{
-    if let Some(found) = found {
-        faults.push(Fault::Audit(found))?;
-    }
-    Ok(())
 }
 
 /// Tells what came of the run: the statistics, then each fault. The last one is given.

@@ -5,7 +5,7 @@ use Rattle.std.specs.Option.{option_copied}
 use Rattle.std.proofs.Math.ListN.{length-map}
 use Rattle.std.proofs.lemmas.Option.{slice_get-map, slice_get_past, slice_get_read}
 use Rattle.plan_text.specs.Entries.{ChannelEntry}
-use Rattle.hl7_engine.specs.Findings.{failed_channel}
+use Rattle.engine_report.specs.Findings.{failed_channel}
 use Rattle.hl7_engine.proofs.Beside.{filtered-more, length_from_none, zip-past_first, zip-past_second}
 use Rattle.hl7_engine.proofs.commands.devices.listen_faults.Goals.{else-loop-place-test, then-loop-place-test+in_default, then-loop-place-test+in_default-2}
 use Rattle.hl7_engine.proofs.commands.devices.listen_faults.Goals as goal
@@ -20,7 +20,7 @@ loop-place-preserved g c =
     (sym c.channel.ensures ∙ ap option_copied c.in-Some-Some.is-0)
     (slice_get-map count doors place ∙ ap (option_map count) (slice_get_read doors (length doors) place c.in-Some-Some.door.now refl found.3.0 (found.3.1 c.in-Some-Some.door.now)))
     c.loop-place.invariant
-    (c.in_ok-add_fault.ensures)
+    (rw c.faults.ensures at c.in_ok-add_listen_fault.ensures.added)
 
 pub returns : goal.returns
 returns g c =

@@ -2,9 +2,9 @@ use Rattle.std.proofs.Common.{rules, ◌≡◌, ◌∙◌, Some, sym, ap, subst}
 use Rattle.std.specs.Prelude.{IfOk, Option, string_bytes}
 use Rattle.std.specs.Option.{option_copied}
 use Rattle.book_lock.specs.Rises.{Held}
-use Rattle.book_core.specs.Counting.{counted}
+use Rattle.event_log.specs.Counting.{counted}
 use Rattle.stat_count.specs.Statistics.{Statistics}
-use Rattle.hl7_engine.specs.Lines.{lines_of_closed, statistics_lines}
+use Rattle.engine_report.specs.Lines.{lines_of_closed, statistics_lines}
 use Rattle.hl7_engine.proofs.commands.run.statistics_of.Goals as goal
 
 pub returns-in-Some : goal.returns-in-Some

@@ -1,6 +1,6 @@
 use Rattle.std.proofs.Common.{◌≡◌, List, [], ◌∷◌, ◌++◌, Result, Err, refl}
-use Rattle.hl7_engine.specs.declared.fault.Fault.{Fault}
-use Rattle.hl7_engine.specs.Findings.{last_told}
+use Rattle.engine_report.specs.declared.fault.Fault.{Fault}
+use Rattle.engine_report.specs.Findings.{last_told}
 use Rattle.hl7_engine.proofs.commands.run.tell_all.Goals as goal
 
 -- what was told last is the last fault

@@ -1,5 +1,5 @@
 use Rattle.std.proofs.Common.{◌≡◌}
-use Rattle.hl7_engine.specs.Findings.{last_told}
+use Rattle.engine_report.specs.Findings.{last_told}
 use Rattle.hl7_engine.proofs.commands.run.tell_all.Given as goal
 
 abbrev pub invariant-loop-fault : goal.invariant-loop-fault

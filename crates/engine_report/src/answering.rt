@@ -1,0 +1,69 @@
+//! One connection, answered over a book of one's own.
+
+ghost use Rattle.std.specs.Prelude.{◌≡◌, ◌↔◌, IsOk, IfErr, false};
+ghost use Rattle.conn_core.specs.Booking.{Books};
+ghost use Rattle.conn_worker.specs.Faults.{Rose};
+ghost use Rattle.conn_worker.specs.Serving.{Serves};
+ghost use Rattle.engine_report.specs.Ending.{fault_at};
+
+use crate::fault::Fault;
+use book_core::{Book, Letter};
+use conn_core::Line;
+use conn_worker::{Clock, Counted, ServeEnd, ServeReport, TURNS_MAX, serve_within};
+use dest_queue::Addressed;
+use row_store::RowStore;
+use std::alloc::Global;
+use std::io::{Read, Write};
+
+/// The connection that is served.
+const CONNECTION: u32 = 0;
+
+/// The channel that it is served for, by its place in the plan.
+const CHANNEL: u32 = 0;
+
+/// Answers a stream as connection 0 of the plan's first channel: each message is booked and acknowledged as its header
+/// asks (HL7 v2.5.1, 2.9.2 and 2.9.3). The replies to a piece are written and flushed before the next read waits.
+///
+/// It ends at the reader's end, at a fault of the reader or the writer, for want of memory, or after [`TURNS_MAX`] reads
+/// or events. The moments of the replies are the clock's.
+pub fn answer_stream<S: RowStore<Addressed<Letter>>, R: Read, W: Write, C: Clock>(
+    alloc: Global,
+    book: &mut Book<S>,
+    reader: &mut Counted<R>,
+    writer: &mut Counted<W>,
+    clock: &mut C,
+) -> ServeReport
+    // The messages read, what was told of them, and what was written.
+    ensures served { Serves CONNECTION CHANNEL (R.remaining reader.old.inner) (R.remaining reader.new.inner) (W.contents writer.old.inner) (W.contents writer.new.inner) result }
+
+    // The receipts are the book's new entries.
+    ensures booked { Books book.old book.new result.receipts.items }
+
+    // A fault is told where the device failed.
+    ensures read_fault { result.end ≡ ServeEnd.ReadFault → Rose reader.old.faults reader.new.faults }
+    ensures write_fault { result.end ≡ ServeEnd.WriteFault → Rose writer.old.faults writer.new.faults }
+
+    // At the reader's end all that was written is flushed.
+    ensures flushed { result.end ≡ ServeEnd.End → writer.old.unflushed ≡ false → writer.new.unflushed ≡ false }
+{
+    book.plan().rules();
+    let line = Line {
+        alloc,
+        conn: CONNECTION,
+        channel: CHANNEL,
+    };
+    serve_within(&line, book, reader, writer, clock, TURNS_MAX)
+}
+
+/// What the end of a connection comes to: success at the reader's end, and else the fault that is told of it.
+pub fn outcome<'a>(end: ServeEnd) -> Result<(), Fault<'a>>
+    ensures success { IsOk result ↔ end ≡ ServeEnd.End }
+    ensures fault { IfErr result (λ fault. fault ≡ fault_at end) }
+{
+    match end {
+        ServeEnd::End => Ok(()),
+        ServeEnd::ReadFault | ServeEnd::TurnBound => Err(Fault::Read),
+        ServeEnd::WriteFault => Err(Fault::Write),
+        ServeEnd::NoMemory => Err(Fault::Memory),
+    }
+}

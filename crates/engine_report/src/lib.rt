@@ -1,0 +1,21 @@
+//! What the program answers on a connection of its own, and what it tells at its end: its faults with their exit statuses,
+//! the statistics of a book, the size of a plan, and what is wrong with the receipts of the connections.
+#![tactic(auto)]
+
+mod answering;
+mod fault;
+mod findings;
+mod hashing;
+mod limits;
+mod listening;
+mod plan_size;
+mod statistics;
+
+pub use answering::{answer_stream, outcome};
+pub use fault::{Fault, Finding};
+pub use findings::{add_finding, find};
+pub use hashing::hasher;
+pub use limits::connections_of;
+pub use listening::add_listen_fault;
+pub use plan_size::PlanSize;
+pub use statistics::statistics_text;

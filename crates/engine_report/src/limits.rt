@@ -1,0 +1,23 @@
+//! How much a plan may ask of the engine.
+
+ghost use Rattle.std.specs.Prelude.{◌≡◌, ◌*◌, Err, Ok, length, if◌then◌else◌, nat_lt};
+
+use crate::fault::Fault;
+use plan_text::Plan;
+
+/// The most connections that the engine can number.
+const CONNECTIONS_MAX: u32 = 9_999;
+
+/// How many connections come in all, where each channel of the plan takes `accept`.
+///
+/// # Errors
+///
+/// `Limit` where they are more than 9,999.
+pub fn connections_of<'f>(plan: &Plan, accept: u32) -> Result<u32, Fault<'f>>
+    ensures { result ≡ (if nat_lt 9_999 (accept * length plan.now.channels) then Err Fault.Limit else Ok (accept * length plan.now.channels)) }
+{
+    match accept.checked_mul(plan.channels()) {
+        Some(connections) if connections <= CONNECTIONS_MAX => Ok(connections),
+        _ => Err(Fault::Limit),
+    }
+}

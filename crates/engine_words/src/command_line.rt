@@ -1,0 +1,280 @@
+//! The words of the command line.
+
+ghost use Rattle.std.specs.Prelude.{◌≡◌, ◌≤◌, ℕ, None, Some, Ok, IfOk, false, length, map, option_map, min, pos, string_bytes};
+ghost use Rattle.clap.specs.declared.builder.command.Command.TheViews.{out-Command as fields_of};
+ghost use Rattle.clap.specs.declared.builder.value_parser.ValueParser.TheVariants as parser;
+ghost use Rattle.clap.specs.Words.{FailsBy, app_of, fault_of, found_of, rows_of, rule_of};
+ghost use Rattle.engine_words.specs.Request.{without_words, IsWithinLimits};
+ghost use Rattle.engine_words.specs.Words.{accept_rule, answer_app, check_app, events_rule, now_rule, program, run_app, Asks, AsksAnswer, AsksRun, IsAccept, IsBound};
+
+use clap::builder::ValueParser;
+use clap::{Arg, ArgMatches, Command, Error, value_parser};
+use hl7_head::{LAST_MOMENT, Moment};
+use std::alloc::{AllocError, Global};
+
+/// The moment of every acknowledgment where the program is called without words: 14 November 2023, 22:13:20 UTC.
+const MOMENT_WITHOUT_WORDS: u64 = 1_700_000_000;
+
+/// The most connections that one channel takes.
+const ACCEPT_MAX: u32 = 9_999;
+
+/// The most entries that a book may hold.
+const EVENTS_MAX: u32 = 1_000_000;
+
+/// The version that `--version` tells.
+const VERSION: &str = "0.1.0";
+
+/// What the help of the program tells beside its commands.
+const STATUSES: &str = "\
+Without words: the same as 'answer --now 1700000000'.
+
+Each fault is a line on standard error. The exit status is that of the last one:
+  0  done
+  1  plan: NAME at PATH
+  2  words that aren't taken; limit: connections
+  3  file: PLAN; device: read, write, random or listen NAME; memory
+  4  audit: NAME";
+
+/// What the help of `run` tells beside its words.
+const RUNNING: &str = "\
+N times the channels of the plan is at most 9999. Connection K of channel C, both counted from 0, has number C * N + K.
+
+Standard error has 'listening on ADDRESS for channel NAME' once a channel listens, and a line for each fault of a
+connection or a destination. A message that can't be delivered is tried again, by the plan's attempts and interval.
+
+Once the connections have ended and each message is delivered or failed, standard output has, in the plan's order:
+  channel NAME received A filtered B accepted C refused D repeats E
+  destination NAME waiting A inflight B delivered C failed D attempts E
+
+Then standard error has 'device: listen NAME' of each channel that could take no further connection.
+
+Example: hl7_engine run plan.toml --accept 2";
+
+/// What the program is asked to do.
+#[derive(Clone, Copy, Debug, PartialEq, Eq)]
+pub enum Request<'a> {
+    /// Acknowledge what comes on standard input: by the plan in a file, or the built-in one; at one moment, or by the
+    /// system's clock; in a book of at most so many entries.
+    Answer {
+        plan: Option<&'a str>,
+        now: Option<Moment>,
+        events: u32,
+    },
+    /// Listen by the plan in a file, take so many connections on each channel, and deliver, in a book of at most so many
+    /// entries.
+    Run {
+        plan: &'a str,
+        accept: u32,
+        events: u32,
+    },
+    /// Read the plan in a file, and tell its size or its first fault.
+    Check {
+        plan: &'a str,
+    },
+}
+
+/// The numbers that `--now` takes.
+fn seconds<'a>() -> ValueParser<'a>
+    ensures { result ≡ parser.Unsigned 0 253_370_764_799 }
+{
+    value_parser!(u64).range(0..=LAST_MOMENT as i64)
+}
+
+fn now_option<'a>(alloc: Global) -> Arg<'a>
+    ensures rule { rule_of result ≡ now_rule }
+    ensures local { result.global ≡ false }
+{
+    Arg::new(alloc, "now")
+        .long("now")
+        .value_name("SECS")
+        .value_parser(seconds())
+        .help("The moment of every acknowledgment, in seconds since 1970; the clock where left out")
+}
+
+/// The numbers that `--events` takes.
+fn entries<'a>() -> ValueParser<'a>
+    ensures { result ≡ parser.Signed (pos 1) (pos 1_000_000) }
+{
+    value_parser!(u32).range(1..=EVENTS_MAX as i64)
+}
+
+fn events_option<'a>(alloc: Global) -> Arg<'a>
+    ensures rule { rule_of result ≡ events_rule }
+    ensures local { result.global ≡ false }
+{
+    Arg::new(alloc, "events")
+        .long("events")
+        .value_name("N")
+        .value_parser(entries())
+        .help("The most entries that the book may hold [default: 1000000]")
+}
+
+fn answer_command<'a>(alloc: Global) -> Result<Command<'a>, AllocError>
+    ensures app { IfOk result (λ c. app_of c ≡ answer_app) }
+    ensures local { IfOk result (λ c. (fields_of c).has_globals ≡ false) }
+{
+    let plan = Arg::new(alloc, "PLAN").help("A plan in TOML; the built-in plan where left out");
+    Command::new(alloc, "answer")
+        .about(
+            "Acknowledges the blocks on standard input, to standard output, as connection 0 of the plan's first channel",
+        )
+        .arg(plan)?
+        .arg(now_option(alloc))?
+        .arg(events_option(alloc))
+}
+
+fn check_command<'a>(alloc: Global) -> Result<Command<'a>, AllocError>
+    ensures app { IfOk result (λ c. app_of c ≡ check_app) }
+    ensures local { IfOk result (λ c. (fields_of c).has_globals ≡ false) }
+{
+    let plan = Arg::new(alloc, "PLAN")
+        .required(true)
+        .help("A plan in TOML");
+    Command::new(alloc, "check")
+        .about("Reads a plan and tells its size, or its first fault and where it stands")
+        .arg(plan)
+}
+
+/// The numbers that `--accept` takes.
+fn connections<'a>() -> ValueParser<'a>
+    ensures { result ≡ parser.Signed (pos 1) (pos 9_999) }
+{
+    value_parser!(u32).range(1..=ACCEPT_MAX as i64)
+}
+
+fn accept_option<'a>(alloc: Global) -> Arg<'a>
+    ensures rule { rule_of result ≡ accept_rule }
+    ensures local { result.global ≡ false }
+{
+    Arg::new(alloc, "accept")
+        .long("accept")
+        .value_name("N")
+        .required(true)
+        .value_parser(connections())
+        .help("How many connections each channel takes before it stops listening, 1 to 9999")
+}
+
+fn run_command<'a>(alloc: Global) -> Result<Command<'a>, AllocError>
+    ensures app { IfOk result (λ c. app_of c ≡ run_app) }
+    ensures local { IfOk result (λ c. (fields_of c).has_globals ≡ false) }
+{
+    let plan = Arg::new(alloc, "PLAN")
+        .required(true)
+        .help("A plan in TOML");
+    Command::new(alloc, "run")
+        .about(
+            "Listens for each channel of a plan, acknowledges what comes, and delivers it to the destinations",
+        )
+        .after_help(RUNNING)
+        .arg(plan)?
+        .arg(accept_option(alloc))?
+        .arg(events_option(alloc))
+}
+
+fn program_command<'a>(alloc: Global) -> Result<Command<'a>, AllocError>
+    ensures { IfOk result (λ c. app_of c ≡ program) }
+{
+    Command::new(alloc, "hl7_engine")
+        .about(
+            "An HL7 v2.5.1 interface engine: takes messages over MLLP, acknowledges them, and delivers them by a plan",
+        )
+        .after_help(STATUSES)
+        .version(VERSION)
+        .subcommand(answer_command(alloc)?)?
+        .subcommand(check_command(alloc)?)?
+        .subcommand(run_command(alloc)?)
+}
+
+/// The moment that many seconds after the year 1970 began, or the last one.
+fn nearest(seconds: u64) -> Moment
+    ensures { result ≡ min seconds 253_370_764_799 }
+{
+    Moment::of_unix(seconds.min(LAST_MOMENT) as i64).unwrap()
+}
+
+/// What is asked where there are no words.
+fn without_words<'a>() -> Request<'a>
+    ensures { result ≡ without_words }
+{
+    Request::Answer {
+        plan: None,
+        now: Some(nearest(MOMENT_WITHOUT_WORDS)),
+        events: EVENTS_MAX,
+    }
+}
+
+/// The most entries that the book may hold, by what is given of them.
+fn events_of(given: Option<u32>) -> u32
+    ensures written { IsBound given result }
+    ensures least { 1 ≤ result }
+    ensures most { result ≤ 1_000_000 }
+{
+    given.unwrap_or(EVENTS_MAX).clamp(1, EVENTS_MAX)
+}
+
+/// The moment that is given in seconds, if one is.
+fn moment_of_seconds(given: Option<u64>) -> Option<Moment>
+    ensures { result ≡ option_map (λ s. min s 253_370_764_799) given }
+{
+    match given {
+        Some(seconds) => Some(nearest(seconds)),
+        None => None,
+    }
+}
+
+/// What the words of `answer` ask.
+fn answer_request<'a>(matches: &ArgMatches<'a>) -> Request<'a>
+    ensures limits { IsWithinLimits result }
+    ensures written { AsksAnswer result (rows_of (found_of matches.now)) }
+{
+    Request::Answer {
+        plan: matches.get_str("PLAN"),
+        now: moment_of_seconds(matches.get_one("now")),
+        events: events_of(matches.get_one("events")),
+    }
+}
+
+/// How many connections each channel takes, by what is given of them.
+fn accept_of(given: Option<u32>) -> u32
+    ensures written { IsAccept given result }
+    ensures least { 1 ≤ result }
+    ensures most { result ≤ 9_999 }
+{
+    given.unwrap_or(1).clamp(1, ACCEPT_MAX)
+}
+
+/// What the words of `run` ask.
+fn run_request<'a>(matches: &ArgMatches<'a>) -> Request<'a>
+    ensures limits { IsWithinLimits result }
+    ensures written { AsksRun result (rows_of (found_of matches.now)) }
+{
+    Request::Run {
+        plan: matches.get_str("PLAN").unwrap_or(""),
+        accept: accept_of(matches.get_one("accept")),
+        events: events_of(matches.get_one("events")),
+    }
+}
+
+/// What the words ask, of which the first is the program's name.
+///
+/// The error has the text to be printed: the help, or what is wrong and what the program takes. Where memory isn't
+/// refused, it comes exactly for the words that have a fault, and is of that fault's kind.
+pub fn ask<'a>(alloc: Global, words: &'a [String]) -> Result<Request<'a>, Error>
+    ensures stored_run { length words.now ≤ 1 → result ≡ Ok without_words }
+    ensures limits { IfOk result IsWithinLimits }
+    ensures written { IfOk result (λ request. Asks request (map string_bytes words.entry.now)) }
+    ensures refused { FailsBy (fault_of program (map string_bytes words.entry.now)) result }
+{
+    if words.len() <= 1 {
+        return Ok(without_words());
+    }
+    let matches = program_command(alloc)?.try_get_matches_from(words)?;
+    match matches.subcommand() {
+        Some(("check", given)) => Ok(Request::Check {
+            plan: given.get_str("PLAN").unwrap_or(""),
+        }),
+        Some(("run", given)) => Ok(run_request(given)),
+        Some((_, given)) => Ok(answer_request(given)),
+        None => Ok(without_words()),
+    }
+}

@@ -1,8 +1,0 @@
-use Rattle.std.proofs.Common.{◌≡◌, ◌++◌, string_bytes, take}
-use Rattle.stat_count.specs.Statistics.{destination_at}
-use Rattle.hl7_engine.specs.Lines.{destination_line, lines_from}
-use Rattle.hl7_engine.proofs.commands.statistics.add_destinations.Given as goal
-
-abbrev pub invariant-loop-place : goal.invariant-loop-place
-invariant-loop-place l =
-    string_bytes l.text ≡ string_bytes l.initial.text ++ lines_from (λ place c. destination_line c.name (destination_at place l.counts)) 0 (take l.place l.plan.destinations)
