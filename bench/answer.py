@@ -9,6 +9,8 @@ bound is printed with it. Where python3-hl7 is installed, the same blocks are pa
 acknowledged with that library too, in this process, and the ratio is printed: neither side counts the
 start of its process. Large messages (about 1 GB of them, in the folder for temporary files) show that
 a message's bytes are held once: each further byte that comes is to cost about one byte of memory.
+Where valgrind is installed, the instructions and the requests for memory of a message are counted: other
+work on the machine doesn't change these.
 
 With --against the program and another build of it answer the same messages in turn: what they write
 has to be the same, and the time no longer, but for what two runs of one program differ by.
@@ -17,6 +19,8 @@ The exit status is 0 where every bound is met, else 1.
 """
 import argparse
 import os
+import re
+import shutil
 import subprocess
 import sys
 import tempfile
@@ -25,6 +29,7 @@ import time
 HERE = os.path.dirname(os.path.abspath(__file__))
 PROGRAM = os.path.join(HERE, '..', 'crates', 'hl7_engine', 'out', 'hl7_engine')
 FEW, MANY, ROUTED = 2_000, 200_000, 5_000
+COUNTED = (1_000, 3_000)  # messages of the two runs under valgrind, whose difference is told
 ROW = 200  # bytes that a message takes beside its text: 72 of its row for the links, its slots, its key and its entry
 LARGE, LARGE_SEGMENTS = (2_000, 20_000), 660
 HELD_ONCE = 1.5
@@ -256,6 +261,32 @@ def measure_plan(bench):
                f'({os.path.getsize(bench.plan) // 1024} KiB): {took:.2f} s (under 1)', took < 1)
 
 
+def under_valgrind(bench, tool, told):
+    """The number that a tool of valgrind tells of one run; None where there is no valgrind."""
+    if shutil.which('valgrind') is None:
+        return None
+    with open(bench.source, 'rb') as fed:
+        run = subprocess.run(['valgrind', f'--tool={tool}', *(['--callgrind-out-file=/dev/null'] if tool == 'callgrind' else []),
+                              bench.program, 'answer', bench.plan, '--now', '1700000000'],
+                             stdin=fed, stdout=subprocess.DEVNULL, stderr=subprocess.PIPE, text=True, check=True)
+    return int(re.search(told, run.stderr).group(1).replace(',', ''))
+
+
+def measure_work(bench):
+    """Instructions and requests for memory of a message, as valgrind counts them."""
+    for tool, told, what in (('callgrind', r'Collected : ([0-9]+)', 'instructions'),
+                             ('memcheck', r'total heap usage: ([0-9,]+) allocs', 'requests for memory')):
+        counted = []
+        for count in COUNTED:
+            size = bench.give_messages(count)
+            counted.append(under_valgrind(bench, tool, told))
+        if None in counted:
+            bench.tell(f'valgrind is not installed: no {what} a message')
+            continue
+        few, many = COUNTED
+        bench.tell(f'{(counted[1] - counted[0]) / (many - few):,.1f} {what} a message of {size // many} bytes')
+
+
 def compare_library(bench, seconds):
     """The same messages by python-hl7; neither side counts the start of its process."""
     library = library_seconds([admission(n) for n in range(FEW)], 3)
@@ -290,6 +321,7 @@ def measure(bench):
     start, _ = best(bench.program, os.devnull, bench.sink, 15, 'answer', bench.plan, '--now', '1700000000')
     bench.tell(f'start of the program, with nothing to answer: {1e3 * start:.2f} milliseconds')
     seconds, good = measure_messages(bench)
+    measure_work(bench)
     measure_held_once(bench)
     measure_endless(bench, good)
     measure_routes(bench)

@@ -31,19 +31,22 @@ CLAIMS = (
     ('Delivering', 'the clause `attempts` of `deliver`: `Delivers`, on top of framing and of what a message is',
      ['delivery_worker.Delivering.Delivers']),
     ('A shared book', 'the clauses of `close` and `audit`: what adds up, which receipts are due, which fault is first',
-     ['book_lock.Rises.AddsUp', 'book_lock.Auditing.receipts_due', 'book_lock.Auditing.IsFirstFault']),
+     ['book_lock.Rises.AddsUp', 'book_lock.Auditing.receipts_due', 'book_lock.Auditing.unfolded', 'book_lock.Auditing.IsFirstFault']),
     ('The end of a run', 'the clauses of `conclude`, `find`, `listen_faults` and `statistics_of`: `Concludes`, `IsFinding`, '
      '`failed_channels` and `lines_of_closed`, on top of a shared book',
-     ['hl7_engine.Findings.Concludes', 'hl7_engine.Findings.IsFinding', 'hl7_engine.Findings.failed_channels',
-      'hl7_engine.Lines.lines_of_closed']),
+     ['engine_report.Findings.Concludes', 'engine_report.Findings.IsFinding', 'engine_report.Findings.failed_channels',
+      'engine_report.Lines.lines_of_closed']),
     ('Every order of steps', 'the clauses of `World::run`, `World::promise` and `steps_of`: `Runs`, `KeepsItsWord` and '
      '`IsRunOf`, on top of replies and of what a history is',
      ['engine_model.Steps.Runs', 'engine_model.Promise.KeepsItsWord', 'engine_model.Converse.IsRunOf']),
+    ('What a pruned history still says', 'the law `folding_rules`: `prune_answer`, `pruned`, `IsAlike` and `AllAnswerAlike`, on top of what a '
+     'history is; event_log PruningRows has worked examples',
+     ['event_log.Folding.prune_answer', 'event_log.Folding.pruned', 'event_log.Alike.*']),
     ('Reading a plan', 'the clause `text` of `Plan::read`: `plan_in`. What a TOML document says is the definition of the '
      "kit's crate toml",
      ['plan_text.Document.plan_in']),
     ('The command line', "`Asks` and how the program ends, over the definitions of the kit's crate clap",
-     ['hl7_engine.Words.Asks', 'hl7_engine.Request.*', 'hl7_engine.Ending.*']),
+     ['engine_words.Words.Asks', 'engine_words.Request.*', 'engine_report.Ending.*']),
 )
 HEAD = re.compile(r'(?:infix[lr]? \d+ )?(?:unfoldable |abbrev )*(?:pub )?(?:(record|data) )?([\w\-]+|◌\S+◌)(?=[\s:])')
 WORD = re.compile(r'[A-Za-z_][\w\-]*(?:\.[A-Za-z_][\w]*)?')

@@ -6,7 +6,11 @@ Usage: tests/command_line.py [PROGRAM]
 PROGRAM is the built program, crates/hl7_engine/out/hl7_engine where left out ('rt run' in crates/hl7_engine builds it).
 The exit status is 0 where every call did as it should, else 1; each one that didn't is told on a line.
 """
+import ctypes
+import errno
 import os
+import platform
+import struct
 import subprocess
 import sys
 import tempfile
@@ -24,6 +28,43 @@ def accepted(moment):
     """The acknowledgment of the admission, with this MSH-7."""
     return (f'\x0bMSH|^~\\&|ENG|HUB|REG|HOSP|{moment}||ACK^A01^ACK|0.1|P|2.5.1|||NE|NE\r'
             'MSA|CA|M1\r\x1c\r').encode()
+
+
+def refuse_random_bytes():
+    """From here on, and in the program that is started next, the kernel refuses getrandom, by a filter of system calls."""
+    load, equal, end = 0x20, 0x15, 0x06
+    instructions = [(load, 0, 0, 4), (equal, 0, 3, 0xC000003E),  # the architecture is x86-64
+                    (load, 0, 0, 0), (equal, 0, 1, 318),  # the call is getrandom
+                    (end, 0, 0, 0x00050000 | errno.EPERM), (end, 0, 0, 0x7FFF0000)]
+    code = b''.join(struct.pack('=HBBI', *one) for one in instructions)
+    held = ctypes.create_string_buffer(code, len(code))
+    filter_ = ctypes.create_string_buffer(struct.pack('HxxxxxxP', len(instructions), ctypes.addressof(held)))
+    prctl = ctypes.CDLL(None, use_errno=True).prctl
+    no_new_privileges, seccomp, by_filter = 38, 22, 2
+    if prctl(no_new_privileges, 1, 0, 0, 0) or prctl(seccomp, by_filter, ctypes.c_void_p(ctypes.addressof(filter_)), 0, 0):
+        raise OSError(ctypes.get_errno(), 'prctl')
+
+
+def without_random_bytes(program, plan):
+    """What is wrong, a line each, where the system gives no random bytes: the book's keys want some, checking a plan wants none."""
+    if platform.machine() != 'x86_64':
+        print('no random bytes: not tried, since the filter is for x86-64')
+        return []
+    lines = []
+    for words, wanted in [(['answer'], (3, b'', b'device: random\n')), (['answer', plan], (3, b'', b'device: random\n')),
+                          (['run', plan, '--accept', '1'], (3, b'', b'device: random\n')),
+                          (['check', plan], (0, b'plan ok: 1 channels, 1 destinations\n', b''))]:
+        try:
+            ran = subprocess.run([program, *words], input=ADMISSION, capture_output=True, timeout=60, preexec_fn=refuse_random_bytes)
+        except subprocess.SubprocessError as error:
+            if not isinstance(error, subprocess.TimeoutExpired):
+                print('no random bytes: not tried, since no filter of system calls can be set here')
+                return []
+            lines.append(f'{words} without random bytes: {error}')
+            continue
+        if (got := (ran.returncode, ran.stdout, ran.stderr)) != wanted:
+            lines.append(f'{words} without random bytes: {got}, not {wanted}')
+    return lines
 
 
 def called(program, words, given=b''):
@@ -110,7 +151,7 @@ def wrong(program, folder):
     os.close(unread)
     if (ran.returncode, ran.stdout, ran.stderr) != (3, b'', b'device: read\n'):
         lines.append(f'a folder as standard input: {ran}')
-    return lines
+    return lines + without_random_bytes(program, one)
 
 
 def main():

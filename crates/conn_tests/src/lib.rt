@@ -4,4 +4,6 @@
 #[cfg(test)]
 mod devices;
 #[cfg(test)]
+mod refused_serving;
+#[cfg(test)]
 mod serving;

@@ -6,4 +6,6 @@ mod delivering;
 #[cfg(test)]
 mod played;
 #[cfg(test)]
+mod refused_delivering;
+#[cfg(test)]
 mod tcp;

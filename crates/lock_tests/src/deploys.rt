@@ -2,7 +2,7 @@
 
 ghost use Rattle.std.specs.Prelude.{◌≡◌, ◌+◌, length};
 ghost use Rattle.event_log.specs.History.{next_place, plan_in_force};
-ghost use Rattle.book_core.specs.Counting.{counted};
+ghost use Rattle.event_log.specs.Counting.{counted};
 
 use crate::stage::{M1, Rows, plan, waiting};
 use book_core::{Book, DeployRefusal, EVENTS_MAX};

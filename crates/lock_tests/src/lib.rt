@@ -11,6 +11,8 @@ mod deploys;
 #[cfg(test)]
 mod refusals;
 #[cfg(test)]
+mod refused_calls;
+#[cfg(test)]
 mod stage;
 #[cfg(test)]
 mod threads;

@@ -2,7 +2,7 @@
 
 ghost use Rattle.std.specs.Prelude.{◌≡◌, ◌+◌, IsTrue, length};
 ghost use Rattle.event_log.specs.History.{next_place, plan_in_force};
-ghost use Rattle.book_core.specs.Counting.{counted};
+ghost use Rattle.event_log.specs.Counting.{counted};
 ghost use Rattle.judge_core.specs.Judging.{is_bookable};
 
 use crate::stage::{M1, M2, Rows, judged, plan, waiting};

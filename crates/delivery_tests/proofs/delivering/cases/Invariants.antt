@@ -1,5 +1,5 @@
 use Rattle.std.proofs.Common.{length}
-use Rattle.book_core.specs.Counting.{counted}
+use Rattle.event_log.specs.Counting.{counted}
 use Rattle.event_log.specs.History.{next_place, plan_in_force}
 use Rattle.delivery_tests.proofs.delivering.cases.Given as goal
 
