@@ -5,6 +5,9 @@ ghost use Rattle.std.specs.Prelude.{◌≡◌, ◌+◌, ◌<◌, ◌≤◌, ℕ,
 ghost use Rattle.std.specs.Str.{bytes_eq};
 ghost use Rattle.dup_index.specs.Known.{Known, place_of, from_place};
 
+mod key;
+
+use crate::key::{Key, Sought};
 use indexmap::IndexMap;
 use std::alloc::{AllocError, Global};
 use std::hash::RandomState;
@@ -13,7 +16,7 @@ use std::marker::Model;
 /// The known keys. They are hashed under a random seed, so that nobody can choose keys that collide.
 #[derive(Drop)]
 pub struct Keys {
-    places: IndexMap<Vec<u8>, usize, RandomState>,
+    places: IndexMap<Key, usize, RandomState>,
 }
 
 impl Model for Keys {
@@ -23,9 +26,9 @@ impl Model for Keys {
 
     ghost Value = { Index };
 
-    ghost view = { λ s. record { known = map (λ e. record { key = e.0.items; place = e.1 }) s.places.entries; room = spare s.places } };
+    ghost view = { λ s. record { known = map (λ e. record { key = e.0.bytes.items; place = e.1 }) s.places.entries; room = spare s.places } };
 
-    ghost invariant = { λ s. EachOnce (map (λ e. record { key = e.0.items; place = e.1 }) s.places.entries) };
+    ghost invariant = { λ s. EachOnce (map (λ e. record { key = e.0.bytes.items; place = e.1 }) s.places.entries) };
 }
 
 impl Keys {
@@ -42,7 +45,7 @@ impl Keys {
     pub fn find(&self, key: &[u8]) -> Option<usize>
         ensures { result ≡ place_of key.now self.now.known }
     {
-        self.places.get(key).copied()
+        self.places.get(Sought { bytes: key }).copied()
     }
 
     /// Makes room for that many more keys. The keys stay, also where memory is refused.
@@ -62,21 +65,22 @@ impl Keys {
         ensures known { self.new.known ≡ self.old.known ++ record { key = key.items; place = place } ∷ [] }
         ensures room { self.old.room ≤ self.new.room + 1 }
     {
-        let _first = self.places.insert(key, place).unwrap();
+        let _first = self.places.insert(Key { bytes: key }, place).unwrap();
     }
 
-    /// Forgets the keys whose place is before that one.
+    /// Forgets the keys whose place is before that one, and gives back the memory that those that stay don't need. Where it is
+    /// refused a smaller piece of memory, it keeps what it has.
     pub fn drop_before(&mut self, place: usize)
         ensures known { self.new.known ≡ from_place place self.old.known }
         ensures found { (key : List ℕ) → place_of key self.new.known
             ≡ option_and_then (λ added. if nat_le place added then Some added else None) (place_of key self.old.known) }
-        ensures room { self.old.room ≤ self.new.room }
     {
         self.places.retain(
-            |_key: &Vec<u8>, added: &mut usize| -> bool
+            |_key: &Key, added: &mut usize| -> bool
                 ensures { (result ≡ nat_le place added.old) × (added.new ≡ added.old) }
             { place <= *added },
         );
+        self.places.shrink_to_fit();
     }
 }
 

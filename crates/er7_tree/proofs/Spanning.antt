@@ -1,11 +1,13 @@
 -- Spans that follow one another.
-use Rattle.std.proofs.Common.{◌≡◌, ℕ, zero, suc, ◌-◌, ◌<◌, ◌≤◌, Bool, List, [], ◌∷◌, ◌++◌, length, get_or, take, drop, map, refl, ap, ◌∙◌, arith, inl, inr, length-append, length-drop}
+use Rattle.std.proofs.Common.{◌≡◌, ℕ, zero, suc, ◌+◌, ◌-◌, ◌<◌, ◌≤◌, Bool, List, [], ◌∷◌, ◌++◌, length, get_or, take, drop, map, refl, sym, ap, ◌∙◌, arith, append_assoc, add-one, drop-cons, inl, inr, length-append, length-drop}
 use Rattle.std.proofs.lemmas.Bool.{cases_Bool}
 use Rattle.std.proofs.lemmas.List.{drop-append-le, take-append-le, take_all}
 use Rattle.std.proofs.Math.Seq.{drop-append_seam}
-use Rattle.std.specs.List.{filter}
+use Rattle.std.proofs.lemmas.List.Folds.{drop_split}
+use Rattle.std.specs.List.{filter, flat_map}
 use Rattle.er7_tree.specs.declared.segments.Span.{Span}
 use Rattle.er7_tree.specs.Spans.{covered, IsBetween, InOrder}
+use Rattle.er7_tree.specs.Tree.{ended}
 
 -- each stands between the two places
 pub span_at : (from to : ℕ) (spans : List Span) (k : ℕ) (d : Span) → InOrder from to spans → k < length spans → IsBetween from to (get_or spans k d)
@@ -72,3 +74,20 @@ in_order_filter p from to (span ∷ spans) in_order =
       | inl stays ↦ rw stays (first, later)
       | inr goes ↦ rw goes (in_order_from from span.end to (filter p spans) (omega arith) later)
     ]
+
+-- a segment that a carriage return follows is printed as it stands, where the segments behind it are
+pub printed_from : (text : List ℕ) (spans : List Span) (i at : ℕ) (d : Span) → i < length spans → (get_or spans i d).start ≡ at → (get_or spans i d).end < length text
+    → get_or text (get_or spans i d).end 0 ≡ 13 → at ≤ (get_or spans i d).end
+    → flat_map ended (map (covered text) (drop (i + 1) spans)) ≡ drop ((get_or spans i d).end + 1) text
+    → flat_map ended (map (covered text) (drop i spans)) ≡ drop at text
+printed_from text spans i at d below starts within ends ordered rest =
+    let span = get_or spans i d in
+    let here : drop i spans ≡ span ∷ drop (i + 1) spans = rw add-one (drop-cons spans i d below) in
+    let behind = flat_map ended (map (covered text) (drop (i + 1) spans)) in
+    let last : drop span.end text ≡ 13 ∷ drop (span.end + 1) text = rw (add-one, ← ends) (drop-cons text span.end 0 within) in
+    ap (λ spans. flat_map ended (map (covered text) spans)) here
+    ∙ append_assoc (covered text span) (13 ∷ []) behind
+    ∙ ap (λ rest. covered text span ++ 13 ∷ rest) rest
+    ∙ ap (λ rest. covered text span ++ rest) (sym last)
+    ∙ sym (drop_split text span.start span.end (omega arith))
+    ∙ ap (λ n. drop n text) starts

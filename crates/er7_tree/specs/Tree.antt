@@ -53,7 +53,8 @@ abbrev pub is_named : Delims → List ℕ → Bool
 is_named d (a ∷ b ∷ c ∷ rest) = is_name (a ∷ b ∷ c ∷ []) && ends_by d.field rest
 is_named d _ = false
 
--- the segment has this name: names have three characters, and a segment of a message goes on with the field separator, so it begins with its name and no other
+-- the segment has this name: names have three characters, and a segment of a message goes on with the field separator, so it begins with its name
+-- and no other
 abbrev pub has_name : List ℕ → List ℕ → Bool
 has_name name segment = starts_with nat_eq segment name
 

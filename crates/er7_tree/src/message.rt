@@ -1,11 +1,12 @@
-//! A message is kept as one text and the spans of its segments in it, so that reading copies the text once and a piece is a
-//! part of that text. Nothing below a segment is kept: a piece is found when it is asked for.
+//! A message is kept as one text and the spans of its segments in it, so that reading copies the text at most once and a piece
+//! is a part of that text. Nothing below a segment is kept: a piece is found when it is asked for.
 
-ghost use Rattle.std.specs.Prelude.{◌≡◌, ◌<◌, ◌≤◌, ◌-◌, IfOk, IfSome, IfNone, None, OnOk, OnErr, Some, codes, filter, length, map, not, slice_get, slice_set, true, false};
+ghost use Rattle.std.specs.Prelude.{◌≡◌, ◌<◌, ◌≤◌, ◌-◌, IfOk, IfSome, IfNone, IsTrue, MatchResult, None, Ok, OnOk, OnErr, Some, codes, filter, length, map, not, slice_get, slice_set, true, false};
 ghost use Rattle.std.specs.List.{find, flat_map};
 ghost use Rattle.std.specs.Option.{option_copied};
 ghost use Rattle.er7_tree.specs.Path.{header_place, raw, segment_at, value};
-ghost use Rattle.er7_tree.specs.Spans.{covered, InOrder};
+ghost use Rattle.std.specs.Arc.{arc_value};
+ghost use Rattle.er7_tree.specs.Spans.{covered, spanned, InOrder};
 ghost use Rattle.er7_tree.specs.Tree.{Gives, IsMessage, IsOccurrence, ended, has_name, is_header, is_name, text_of, tree};
 
 use crate::delims::Delims;
@@ -17,6 +18,7 @@ use crate::segments::{CARRIAGE_RETURN, MSH, Span, field_place, is_header};
 use crate::text_walk::{read_header, read_spans};
 use std::alloc::{AllocError, Global};
 use std::marker::Model;
+use std::sync::Arc;
 
 /// A message (HL7 v2.5.1, 2.5): the delimiters that it declares, and its segments, of which the header is the first.
 ///
@@ -25,19 +27,20 @@ use std::marker::Model;
 #[derive(Debug, Drop)]
 pub struct Message {
     delims: Delims,
-    text: Vec<u8>,
+    text: Arc<Vec<u8>>,
     spans: Vec<Span>,
 }
 
 impl Model for Message {
+    ghost use Rattle.std.specs.Arc.{arc_value};
     ghost use Rattle.er7_tree.specs.Spans.{AreSpans, spanned};
     ghost use Rattle.er7_tree.specs.Tree.{Tree};
 
     ghost Value = { Tree };
 
-    ghost view = { λ m. spanned m.delims m.text.items m.spans.items };
+    ghost view = { λ m. spanned m.delims (arc_value m.text).items m.spans.items };
 
-    ghost invariant = { λ m. AreSpans m.delims m.text.items m.spans.items };
+    ghost invariant = { λ m. AreSpans m.delims (arc_value m.text).items m.spans.items };
 }
 
 /// The place of the `n`th segment of that name, counted from 1.
@@ -87,6 +90,34 @@ fn print_spans(alloc: Global, text: &[u8], spans: &[Span]) -> Result<Vec<u8>, Al
     Ok(printed)
 }
 
+/// Whether the spans lie in the text as segments are printed: one after another from its front on, each with a carriage
+/// return behind it, up to its end.
+fn are_printed(text: &[u8], spans: &[Span]) -> bool
+    requires { InOrder 0 (length text.now) spans.now }
+    ensures { IsTrue result → flat_map ended (map (covered text.now) spans.now) ≡ text.now }
+{
+    let mut at = 0;
+    for span in spans {
+        if span.start != at || span.end >= text.len() || text[span.end] != CARRIAGE_RETURN {
+            return false;
+        }
+        at = span.end + 1;
+    }
+    at == text.len()
+}
+
+/// The delimiters that a text declares, and the spans of its segments.
+fn spans_of(alloc: Global, text: &[u8]) -> Result<(Delims, Vec<Span>), Refusal>
+    ensures value { MatchResult result
+        (λ read. tree text.now ≡ Ok (spanned read.0 text.now read.1.items))
+        (λ refusal. Gives (Err refusal) (tree text.now)) }
+    ensures in_order { IfOk result (λ read. InOrder 0 (length text.now) read.1.items) }
+{
+    let (header, delims) = read_header(text)?;
+    let spans = read_spans(alloc, text, header, delims)?;
+    Ok((delims, spans))
+}
+
 /// The segments that the spans cover, with another one at a place: a text that holds them one after another, and their spans.
 fn with_segment(
     alloc: Global,
@@ -121,14 +152,35 @@ impl Message {
         ensures value { Gives result (tree text.now) }
         ensures message { IfOk result IsMessage }
     {
-        let (header, delims) = read_header(text)?;
-        let spans = read_spans(alloc, text, header, delims)?;
-        let text = Vec::from_slice(alloc, text)?;
+        let (delims, spans) = spans_of(alloc, text)?;
+        let bytes = Vec::from_slice(alloc, text)?;
+        let text = Arc::new(alloc, bytes)?;
         Ok(Message {
             delims,
             text,
             spans,
         })
+    }
+
+    /// The message that a shared text says, which it keeps as one more owner, and whether that text is the message as it is
+    /// printed. The refusals are those of [`parse`](Message::parse).
+    ///
+    /// It is there for speed: the text isn't copied, and who knows that it is the print needs no other.
+    pub fn parse_shared(alloc: Global, text: &Arc<Vec<u8>>) -> Result<(Message, bool), Refusal>
+        ensures value { MatchResult result
+            (λ read. tree (arc_value text.now).items ≡ Ok read.0)
+            (λ refusal. Gives (Err refusal) (tree (arc_value text.now).items)) }
+        ensures printed { IfOk result (λ read. IsTrue read.1 → text_of read.0 ≡ (arc_value text.now).items) }
+    {
+        let (delims, spans) = spans_of(alloc, text.as_slice())?;
+        let printed = are_printed(text.as_slice(), &spans);
+        let text = Arc::try_clone(text)?;
+        let message = Message {
+            delims,
+            text,
+            spans,
+        };
+        Ok((message, printed))
     }
 
     /// The delimiters that the message declares.
@@ -144,7 +196,7 @@ impl Message {
         ensures named { is_header result.now ≡ true }
         ensures message { IsMessage self.now }
     {
-        self.spans[0].of(&self.text)
+        self.spans[0].of(self.text.as_slice())
     }
 
     /// The first segment of that name, where there is one.
@@ -161,7 +213,7 @@ impl Message {
         ensures missing { IfNone result (length (filter (has_name name.now) self.now.segments) ≤ n - 1) }
         ensures message { IsMessage self.now }
     {
-        find_place(&self.text, &self.spans, name, n)
+        find_place(self.text.as_slice(), &self.spans, name, n)
     }
 
     /// The segment at a place, counted from 0.
@@ -169,7 +221,7 @@ impl Message {
         requires { place < length self.now.segments }
         ensures { slice_get self.now.segments place ≡ Some result.now }
     {
-        self.spans[place].of(&self.text)
+        self.spans[place].of(self.text.as_slice())
     }
 
     /// Puts another segment at a place.
@@ -178,14 +230,9 @@ impl Message {
         ensures ok { OnOk result (self.new ≡ record self.old { segments = slice_set self.old.segments place new.now }) }
         ensures err { OnErr result (self.new ≡ self.old) }
     {
-        let (text, spans) = with_segment(
-            *self.text.allocator(),
-            &self.text,
-            &self.spans,
-            place,
-            new,
-        )?;
-        self.text = text;
+        let alloc = self.allocator();
+        let (text, spans) = with_segment(alloc, self.text.as_slice(), &self.spans, place, new)?;
+        self.text = Arc::new(alloc, text)?;
         self.spans = spans;
         Ok(())
     }
@@ -196,12 +243,12 @@ impl Message {
         requires no_header { is_header name.now ≡ false }
         ensures { self.new ≡ record self.old { segments = filter (λ segment. not (has_name name.now segment)) self.old.segments } }
     {
-        drop_named(&self.text, &mut self.spans, name);
+        drop_named(self.text.as_slice(), &mut self.spans, name);
     }
 
     /// The allocator of the message.
     pub(crate) fn allocator(&self) -> Global {
-        *self.text.allocator()
+        *self.spans.allocator()
     }
 
     /// The `n`th segment of that name, counted from 1, empty where there is none.
@@ -252,14 +299,14 @@ impl Message {
     pub fn get(&self, path: &Path) -> Result<Vec<u8>, AllocError>
         ensures { IfOk result (λ plain. plain.items ≡ value self.now path.now) }
     {
-        unescape(*self.text.allocator(), &self.delims(), self.get_raw(path))
+        unescape(self.allocator(), &self.delims(), self.get_raw(path))
     }
 
     /// The message as a text, each segment with the carriage return that ends it.
     pub fn print(&self) -> Result<Vec<u8>, AllocError>
         ensures { IfOk result (λ text. text.items ≡ text_of self.now) }
     {
-        print_spans(*self.text.allocator(), &self.text, &self.spans)
+        print_spans(self.allocator(), self.text.as_slice(), &self.spans)
     }
 }
 
@@ -268,11 +315,10 @@ impl Clone for Message {
 
     ghost is_clone = { λ message copied. copied ≡ message };
 
-    /// The same message, with a text and spans of its own.
+    /// The same message, with spans of its own: the text is shared until one of the two is changed.
     fn clone(&self) -> Result<Message, AllocError> {
-        let alloc = *self.text.allocator();
-        let text = Vec::from_slice(alloc, &self.text)?;
-        let spans = Vec::from_slice(alloc, &self.spans)?;
+        let text = Arc::try_clone(&self.text)?;
+        let spans = Vec::from_slice(self.allocator(), &self.spans)?;
         Ok(Message {
             delims: self.delims,
             text,

@@ -1,7 +1,7 @@
 -- The pieces of a part of a text, read one after the other.
-use Rattle.std.proofs.Common.{◌≡◌, ℕ, zero, suc, ◌+◌, ◌-◌, ◌<◌, ◌≤◌, false, List, [], ◌∷◌, length, take, drop, get_or, set, ⊎_elim, refl, sym, ap, subst, min, ◌∙◌, arith, nat_eq, slice_range, length-take, length-drop, length-set}
-use Rattle.std.proofs.lemmas.Bool.{false_from_ne_true, cases_eq}
-use Rattle.std.proofs.lemmas.List.{take-take, drop-take, drop-drop, get_or-set_same, get_or-set_other}
+use Rattle.std.proofs.Common.{◌≡◌, ◌≢◌, ℕ, zero, suc, ◌+◌, ◌-◌, ◌<◌, ◌≤◌, false, List, [], ◌∷◌, length, take, drop, get_or, set, ⊎_elim, refl, sym, ap, subst, min, ◌∙◌, arith, nat_eq, slice_range, length-take, length-drop, length-set}
+use Rattle.std.proofs.lemmas.Bool.{false_from_ne_true, cases_eq, eqb-true, eq-eqb}
+use Rattle.std.proofs.lemmas.List.{take-take, drop-take, drop-drop, get_or-take, get_or-drop, get_or-set_same, get_or-set_other}
 use Rattle.std.proofs.lemmas.List.Sums.{position_or_len_is}
 use Rattle.std.proofs.lemmas.List.Splits.{slice_split_first}
 use Rattle.std.specs.List.{position_or_len}
@@ -112,3 +112,29 @@ reads_more text separator n size left piece pieces spans short reads so_far =
       others = λ k. let count : n + (k + 1) + 1 ≡ n + 1 + k + 1 = omega arith in let two : k + 1 + 1 ≡ k + 2 = omega arith in
           reads.others k ∙ ap (λ m. piece_at m (split separator (covered text left))) (sym two) ∙ so_far.others (k + 1) ∙ ap (λ m. piece_at m pieces) count;
     }
+
+-- a byte of a range
+at_range : (text : List ℕ) (start end k : ℕ) → k < end - start → get_or (slice_range text start end) k 0 ≡ get_or text (start + k) 0
+at_range text start end k below = get_or-take (end - start) (drop start text) k 0 below ∙ get_or-drop start text k 0
+
+-- where no byte up to a place is the separator, none of the range is
+none_of_range : (text : List ℕ) (separator start end stop : ℕ) → stop ≤ end → ((k : ℕ) → start ≤ k → k < stop → get_or text k 0 ≢ separator)
+    → Nowhere (Passes (is_byte separator) (slice_range text start end)) 0 (stop - start)
+none_of_range text separator start end stop within other = λ k low high passes.
+    other (start + k) (omega arith) (omega arith) (sym (at_range text start end k (omega arith)) ∙ eqb-true _ separator passes)
+
+-- the bytes were read one after the other, up to a separator
+pub reads_to : (text : List ℕ) (separator start end stop : ℕ) → start ≤ stop → stop < end → end ≤ length text → get_or text stop 0 ≡ separator
+    → ((k : ℕ) → start ≤ k → k < stop → get_or text k 0 ≢ separator) → ReadsFirst text separator (record { start = start; end = end }) (record { start = start; end = stop })
+reads_to text separator start end stop behind within in_text is other =
+    let place : start + (stop - start) ≡ stop = omega arith in
+    let same : get_or (slice_range text start end) (stop - start) 0 ≡ separator = at_range text start end (stop - start) (omega arith) ∙ ap (λ k. get_or text k 0) place ∙ is in
+    let read = reads_found text separator start end (stop - start) (omega arith) in_text (eq-eqb _ separator same) (none_of_range text separator start end stop (omega arith) other) in
+    rw place at read
+
+-- or up to the end
+pub reads_whole : (text : List ℕ) (separator start end : ℕ) → start ≤ end → end ≤ length text
+    → ((k : ℕ) → start ≤ k → k < end → get_or text k 0 ≢ separator) → ReadsFirst text separator (record { start = start; end = end }) (record { start = start; end = end })
+reads_whole text separator start end forth in_text other =
+    let size = length_range text start end forth in_text in
+    reads_nowhere text separator start end forth (rw size (none_of_range text separator start end end (omega arith) other))

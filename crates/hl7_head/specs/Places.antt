@@ -13,7 +13,8 @@ pub record ReadsFirst (text : List ℕ) (separator : ℕ) (part piece : Span) : 
   pub ordered : piece.start ≤ piece.end
   pub ends : piece.end ≤ part.end
   pub first : covered text piece ≡ piece_at 1 (split separator (covered text part))
-  pub others : (n : ℕ) → piece_at (n + 1) (split separator (slice_range text (min part.end (piece.end + 1)) part.end)) ≡ piece_at (n + 2) (split separator (covered text part))
+  pub others : (n : ℕ) → piece_at (n + 1) (split separator (slice_range text (min part.end (piece.end + 1)) part.end))
+      ≡ piece_at (n + 2) (split separator (covered text part))
 
 -- the spans hold the first pieces in their order, and empty ones after the last
 pub record AreFirstPieces (text : List ℕ) (pieces : List (List ℕ)) (spans : List Span) : Type 0 where

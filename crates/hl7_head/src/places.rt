@@ -6,22 +6,23 @@ ghost use Rattle.hl7_head.specs.Places.{AreFirstPieces, AreWithin, ReadsFirst, p
 ghost use Rattle.hl7_head.specs.Segment.{header_in};
 
 use er7_tree::{Delims, Span};
-use memchr::memchr;
 
 /// MSH is read up to its sixteenth field; its name stands in the place of the first, the field separator.
 const FIELDS_READ: usize = 16;
 
-/// The first piece of a part of a segment between separators.
+/// The first piece of a part of a segment between separators. The fields of a header are short: a loop over their bytes takes
+/// less than a search by `memchr` for each.
 fn first_piece(segment: &[u8], part: Span, separator: u8) -> Span
     requires { IsBetween 0 (length segment.now) part }
     ensures { ReadsFirst segment.now separator part result }
 {
-    match memchr(separator, &segment[part.start..part.end]) {
-        Some(at) => Span {
-            start: part.start,
-            end: part.start + at,
-        },
-        None => part,
+    let mut end = part.start;
+    while end < part.end && segment[end] != separator {
+        end += 1;
+    }
+    Span {
+        start: part.start,
+        end,
     }
 }
 

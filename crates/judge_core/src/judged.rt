@@ -1,6 +1,6 @@
 //! A text with what was decided of it.
 
-ghost use Rattle.std.specs.Prelude.{◌≡◌, ◌<◌, IfOk, Some, All, length, option_copied};
+ghost use Rattle.std.specs.Prelude.{◌≡◌, ◌<◌, IfOk, IfSome, IsTrue, Some, All, length, option_copied, option_map};
 ghost use Rattle.mllp_frame.specs.Framing.{IsBlockData};
 ghost use Rattle.hl7_transform.specs.Step.{after};
 ghost use Rattle.plan_text.specs.Entries.{AllStand};
@@ -22,6 +22,9 @@ use std::sync::Arc;
 
 /// The most bytes that a control id (MSH-10) may have.
 pub const CONTROL_ID_MAX: usize = 199;
+
+/// What a key holds beside the three fields of the header: the channel and two separators.
+const KEY_MARKS: usize = 3;
 
 /// What is decided of a text.
 #[derive(Debug, Drop)]
@@ -87,12 +90,13 @@ impl Model for Judged {
     } };
 }
 
-/// The message that a text says, if it says one.
-fn read(alloc: Global, text: &[u8]) -> Result<Option<Message>, AllocError>
-    ensures { IfOk result (λ message. message ≡ result_ok (tree text.now)) }
+/// The message that a text says, if it says one, and whether the text is that message as it is printed.
+fn read(alloc: Global, text: &Text) -> Result<Option<(Message, bool)>, AllocError>
+    ensures message { IfOk result (λ read. option_map (λ r. r.0) read ≡ result_ok (tree text.now)) }
+    ensures printed { IfOk result (λ read. IfSome read (λ r. IsTrue r.1 → text_of r.0 ≡ text.now)) }
 {
-    match Message::parse(alloc, text) {
-        Ok(message) => Ok(Some(message)),
+    match Message::parse_shared(alloc, text.shared()) {
+        Ok(read) => Ok(Some(read)),
         Err(Refusal::NoMemory) => Err(AllocError),
         Err(_) => Ok(None),
     }
@@ -119,10 +123,15 @@ fn header_fault(channel: &Channel, header: &Header) -> Option<Cause>
     }
 }
 
-/// The message as it is printed, which shares the bytes that came where they are the same.
-fn payload_of(alloc: Global, message: &Message, raw: &Text) -> Result<Text, AllocError>
+/// The message as it is printed, which shares the bytes that came where they are the same. Where it is known before that
+/// they are, nothing is printed.
+fn payload_of(alloc: Global, message: &Message, raw: &Text, same: bool) -> Result<Text, AllocError>
+    requires { IsTrue same → text_of message.now ≡ raw.now }
     ensures { IfOk result (λ text. text ≡ text_of message.now) }
 {
+    if same {
+        return raw.share();
+    }
     let printed = message.print()?;
     if printed.as_slice() == raw.as_slice() {
         raw.share()
@@ -135,24 +144,34 @@ fn payload_of(alloc: Global, message: &Message, raw: &Text) -> Result<Text, Allo
 fn key_bytes(alloc: Global, channel: u8, header: &Header) -> Result<Vec<u8>, AllocError>
     ensures { IfOk result (λ key. key.items ≡ key_by channel header.now) }
 {
-    let mut key = Vec::new(alloc);
+    let application = header.sending_application();
+    let facility = header.sending_facility();
+    let control_id = header.control_id();
+    let bytes = application
+        .len()
+        .saturating_add(facility.len())
+        .saturating_add(control_id.len())
+        .saturating_add(KEY_MARKS);
+    let mut key = Vec::with_capacity(alloc, bytes)?;
     key.push(channel)?;
-    key.extend_from_slice(header.sending_application())?;
+    key.extend_from_slice(application)?;
     key.push(b'\r')?;
-    key.extend_from_slice(header.sending_facility())?;
+    key.extend_from_slice(facility)?;
     key.push(b'\r')?;
-    key.extend_from_slice(header.control_id())?;
+    key.extend_from_slice(control_id)?;
     Ok(key)
 }
 
-/// What a channel decides of a message.
+/// What a channel decides of a message; `printed` where it is known that the text that came is the message as it is printed.
 fn decide(
     alloc: Global,
     channel: &Channel,
     message: Message,
     header: &Header,
     raw: &Text,
+    printed: bool,
 ) -> Result<Verdict, AllocError>
+    requires printed { IsTrue printed → text_of message ≡ raw.now }
     requires stand { AllStand channel.now.steps }
     requires routes_stand { All (λ r. AllStand r.steps) channel.now.routes }
     requires goes { IfOk (after channel.now.steps message) (λ t. AreDeliveries (deliveries_by channel.now.routes t)) }
@@ -170,7 +189,8 @@ fn decide(
     let Some(message) = transformed(channel.steps(), message)? else {
         return Ok(Verdict::Refuse(Cause::SourceTransform));
     };
-    let payload = payload_of(alloc, &message, raw)?;
+    let same = printed && channel.steps().is_empty();
+    let payload = payload_of(alloc, &message, raw, same)?;
     let Some(deliveries) = by_routes(alloc, channel.routes(), &message, &payload)? else {
         return Ok(Verdict::Refuse(Cause::RouteTransform));
     };
@@ -196,7 +216,7 @@ pub fn judge(
     plan.rules();
     let raw = Text::new(alloc, raw)?;
     let plan = Arc::try_clone(plan)?;
-    let Some(message) = read(alloc, raw.as_slice())? else {
+    let Some((message, printed)) = read(alloc, &raw)? else {
         return Ok(Judged {
             plan,
             channel,
@@ -209,7 +229,7 @@ pub fn judge(
     let header = Header::read(alloc, &message)?;
     let key = key_bytes(alloc, channel as u8, &header)?;
     let rules = plan.channel(channel).unwrap();
-    let verdict = decide(alloc, rules, message, &header, &raw)?;
+    let verdict = decide(alloc, rules, message, &header, &raw, printed)?;
     Ok(Judged {
         plan,
         channel,

@@ -1,6 +1,7 @@
 //! Bytes that many owners share.
 
 ghost use Rattle.std.specs.Prelude.{◌≡◌, ◌↔◌, IfOk, IsTrue};
+ghost use Rattle.std.specs.Arc.{arc_value};
 ghost use Rattle.mllp_frame.specs.Framing.{IsBlockData};
 
 use mllp_frame::{DATA_MAX, END_BLOCK, START_BLOCK};
@@ -40,6 +41,13 @@ impl Text {
         Ok(Text {
             bytes: Arc::try_clone(&self.bytes)?,
         })
+    }
+
+    /// The bytes, for those who share them.
+    pub(crate) fn shared(&self) -> &Arc<Vec<u8>>
+        ensures { (arc_value result.now).items ≡ self.now }
+    {
+        &self.bytes
     }
 
     /// The bytes.

@@ -15,7 +15,7 @@ added c =
     let absent = lookup-seen c.args.key.items c.self.inside.places.entries ∙ unknown in
     let room = rw (← c.self.view_is) at c.requires.room in
     let inserted = of_ok c.insert.result _ (c.insert.ensures.succeeds room) c.insert.ensures.entries in
-    ap seen (inserted ∙ insert_entry-new _ c.self.inside.places c.args.key c.args.place absent) ∙ map-append _ c.self.inside.places.entries _
+    ap seen (inserted ∙ insert_entry-new _ c.self.inside.places (record { bytes = c.args.key }) c.args.place absent) ∙ map-append _ c.self.inside.places.entries _
 
 pub invariant_of-self : goal.invariant_of-self
 invariant_of-self c =

@@ -6,10 +6,10 @@ use Rattle.dup_index.proofs.Seen.{seen, from_place-seen, EachOnce-from_place, pl
 use Rattle.dup_index.proofs.Keys.drop_before.Goals as goal
 
 -- the keys that stay
-kept : (c : goal.After-retain) → seen c.retain.new.self.entries ≡ from_place c.args.place (seen c.self.inside.places.entries)
+kept : (c : goal.After-shrink_to_fit) → seen c.shrink_to_fit.new.self.entries ≡ from_place c.args.place (seen c.self.inside.places.entries)
 kept c =
     let stayed : c.retain.new.self.entries ≡ filter (λ e. nat_le c.args.place e.1) c.self.inside.places.entries = filter-RetainsPairs _ _ _ (λ k v b w g call. search rules) _ _ c.retain.ensures.filtered in
-    ap seen stayed ∙ from_place-seen c.args.place c.self.inside.places.entries
+    ap seen (c.shrink_to_fit.ensures.entries ∙ stayed) ∙ from_place-seen c.args.place c.self.inside.places.entries
 
 pub invariant_of-self : goal.invariant_of-self
 invariant_of-self c = rw (kept c) (EachOnce-from_place c.args.place (seen c.self.inside.places.entries) c.self.invariant)

@@ -1,8 +1,7 @@
-use Rattle.std.proofs.Common.{◌≡◌, ◌<◌, ◌≤◌, ◌∙◌, Some, length, sym, ap, arith, rules}
-use Rattle.std.specs.Result.{result_ok}
-use Rattle.std.specs.Prelude.{slice_get, option_copied}
+use Rattle.std.proofs.Common.{◌≡◌, Bool, ◌<◌, ◌≤◌, ◌∙◌, Some, length, sym, ap, arith, rules}
+use Rattle.std.specs.Prelude.{slice_get, option_copied, option_map}
 use Rattle.std.specs.Arc.{arc_value}
-use Rattle.er7_tree.specs.Tree.{tree}
+use Rattle.er7_tree.specs.Tree.{Tree}
 use Rattle.hl7_head.specs.Header.{header}
 use Rattle.judge_core.specs.Judging.{verdict_of}
 use Rattle.plan_text.specs.Entries.{IsPlan}
@@ -12,7 +11,7 @@ use Rattle.judge_core.proofs.judged.judge.Goals as goal
 
 pub invariant_of-result : goal.invariant_of-result
 invariant_of-result c =
-    let read = sym c.in_default.is ∙ (c.in_ok-message.ensures ∙ ap (λ s. result_ok (tree s)) c.as_slice.ensures) in
+    let read = ap (option_map (λ (r : Tree × Bool). r.0)) (sym c.in_default.is) ∙ c.in_ok-message.ensures.message in
     let nothing = says-nothing (arc_value c.in_ok-plan.plan) c.args.channel c.in_ok-raw.raw read in
     record {
       known = rw c.in_ok-plan.ensures c.requires.known;
@@ -50,14 +49,14 @@ decide-requires-clause-routes_stand c =
 
 pub decide-requires-clause-goes : goal.decide-requires-clause-goes
 decide-requires-clause-goes c =
-    let read = sym c.in-Some.is ∙ (c.in_ok-message.ensures ∙ ap (λ s. result_ok (tree s)) c.as_slice.ensures) in
+    let read = ap (option_map (λ (r : Tree × Bool). r.0)) (sym c.in-Some.is) ∙ c.in_ok-message.ensures.message in
     let message = says (arc_value c.in_ok-plan.plan) c.args.channel c.in_ok-raw.raw c.in-Some.message read in
     goes-after (arc_value c.args.plan.now) c.args.channel c.unwrap-rules.result.now c.in_ok-raw.raw c.in-Some.message (rules-of c) (found-of c) message.read
     (rw c.in_ok-raw.ensures c.requires.fits.plain)
 
 pub invariant_of-result-2 : goal.invariant_of-result-2
 invariant_of-result-2 c =
-    let read = sym c.in-Some.is ∙ (c.in_ok-message.ensures ∙ ap (λ s. result_ok (tree s)) c.as_slice.ensures) in
+    let read = ap (option_map (λ (r : Tree × Bool). r.0)) (sym c.in-Some.is) ∙ c.in_ok-message.ensures.message in
     let message = says (arc_value c.in_ok-plan.plan) c.args.channel c.in_ok-raw.raw c.in-Some.message read in
     let found : slice_get (arc_value c.in_ok-plan.plan).channels c.args.channel ≡ Some c.unwrap-rules.result.now =
     sym (rw c.deref-2.ensures at c.channel.ensures) ∙ ap option_copied c.unwrap-rules.ensures in
