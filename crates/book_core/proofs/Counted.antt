@@ -27,7 +27,7 @@ listed f k xs d size each =
     (λ n inside. let below : n < k = omega arith in each n below ∙ sym (get_or-map-range_with_len f 0 k n n d below (omega arith)))
 
 -- tallies are equal if their counters are
-tally-equal : (s t : Statistics) → s.channels ≡ t.channels → s.destinations ≡ t.destinations → s ≡ t
+pub tally-equal : (s t : Statistics) → s.channels ≡ t.channels → s.destinations ≡ t.destinations → s ≡ t
 tally-equal s t channels destinations = λ i. record { channels = channels i; destinations = destinations i }
 
 -- a tally with the counters of a history is its statistics

@@ -1,6 +1,5 @@
 -- The statistics after an arrival.
-use Rattle.std.proofs.Common.{◌≡◌, ◌≢◌, ℕ, ◌+◌, ◌<◌, ◌==◌, ◌&&◌, ◌||◌, inl, inr, Bool, true, false, cond, not, List, [], ◌∷◌, ◌++◌, length, None, Some, refl, sym, ◌∙◌, ap, subst, arith, length-append, append-nil}
-use Rattle.std.specs.Prelude.{slice_get}
+use Rattle.std.proofs.Common.{◌≡◌, ◌≢◌, ℕ, ◌+◌, ◌<◌, ◌==◌, ◌&&◌, ◌||◌, inl, inr, Bool, true, false, cond, not, List, [], ◌∷◌, ◌++◌, None, Some, refl, sym, ◌∙◌, ap, subst, arith, append-nil}
 use Rattle.std.specs.List.{list_any}
 use Rattle.std.specs.Option.{option_map_or}
 use Rattle.std.proofs.lemmas.Bool.{eq-eqb}
@@ -19,7 +18,7 @@ use Rattle.event_log.specs.Legal.{IsSound}
 use Rattle.event_log.specs.Room.{slots_added}
 use Rattle.event_log.proofs.Following.{message-newest, message-older, message_count-longer, message_count-same, slot-same}
 use Rattle.event_log.proofs.Steps.{ArrivalStep}
-use Rattle.event_log.specs.Counting.{channel_before, channel_counts, destination_counts, is_accepted, is_filtered, is_refused, is_repeat, is_take_at, is_told, told_count}
+use Rattle.event_log.specs.Counting.{channel_before, channel_counts, destination_counts, is_accepted, is_filtered, is_refused, is_repeat, is_told, told_count}
 use Rattle.book_core.specs.Counting.{AreCounted, CountsArrival, told_one}
 use Rattle.book_core.proofs.Counted.{channels-equal}
 use Rattle.book_core.proofs.CountedCancels.{not-equal}

@@ -14,7 +14,7 @@ use Rattle.event_log.specs.History.{History, deliveries, followed_by, names, slo
 use Rattle.event_log.proofs.Following.{message_count-same, slot-same}
 use Rattle.event_log.proofs.Reading.{slot-state}
 use Rattle.event_log.proofs.Steps.{CancelStep}
-use Rattle.event_log.specs.Counting.{destination_counts, is_take_at}
+use Rattle.event_log.specs.Counting.{destination_counts}
 use Rattle.book_core.specs.Counting.{AreCounted, CountsCancel}
 use Rattle.book_core.proofs.CountedSteps.{attempts-kept, channels-kept}
 use Rattle.book_core.proofs.Moves.{moved, moves-nowhere, moves-off}

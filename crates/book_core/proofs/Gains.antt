@@ -1,22 +1,22 @@
 -- What follows of what an arrival adds.
-use Rattle.std.proofs.Common.{◌≡◌, ℕ, ◌<◌, true, false, List, [], Some, refl, sym, ◌∙◌, ap, subst}
+use Rattle.std.proofs.Common.{◌≡◌, ℕ, ◌<◌, List, Some, refl, sym, ◌∙◌, ap, subst}
 use Rattle.std.specs.Prelude.{All}
 use Rattle.plan_text.specs.Entries.{PlanEntry}
 use Rattle.judge_core.specs.declared.judged.Verdict.{Verdict}
 use Rattle.judge_core.specs.Delivering.{destinations_of}
-use Rattle.judge_core.specs.Judging.{deliveries_of, verdict as decided}
+use Rattle.judge_core.specs.Judging.{verdict as decided}
 use Rattle.row_store.specs.declared.Row.{Row}
 use Rattle.dest_queue.specs.declared.slots.Addressed.{Addressed}
 use Rattle.event_log.specs.declared.entry.Told.{Told}
 use Rattle.event_log.specs.declared.entry.Told.TheVariants as told
-use Rattle.event_log.specs.History.{History, control_id_of, plan_in_force}
+use Rattle.event_log.specs.History.{History, plan_in_force}
 use Rattle.event_log.specs.Answers.{answer, is_kept}
 use Rattle.event_log.specs.Room.{own, own_owed, slots_added}
 use Rattle.event_log.proofs.Steps.{IsNumbered}
 use Rattle.book_core.specs.declared.arrival.Gain.{Gain}
 use Rattle.book_core.specs.declared.arrival.Gain.TheVariants as gain
 use Rattle.book_core.specs.declared.letter.Letter.{Letter}
-use Rattle.book_core.specs.Sending.{AddsGain, AddsRow, HasRoomFor, IsGain, goes_to, has_key}
+use Rattle.book_core.specs.Sending.{HasRoomFor, IsGain, goes_to, has_key}
 
 -- a key is added where the message is kept by it
 pub key-kept : (reply : Told) (id : List ℕ) (v : Verdict) (g : Gain) → IsGain reply id v g → has_key g ≡ is_kept reply

@@ -13,7 +13,7 @@ use Rattle.dup_index.specs.Known.{Known}
 use Rattle.stat_count.specs.Statistics.{Statistics, destination_at, empty, on_destination}
 use Rattle.event_log.specs.declared.entry.Ticket.{Ticket}
 use Rattle.event_log.specs.declared.entry.Entry.TheVariants.{Settle}
-use Rattle.event_log.specs.History.{History, followed_by, next_place, opened_by, plan_in_force}
+use Rattle.event_log.specs.History.{History, followed_by, opened_by, plan_in_force}
 use Rattle.event_log.specs.Answers.{attempts_max, interval, settle_answer}
 use Rattle.event_log.specs.Room.{owed, slot_owed}
 use Rattle.event_log.proofs.Beginning.{opened-sound}

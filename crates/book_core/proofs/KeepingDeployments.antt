@@ -1,10 +1,10 @@
 -- A book is kept by a deployment.
-use Rattle.std.proofs.Common.{◌≡◌, ℕ, ◌+◌, ◌-◌, ◌<◌, ◌≤◌, Bool, true, false, not, cond, suc, ◌&&◌, nat_lt, List, [], ◌∷◌, length, Option, None, Some, Result, Err, refl, sym, ◌∙◌, ap, subst, arith, length-append}
+use Rattle.std.proofs.Common.{◌≡◌, ℕ, ◌+◌, ◌-◌, ◌<◌, ◌≤◌, Bool, true, false, not, cond, suc, nat_lt, List, [], ◌∷◌, length, Option, None, Some, Result, Err, refl, sym, ◌∙◌, ap, arith, length-append}
 use Rattle.std.specs.Prelude.{find}
 use Rattle.std.specs.List.{range_with_len}
 use Rattle.std.specs.Option.{option_map_or}
 use Rattle.std.proofs.lemmas.Bool.Decides.{nat_tests}
-use Rattle.plan_text.specs.Entries.{IsPlan, PlanEntry}
+use Rattle.plan_text.specs.Entries.{PlanEntry}
 use Rattle.row_store.specs.declared.Row.{Row}
 use Rattle.dest_queue.specs.declared.slots.Addressed.{Addressed}
 use Rattle.dup_index.specs.Known.{Known}
@@ -14,13 +14,13 @@ use Rattle.event_log.specs.History.{History, deliveries, followed_by, names, pla
 use Rattle.event_log.specs.declared.refusal.DeployRefusal.{DeployRefusal}
 use Rattle.event_log.specs.declared.refusal.DeployRefusal.TheVariants.{ChannelsDiffer, DestinationInUse, Full, TooMany}
 use Rattle.event_log.specs.Deployment.{deploy_answer, deployments, first_lost, same_channels}
-use Rattle.event_log.specs.Legal.{IsSound, MayDeploy}
+use Rattle.event_log.specs.Legal.{MayDeploy}
 use Rattle.event_log.specs.Room.{owed}
 use Rattle.event_log.proofs.Deploying.{allowed-parts, deploy-step}
 use Rattle.event_log.proofs.Following.{message_count-same, slot-same}
 use Rattle.event_log.proofs.Steps.{DeployStep}
 use Rattle.book_core.specs.declared.letter.Letter.{Letter}
-use Rattle.event_log.specs.Counting.{destination_counts, is_take_at}
+use Rattle.event_log.specs.Counting.{destination_counts}
 use Rattle.book_core.specs.Counting.{AreCounted}
 use Rattle.book_core.specs.Parts.{IsKept}
 use Rattle.book_core.proofs.CountedSteps.{attempts-kept, channels-kept}

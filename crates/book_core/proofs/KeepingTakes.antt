@@ -2,7 +2,7 @@
 use Rattle.std.proofs.Common.{◌≡◌, ℕ, ◌+◌, ◌-◌, ◌<◌, ◌≤◌, true, false, cond, ◌==◌, ◌||◌, inl, inr, List, [], ◌∷◌, Option, None, Some, Ok, Err, refl, sym, ◌∙◌, ap, arith, length, length-append, subst}
 use Rattle.std.specs.Prelude.{IfSome, find, option_and_then, slice_get}
 use Rattle.std.specs.Option.{option_map, option_map_or}
-use Rattle.std.proofs.lemmas.Option.{same_Some, slice_get_past}
+use Rattle.std.proofs.lemmas.Option.{same_Some}
 use Rattle.plan_text.specs.Entries.{IsDestination, PlanEntry, IsPlan}
 use Rattle.judge_core.specs.declared.delivery.Delivery.{Delivery}
 use Rattle.judge_core.proofs.Routing.{All-slice_get}
@@ -18,7 +18,7 @@ use Rattle.stat_count.specs.Statistics.{Statistics, destination_at, on_destinati
 use Rattle.event_log.specs.declared.entry.Ticket.{Ticket}
 use Rattle.event_log.specs.declared.entry.Entry.TheVariants.{Take}
 use Rattle.event_log.specs.declared.refusal.TakeRefusal.TheVariants.{Idle}
-use Rattle.event_log.specs.History.{History, accepted, control_id, deliveries, followed_by, names, next_place, plan_in_force, queue, slot}
+use Rattle.event_log.specs.History.{History, control_id, deliveries, followed_by, names, plan_in_force, queue, slot}
 use Rattle.event_log.specs.Answers.{attempts_max, front_answer, take_answer}
 use Rattle.event_log.specs.Room.{owed}
 use Rattle.event_log.specs.Legal.{IsWithin}

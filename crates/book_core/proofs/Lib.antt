@@ -20,3 +20,9 @@ pub mod Slots
 pub mod Telling
 pub mod ThreeSums
 pub mod Waiting
+pub mod FirstLive
+pub mod PrunedBook
+pub mod PrunedRows
+pub mod Remembering
+pub mod LeftOut
+pub mod Folded

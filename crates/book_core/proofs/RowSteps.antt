@@ -1,7 +1,5 @@
 -- How rows follow an event.
-use Rattle.std.proofs.Common.{◌≡◌, ◌≢◌, ℕ, ◌<◌, true, false, cond, ◌==◌, ◌&&◌, inl, inr, List, [], length, None, Some, refl, sym, ◌∙◌, ap}
-use Rattle.std.specs.List.{range_with_len}
-use Rattle.std.specs.Prelude.{slice_get}
+use Rattle.std.proofs.Common.{◌≡◌, ◌≢◌, ℕ, ◌<◌, true, false, cond, ◌==◌, ◌&&◌, inl, inr, List, [], None, Some, refl, sym, ◌∙◌, ap}
 use Rattle.std.specs.Option.{option_map_or}
 use Rattle.std.specs.Int.{bit_at}
 use Rattle.std.proofs.lemmas.Bool.Decides.{eqb_tells}
@@ -15,7 +13,7 @@ use Rattle.dest_queue.specs.Queues.{settle}
 use Rattle.dest_queue.specs.SlotsBy.{slots_by}
 use Rattle.dest_queue.specs.States.{is_live}
 use Rattle.dest_queue.proofs.SlotLaws.{with_state-slots_by}
-use Rattle.event_log.specs.History.{History, Accepted, accepted, control_id_of, deliveries, is_queued, message_at, named, names, state}
+use Rattle.event_log.specs.History.{History, accepted, control_id_of, deliveries, is_queued, message_at, named, names, state}
 use Rattle.event_log.proofs.Following.{deliveries-same, funext, message-same, remaining-same}
 use Rattle.book_core.specs.declared.letter.Letter.{Letter}
 use Rattle.book_core.specs.Parts.{IsAsTold, RowsAgree}

@@ -1,7 +1,5 @@
 -- How rows follow a cancellation.
-use Rattle.std.proofs.Common.{◌≡◌, ◌≢◌, ℕ, ◌<◌, Bool, true, false, cond, not, ◌==◌, ◌&&◌, ◌||◌, inl, inr, List, [], ◌∷◌, length, None, Some, refl, sym, ◌∙◌, ap}
-use Rattle.std.specs.List.{range_with_len}
-use Rattle.std.specs.Prelude.{slice_get}
+use Rattle.std.proofs.Common.{◌≡◌, ◌≢◌, ℕ, ◌<◌, Bool, true, false, cond, not, ◌==◌, ◌&&◌, ◌||◌, inl, inr, List, [], ◌∷◌, None, Some, refl, sym, ◌∙◌, ap}
 use Rattle.std.specs.Option.{option_map_or}
 use Rattle.std.specs.Int.{bit_at}
 use Rattle.std.proofs.lemmas.Bool.Decides.{eqb_tells}
@@ -17,7 +15,7 @@ use Rattle.dest_queue.specs.Slots.{waits_at}
 use Rattle.dest_queue.specs.SlotsBy.{is_among, slots_by}
 use Rattle.dest_queue.specs.States.{is_live, is_waiting}
 use Rattle.dest_queue.proofs.SlotLaws.{cancelled-slots_by, left-waiting_at, waits_at-slots_by}
-use Rattle.event_log.specs.History.{History, Accepted, accepted, control_id_of, deliveries, is_queued, named, names, state}
+use Rattle.event_log.specs.History.{History, accepted, control_id_of, deliveries, is_queued, named, names, state}
 use Rattle.event_log.specs.Answers.{waits}
 use Rattle.event_log.proofs.Following.{deliveries-same, message-same, remaining-same}
 use Rattle.book_core.specs.declared.letter.Letter.{Letter}

@@ -11,9 +11,10 @@ use Rattle.dest_queue.specs.declared.SlotState.TheVariants.{Waiting, InFlight, D
 use Rattle.dest_queue.specs.States.{is_live, is_waiting}
 use Rattle.stat_count.specs.Statistics.{no_slots, slots_of}
 use Rattle.event_log.specs.declared.entry.Entry.{Entry}
-use Rattle.event_log.specs.History.{History, followed_by, message_count, next_place, numbers, queue, slot}
+use Rattle.event_log.specs.History.{History, begun, followed_by, forgotten_messages, message_count, next_place, numbers, queue, slot}
 use Rattle.event_log.specs.Legal.{IsGoodOpening}
 use Rattle.event_log.specs.Room.{is_in_flight}
+use Rattle.event_log.proofs.Forgetting.{gone-few}
 use Rattle.event_log.proofs.Totals.{messages-places, sum-alike, sum-changed, sum-more}
 use Rattle.event_log.specs.Counting.{destination_before, destination_counts, is_delivered, is_failed, slot_count}
 
@@ -98,7 +99,8 @@ pub slots-places : (h : History) → IsGoodOpening h.opening → (d : ℕ) → s
 slots-places h good d =
     let few = slots-messages h d in
     let messages = messages-places h good.messages_few in
-    let before = all-at (λ c. c.delivered + c.failed ≤ h.opening.places) h.opening.forgotten.destinations no_slots good.forgotten.named (omega arith) d in omega arith
+    let gone = gone-few (begun h.opening) in
+    let before = all-at (λ c. c.delivered + c.failed ≤ forgotten_messages (begun h.opening)) h.opening.forgotten.destinations no_slots good.forgotten.named (omega arith) d in omega arith
 
 -- a count with one more entry
 pub count-push : (so : Entry → Bool) (h : History) (e : Entry) → count_by so (followed_by h e).entries ≡ count_by so h.entries + cond (so e) 1 0

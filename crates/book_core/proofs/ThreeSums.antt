@@ -1,5 +1,5 @@
 -- What an entry adds to the sums of the statistics.
-use Rattle.std.proofs.Common.{◌≡◌, ℕ, ◌+◌, ◌-◌, ◌*◌, ◌<◌, ◌≤◌, inl, inr, Bool, true, false, cond, not, ◌==◌, List, [], ◌∷◌, length, map, take, None, Some, Ok, refl, sym, ◌∙◌, ap, subst, arith, suc, zero, add-zero, get_or, set, length-set, get_or-set_same, get_or-set_other}
+use Rattle.std.proofs.Common.{◌≡◌, ℕ, ◌+◌, ◌-◌, ◌*◌, ◌<◌, ◌≤◌, inl, inr, Bool, true, false, cond, ◌==◌, List, [], ◌∷◌, length, map, take, None, Some, Ok, refl, sym, ◌∙◌, ap, subst, arith, suc, zero, add-zero, get_or, set, length-set, get_or-set_same, get_or-set_other}
 use Rattle.std.specs.Prelude.{slice_get, sum_by}
 use Rattle.std.specs.List.{list_any, range_with_len}
 use Rattle.std.specs.Int.{bit_at}
@@ -33,7 +33,7 @@ use Rattle.event_log.proofs.Reading.{slot-inside}
 use Rattle.event_log.proofs.Replaying.{take-more}
 use Rattle.event_log.proofs.Settling.{settle-step}
 use Rattle.event_log.proofs.Taking.{take-step}
-use Rattle.event_log.specs.Counting.{channel_counts, counted, destination_counts, is_repeat, is_take_at, is_told}
+use Rattle.event_log.specs.Counting.{channel_counts, counted, destination_counts}
 use Rattle.book_core.specs.Counting.{SumsRise, settled_one, told_one}
 use Rattle.book_core.proofs.Counted.{attempts-places, channel-places, counted-are, counted-is, listed}
 use Rattle.book_core.proofs.CountedArrivals.{arrived-counts, channel-kept, channel-told}
@@ -122,7 +122,7 @@ taken-before h sound (suc k) d below = elim (slice_get h.entries k) as (λ o. sl
 ] refl
 
 -- to its end
-were-taken : (h : History) → IsSound h → (d : ℕ) → d < 32 → AreTaken (destination_counts h d)
+pub were-taken : (h : History) → IsSound h → (d : ℕ) → d < 32 → AreTaken (destination_counts h d)
 were-taken h sound d below =
     subst (λ es. AreTaken (destination_counts (continued h.opening es) d)) (take-whole h.entries) (taken-before h sound (length h.entries) d below)
 

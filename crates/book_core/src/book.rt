@@ -6,6 +6,7 @@ ghost use Rattle.judge_core.specs.Judging.{is_bookable};
 ghost use Rattle.event_log.specs.History.{control_id, deliveries, entry_at, followed_by, message_count, names, next_place, opened_by, payload, plan_in_force, queue, slot};
 ghost use Rattle.event_log.specs.Answers.{answer, cancel_answer, settle_answer, take_answer};
 ghost use Rattle.event_log.specs.Deployment.{deploy_answer, first_lost, is_lost};
+ghost use Rattle.event_log.specs.Folding.{prune_answer, pruned};
 ghost use Rattle.event_log.specs.Legal.{IsSound, MayFollow};
 ghost use Rattle.event_log.specs.Room.{exceeds, is_full};
 ghost use Rattle.event_log.specs.Counting.{counted};
@@ -16,6 +17,7 @@ use crate::arrival::{add_message, gain_of, keep_key, key_to_keep, own_of, told};
 use crate::dispatch::{awaits_ack, owed_waiting, payload};
 use crate::event_counts::{count_arrival, count_cancelled, count_settled};
 use crate::letter::{Job, Letter};
+use crate::pruning::{first_kept, forget_rows, prune_refusal, recall_since, unremembered};
 use crate::receipt::{NotBooked, Receipt};
 use dest_queue::{
     Addressed, Outcome, SettleRefusal, SlotState, begin_attempt, cancel_waiting, front_state,
@@ -23,8 +25,9 @@ use dest_queue::{
 };
 use dup_index::Keys;
 use event_log::{
-    CancelRefusal, DEPLOYMENTS_MAX, DeployRefusal, EVENTS_MAX, Entry, Log, TakeRefusal, Ticket,
-    attempts_max, front_answer, interval, keeps_destination, same_channels, slot_owed,
+    CancelRefusal, DEPLOYMENTS_MAX, DeployRefusal, EVENTS_MAX, Entry, Log, PruneRefusal,
+    TakeRefusal, Ticket, attempts_max, front_answer, interval, keeps_destination, same_channels,
+    slot_owed,
 };
 use hl7_head::Moment;
 use judge_core::{Judged, Text};
@@ -414,6 +417,36 @@ impl<S: RowStore<Addressed<Letter>>> Book<S> {
         self.log.reserve(self.flights as usize + 1)?;
         // All growths are made: nothing below is refused.
         self.log.deploy(plan, shared);
+        Ok(())
+    }
+
+    /// Forgets the messages numbered below `before`, with the filtered arrivals that came before message `before` did, and
+    /// folds all entries: the history then goes on from what remains, and the book has room for as many entries again.
+    /// Places and numbers go on counting, and the statistics keep what was forgotten. With a message its control id (MSH-10)
+    /// is forgotten: where its sender repeats it, it is judged as a new message.
+    ///
+    /// # Errors
+    ///
+    /// `NoSuchMessage` where fewer messages were accepted, then `StillLive` of the first of them that is still to be
+    /// delivered, then `TooMany` where a thousand prunings were made, and then `NoMemory` where a growth was refused. A
+    /// refusal leaves the book as it was.
+    pub fn prune(&mut self, before: u32) -> Result<(), PruneRefusal>
+        ensures answer { OnOk result (prune_answer self.old before ≡ None) }
+        ensures folded { OnOk result (self.new ≡ pruned before self.old) }
+        ensures refused { IfErr result (λ e. (prune_answer self.old before ≡ Some e) ⊎ (prune_answer self.old before ≡ None) × (e ≡ PruneRefusal.NoMemory)) }
+        ensures err { OnErr result (self.new ≡ self.old) }
+    {
+        if let Some(refusal) = prune_refusal(&self.log, &mut self.rows, before) {
+            return Err(refusal);
+        }
+        let floor = self.log.arrival_place(before);
+        let first = first_kept(&self.log, &self.rows);
+        let remembered = recall_since(self.alloc, &self.log, &self.rows, floor)?;
+        let forgotten = unremembered(&self.counts, &remembered);
+        self.log.fold(self.flights as usize, forgotten, remembered)?;
+        // All growths are made: nothing below is refused.
+        forget_rows(&mut self.rows, first, before);
+        self.keys.drop_before(floor);
         Ok(())
     }
 

@@ -7,12 +7,13 @@ mod dispatch;
 mod event_counts;
 mod laws;
 mod letter;
+mod pruning;
 mod receipt;
 
 pub use book::Book;
 pub use event_log::{
-    CancelRefusal, DEPLOYMENTS_MAX, DeployRefusal, DeployedPlan, EVENTS_MAX, Entry, TakeRefusal,
-    Ticket, Told,
+    CancelRefusal, DEPLOYMENTS_MAX, DeployRefusal, DeployedPlan, EVENTS_MAX, Entry, PruneRefusal,
+    TakeRefusal, Ticket, Told,
 };
 pub use laws::three_sums;
 pub use letter::{Job, Letter};

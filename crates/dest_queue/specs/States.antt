@@ -38,7 +38,8 @@ state_after outcomes.Rejected attempt now max interval = Failed Rejected
 -- the answer to a settlement of an attempt: it has to be the one in flight
 abbrev pub settle_answer : Option SlotState → outcome.Outcome → ℕ → ℕ → ℕ → ℕ → Result SlotState SettleRefusal
 settle_answer None outcome attempt now max interval = Err NoSlot
-settle_answer (Some (InFlight a)) outcome attempt now max interval = if a == attempt then Ok (state_after outcome attempt now max interval) else Err (NotInFlight (InFlight a))
+settle_answer (Some (InFlight a)) outcome attempt now max interval =
+    if a == attempt then Ok (state_after outcome attempt now max interval) else Err (NotInFlight (InFlight a))
 settle_answer (Some (Waiting a due)) outcome attempt now max interval = Err (NotInFlight (Waiting a due))
 settle_answer (Some Delivered) outcome attempt now max interval = Err (NotInFlight Delivered)
 settle_answer (Some (Failed cause)) outcome attempt now max interval = Err (NotInFlight (Failed cause))

@@ -1,6 +1,6 @@
 //! The slots of one message.
 
-ghost use Rattle.std.specs.Prelude.{◌≡◌, ◌==◌, ◌<◌, ◌&&◌, ℕ, List, [], ◌∷◌, ◌++◌, Some, None, OnOk, OnErr, All, not, fold, if◌then◌else◌};
+ghost use Rattle.std.specs.Prelude.{◌≡◌, ◌==◌, ◌<◌, ◌&&◌, ℕ, List, [], ◌∷◌, ◌++◌, Some, None, IfOk, OnOk, OnErr, All, not, fold, if◌then◌else◌};
 ghost use Rattle.row_store.specs.Rows.{without};
 ghost use Rattle.dest_queue.specs.declared.SlotState.{SlotState};
 ghost use Rattle.dest_queue.specs.declared.slots.Slot.{Slot};
@@ -70,6 +70,15 @@ impl Slots {
         ensures { result.now ≡ self.now }
     {
         &self.list
+    }
+
+    /// The same slots, held apart.
+    pub fn copy(&self) -> Result<Slots, AllocError>
+        ensures { IfOk result (λ slots. slots ≡ self.now) }
+    {
+        Ok(Slots {
+            list: self.list.clone()?,
+        })
     }
 
     /// The state at d, if the message names d.

@@ -136,7 +136,7 @@ begun-sound o good = record {
     nothing false k e got = cc
 
 -- where nothing was booked before, nothing is forgotten
-none-forgotten : AreForgotten 0 empty
+none-forgotten : AreForgotten 0 0 empty
 none-forgotten = record {
   statistics = record {
     all_channels = refl;
@@ -160,6 +160,7 @@ blank-good plan events_max good = record {
   places_within = All-nil (λ r. r.place < 0);
   numbers = λ i inside. absurd (omega arith);
   numbers_within = All-nil (λ n. n < 0);
+  in_turn = λ n m less below there. absurd (omega arith);
   keys = λ i j d before inside. absurd (omega arith);
   forgotten = none-forgotten;
   were_taken = λ d below. let none : destination_at d empty ≡ no_slots = get_or-replicate 32 d no_slots no_slots below in omega (arith, ap (λ c. c.delivered) none, ap (λ c. c.attempts) none);

@@ -67,20 +67,20 @@ may-parts h bound is = elim (lt-tells (message_count h) bound) [
 
 -- ---- what is found
 
-numbered-told : (n : ℕ) (t : Told) → is_numbered n t ≡ true → t ≡ told.Accepted n
+pub numbered-told : (n : ℕ) (t : Told) → is_numbered n t ≡ true → t ≡ told.Accepted n
 numbered-told n (told.Accepted j) is = elim (eqb_tells j n) [ inl w ↦ ap (λ x. told.Accepted x) w.1 | inr w ↦ absurd cc ]
 numbered-told n told.Filtered is = absurd cc
 numbered-told n (told.Refused cause) is = absurd cc
 numbered-told n (told.Repeat place) is = absurd cc
 
-found-passes : (p : Remembered → Bool) (rs : List Remembered) (r : Remembered) → find p rs ≡ Some r → p r ≡ true
+pub found-passes : (p : Remembered → Bool) (rs : List Remembered) (r : Remembered) → find p rs ≡ Some r → p r ≡ true
 found-passes p [] r is = absurd cc
 found-passes p (x ∷ rs) r is = elim (p x) as (λ b. p x ≡ b → cond b (Some x) (find p rs) ≡ Some r → p r ≡ true) [
   | true ↦ λ passes e. let same : x ≡ r = cc in subst (λ y. p y ≡ true) same passes
   | false ↦ λ fails e. found-passes p rs r e
 ] refl is
 
-found-holds : (p : Remembered → Bool) (Q : Remembered → Type 0) (rs : List Remembered) (r : Remembered) → AllByRecursion Q rs → find p rs ≡ Some r → Q r
+pub found-holds : (p : Remembered → Bool) (Q : Remembered → Type 0) (rs : List Remembered) (r : Remembered) → AllByRecursion Q rs → find p rs ≡ Some r → Q r
 found-holds p Q [] r all is = absurd cc
 found-holds p Q (x ∷ rs) r all is = elim (p x) as (λ b. cond b (Some x) (find p rs) ≡ Some r → Q r) [
   | true ↦ λ e. let same : x ≡ r = cc in subst Q same all.0
@@ -118,11 +118,11 @@ renewed-all h =
 
 -- ---- counts and states
 
-count-none : (xs : List ℕ) → count_by (λ n. false) xs ≡ 0
+pub count-none : (xs : List ℕ) → count_by (λ n. false) xs ≡ 0
 count-none [] = refl
 count-none (x ∷ xs) = let rest = count-none xs in omega (arith, sum_by-cons (λ n. cond false 1 0) x xs)
 
-range-split : (a k j : ℕ) → range_with_len a (k + j) ≡ range_with_len a k ++ range_with_len (a + k) j
+pub range-split : (a k j : ℕ) → range_with_len a (k + j) ≡ range_with_len a k ++ range_with_len (a + k) j
 range-split a zero j = let none : 0 + j ≡ j = omega arith in let own : a + 0 ≡ a = omega arith in rw (none, own) refl
 range-split a (suc k) j =
     let more : suc k + j ≡ suc (k + j) = omega arith in
@@ -130,7 +130,7 @@ range-split a (suc k) j =
     rw (more, next) (ap (λ xs. a ∷ xs) (range-split (a + 1) k j))
 
 -- a count where the numbers below a bound count no more
-count-split : (p q : ℕ → Bool) (bound count : ℕ) → bound ≤ count → ((n : ℕ) → n < bound → q n ≡ false) → ((n : ℕ) → bound ≤ n → q n ≡ p n)
+pub count-split : (p q : ℕ → Bool) (bound count : ℕ) → bound ≤ count → ((n : ℕ) → n < bound → q n ≡ false) → ((n : ℕ) → bound ≤ n → q n ≡ p n)
     → count_by p (range_with_len 0 bound) + count_by q (range_with_len 0 count) ≡ count_by p (range_with_len 0 count)
 count-split p q bound count few none same =
     let split : range_with_len 0 count ≡ range_with_len 0 bound ++ range_with_len bound (count - bound)
@@ -206,7 +206,7 @@ module _ (h : History) (sound : IsSound h) (bound : ℕ) (may : prune_answer h b
       let number = numbered-told n r.told (found-passes (is_of n) (arrivals h) r is) in
       sym (ap (λ x. x.slots) own) ∙ ap (told_slots h) number
 
-  found-message : (n : ℕ) → option_map message_of (find (is_of n) (arrivals h)) ≡ message_at h n
+  pub found-message : (n : ℕ) → option_map message_of (find (is_of n) (arrivals h)) ≡ message_at h n
   found-message n = by (find (is_of n) (arrivals h)) (message_at h n) refl refl (recalled-message h sound n)
     where
       by : (o : Option Remembered) (q : Option Accepted) → find (is_of n) (arrivals h) ≡ o → message_at h n ≡ q → option_map what_came o ≡ option_map what_is q → option_map message_of o ≡ q
@@ -219,13 +219,13 @@ module _ (h : History) (sound : IsSound h) (bound : ℕ) (may : prune_answer h b
           λ i. Some (record { channel = (pair i).0; raw = (pair i).1; deliveries = goes_to i })
 
   -- a message that isn't forgotten is as it was
-  message-kept : (n : ℕ) → bound ≤ n → message_at (pruned bound h) n ≡ message_at h n
+  pub message-kept : (n : ℕ) → bound ≤ n → message_at (pruned bound h) n ≡ message_at h n
   message-kept n from = elim (lt-tells n (message_count h)) [
     | inl w ↦ rw w.0 (ap (option_map message_of) (remains-of n from) ∙ found-message n)
     | inr w ↦ rw w.0 (sym (message-beyond h n w.1))
   ]
 
-  message-gone : (n : ℕ) → n < bound → message_at (pruned bound h) n ≡ None
+  pub message-gone : (n : ℕ) → n < bound → message_at (pruned bound h) n ≡ None
   message-gone n below =
       let enough = few in
       let before : nat_lt n (message_count h) ≡ true = grind (arith, nat_tests) in

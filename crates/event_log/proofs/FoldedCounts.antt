@@ -10,11 +10,12 @@ use Rattle.event_log.specs.declared.entry.Entry.TheVariants.{Arrival, Take, Sett
 use Rattle.event_log.specs.declared.entry.Told.{Told}
 use Rattle.event_log.specs.declared.entry.Told.TheVariants as told
 use Rattle.event_log.specs.Counting.{channel_counts, destination_counts, is_accepted, is_delivered, is_filtered, is_refused, is_repeat, is_take_at, is_told}
-use Rattle.event_log.specs.Folding.{forgotten, forgotten_at, prune_answer}
-use Rattle.event_log.specs.History.{History, next_place}
+use Rattle.event_log.specs.Folding.{forgotten, forgotten_at, prune_answer, pruned}
+use Rattle.event_log.specs.History.{History, forgotten_messages, next_place}
 use Rattle.event_log.specs.Legal.{AreForgotten, IsSound}
 use Rattle.event_log.proofs.FoldedAlike.{slots-split}
-use Rattle.event_log.proofs.FoldedGood.{prunings-left}
+use Rattle.event_log.proofs.FoldedGood.{accepted-few, prunings-left}
+use Rattle.event_log.proofs.Forgetting.{gone-after, gone-few}
 
 -- what holds of each holds of all that are listed
 all-listed : {X : Type 0} (P : X → Type 0) (f : ℕ → X) (k : ℕ) → ((n : ℕ) → n < k → P (f n)) → All P (map f (range_with_len 0 k))
@@ -91,10 +92,16 @@ module _ (h : History) (sound : IsSound h) (bound : ℕ) (may : prune_answer h b
       let before = sound.opening.forgotten.taken d no_slots (omega arith) in
       let since = count_by-le-length (is_take_at d) h.entries in omega arith
 
+  named-few : (d : ℕ) → d < 32 → (forgotten_at h bound d).delivered + (forgotten_at h bound d).failed ≤ forgotten_messages (pruned bound h)
+  named-few d below =
+      let many = sound.opening.forgotten.statistics.all_destinations in
+      let before = sound.opening.forgotten.named d no_slots (omega arith) in
+      let since = gone-after h sound bound may d in omega arith
+
   pub folded-counts : h.opening.events_max ≤ 1000000
-      → ((d : ℕ) → d < 32 → (forgotten_at h bound d).delivered + (forgotten_at h bound d).failed ≤ next_place h)
-      → ((d : ℕ) → d < 32 → (destination_counts h d).inflight + (destination_counts h d).delivered ≤ (destination_counts h d).attempts) → AreForgotten (next_place h) (forgotten h bound)
-  folded-counts small few taken = record {
+      → ((d : ℕ) → d < 32 → (destination_counts h d).inflight + (destination_counts h d).delivered ≤ (destination_counts h d).attempts)
+      → AreForgotten (next_place h) (forgotten_messages (pruned bound h)) (forgotten h bound)
+  folded-counts small taken = record {
     statistics = record {
       all_channels = length-map-range_with_len (channel_counts h) 0 64;
       all_destinations = length-map-range_with_len (forgotten_at h bound) 0 32;
@@ -105,13 +112,16 @@ module _ (h : History) (sound : IsSound h) (bound : ℕ) (may : prune_answer h b
     };
     received = all-listed (λ c. c.received + c.repeats ≤ next_place h) (channel_counts h) 64 channel-few;
     settled = all-listed (λ d. (d.waiting ≡ 0) × (d.inflight ≡ 0)) (forgotten_at h bound) 32 (λ d below. (refl, refl));
-    named = all-listed (λ d. d.delivered + d.failed ≤ next_place h) (forgotten_at h bound) 32 few;
+    named = all-listed (λ d. d.delivered + d.failed ≤ forgotten_messages (pruned bound h)) (forgotten_at h bound) 32 named-few;
     taken = all-listed (λ d. d.attempts ≤ next_place h) (forgotten_at h bound) 32 attempts-few;
   }
     where
       fits : (d : ℕ) → d < 32 → slots_of (forgotten_at h bound d) < 2 ^ 64
       fits d below =
-          let here = few d below in
+          let here = named-few d below in
+          let gone = gone-few (pruned bound h) in
+          let came = accepted-few h.opening.plan h.entries in
+          let earlier = sound.opening.messages_few in
           let held = sound.room in
           let places = sound.opening.places_few in
           let left = prunings-left h bound may in

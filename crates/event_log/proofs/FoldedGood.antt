@@ -9,17 +9,18 @@ use Rattle.plan_text.specs.Entries.{PlanEntry}
 use Rattle.event_log.specs.declared.entry.Entry.{Entry}
 use Rattle.event_log.specs.declared.refusal.PruneRefusal.TheVariants.{NoSuchMessage, StillLive, TooMany}
 use Rattle.event_log.specs.Counting.{destination_counts}
-use Rattle.event_log.specs.Folding.{folded, forgotten, is_live_message, prune_answer}
-use Rattle.event_log.specs.History.{Accepted, History, accepted_by, accepted_from, message_count, next_place, plan_after}
+use Rattle.event_log.specs.Folding.{folded, forgotten, is_live_message, prune_answer, pruned}
+use Rattle.event_log.specs.History.{Accepted, History, accepted_by, accepted_from, forgotten_messages, message_count, next_place, plan_after}
 use Rattle.event_log.specs.Legal.{AreForgotten, IsGoodOpening, IsSound}
 use Rattle.event_log.proofs.FoldedAlike.{destination-same}
+use Rattle.event_log.proofs.Forgetting.{in-turn-folded}
 use Rattle.event_log.proofs.Memories.{folded-memories, folded-owed, folded-places}
 use Rattle.event_log.proofs.MemoryKeys.{folded-keys}
 use Rattle.event_log.proofs.MemoryNumbers.{folded-numbers, numbers-within}
 use Rattle.event_log.proofs.PrunedRuns.{remaining-within}
 
 -- no more messages come than entries
-accepted-few : (plan : PlanEntry) (es : List Entry) → length (accepted_from plan es) ≤ length es
+pub accepted-few : (plan : PlanEntry) (es : List Entry) → length (accepted_from plan es) ≤ length es
 accepted-few plan [] = omega arith
 accepted-few plan (e ∷ es) = by (accepted_by plan e) (accepted-few (plan_after plan e) es)
   where
@@ -38,7 +39,7 @@ prunings-left h bound is = by (nat_lt (message_count h) bound) (find (is_live_me
     by false None false few e = absurd cc
     by false None true few e = grind (arith, nat_tests)
 
-pub folded-good : (h : History) → IsSound h → (bound : ℕ) → prune_answer h bound ≡ None → h.opening.events_max ≤ 1000000 → AreForgotten (next_place h) (forgotten h bound)
+pub folded-good : (h : History) → IsSound h → (bound : ℕ) → prune_answer h bound ≡ None → h.opening.events_max ≤ 1000000 → AreForgotten (next_place h) (forgotten_messages (pruned bound h)) (forgotten h bound)
     → ((d : ℕ) → d < 32 → (destination_counts h d).inflight + (destination_counts h d).delivered ≤ (destination_counts h d).attempts) → IsGoodOpening (folded bound h)
 folded-good h sound bound may small counts taken =
     let held = sound.room in
@@ -54,6 +55,7 @@ folded-good h sound bound may small counts taken =
       places_within = All-from_recursion (λ r. r.place < next_place h) (folded bound h).remembered (remaining-within h sound bound may);
       numbers = folded-numbers h sound bound;
       numbers_within = numbers-within h sound bound;
+      in_turn = in-turn-folded h sound bound may;
       keys = folded-keys h sound bound;
       forgotten = counts;
       were_taken = λ d below. subst (λ c. c.inflight + c.delivered ≤ c.attempts) (sym (destination-same h sound bound may d below)) (taken d below);

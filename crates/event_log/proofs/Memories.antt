@@ -132,7 +132,7 @@ module _ (h : History) (sound : IsSound h) where
   memories-since a (Deploy plan ∷ es) all = memories-since (a + 1) es all.1
 
   -- each arrival that is kept can be remembered
-  arrivals-good : AllByRecursion (IsMemory (plan_in_force h)) (arrivals h)
+  pub arrivals-good : AllByRecursion (IsMemory (plan_in_force h)) (arrivals h)
   arrivals-good =
       subst (AllByRecursion (IsMemory (plan_in_force h))) (sym (arrivals-are h))
       (all-append (IsMemory (plan_in_force h)) (map (renewed h) h.opening.remembered) (recalled_all h h.opening.places h.entries)

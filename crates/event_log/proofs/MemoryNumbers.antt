@@ -14,7 +14,7 @@ use Rattle.event_log.specs.Legal.{IsSound}
 use Rattle.event_log.proofs.Recalling.{Numbered, arrivals-are, less-zero, numbered-legal, recalled_all, renewed}
 
 -- numbers rise, from a lowest on and below a bound
-abbrev Climbing : ℕ → ℕ → List ℕ → Type 0
+abbrev pub Climbing : ℕ → ℕ → List ℕ → Type 0
 Climbing low high [] = Unit {0}
 Climbing low high (n ∷ ns) = (low ≤ n) × (n < high) × Climbing (n + 1) high ns
 
@@ -34,7 +34,7 @@ climbing-rises low high (n ∷ (m ∷ ns)) climb (suc k) inside =
     let next : suc (k + 1) ≡ suc k + 1 = omega arith in
     subst (λ j. slice_index (m ∷ ns) k < slice_index (n ∷ (m ∷ ns)) j) next (climbing-rises (n + 1) high (m ∷ ns) climb.2 k (omega arith))
 
-climbing-within : (low high : ℕ) (ns : List ℕ) → Climbing low high ns → AllByRecursion (λ n. n < high) ns
+pub climbing-within : (low high : ℕ) (ns : List ℕ) → Climbing low high ns → AllByRecursion (λ n. n < high) ns
 climbing-within low high [] climb = tt
 climbing-within low high (n ∷ ns) climb = (climb.1, climbing-within (n + 1) high ns climb.2)
 
@@ -78,7 +78,7 @@ climbing-entries h count a plan (Cancel number mask ∷ es) numbered = climbing-
 climbing-entries h count a plan (Deploy next ∷ es) numbered = climbing-entries h count (a + 1) next es (subst (λ c. Numbered c next es) (less-zero count) numbered.1)
 
 -- those of arrivals of which some are dropped
-climbing-filter : (keep : Remembered → Bool) (low high : ℕ) (rs : List Remembered) → Climbing low high (filter_map number_of rs) → Climbing low high (filter_map number_of (filter keep rs))
+pub climbing-filter : (keep : Remembered → Bool) (low high : ℕ) (rs : List Remembered) → Climbing low high (filter_map number_of rs) → Climbing low high (filter_map number_of (filter keep rs))
 climbing-filter keep low high [] climb = tt
 climbing-filter keep low high (r ∷ rs) climb = by (keep r) (number_of r) refl climb (λ from c. climbing-filter keep from high rs c)
   where
@@ -91,17 +91,20 @@ climbing-filter keep low high (r ∷ rs) climb = by (keep r) (number_of r) refl 
     by false (Some n) is climb rest = let first = climb.0 in climbing-lower (n + 1) low high (filter_map number_of (filter keep rs)) (omega arith) (rest (n + 1) climb.2)
 
 module _ (h : History) (sound : IsSound h) (bound : ℕ) where
-  climbing : Climbing 0 (message_count h) (filter_map number_of (folded bound h).remembered)
-  climbing =
-      climbing-filter (λ r. not (is_forgotten h bound r)) 0 (message_count h) (arrivals h)
-      (subst (Climbing 0 (message_count h))
+  -- those of all arrivals that are kept
+  pub arrivals-climb : Climbing 0 (message_count h) (filter_map number_of (arrivals h))
+  arrivals-climb =
+      subst (Climbing 0 (message_count h))
       (sym (ap (filter_map number_of) (arrivals-are h)
       ∙ (filter_map-append number_of (map (renewed h) h.opening.remembered) (recalled_all h h.opening.places h.entries)
       ∙ ap (λ ns. ns ++ filter_map number_of (recalled_all h h.opening.places h.entries)) (renewed-numbers h h.opening.remembered))))
       (climbing-append 0 h.opening.messages (message_count h) (filter_map number_of h.opening.remembered) (filter_map number_of (recalled_all h h.opening.places h.entries)) (omega arith) (omega arith)
       (climbing-all h.opening.messages (filter_map number_of h.opening.remembered) sound.opening.numbers
       (recursion_from_All (λ n. n < h.opening.messages) (filter_map number_of h.opening.remembered) sound.opening.numbers_within))
-      (climbing-entries h h.opening.messages h.opening.places h.opening.plan h.entries (numbered-legal h sound.legal))))
+      (climbing-entries h h.opening.messages h.opening.places h.opening.plan h.entries (numbered-legal h sound.legal)))
+
+  pub climbing : Climbing 0 (message_count h) (filter_map number_of (folded bound h).remembered)
+  climbing = climbing-filter (λ r. not (is_forgotten h bound r)) 0 (message_count h) (arrivals h) arrivals-climb
 
   pub folded-numbers : IsStrictlyIncreasing (filter_map number_of (folded bound h).remembered)
   folded-numbers = climbing-rises 0 (message_count h) (filter_map number_of (folded bound h).remembered) climbing

@@ -30,7 +30,7 @@ suc-lt q n = elim (lt-tells q n) [
   | inr w ↦ let high = w.1 in let no : nat_lt (1 + q) (suc n) ≡ false = grind (arith, nat_tests) in no ∙ sym w.0
 ]
 
-position-cons : (p : Entry → Bool) (e : Entry) (es : List Entry) → position p (e ∷ es) ≡ cond (p e) (Some 0) (option_map (λ k. suc k) (position p es))
+pub position-cons : (p : Entry → Bool) (e : Entry) (es : List Entry) → position p (e ∷ es) ≡ cond (p e) (Some 0) (option_map (λ k. suc k) (position p es))
 position-cons p e es = by (p e) (prefix_len (λ x. not (p x)) es)
   where
     by : (b : Bool) (q : ℕ) → cond (nat_lt (cond (not b) (1 + q) 0) (suc (length es))) (Some (cond (not b) (1 + q) 0)) None ≡ cond b (Some 0) (option_map (λ k. suc k) (cond (nat_lt q (length es)) (Some q) None))
@@ -41,7 +41,7 @@ position-cons p e es = by (p e) (prefix_len (λ x. not (p x)) es)
         at true one = ap (λ k. Some k) one
         at false one = refl
 
-further : (a : ℕ) (o : Option ℕ) → option_map (λ k. a + 1 + k) o ≡ option_map (λ k. a + k) (option_map (λ k. suc k) o)
+pub further : (a : ℕ) (o : Option ℕ) → option_map (λ k. a + 1 + k) o ≡ option_map (λ k. a + k) (option_map (λ k. suc k) o)
 further a None = refl
 further a (Some k) = let same : a + 1 + k ≡ a + suc k = omega arith in ap (λ x. Some x) same
 
@@ -167,7 +167,7 @@ brought-later place raw low (r ∷ rs) less rise =
     let apart : (r.place == place) ≡ false = grind (arith, nat_tests) in
     rw apart (brought-later place raw (r.place + 1) rs (omega arith) rise.1)
 
-found-low : (p : Remembered → Bool) (low : ℕ) (rs : List Remembered) (r : Remembered) → Rising low rs → find p rs ≡ Some r → low ≤ r.place
+pub found-low : (p : Remembered → Bool) (low : ℕ) (rs : List Remembered) (r : Remembered) → Rising low rs → find p rs ≡ Some r → low ≤ r.place
 found-low p low [] r rise is = absurd cc
 found-low p low (x ∷ rs) r rise is = by (p x) (λ e. found-low p (x.place + 1) rs r rise.1 e) is
   where

@@ -103,18 +103,22 @@ forgotten h bound = record { channels = map (channel_counts h) (range_with_len 0
 
 -- ---- what remains
 
--- the opening that remains where all entries are folded, and the messages below a bound are forgotten
-abbrev pub folded : ℕ → History → Opening
-folded bound h = record {
+-- the opening that a history leaves where all its entries are folded, by what is counted of them and not remembered, and what is remembered
+abbrev pub closing : History → Statistics → List Remembered → Opening
+closing h forgotten remembered = record {
   plan = plan_in_force h;
   events_max = h.opening.events_max;
   places = next_place h;
   messages = message_count h;
   deployments = deployments h;
   prunings = h.opening.prunings + 1;
-  forgotten = forgotten h bound;
-  remembered = filter (λ r. not (is_forgotten h bound r)) (arrivals h);
+  forgotten = forgotten;
+  remembered = remembered;
 }
+
+-- the opening that remains where the messages below a bound are forgotten
+abbrev pub folded : ℕ → History → Opening
+folded bound h = closing h (forgotten h bound) (filter (λ r. not (is_forgotten h bound r)) (arrivals h))
 
 -- the history that goes on from it
 abbrev pub pruned : ℕ → History → History

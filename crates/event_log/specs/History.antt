@@ -1,7 +1,7 @@
 -- What was booked, and what it says: the messages, their slots and the queues.
-use Rattle.std.specs.Prelude.{ℕ, ◌+◌, ◌-◌, Bool, false, ◌&&◌, ◌==◌, nat_lt, if◌then◌else◌, List, [], ◌∷◌, ◌++◌, length, take, filter, find, slice_get, Option, None, Some, is_some}
+use Rattle.std.specs.Prelude.{ℕ, ◌+◌, ◌-◌, Bool, false, ◌&&◌, ◌==◌, nat_lt, if◌then◌else◌, List, [], ◌∷◌, ◌++◌, length, take, filter, find, slice_get, count_by, Option, None, Some, is_some}
 use Rattle.std.specs.List.{filter_map, cons_option, list_any, range_with_len}
-use Rattle.std.specs.Option.{option_map, option_map_or}
+use Rattle.std.specs.Option.{is_none, option_map, option_map_or}
 use Rattle.std.specs.Int.{bit_at}
 use Rattle.hl7_head.specs.Header.{header_of}
 use Rattle.plan_text.specs.Entries.{PlanEntry}
@@ -157,6 +157,14 @@ is_numbered n told.Filtered = false
 is_numbered n (told.Refused cause) = false
 is_numbered n (told.Repeat place) = false
 
+-- whether an entry is the arrival of message n
+abbrev pub is_arrival_of : ℕ → Entry → Bool
+is_arrival_of n (Arrival conn channel raw told) = is_numbered n told
+is_arrival_of n (Take ticket now) = false
+is_arrival_of n (Settle ticket outcome now state) = false
+is_arrival_of n (Cancel number mask) = false
+is_arrival_of n (Deploy plan) = false
+
 -- the number of an arrival, if it was accepted
 abbrev pub number_of : Remembered → Option ℕ
 number_of r = number_told r.told
@@ -180,6 +188,10 @@ numbers h = range_with_len 0 (message_count h)
 -- the numbers of the messages that are not forgotten, in order
 abbrev pub remaining : History → List ℕ
 remaining h = filter (λ n. is_some (message_at h n)) (numbers h)
+
+-- how many messages are forgotten
+abbrev pub forgotten_messages : History → ℕ
+forgotten_messages h = count_by (λ n. is_none (message_at h n)) (numbers h)
 
 -- where message n goes; nowhere where there is no such message
 abbrev pub deliveries : History → ℕ → List Delivery

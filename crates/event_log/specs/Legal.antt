@@ -1,5 +1,5 @@
 -- Histories that a sequential engine gives.
-use Rattle.std.specs.Prelude.{◌≡◌, ◌<◌, ◌≤◌, ◌+◌, ◌*◌, ℕ, true, false, List, [], length, map, None, Some, Ok, IfSome, All, AllPairs}
+use Rattle.std.specs.Prelude.{◌≡◌, ◌<◌, ◌≤◌, ◌+◌, ◌*◌, ℕ, true, false, List, [], length, map, None, Some, Ok, is_some, IfSome, All, AllPairs}
 use Rattle.std.specs.List.{filter_map}
 use Rattle.std.specs.List.Sorted.{IsStrictlyIncreasing}
 use Rattle.mllp_frame.specs.Framing.{IsBlockData}
@@ -13,7 +13,7 @@ use Rattle.event_log.specs.declared.entry.Told.{Told}
 use Rattle.event_log.specs.declared.entry.Told.TheVariants as told
 use Rattle.event_log.specs.declared.entry.Entry.{Entry}
 use Rattle.event_log.specs.declared.entry.Entry.TheVariants.{Arrival, Take, Settle, Cancel, Deploy}
-use Rattle.event_log.specs.History.{Accepted, History, Opening, Remembered, before, begun, deliveries, entry_at, message_count, message_of, number_of, plan_in_force, remembered_as, slot, state}
+use Rattle.event_log.specs.History.{Accepted, History, Opening, Remembered, before, begun, deliveries, entry_at, forgotten_messages, message_at, message_count, message_of, number_of, plan_in_force, remembered_as, slot, state}
 use Rattle.event_log.specs.Answers.{answer, attempts_max, cancel_answer, has_key, is_kept, settle_answer, take_answer}
 use Rattle.event_log.specs.Counting.{destination_counts}
 use Rattle.event_log.specs.Deployment.{deploy_answer}
@@ -72,16 +72,17 @@ pub record IsMemory (plan : PlanEntry) (r : Remembered) : Type 0 where
   pub slots : map (λ s. s.destination) r.slots ≡ destinations_of r.deliveries
   pub attempts : All (λ s. IsWithin (attempts_max plan s.destination) s.state) r.slots
 
--- what is counted of what was folded: no more than could be, and no forgotten message waits or is in flight
-pub record AreForgotten (places : ℕ) (forgotten : Statistics) : Type 0 where
+-- what is counted of what was folded, where so many messages are forgotten: no more than could be. No forgotten message waits or is in flight, and
+-- each was delivered or failed once at most at a destination
+pub record AreForgotten (places messages : ℕ) (forgotten : Statistics) : Type 0 where
   pub statistics : IsStatistics forgotten
   pub received : All (λ c. c.received + c.repeats ≤ places) forgotten.channels
   pub settled : All (λ d. (d.waiting ≡ 0) × (d.inflight ≡ 0)) forgotten.destinations
-  pub named : All (λ d. d.delivered + d.failed ≤ places) forgotten.destinations
+  pub named : All (λ d. d.delivered + d.failed ≤ messages) forgotten.destinations
   pub taken : All (λ d. d.attempts ≤ places) forgotten.destinations
 
--- an opening that a book may go on from: its plan is one; what is remembered has places, numbers and keys of its own, in order; and what its messages
--- owe is within the bound; no more of them were delivered or are in flight than attempts were begun
+-- an opening that a book may go on from: its plan is one; what is remembered has places, numbers and keys of its own, in order; no message is forgotten
+-- that came after one that is remembered; what its messages owe is within the bound; no more of them were delivered or are in flight than attempts were begun
 pub record IsGoodOpening (opening : Opening) : Type 0 where
   pub plan : IsPlan opening.plan
   pub memories : All (IsMemory opening.plan) opening.remembered
@@ -89,8 +90,9 @@ pub record IsGoodOpening (opening : Opening) : Type 0 where
   pub places_within : All (λ r. r.place < opening.places) opening.remembered
   pub numbers : IsStrictlyIncreasing (filter_map number_of opening.remembered)
   pub numbers_within : All (λ n. n < opening.messages) (filter_map number_of opening.remembered)
+  pub in_turn : (n m : ℕ) → n ≤ m → m < opening.messages → is_some (message_at (begun opening) n) ≡ true → is_some (message_at (begun opening) m) ≡ true
   pub keys : AllPairs (λ r s. has_key (key_of r.channel r.raw) s ≡ false) opening.remembered
-  pub forgotten : AreForgotten opening.places opening.forgotten
+  pub forgotten : AreForgotten opening.places (forgotten_messages (begun opening)) opening.forgotten
   pub were_taken : (d : ℕ) → d < 32 → (destination_counts (begun opening) d).inflight + (destination_counts (begun opening) d).delivered ≤ (destination_counts (begun opening) d).attempts
   pub messages_few : opening.messages ≤ opening.places
   pub places_few : opening.places ≤ opening.prunings * 1000000

@@ -1,10 +1,10 @@
 //! Events with their replies.
 
-ghost use Rattle.std.specs.Prelude.{◌≡◌, option_map};
+ghost use Rattle.std.specs.Prelude.{◌≡◌, option_map, position};
 ghost use Rattle.std.specs.Arc.{arc_value};
 ghost use Rattle.event_log.specs.Answers.{brings};
 ghost use Rattle.event_log.specs.Counting.{is_acceptance};
-ghost use Rattle.event_log.specs.History.{deployed_by};
+ghost use Rattle.event_log.specs.History.{deployed_by, is_arrival_of, is_numbered};
 
 use dest_queue::{Outcome, SlotState};
 use hl7_head::{Cause, Moment};
@@ -24,6 +24,18 @@ pub enum Told {
     Refused(Cause),
     /// It came before: the place of the entry of its first arrival.
     Repeat(usize),
+}
+
+impl Told {
+    /// Whether it says that the message has this number.
+    pub fn is_numbered(&self, number: u32) -> bool
+        ensures { result ≡ is_numbered number self.now }
+    {
+        match self {
+            Told::Accepted(own) => *own == number,
+            Told::Filtered | Told::Refused(_) | Told::Repeat(_) => false,
+        }
+    }
 }
 
 /// The right to settle one attempt to deliver a message.
@@ -128,6 +140,16 @@ impl Entry {
         )
     }
 
+    /// Whether it is the arrival of the message of this number.
+    pub fn is_arrival_of(&self, number: u32) -> bool
+        ensures { result ≡ is_arrival_of number self.now }
+    {
+        match self {
+            Entry::Arrival { told, .. } => told.is_numbered(number),
+            _ => false,
+        }
+    }
+
     /// The plan that it deploys, if it deploys one.
     pub fn deployed(&self) -> Option<&Arc<Plan>>
         ensures { option_map (λ plan. arc_value plan.now) result ≡ deployed_by self.now }
@@ -137,4 +159,11 @@ impl Entry {
             _ => None,
         }
     }
+}
+
+/// Which of the entries is the first arrival of the message of this number.
+pub(crate) fn index_of_arrival(entries: &[Entry], number: u32) -> Option<usize>
+    ensures { result ≡ position (is_arrival_of number) entries.now }
+{
+    entries.iter().position(|entry| entry.is_arrival_of(number))
 }

@@ -1,14 +1,14 @@
 //! What a pruned history still says.
 
-ghost use Rattle.std.specs.Prelude.{◌≡◌, ◌<◌, ◌≤◌, ◌+◌, ℕ, List, None, false, All, AllPairs, map};
+ghost use Rattle.std.specs.Prelude.{◌≡◌, ◌<◌, ◌≤◌, ◌+◌, ℕ, List, None, Some, false, nat_le, if◌then◌else◌, option_and_then, All, AllPairs, map};
 ghost use Rattle.std.specs.List.{filter_map};
 ghost use Rattle.std.specs.List.Sorted.{IsStrictlyIncreasing};
 ghost use Rattle.judge_core.specs.Judging.{key_of};
 ghost use Rattle.event_log.specs.Alike.{AllAnswerAlike, AnswersAlike, AreMet, Aside, IsAlike, IsMet, forgotten_by};
-ghost use Rattle.event_log.specs.Answers.{has_key};
+ghost use Rattle.event_log.specs.Answers.{has_key, known};
 ghost use Rattle.event_log.specs.Counting.{destination_counts};
-ghost use Rattle.event_log.specs.Folding.{folded, forgotten_at, prune_answer, pruned};
-ghost use Rattle.event_log.specs.History.{History, message_count, next_place, number_of, plan_in_force};
+ghost use Rattle.event_log.specs.Folding.{arrival_place, folded, prune_answer, pruned};
+ghost use Rattle.event_log.specs.History.{History, message_count, number_of, plan_in_force};
 ghost use Rattle.event_log.specs.Legal.{IsGoodOpening, IsMemory, IsSound};
 ghost use Rattle.event_log.specs.Replay.{Request, next, run};
 ghost use Rattle.event_log.specs.Room.{owed};
@@ -29,10 +29,12 @@ pub fn folding_rules()
     ensures keys { (h : History) (bound : ℕ) → IsSound h → AllPairs (λ r s. has_key (key_of r.channel r.raw) s ≡ false) (folded bound h).remembered }
     ensures owes { (h : History) (bound : ℕ) → IsSound h → prune_answer h bound ≡ None → owed (pruned bound h) ≡ owed h }
 
-    // So a book may go on from it, where no more of the forgotten messages were delivered or failed at a destination than there were entries, and no more
-    // messages were delivered or are in flight than attempts were begun.
+    // A key is known where it stood, from the arrival of the first message on that isn't forgotten; those before are unknown.
+    ensures known { (h : History) (bound : ℕ) (key : List ℕ) → IsSound h → prune_answer h bound ≡ None
+        → known (pruned bound h) key ≡ option_and_then (λ place. if nat_le (arrival_place h bound) place then Some place else None) (known h key) }
+
+    // So a book may go on from it, where no more messages were delivered or are in flight at a destination than attempts were begun.
     ensures good { (h : History) (bound : ℕ) → IsSound h → prune_answer h bound ≡ None → h.opening.events_max ≤ EVENTS_MAX
-        → ((d : ℕ) → d < 32 → (forgotten_at h bound d).delivered + (forgotten_at h bound d).failed ≤ next_place h)
         → ((d : ℕ) → d < 32 → (destination_counts h d).inflight + (destination_counts h d).delivered ≤ (destination_counts h d).attempts) → IsGoodOpening (folded bound h) }
 
     // Two histories that are alike, but for what is left aside, answer alike each event that names nothing of it, where both have room for it. They

@@ -15,6 +15,6 @@ pub use deployment::{DEPLOYMENTS_MAX, keeps_destination, same_channels};
 pub use entry::{DeployedPlan, Entry, Ticket, Told};
 pub use folding::folding_rules;
 pub use laws::history_rules;
-pub use log::{EVENTS_MAX, Log, PLACES_MAX, slot_owed};
+pub use log::{EVENTS_MAX, Log, PLACES_MAX, PRUNINGS_MAX, slot_owed};
 pub use opening::{Opening, Remembered};
 pub use refusal::{CancelRefusal, DeployRefusal, PruneRefusal, TakeRefusal};

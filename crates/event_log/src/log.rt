@@ -1,23 +1,29 @@
 //! The history, with room for more of it.
 
-ghost use Rattle.std.specs.Prelude.{◌≡◌, ◌<◌, ◌≤◌, ◌+◌, ◌*◌, ◌==◌, None, OnOk, OnErr, length, not, option_copied};
+ghost use Rattle.std.specs.Prelude.{◌≡◌, ◌<◌, ◌≤◌, ◌+◌, ◌*◌, ◌==◌, None, OnOk, OnErr, length, map, not, option_copied};
 ghost use Rattle.std.specs.Arc.{arc_value};
+ghost use Rattle.std.specs.List.Sorted.{IsStrictlyIncreasing};
 ghost use Rattle.event_log.specs.Answers.{brings_at};
 ghost use Rattle.event_log.specs.Deployment.{deployments};
-ghost use Rattle.event_log.specs.History.{deployed_by, entry_at, followed_by, message_count, next_place, opened_by, plan_in_force};
+ghost use Rattle.event_log.specs.Folding.{arrival_place, closing};
+ghost use Rattle.event_log.specs.History.{begun, deployed_by, entry_at, followed_by, message_count, next_place, opened_by, plan_in_force};
 ghost use Rattle.event_log.specs.Room.{exceeds, owed, slot_owed};
 
 use crate::deployment::DEPLOYMENTS_MAX;
-use crate::entry::{DeployedPlan, Entry};
-use crate::opening::Opening;
+use crate::entry::{DeployedPlan, Entry, index_of_arrival};
+use crate::opening::{Opening, Remembered};
 use dest_queue::{ATTEMPTS_MAX, SlotState};
 use plan_text::Plan;
+use stat_count::Counts;
 use std::alloc::{AllocError, Global};
 use std::marker::Model;
 use std::sync::Arc;
 
 /// The most entries that any history may hold.
 pub const EVENTS_MAX: u32 = 1_000_000;
+
+/// The most prunings that a book may have.
+pub const PRUNINGS_MAX: u32 = 1_000;
 
 /// The most places that entries may ever have: 1,000 prunings fold 1,000,000 entries each, and 1,000,000 are held.
 pub const PLACES_MAX: u32 = 1_001_000_000;
@@ -105,6 +111,13 @@ impl Log {
         self.deployments
     }
 
+    /// How many prunings were made.
+    pub fn prunings(&self) -> u32
+        ensures { result ≡ self.now.history.opening.prunings }
+    {
+        self.opening.prunings
+    }
+
     /// How many entries were booked in all: the place of the next.
     pub fn len(&self) -> usize
         ensures { result ≡ next_place self.now.history }
@@ -142,6 +155,32 @@ impl Log {
             return None;
         }
         self.entries.get(place - self.opening.places)
+    }
+
+    /// What is remembered of the entries that were folded, in order of place.
+    pub fn remembered(&self) -> &[Remembered]
+        ensures { result.now ≡ self.now.history.opening.remembered }
+    {
+        self.opening.remembered()
+    }
+
+    /// Where the message of this number came: the place of its arrival, or of the next entry where the message is still to come;
+    /// 0 where it is forgotten, as all that came before it is too.
+    pub fn arrival_place(&self, number: u32) -> usize
+        ensures { result ≡ arrival_place self.now.history number }
+    {
+        if let Some(place) = self.opening.arrival_place(number) {
+            return place;
+        }
+        if let Some(k) = index_of_arrival(&self.entries, number) {
+            return self.first_place() + k;
+        }
+        let next = self.len();
+        if number < self.message_count() {
+            0
+        } else {
+            next
+        }
     }
 
     /// Whether these bytes came at this place, as an entry or a remembered arrival says.
@@ -208,5 +247,40 @@ impl Log {
         self.entries.push(plan_entry).unwrap();
         self.deployed = Some(plan);
         self.deployments += 1;
+    }
+
+    /// Folds all entries: the history goes on from an opening with what is counted of them and not remembered, and what is
+    /// remembered of them, in order of place. Room is made for so many entries more, and the memory of those that were held is
+    /// given back. As much has to be owed as before.
+    ///
+    /// # Errors
+    ///
+    /// Where the memory for that room is refused. Nothing is folded then.
+    pub fn fold(
+        &mut self,
+        room: usize,
+        forgotten: Counts,
+        remembered: Vec<Remembered>,
+    ) -> Result<(), AllocError>
+        requires places { IsStrictlyIncreasing (map (λ r. r.place) remembered.items) }
+        requires owed { owed (begun (closing self.old.history forgotten remembered.items)) ≡ owed self.old.history }
+        requires few_prunings { self.old.history.opening.prunings < PRUNINGS_MAX }
+        requires few_places { self.old.history.opening.places ≤ self.old.history.opening.prunings * EVENTS_MAX }
+        requires few_messages { self.old.history.opening.messages ≤ self.old.history.opening.places }
+        ensures history { OnOk result (self.new.history ≡ begun (closing self.old.history forgotten remembered.items)) }
+        ensures room { OnOk result (room ≤ self.new.room) }
+        ensures err { OnErr result (self.new ≡ self.old) }
+    {
+        let entries = Vec::with_capacity(*self.entries.allocator(), room)?;
+        self.opening.go_on(
+            self.deployed.take(),
+            self.entries.len(),
+            self.messages,
+            self.deployments,
+            forgotten,
+            remembered,
+        );
+        self.entries = entries;
+        Ok(())
     }
 }

@@ -1,10 +1,12 @@
 //! What a history starts with, or goes on from.
 
-ghost use Rattle.std.specs.Prelude.{◌≡◌};
+ghost use Rattle.std.specs.Prelude.{◌≡◌, ◌≢◌, ◌+◌, ◌<◌, ◌≤◌, [], All, IfNone, IfSome, find, length, map};
 ghost use Rattle.std.specs.Arc.{arc_value};
-ghost use Rattle.std.specs.List.{list_any};
+ghost use Rattle.std.specs.List.{HoldsAt, list_any};
+ghost use Rattle.std.specs.List.Sorted.{IsStrictlyIncreasing};
+ghost use Rattle.std.specs.Option.{option_map, option_map_or};
 ghost use Rattle.event_log.specs.Answers.{brought_before};
-ghost use Rattle.event_log.specs.History.{blank};
+ghost use Rattle.event_log.specs.History.{blank, is_numbered};
 
 use crate::entry::Told;
 use dest_queue::Slots;
@@ -41,6 +43,63 @@ impl Model for Remembered {
 }
 
 impl Remembered {
+    /// What is remembered of an arrival that stood at this place: the channel and the bytes that came, what its sender was told,
+    /// where it goes, and how it stands with it there.
+    pub fn new(
+        place: usize,
+        channel: u32,
+        raw: Text,
+        told: Told,
+        deliveries: Option<Deliveries>,
+        slots: Slots,
+    ) -> Remembered
+        ensures { result ≡ record { place = place; channel = channel; raw = raw; told = told; deliveries = option_map_or (λ ds. ds) deliveries []; slots = slots } }
+    {
+        Remembered {
+            place,
+            channel,
+            raw,
+            told,
+            deliveries,
+            slots,
+        }
+    }
+
+    /// The place where it stood.
+    pub fn place(&self) -> usize
+        ensures { result ≡ self.now.place }
+    {
+        self.place
+    }
+
+    /// The channel on which it came.
+    pub fn channel(&self) -> u32
+        ensures { result ≡ self.now.channel }
+    {
+        self.channel
+    }
+
+    /// The bytes that came.
+    pub fn raw(&self) -> &Text
+        ensures { result.now ≡ self.now.raw }
+    {
+        &self.raw
+    }
+
+    /// What its sender was told.
+    pub fn told(&self) -> Told
+        ensures { result ≡ self.now.told }
+    {
+        self.told
+    }
+
+    /// How it stood with it at each destination that it names.
+    pub fn slots(&self) -> &Slots
+        ensures { result.now ≡ self.now.slots }
+    {
+        &self.slots
+    }
+
     /// Whether it stood at this place, and brought these bytes.
     fn brought(&self, place: usize, raw: &[u8]) -> bool
         ensures { result ≡ brought_before place raw.now self.now }
@@ -51,7 +110,7 @@ impl Remembered {
 
 /// What a history starts with, or goes on from: the plan in force there and the bound of its entries; how many entries were
 /// folded, messages accepted, plans deployed and prunings made before it; what is counted of what was forgotten, and what is
-/// remembered.
+/// remembered, in order of place.
 #[derive(Drop)]
 pub struct Opening {
     pub(crate) plan: Arc<Plan>,
@@ -65,7 +124,9 @@ pub struct Opening {
 }
 
 impl Model for Opening {
+    ghost use Rattle.std.specs.Prelude.{map};
     ghost use Rattle.std.specs.Arc.{arc_value};
+    ghost use Rattle.std.specs.List.Sorted.{IsStrictlyIncreasing};
     ghost use Rattle.event_log.specs.Coding.{opening_code};
     ghost use Rattle.event_log.specs.History.{Opening as HistoryOpening};
 
@@ -83,6 +144,18 @@ impl Model for Opening {
       forgotten = o.forgotten;
       remembered = o.remembered.items;
     } };
+
+    ghost invariant = { λ o. IsStrictlyIncreasing (map (λ r. r.place) o.remembered.items) };
+}
+
+/// Which of the remembered arrivals stood at this place, by a binary search.
+fn index_of(remembered: &[Remembered], place: usize) -> Option<usize>
+    requires { IsStrictlyIncreasing (map (λ r. r.place) remembered.now) }
+    ensures inside { IfSome result (λ k. k < length remembered.now) }
+    ensures found { IfSome result (HoldsAt (λ r. r.place ≡ place) remembered.now) }
+    ensures missing { IfNone result (All (λ r. r.place ≢ place) remembered.now) }
+{
+    remembered.binary_search_by_key(&place, |r| r.place()).ok()
 }
 
 impl Opening {
@@ -106,6 +179,62 @@ impl Opening {
     pub(crate) fn brought(&self, place: usize, raw: &[u8]) -> bool
         ensures { result ≡ list_any (brought_before place raw.now) self.now.remembered }
     {
-        self.remembered.iter().any(|r| r.brought(place, raw))
+        match index_of(&self.remembered, place) {
+            Some(k) => self.remembered[k].brought(place, raw),
+            None => false,
+        }
+    }
+
+    /// What is remembered, in order of place.
+    pub(crate) fn remembered(&self) -> &[Remembered]
+        ensures { result.now ≡ self.now.remembered }
+    {
+        &self.remembered
+    }
+
+    /// Where the message of this number came, if that is remembered.
+    pub(crate) fn arrival_place(&self, number: u32) -> Option<usize>
+        ensures { result ≡ option_map (λ r. r.place) (find (λ r. is_numbered number r.told) self.now.remembered) }
+    {
+        self.remembered
+            .iter()
+            .find(|r| r.told().is_numbered(number))
+            .map(|r| r.place())
+    }
+
+    /// Goes on from where this many more entries were folded: the plan that was deployed since, if one was; how many messages
+    /// were accepted and plans deployed until there; what is counted and not remembered, and what is remembered.
+    pub(crate) fn go_on(
+        &mut self,
+        deployed: Option<Arc<Plan>>,
+        entries: usize,
+        messages: u32,
+        deployments: u32,
+        forgotten: Counts,
+        remembered: Vec<Remembered>,
+    )
+        requires places { IsStrictlyIncreasing (map (λ r. r.place) remembered.items) }
+        requires few_places { self.old.places + entries ≤ usize.MAX }
+        requires few_prunings { self.old.prunings < u32.MAX }
+        ensures { self.new ≡ record {
+          plan = option_map_or (λ p. arc_value p) deployed self.old.plan;
+          events_max = self.old.events_max;
+          places = self.old.places + entries;
+          messages = messages;
+          deployments = deployments;
+          prunings = self.old.prunings + 1;
+          forgotten = forgotten;
+          remembered = remembered.items;
+        } }
+    {
+        if let Some(plan) = deployed {
+            self.plan = plan;
+        }
+        self.places += entries;
+        self.messages = messages;
+        self.deployments = deployments;
+        self.prunings += 1;
+        self.forgotten = forgotten;
+        self.remembered = remembered;
     }
 }

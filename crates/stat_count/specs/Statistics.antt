@@ -76,6 +76,22 @@ again_one counts = record counts { inflight = counts.inflight - 1; waiting = cou
 abbrev pub cancelled_one : DestinationCounts → DestinationCounts
 cancelled_one counts = record counts { waiting = counts.waiting - 1; failed = counts.failed + 1 }
 
+-- one that waits is left out
+abbrev pub one_less_waiting : DestinationCounts → DestinationCounts
+one_less_waiting counts = record counts { waiting = counts.waiting - 1 }
+
+-- one in flight is left out
+abbrev pub one_less_inflight : DestinationCounts → DestinationCounts
+one_less_inflight counts = record counts { inflight = counts.inflight - 1 }
+
+-- one that the destination has is left out
+abbrev pub one_less_delivered : DestinationCounts → DestinationCounts
+one_less_delivered counts = record counts { delivered = counts.delivered - 1 }
+
+-- one that failed is left out
+abbrev pub one_less_failed : DestinationCounts → DestinationCounts
+one_less_failed counts = record counts { failed = counts.failed - 1 }
+
 -- the statistics of a book in which nothing has happened
 abbrev pub empty : Statistics
 empty = record { channels = replicate 64 no_arrivals; destinations = replicate 32 no_slots }

@@ -9,6 +9,7 @@ ghost use Rattle.stat_count.specs.Sums.{arrivals, takes, settlements};
 ghost use Rattle.stat_count.specs.Statistics.{Statistics, empty, channel_at, destination_at, on_channel, on_destination, slots_of};
 ghost use Rattle.stat_count.specs.Statistics.{filtered_one, accepted_one, refused_one, repeated_one};
 ghost use Rattle.stat_count.specs.Statistics.{waits_one, taken_one, delivered_one, failed_one, again_one, cancelled_one};
+ghost use Rattle.stat_count.specs.Statistics.{one_less_waiting, one_less_inflight, one_less_delivered, one_less_failed};
 
 use std::marker::Model;
 
@@ -225,6 +226,42 @@ impl Counts {
         let counts = &mut self.destinations[d as usize];
         counts.waiting -= 1;
         counts.failed += 1;
+    }
+
+    /// Leaves out one of the messages that wait at a destination, if any is counted. The attempts stay.
+    pub fn leave_out_waiting(&mut self, d: u32)
+        requires place { d < DESTINATIONS }
+        ensures { self.new ≡ on_destination d one_less_waiting self.old }
+    {
+        let counts = &mut self.destinations[d as usize];
+        counts.waiting = counts.waiting.saturating_sub(1);
+    }
+
+    /// Leaves out one of the messages in flight to a destination, if any is counted. The attempts stay.
+    pub fn leave_out_inflight(&mut self, d: u32)
+        requires place { d < DESTINATIONS }
+        ensures { self.new ≡ on_destination d one_less_inflight self.old }
+    {
+        let counts = &mut self.destinations[d as usize];
+        counts.inflight = counts.inflight.saturating_sub(1);
+    }
+
+    /// Leaves out one of the messages that a destination has, if any is counted. The attempts stay.
+    pub fn leave_out_delivered(&mut self, d: u32)
+        requires place { d < DESTINATIONS }
+        ensures { self.new ≡ on_destination d one_less_delivered self.old }
+    {
+        let counts = &mut self.destinations[d as usize];
+        counts.delivered = counts.delivered.saturating_sub(1);
+    }
+
+    /// Leaves out one of the messages that failed at a destination, if any is counted. The attempts stay.
+    pub fn leave_out_failed(&mut self, d: u32)
+        requires place { d < DESTINATIONS }
+        ensures { self.new ≡ on_destination d one_less_failed self.old }
+    {
+        let counts = &mut self.destinations[d as usize];
+        counts.failed = counts.failed.saturating_sub(1);
     }
 }
 

@@ -4,6 +4,7 @@ use Rattle.event_log.proofs.Memories.{folded-memories, folded-owed, folded-place
 use Rattle.event_log.proofs.MemoryNumbers.{folded-numbers, numbers-within}
 use Rattle.event_log.proofs.FoldedCounts.{folded-counts}
 use Rattle.event_log.proofs.FoldedGood.{folded-good}
+use Rattle.event_log.proofs.ForgottenPlaces.{known-pruned}
 use Rattle.event_log.proofs.MemoryKeys.{folded-keys}
 use Rattle.event_log.proofs.PrunedRuns.{pruned-both}
 use Rattle.event_log.proofs.FoldedAlike.{pruned-alike}
@@ -51,4 +52,7 @@ pub returns-clause-keys : goal.returns-clause-keys
 returns-clause-keys c = λ h bound sound. folded-keys h sound bound
 
 pub returns-clause-good : goal.returns-clause-good
-returns-clause-good c = λ h bound sound may small few taken. folded-good h sound bound may small (folded-counts h sound bound may small few taken) taken
+returns-clause-good c = λ h bound sound may small taken. folded-good h sound bound may small (folded-counts h sound bound may small taken) taken
+
+pub returns-clause-known : goal.returns-clause-known
+returns-clause-known c = λ h bound key sound may. known-pruned h sound bound may key

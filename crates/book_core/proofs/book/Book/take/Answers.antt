@@ -1,8 +1,14 @@
-use Rattle.std.proofs.Common.{◌≡◌, ◌+◌, ◌≤◌, Ok, ◌∙◌, ap, sym, arith}
+use Rattle.std.proofs.Common.{◌≡◌, ◌+◌, ◌≤◌, Ok, true, ◌∙◌, ap, sym, subst, arith}
 use Rattle.event_log.specs.Answers.{take_answer}
+use Rattle.event_log.specs.History.{deliveries, names}
 use Rattle.book_core.proofs.Keeping.{few-flights}
-use Rattle.book_core.proofs.KeepingTakes.{kept-taken, taken-inside, taken-less, taken-owed, taken-waits, taken-within}
+use Rattle.book_core.proofs.KeepingTakes.{kept-taken, taken-inside, taken-less, taken-named, taken-owed, taken-waits, taken-within}
 use Rattle.book_core.proofs.book.Book.take.Goals as goal
+
+pub letter-requires : goal.letter-requires
+letter-requires g c =
+    let asked : take_answer c.self.inside.log.history c.args.d c.args.now ≡ Ok c.in_ok-ticket.ticket = ap (λ h. take_answer h c.args.d c.args.now) (c.self.view_is ∙ c.ticket.ensures.unchanged) ∙ sym c.in_ok-ticket.ensures.answer in
+    subst (λ h. names c.args.d (deliveries h c.in_ok-ticket.ticket.number) ≡ true) c.self.view_is (taken-named _ _ _ _ _ _ c.self.invariant c.args.d c.args.now c.in_ok-ticket.ticket asked)
 
 pub count_taken-requires-clause-place : goal.count_taken-requires-clause-place
 count_taken-requires-clause-place g c =
