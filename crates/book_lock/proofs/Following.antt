@@ -1,12 +1,16 @@
 -- What rose with an entry.
-use Rattle.std.proofs.Common.{◌≡◌, ◌≢◌, ℕ, ◌+◌, ◌-◌, ◌<◌, ◌≤◌, ◌^◌, length, ltb, None, inl, inr, refl, sym, ap, subst, ◌∙◌, arith, length-append, [], ◌∷◌}
+use Rattle.std.proofs.Common.{◌≡◌, ◌≢◌, ℕ, zero, suc, ◌+◌, ◌-◌, ◌<◌, ◌≤◌, ◌^◌, length, ltb, map, None, inl, inr, refl, sym, ap, subst, ◌∙◌, arith, length-append, [], ◌∷◌}
+use Rattle.std.specs.List.{range_with_len}
 use Rattle.std.proofs.lemmas.List.FromFn.{length-map-range_with_len}
 use Rattle.plan_text.specs.Entries.{PlanEntry}
 use Rattle.stat_count.specs.Statistics.{Statistics}
 use Rattle.stat_count.specs.Sums.{arrivals, settlements, takes}
 use Rattle.event_log.specs.declared.entry.Entry.{Entry}
 use Rattle.event_log.specs.History.{History, deployed_by, followed_by, next_place, plan_in_force}
+use Rattle.event_log.specs.Alike.{Aside, IsAlike, forgotten_by}
+use Rattle.event_log.specs.Folding.{prune_answer, pruned}
 use Rattle.event_log.specs.Legal.{IsSound}
+use Rattle.event_log.proofs.FoldedAlike.{pruned-alike}
 use Rattle.event_log.proofs.Following.{plan-kept}
 use Rattle.event_log.specs.Counting.{channel_counts, counted, destination_counts}
 use Rattle.book_core.specs.Counting.{SumsRise}
@@ -117,6 +121,48 @@ opened_now book opening at counts first channels m t s is here known firsts are 
   where
     at_most : (a b : ℕ) → a ≡ b → a ≤ b
     at_most a b e = omega (arith, e)
+
+-- what is counted of a history is counted of it once it is pruned
+range-same : {A : Type 0} (f g : ℕ → A) (a n : ℕ) → ((k : ℕ) → k < a + n → f k ≡ g k) → map f (range_with_len a n) ≡ map g (range_with_len a n)
+range-same f g a zero same = refl
+range-same f g a (suc n) same =
+    ap (λ x. x ∷ map f (range_with_len (a + 1) n)) (same a (omega arith))
+    ∙ ap (λ l. g a ∷ l) (range-same f g (a + 1) n (λ k inside. same k (omega (arith, inside))))
+
+counted-alike : (aside : Aside) (h k : History) → IsAlike aside h k → counted k ≡ counted h
+counted-alike aside h k alike =
+    ap (λ l. record { channels = l; destinations = map (destination_counts k) (range_with_len 0 32) }) (range-same (channel_counts k) (channel_counts h) 0 64 alike.channels)
+    ∙ ap (λ l. record { channels = map (channel_counts h) (range_with_len 0 64); destinations = l }) (range-same (destination_counts k) (destination_counts h) 0 32 alike.destinations)
+
+same_sum : (old new a b opening m : ℕ) → old ≡ a → new ≡ b → b ≡ a → old ≡ opening + m → new ≡ opening + m
+same_sum old new a b opening m p q r t = omega (arith, p, q, r, t)
+
+same_since : (h k : History) (first : ℕ) → next_place k ≡ next_place h → first ≤ next_place h → first ≤ next_place k
+same_since h k first same since = omega (arith, same, since)
+
+-- the book behind the lock after a pruning
+pub folded : (h : Held) (bound : ℕ) (new : History) (counts : Statistics) (first channels m t s : ℕ) → new ≡ pruned bound h.book → IsSound h.book → prune_answer h.book bound ≡ None
+    → IsOpened h counts first channels → IsCounted h m t s → IsOpened (with_book h new) counts first channels × IsCounted (with_book h new) m t s
+folded h bound new counts first channels m t s is sound may opened known =
+    let k : History = pruned bound h.book in
+    let alike = pruned-alike h.book sound bound may in
+    let same : counted k ≡ counted h.book = counted-alike (forgotten_by bound h.book) h.book k alike in
+    let there : IsOpened (with_book h k) counts first channels = record {
+      opening = opened.opening;
+      all_channels = opened.all_channels;
+      all_destinations = opened.all_destinations;
+      first_is = opened.first_is;
+      channels_are = ap (λ (p : PlanEntry). length p.channels) alike.plan ∙ opened.channels_are;
+    } in
+    let now : IsCounted (with_book h k) m t s = record {
+      arrivals_are = same_sum (arrived h.book) (arrived k) (arrivals (counted h.book)) (arrivals (counted k)) (arrivals h.opening) m (arrived-is h.book) (arrived-is k) (ap arrivals same) known.arrivals_are;
+      takes_are = same_sum (taken h.book) (taken k) (takes (counted h.book)) (takes (counted k)) (takes h.opening) t (taken-is h.book) (taken-is k) (ap takes same) known.takes_are;
+      settlements_are = same_sum (settled h.book) (settled k) (settlements (counted h.book)) (settlements (counted k)) (settlements h.opening) s (settled-is h.book) (settled-is k) (ap settlements same) known.settlements_are;
+      since = same_since h.book k h.first alike.places known.since;
+    } in (
+      subst (λ (b : History). IsOpened (with_book h b) counts first channels) (sym is) there,
+      subst (λ (b : History). IsCounted (with_book h b) m t s) (sym is) now,
+    )
 
 -- a desk made no more than is shown
 pub shown : (opening opened now result made total : ℕ) → opening ≡ opened → now ≡ result → now ≡ opening + total → made ≤ total → opened + made ≤ result

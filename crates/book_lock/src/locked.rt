@@ -7,6 +7,7 @@ ghost use Rattle.stat_count.specs.Sums.{arrivals};
 ghost use Rattle.event_log.specs.History.{control_id, followed_by, next_place, payload, plan_in_force};
 ghost use Rattle.event_log.specs.Answers.{answer, cancel_answer, settle_answer, take_answer};
 ghost use Rattle.event_log.specs.Deployment.{deploy_answer};
+ghost use Rattle.event_log.specs.Folding.{prune_answer, pruned};
 ghost use Rattle.event_log.specs.Legal.{MayFollow};
 ghost use Rattle.event_log.specs.Room.{exceeds, is_full};
 ghost use Rattle.event_log.specs.Counting.{counted};
@@ -18,8 +19,8 @@ ghost use Rattle.book_lock.specs.Shares.{with_settlement, with_take};
 use crate::desks::{Desk, Station, audit_desks, audit_stations, made_by, settled_at, taken_at};
 use crate::sums::{arrivals, settlements, takes};
 use book_core::{
-    Book, CancelRefusal, DeployRefusal, Entry, Job, Letter, NotBooked, Receipt, TakeRefusal,
-    Ticket, three_sums,
+    Book, CancelRefusal, DeployRefusal, Entry, Job, Letter, NotBooked, PruneRefusal, Receipt,
+    TakeRefusal, Ticket, three_sums,
 };
 use dest_queue::{Addressed, Outcome, SettleRefusal, SlotState};
 use hl7_head::Moment;
@@ -327,6 +328,22 @@ impl<A: Opening, T: Ledger, U: Ledger, S: RowStore<Addressed<Letter>>> Locked<A,
         three_sums();
         self.book.rules();
         self.book.deploy(plan)?;
+        Ok(())
+    }
+
+    /// Forgets messages and folds all entries, as the book does: no share rises, and the statistics keep what is forgotten.
+    ///
+    /// # Errors
+    ///
+    /// The book's, in its order. A refusal leaves the book as it was.
+    pub fn prune(&mut self, before: u32) -> Result<(), PruneRefusal>
+        ensures answer { OnOk result (prune_answer self.old.book before ≡ None) }
+        ensures folded { OnOk result (self.new ≡ with_book self.old (pruned before self.old.book)) }
+        ensures refused { IfErr result (λ e. (prune_answer self.old.book before ≡ Some e) ⊎ (prune_answer self.old.book before ≡ None) × (e ≡ PruneRefusal.NoMemory)) }
+        ensures err { OnErr result (self.new ≡ self.old) }
+    {
+        self.book.rules();
+        self.book.prune(before)?;
         Ok(())
     }
 

@@ -13,7 +13,8 @@ ghost use Rattle.book_lock.specs.Shares.{no_calls, with_settlement, with_take};
 use crate::desks::{Desk, Station, open_desks, open_stations};
 use crate::locked::{Closed, Locked, Opening};
 use book_core::{
-    Book, CancelRefusal, DeployRefusal, Job, Letter, NotBooked, Receipt, TakeRefusal, Ticket, Told,
+    Book, CancelRefusal, DeployRefusal, Job, Letter, NotBooked, PruneRefusal, Receipt, TakeRefusal,
+    Ticket, Told,
 };
 use dest_queue::{Addressed, Outcome, SettleRefusal, SlotState};
 use hl7_head::Moment;
@@ -237,6 +238,16 @@ impl<A: Opening, T: Ledger, U: Ledger, S: RowStore<Addressed<Letter>>> Shared<A,
     /// The book's. A refusal drops the plan.
     pub fn deploy<H: Wait>(&self, rt: &H, plan: Arc<Plan>) -> Result<(), DeployRefusal> {
         self.locked.lock(rt).deploy(plan)
+    }
+
+    /// Forgets the messages numbered below `before`, and folds all entries. The receipts of folded arrivals are left aside in
+    /// the audit.
+    ///
+    /// # Errors
+    ///
+    /// The book's.
+    pub fn prune<H: Wait>(&self, rt: &H, before: u32) -> Result<(), PruneRefusal> {
+        self.locked.lock(rt).prune(before)
     }
 
     /// The statistics, with at least the arrivals that the desk made.

@@ -55,14 +55,12 @@ impl Dice {
         from[self.roll(4) as usize]
     }
 
-    /// The text of a message under one of twelve control ids (MSH-10), so that some come again, with the same bytes or
-    /// with others.
-    pub fn message(&mut self, alloc: Global) -> Result<String> {
+    /// The text of a message under a control id (MSH-10), one of a few.
+    pub fn message(&mut self, alloc: Global, id: u32) -> Result<String> {
         let event = self.pick(["A01", "A08", "A08", "A04"]);
         let version = self.pick(["2.5.1", "2.5.1", "2.5.1", "2.9"]);
         let patient = self.pick(["77", "77", "", "78"]);
         let class = self.pick(["I", "O", "I", "E"]);
-        let id = self.roll(12);
         Ok(format!(in alloc;
             "MSH|^~\\&|REG|HOSP|ENG|HUB|||ADT^{event}|{id}|P|{version}\rPID|1||{patient}\rPV1|1|{class}\r"
         )?)
@@ -78,10 +76,10 @@ impl Dice {
         }
     }
 
-    /// A ticket of an attempt, each part of which is small.
-    pub fn ticket(&mut self) -> Ticket {
+    /// A ticket of an attempt of a message, each part of which is small.
+    pub fn ticket(&mut self, number: u32) -> Ticket {
         Ticket {
-            number: self.roll(16),
+            number,
             destination: self.roll(5),
             attempt: self.roll(3),
         }

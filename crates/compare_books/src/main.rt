@@ -1,20 +1,24 @@
-//! Makes calls at random on the book and on the sequential engine, compares the answers, and says how often a call was
-//! made and how often refused. It stops where two answers differ. The numbers look like chance and are the same on each
-//! run.
+//! Makes calls at random on the book, on a book of which messages are forgotten in between, and on the sequential engine,
+//! compares the answers, and sees that calls of each kind were made and were refused. It stops where two answers differ. The
+//! sequential engine is slow, so two longer runs go without it. The numbers look like chance and are the same on each run.
 #![tactic(auto)]
 
 mod dice;
+mod known;
 mod pair;
 
-use anyhow::Result;
+use anyhow::{Result, bail};
 use dice::Dice;
 use pair::Pair;
 
-/// How many runs there are, each with two engines in which nothing is booked.
-const RUNS: u32 = 4;
+/// How many runs there are, each with engines in which nothing is booked. The last two go without the sequential engine.
+const RUNS: u32 = 6;
 
-/// How many calls a run makes.
+/// How many calls a run makes that the sequential engine answers too.
 const CALLS: u32 = 180;
+
+/// How many calls a run makes without it.
+const LONG: u32 = 2000;
 
 /// How often calls of one kind were made, and how often they were refused.
 #[derive(Clone, Copy)]
@@ -47,16 +51,18 @@ struct Scores {
     settlements: Score,
     cancellations: Score,
     deployments: Score,
+    prunings: Score,
 }
 
 /// Makes a call at random.
 fn call(rt: &HostRuntime, dice: &mut Dice, pair: &mut Pair, scores: &mut Scores) -> Result<()> {
-    match dice.roll(11) {
+    match dice.roll(13) {
         0..4 => scores.arrivals.count(pair.arrive(rt.alloc(), dice)?),
-        4..7 => scores.takes.count(pair.take(dice)?),
-        7..9 => scores.settlements.count(pair.settle(dice)?),
-        9 => scores.cancellations.count(pair.cancel(dice)?),
-        _ => scores.deployments.count(pair.deploy(rt.alloc(), dice)?),
+        4..8 => scores.takes.count(pair.take(dice)?),
+        8..10 => scores.settlements.count(pair.settle(dice)?),
+        10 => scores.cancellations.count(pair.cancel(dice)?),
+        11 => scores.deployments.count(pair.deploy(rt.alloc(), dice)?),
+        _ => scores.prunings.count(pair.prune(dice)?),
     }
     Ok(())
 }
@@ -64,8 +70,10 @@ fn call(rt: &HostRuntime, dice: &mut Dice, pair: &mut Pair, scores: &mut Scores)
 /// Makes the calls of one run.
 fn run(rt: &HostRuntime, seed: u32, scores: &mut Scores) -> Result<()> {
     let mut dice = Dice::new(seed);
-    let mut pair = Pair::new(rt)?;
-    for _ in 0..CALLS {
+    let is_long = seed >= RUNS - 2;
+    let mut pair = Pair::new(rt, !is_long)?;
+    let calls = if is_long { LONG } else { CALLS };
+    for _ in 0..calls {
         call(rt, &mut dice, &mut pair, scores)?;
         pair.compare(&mut dice)?;
     }
@@ -79,6 +87,7 @@ fn main(rt: HostRuntime) -> Result<()> {
         settlements: Score::NONE,
         cancellations: Score::NONE,
         deployments: Score::NONE,
+        prunings: Score::NONE,
     };
     for seed in 0..RUNS {
         run(&rt, seed, &mut scores)?;
@@ -90,8 +99,12 @@ fn main(rt: HostRuntime) -> Result<()> {
         ("settlements", scores.settlements),
         ("cancellations", scores.cancellations),
         ("deployments", scores.deployments),
+        ("prunings", scores.prunings),
     ] {
-        println!(rt; "{calls}: {} made, {} refused", score.made, score.refused)?;
+        if score.made == 0 || score.refused == 0 {
+            bail!("{calls}: {} made, {} refused", score.made, score.refused);
+        }
     }
+    println!(rt; "calls of each kind were made, and were refused")?;
     Ok(())
 }

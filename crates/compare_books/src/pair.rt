@@ -1,14 +1,15 @@
-//! The two engines, asked the same.
+//! The engines, asked the same.
 
 use crate::dice::{Dice, Said};
+use crate::known::{Key, Keys};
 use anyhow::{Result, bail};
-use book_core::{Book, Letter, NotBooked};
-use dest_queue::Addressed;
-use event_log::Ticket;
+use book_core::{Book, CancelRefusal, DeployRefusal, Letter, NotBooked, PruneRefusal};
+use dest_queue::{Addressed, SettleRefusal, SlotState};
+use event_log::{Ticket, Told};
 use hl7_head::Moment;
 use judge_core::{fits_block, judge};
 use plan_text::Plan;
-use row_store::PlainRows;
+use row_store::{PlainRows, QUEUES};
 use sequential_book::{NotBooked as OtherRefusal, NotSettled, SequentialBook};
 use std::alloc::Global;
 use std::hash::RandomState;
@@ -73,27 +74,41 @@ route = [{{ to = "C" }}]
 /// How many entries the engines may hold, fewer than a run makes calls.
 const ENTRIES: u32 = 60;
 
+/// How many entries the books may hold where the sequential engine isn't asked.
+const MANY_ENTRIES: u32 = 1000;
+
 /// The number of the connection by which all messages come.
 const CONNECTION: u32 = 7;
 
-/// The two engines, of one plan, the moment in seconds since 1970, and the ticket that was taken last.
+/// A book and the sequential engine, if it is asked, and a book of which the messages below a number are forgotten, all of one
+/// plan. The moment in seconds since 1970, the ticket that was taken last, and the first of the control ids of messages.
 #[derive(Drop)]
 pub struct Pair {
     book: Book<PlainRows<Addressed<Letter>>>,
-    other: SequentialBook,
+    other: Option<SequentialBook>,
+    pruned: Book<PlainRows<Addressed<Letter>>>,
+    forgotten: u32,
+    keys: Keys,
+    first_id: u32,
     seconds: u32,
     last: Ticket,
 }
 
 impl Pair {
-    /// Two engines in which nothing is booked.
-    pub fn new(rt: &HostRuntime) -> Result<Pair> {
+    /// Engines in which nothing is booked.
+    pub fn new(rt: &HostRuntime, asked: bool) -> Result<Pair> {
         let alloc = rt.alloc();
         let plan = plan_of(alloc, Said::FIRST)?;
-        let shared = Arc::try_clone(&plan)?;
+        let (shared, third) = (Arc::try_clone(&plan)?, Arc::try_clone(&plan)?);
+        let room = if asked { ENTRIES } else { MANY_ENTRIES };
+        let other = asked.then(|| SequentialBook::new(alloc, shared, ENTRIES));
         Ok(Pair {
-            book: Book::new(alloc, plan, ENTRIES, RandomState::new(rt)?),
-            other: SequentialBook::new(alloc, shared, ENTRIES),
+            book: Book::new(alloc, plan, room, RandomState::new(rt)?),
+            other,
+            pruned: Book::new(alloc, third, room, RandomState::new(rt)?),
+            forgotten: 0,
+            keys: Keys::new(alloc),
+            first_id: 0,
             seconds: 0,
             last: Ticket {
                 number: 0,
@@ -103,45 +118,73 @@ impl Pair {
         })
     }
 
+    /// The number of a message, forgotten or not.
+    fn number(&self, dice: &mut Dice) -> u32 {
+        let above = self.forgotten.saturating_add(dice.roll(16));
+        above.saturating_sub(4)
+    }
+
     /// The moment of the next call, the same as that of the last or a second later.
     fn now(&mut self, dice: &mut Dice) -> Result<Moment> {
         self.seconds = self.seconds.wrapping_add(dice.roll(2));
         Ok(Moment::of_unix(i64::from(self.seconds))?)
     }
 
-    /// Whether both book a message. An error where they tell its sender different things.
+    /// Whether all book a message under one of twelve control ids, so that some come again, with the same bytes or with others.
+    /// One whose key was forgotten doesn't come. An error where they tell its sender different things.
     pub fn arrive(&mut self, alloc: Global, dice: &mut Dice) -> Result<bool> {
         let channel = dice.roll(8) / 7;
-        let raw = dice.message(alloc)?.into_bytes();
+        let id = self.first_id.saturating_add(dice.roll(12));
+        let raw = dice.message(alloc, id)?.into_bytes();
+        if self.keys.is_forgotten(channel, id) {
+            return Ok(false);
+        }
         if channel >= self.book.plan().channels() || !fits_block(&raw) {
             bail!("it can't be judged");
         }
         let judged = judge(alloc, self.book.plan(), channel, raw)?;
-        if !judged.bookable() || !judged.plan().same(self.other.plan()) {
+        if !judged.bookable() {
             bail!("it isn't booked");
         }
-        let other = self.other.arrive(CONNECTION, &judged);
-        let told = match self.book.arrive(CONNECTION, &judged) {
-            Ok(receipt) => Ok(receipt.told),
+        let answer = match self.book.arrive(CONNECTION, &judged) {
+            Ok(receipt) => Ok((receipt.told, receipt.entry)),
             Err(NotBooked::Full) => Err(OtherRefusal::Full),
             Err(refusal) => bail!("{refusal}"),
         };
-        if told != other {
-            bail!("an arrival has two answers");
+        if let Some(other) = &mut self.other {
+            if !judged.plan().same(other.plan()) {
+                bail!("there are two plans");
+            }
+            if other.arrive(CONNECTION, &judged) != answer.map(|(told, _)| told) {
+                bail!("an arrival has two answers");
+            }
         }
-        Ok(told.is_ok())
+        let Ok((told, place)) = answer else {
+            return Ok(false);
+        };
+        let again = self.pruned.arrive(CONNECTION, &judged)?;
+        if (again.told, again.entry) != (told, place) {
+            bail!("an arrival has another answer where messages are forgotten");
+        }
+        if let Told::Accepted(_) | Told::Filtered = told {
+            self.keys.push(Key {
+                channel,
+                id,
+                place,
+                told,
+            })?;
+        }
+        Ok(true)
     }
 
-    /// Whether both take the front of a queue. An error where they don't take the same, or refuse it for two reasons.
+    /// Whether all take the front of a queue. An error where they don't take the same, or refuse it for two reasons.
     pub fn take(&mut self, dice: &mut Dice) -> Result<bool> {
         let d = dice.roll(5);
         let now = self.now(dice)?;
-        let other = self.other.take(d, now);
-        let ticket = match self.book.take(d, now) {
-            Ok(job) => Ok(job.ticket),
-            Err(refusal) => Err(refusal),
-        };
-        if ticket != other {
+        let ticket = self.book.take(d, now).map(|job| job.ticket);
+        let again = self.pruned.take(d, now).map(|job| job.ticket);
+        let other = self.other.as_mut().map(|other| other.take(d, now));
+        if ticket != again || other.is_some_and(|other| other != ticket) {
             bail!("a take has two answers");
         }
         if let Ok(ticket) = ticket {
@@ -150,60 +193,127 @@ impl Pair {
         Ok(ticket.is_ok())
     }
 
-    /// Whether both settle an attempt, that of the last ticket or another. An error where they leave its slot in two
-    /// states, or refuse it for two reasons.
+    /// Whether all settle an attempt, that of the last ticket or another. An error where they leave its slot in two states, or
+    /// refuse it for two reasons; one of a forgotten message is refused since it has no slot.
     pub fn settle(&mut self, dice: &mut Dice) -> Result<bool> {
         let ticket = if dice.roll(4) == 0 {
-            dice.ticket()
+            let number = self.number(dice);
+            dice.ticket(number)
         } else {
             self.last
         };
         let outcome = dice.outcome();
         let now = self.now(dice)?;
-        let other = self.other.settle(&ticket, outcome, now);
-        let state = match self.book.settle(&ticket, outcome, now) {
-            Ok(state) => Ok(state),
-            Err(refusal) => Err(NotSettled::Refused(refusal)),
+        let answer = self.book.settle(&ticket, outcome, now);
+        let due = if ticket.number < self.forgotten {
+            Err(SettleRefusal::NoSlot)
+        } else {
+            answer
         };
-        if state != other {
-            bail!("a settlement has two answers");
+        if let Some(other) = &mut self.other {
+            if other.settle(&ticket, outcome, now) != answer.map_err(NotSettled::Refused) {
+                bail!("a settlement has two answers");
+            }
         }
-        Ok(state.is_ok())
+        if self.pruned.settle(&ticket, outcome, now) != due {
+            bail!("a settlement has another answer where messages are forgotten");
+        }
+        Ok(answer.is_ok())
     }
 
-    /// Whether both cancel a message. An error where they cancel it at other destinations, or refuse it for two reasons.
+    /// Whether all cancel a message. An error where they cancel it at other destinations, or refuse it for two reasons; a
+    /// forgotten message isn't there.
     pub fn cancel(&mut self, dice: &mut Dice) -> Result<bool> {
-        let number = dice.roll(16);
+        let number = self.number(dice);
         let mask = self.book.cancel(number);
-        if mask != self.other.cancel(number) {
+        let due = if number < self.forgotten {
+            Err(CancelRefusal::NoSuchMessage)
+        } else {
+            mask
+        };
+        let other = self.other.as_mut().map(|other| other.cancel(number));
+        if self.pruned.cancel(number) != due || other.is_some_and(|other| other != mask) {
             bail!("a cancellation has two answers");
         }
         Ok(mask.is_ok())
     }
 
-    /// Whether both deploy a plan. An error where one does, or they refuse it for two reasons.
+    /// Whether all deploy a plan. An error where one does, or they refuse it for two reasons. Where the history is folded there
+    /// may be room for one that is full otherwise, so it isn't deployed there.
     pub fn deploy(&mut self, alloc: Global, dice: &mut Dice) -> Result<bool> {
         let plan = plan_of(alloc, dice.said())?;
-        let shared = Arc::try_clone(&plan)?;
+        let (shared, third) = (Arc::try_clone(&plan)?, Arc::try_clone(&plan)?);
         let answer = self.book.deploy(plan);
-        if answer != self.other.deploy(shared) {
-            bail!("a deployment has two answers");
+        if let Some(other) = &mut self.other {
+            if other.deploy(shared) != answer {
+                bail!("a deployment has two answers");
+            }
+        }
+        if answer != Err(DeployRefusal::Full) && self.pruned.deploy(third) != answer {
+            bail!("a deployment has another answer where messages are forgotten");
         }
         Ok(answer.is_ok())
     }
 
-    /// An error where a slot, a queue or the number of entries is not the same in both.
+    /// Whether messages are forgotten in one of the books. An error where the others say otherwise.
+    pub fn prune(&mut self, dice: &mut Dice) -> Result<bool> {
+        let before = self.forgotten.saturating_add(dice.roll(4));
+        let answer = self.pruned.prune(before);
+        if answer.err() != self.prune_refusal(before) {
+            bail!("a pruning has two answers");
+        }
+        if answer.is_ok() {
+            self.forgotten = before;
+            self.keys.forget(before, self.book.len())?;
+            self.first_id = self.first_id.saturating_add(2);
+        }
+        Ok(answer.is_ok())
+    }
+
+    /// Why the messages below a number may not be forgotten, by the book that keeps them. None that is forgotten was live.
+    fn prune_refusal(&self, before: u32) -> Option<PruneRefusal> {
+        if before > self.book.message_count() {
+            return Some(PruneRefusal::NoSuchMessage);
+        }
+        let live = (self.forgotten..before).find(|number| self.is_live(*number));
+        live.map(PruneRefusal::StillLive)
+    }
+
+    /// Whether a message is still to be delivered.
+    fn is_live(&self, number: u32) -> bool {
+        (0..QUEUES).any(|d| {
+            matches!(
+                self.book.status(number, d),
+                Some(SlotState::Waiting { .. } | SlotState::InFlight { .. })
+            )
+        })
+    }
+
+    /// An error where a slot, a queue, the statistics or the number of entries is not the same in all; forgotten messages have no
+    /// slots.
     pub fn compare(&self, dice: &mut Dice) -> Result<()> {
-        let number = dice.roll(16);
+        let number = self.number(dice);
         let d = dice.roll(5);
-        if self.book.status(number, d) != self.other.status(number, d)? {
-            bail!("a slot has two states");
+        let state = self.book.status(number, d);
+        let waiting = self.book.queue_len(d);
+        let len = self.book.len();
+        if let Some(other) = &self.other {
+            if other.status(number, d)? != state
+                || other.queue_len(d)? as u64 != waiting
+                || other.entries().len() != len
+            {
+                bail!("a slot, a queue or the history is not the same");
+            }
         }
-        if self.book.queue_len(d) != self.other.queue_len(d)? as u64 {
-            bail!("a queue has two lengths");
-        }
-        if self.book.len() != self.other.entries().len() {
-            bail!("there are two numbers of entries");
+        let due = if number < self.forgotten { None } else { state };
+        if self.pruned.status(number, d) != due
+            || self.pruned.queue_len(d) != waiting
+            || self.pruned.len() != len
+            || *self.pruned.counts() != *self.book.counts()
+        {
+            bail!(
+                "a slot, a queue, the history or the statistics are not the same where messages are forgotten"
+            );
         }
         Ok(())
     }

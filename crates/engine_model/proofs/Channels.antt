@@ -1,5 +1,5 @@
 -- The channels of connections.
-use Rattle.std.proofs.Common.{◌≡◌, ℕ, zero, suc, cond, List, [], ◌∷◌, map, slice_get, Option, None, Some, Result, Ok, Err, inl, inr, refl, sym, ap, ◌∙◌, subst, eq-eqb}
+use Rattle.std.proofs.Common.{◌≡◌, ℕ, zero, suc, cond, List, [], ◌∷◌, drop, map, slice_get, Option, None, Some, Result, Ok, Err, inl, inr, refl, sym, ap, ◌∙◌, subst, eq-eqb}
 use Rattle.std.specs.List.{AllByRecursion, cons_option, filter_map}
 use Rattle.std.specs.Option.{option_map, option_map_or}
 use Rattle.std.proofs.lemmas.Option.{same_Some, slice_get-map}
@@ -9,7 +9,7 @@ use Rattle.event_log.specs.declared.entry.Entry.TheVariants.{Arrival, Take, Sett
 use Rattle.event_log.specs.declared.entry.Told.{Told}
 use Rattle.conn_core.specs.Messages.{BookedMessage, booked, booked_with}
 use Rattle.conn_core.specs.Replies.{Answer}
-use Rattle.engine_model.specs.Run.{Connection, Run, arrival_on, arrivals}
+use Rattle.engine_model.specs.Run.{Connection, Run, arrival_on, arrivals, booked_since, folded_at}
 use Rattle.engine_model.specs.Converse.{HaveChannels, KeepToOne, KeepsTo}
 use Rattle.engine_model.specs.Promise.{KeepsItsWord}
 use Rattle.engine_model.proofs.Places.{same_or_apart}
@@ -50,13 +50,13 @@ pub run-keeps : (r : Run) → KeepsItsWord r → KeepsTo (map (λ (c : Connectio
 run-keeps r word = record { keeps = λ place conn channel raw told got. by place conn channel raw told got (slice_get r.connections conn) refl (word.booked conn) }
   where
     by : (place conn channel : ℕ) (raw : List ℕ) (told : Told) → slice_get r.history.entries place ≡ Some (Arrival conn channel raw told) → (o : Option Connection) → slice_get r.connections conn ≡ o
-        → arrivals conn r.history ≡ option_map_or (λ (c : Connection). booked conn c.channel c.answers) o [] → slice_get (map (λ (c : Connection). c.channel) r.connections) conn ≡ Some channel
+        → arrivals conn r.history ≡ option_map_or (booked_since (folded_at r conn) conn) o [] → slice_get (map (λ (c : Connection). c.channel) r.connections) conn ≡ Some channel
     by place conn channel raw told got None at is =
         absurd (each-kept (arrival_on conn) (λ _. ⊥) r.history.entries place (Arrival conn channel raw told) (record { conn = conn; channel = channel; raw = raw; told = told })
         (subst (AllByRecursion (λ _. ⊥)) (sym is) tt) got (own conn channel raw told))
     by place conn channel raw told got (Some c) at is =
         let on : channel ≡ c.channel = each-kept (arrival_on conn) (IsOn c.channel) r.history.entries place (Arrival conn channel raw told) (record { conn = conn; channel = channel; raw = raw; told = told })
-        (subst (AllByRecursion (IsOn c.channel)) (sym is) (booked-on conn c.channel c.answers)) got (own conn channel raw told) in
+        (subst (AllByRecursion (IsOn c.channel)) (sym is) (booked-on conn c.channel (drop (folded_at r conn) c.answers))) got (own conn channel raw told) in
         slice_get-map (λ (c : Connection). c.channel) r.connections conn ∙ ap (option_map (λ (c : Connection). c.channel)) at ∙ ap (λ n. Some n) (sym on)
 
 -- ---- of entries

@@ -1,15 +1,15 @@
 -- What a piece of a stream does.
-use Rattle.std.proofs.Common.{◌≡◌, ℕ, ◌+◌, Bool, true, false, List, [], ◌++◌, length, map, set, slice_get, Option, None, Some, inl, inr, refl, sym, ap, ◌∙◌, subst, append_assoc}
+use Rattle.std.proofs.Common.{◌≡◌, ◌≤◌, ℕ, ◌+◌, Bool, true, false, List, [], ◌++◌, drop, get_or, length, map, set, slice_get, Option, None, Some, inl, inr, refl, sym, ap, ◌∙◌, subst, append_assoc, length-append, arith}
 use Rattle.std.specs.Option.{option_map_or}
-use Rattle.std.proofs.lemmas.List.{map-append}
+use Rattle.std.proofs.lemmas.List.{drop-append-le, map-append}
 use Rattle.std.proofs.lemmas.List.Elements.{filter_map-append}
 use Rattle.event_log.specs.History.{History}
 use Rattle.event_log.specs.Legal.{IsLegal}
-use Rattle.conn_core.specs.Messages.{BookedMessage, booked, booked_with, messages}
+use Rattle.conn_core.specs.Messages.{booked, booked_with, messages}
 use Rattle.conn_core.specs.Replies.{Answer, Due, dues, numbered, replies}
 use Rattle.conn_core.proofs.Numbering.{numbered-append}
 use Rattle.engine_model.proofs.Duly.{dues-append}
-use Rattle.engine_model.specs.Run.{Connection, Run, arrivals}
+use Rattle.engine_model.specs.Run.{Connection, Run, arrivals, booked_since, folded_at}
 use Rattle.engine_model.specs.Steps.{AreAnswered, EndsWithin, Hears, HearsAt, HearsIf, ReadsOn, RepliesFront, after_answers}
 use Rattle.engine_model.specs.Promise.{AreFirst, AreRead, AreWritten, KeepsItsWord}
 use Rattle.engine_model.proofs.Booking.{arrivals-other, arrivals-own, legal-answers}
@@ -17,9 +17,6 @@ use Rattle.engine_model.proofs.Places.{each-set, get-set_other, get-set_same, sa
 
 abbrev raws : List Answer → List (List ℕ)
 raws answers = map (λ (a : Answer). a.raw) answers
-
-abbrev booked_at : ℕ → Connection → List BookedMessage
-booked_at conn c = booked conn c.channel c.answers
 
 -- what a piece does to its connection: these answers more, which are booked, and what the promise says of it after
 record Served (conn : ℕ) (h h' : History) (c to : Connection) : Type 0 where
@@ -93,13 +90,17 @@ module _ (conn : ℕ) (bytes : List ℕ) (now : ℕ) (h h' : History) (c to : Co
         written = subst (λ b. AreWritten b conn to.answers to.output) (sym s.stops) front;
       }
 
-booked_at-more : (conn : ℕ) (c to : Connection) (new : List Answer) → to.channel ≡ c.channel → to.answers ≡ c.answers ++ new → booked_at conn c ++ booked conn c.channel new ≡ booked_at conn to
-booked_at-more conn c to new channel answers =
-    sym (filter_map-append (λ (a : Answer). booked_with conn c.channel a.raw a.outcome) c.answers new)
-    ∙ ap (booked conn c.channel) (sym answers)
-    ∙ ap (λ n. booked conn n to.answers) (sym channel)
+since-more : (n conn : ℕ) (c to : Connection) (new : List Answer) → n ≤ length c.answers → to.channel ≡ c.channel → to.answers ≡ c.answers ++ new
+    → booked_since n conn c ++ booked conn c.channel new ≡ booked_since n conn to
+since-more n conn c to new before channel answers =
+    sym (filter_map-append (λ (a : Answer). booked_with conn c.channel a.raw a.outcome) (drop n c.answers) new)
+    ∙ ap (booked conn c.channel) (sym (drop-append-le n c.answers new before) ∙ ap (drop n) (sym answers))
+    ∙ ap (λ k. booked conn k (drop n to.answers)) (sym channel)
 
-module _ (conn : ℕ) (r r' : Run) (c to : Connection) (at : slice_get r.connections conn ≡ Some c) (only : r'.connections ≡ set r.connections conn to) where
+before-more : (n : ℕ) (xs ys new : List Answer) → n ≤ length xs → ys ≡ xs ++ new → n ≤ length ys
+before-more n xs ys new before grown = omega (arith, before, ap (λ (l : List Answer). length l) grown, length-append xs new)
+
+module _ (conn : ℕ) (r r' : Run) (c to : Connection) (at : slice_get r.connections conn ≡ Some c) (only : r'.connections ≡ set r.connections conn to) (stays : r'.folded ≡ r.folded) where
   served : Served conn r.history r'.history c to → KeepsItsWord r → KeepsItsWord r'
   served s word =
       let there : slice_get r'.connections conn ≡ Some to = ap (λ l. slice_get l conn) only ∙ get-set_same r.connections conn c to at in
@@ -109,18 +110,24 @@ module _ (conn : ℕ) (r r' : Run) (c to : Connection) (at : slice_get r.connect
         written = λ k d is. each-set (λ k (d : Connection). AreWritten d.ended k d.answers d.output) r.connections conn c to at s.written word.written k d (ap (λ l. slice_get l k) (sym only) ∙ is);
         booked = λ k. elim (same_or_apart conn k) [
           | inl same ↦
-              subst (λ n. arrivals n r'.history ≡ option_map_or (booked_at n) (slice_get r'.connections n) []) same
+              subst (λ n. arrivals n r'.history ≡ option_map_or (booked_since (folded_at r' n) n) (slice_get r'.connections n) []) same
               (ap (arrivals conn) s.history
               ∙ arrivals-own conn c.channel r.history s.new
-              ∙ ap (λ l. l ++ booked conn c.channel s.new) (word.booked conn ∙ ap (λ o. option_map_or (booked_at conn) o []) at)
-              ∙ booked_at-more conn c to s.new s.channel s.answers
-              ∙ ap (λ o. option_map_or (booked_at conn) o []) (sym there))
+              ∙ ap (λ l. l ++ booked conn c.channel s.new) (word.booked conn ∙ ap (λ o. option_map_or (booked_since (folded_at r conn) conn) o []) at)
+              ∙ since-more (folded_at r conn) conn c to s.new (word.before conn c at) s.channel s.answers
+              ∙ ap (λ o. option_map_or (booked_since (folded_at r conn) conn) o []) (sym there)
+              ∙ ap (λ f. option_map_or (booked_since (get_or f conn 0) conn) (slice_get r'.connections conn) []) (sym stays))
           | inr apart ↦
               ap (arrivals k) s.history
               ∙ arrivals-other k conn c.channel r.history s.new apart
               ∙ word.booked k
-              ∙ ap (λ o. option_map_or (booked_at k) o []) (sym (ap (λ l. slice_get l k) only ∙ get-set_other r.connections conn k to apart))
+              ∙ ap (λ o. option_map_or (booked_since (folded_at r k) k) o []) (sym (ap (λ l. slice_get l k) only ∙ get-set_other r.connections conn k to apart))
+              ∙ ap (λ f. option_map_or (booked_since (get_or f k 0) k) (slice_get r'.connections k) []) (sym stays)
         ];
+        before = λ k d is.
+            subst (λ f. get_or f k 0 ≤ length d.answers) (sym stays)
+            (each-set (λ k (d : Connection). folded_at r k ≤ length d.answers) r.connections conn c to at (before-more (folded_at r conn) c.answers to.answers s.new (word.before conn c at) s.answers) word.before k d
+            (ap (λ l. slice_get l k) (sym only) ∙ is));
       }
 
 hears : (conn : ℕ) (bytes : List ℕ) (now : ℕ) (r r' : Run) (c : Connection) → slice_get r.connections conn ≡ Some c → c.ended ≡ false → Hears conn bytes now r r' c → KeepsItsWord r → KeepsItsWord r'
@@ -128,8 +135,8 @@ hears conn bytes now r r' c at open_yet heard word =
     let read : messages c.stream ≡ raws c.answers = subst (λ b. AreRead b c.stream c.answers) open_yet (word.read conn c at) in
     let written : c.output ≡ replies conn c.answers = subst (λ b. AreWritten b conn c.answers c.output) open_yet (word.written conn c at) in
     elim heard.does [
-      | inl s ↦ served conn r r' c heard.to at heard.only (reads_on conn bytes now r.history r'.history c heard.to read written s) word
-      | inr s ↦ served conn r r' c heard.to at heard.only (ends_within conn bytes now r.history r'.history c heard.to read written s) word
+      | inl s ↦ served conn r r' c heard.to at heard.only heard.stays (reads_on conn bytes now r.history r'.history c heard.to read written s) word
+      | inr s ↦ served conn r r' c heard.to at heard.only heard.stays (ends_within conn bytes now r.history r'.history c heard.to read written s) word
     ]
 
 hears_if : (b : Bool) (conn : ℕ) (bytes : List ℕ) (now : ℕ) (r r' : Run) (c : Connection) → slice_get r.connections conn ≡ Some c → c.ended ≡ b → HearsIf b conn bytes now r r' c → KeepsItsWord r → KeepsItsWord r'

@@ -72,7 +72,7 @@ module _ (channels : List ℕ) (n : ℕ) (r : Run) (ready : AllReady channels n 
     grown = record { channel = c.channel; stream = c.stream ++ block_bytes raw; answers = c.answers ++ new ∷ []; output = c.output ++ numbered conn (1 + length (dues c.answers)) (dues (new ∷ [])); ended = false }
 
     abbrev heard : Run
-    heard = record { history = followed_by r.history (Arrival conn c.channel raw told); connections = set r.connections conn grown }
+    heard = record { history = followed_by r.history (Arrival conn c.channel raw told); connections = set r.connections conn grown; folded = r.folded }
 
     events : blocks (c.stream ++ block_bytes raw) ≡ blocks c.stream ++ block raw ∷ []
     events = block_behind c.stream raw c_is.outside may.fits
@@ -100,7 +100,7 @@ module _ (channels : List ℕ) (n : ℕ) (r : Run) (ready : AllReady channels n 
     hears : Steps (step_of (Arrival conn c.channel raw told)) r heard
     hears =
         subst (λ o. HearsAt o conn (block_bytes raw) 0 r heard) (sym at)
-        (subst (λ b. HearsIf b conn (block_bytes raw) 0 r heard c) (sym c_is.stays) (record { to = grown; only = refl; does = inl reads }))
+        (subst (λ b. HearsIf b conn (block_bytes raw) 0 r heard c) (sym c_is.stays) (record { to = grown; only = refl; stays = refl; does = inl reads }))
 
     grown-ready : Ready c.channel (n + 1) grown
     grown-ready = record { channel_is = refl; stays = refl; outside = nothing_open_behind c.stream raw c_is.outside may.fits; few = counted }

@@ -151,6 +151,7 @@ module _ (conn : ℕ) (xs ys : List ℕ) (now : ℕ) (r p r' : Run) where
         record {
           to = two.to;
           only = two.only ∙ ap (λ l. set l conn two.to) one.only ∙ set-set r.connections conn one.to two.to;
+          stays = two.stays ∙ one.stays;
           does = elim two.does [
             | inl t ↦ inl (reads-reads conn xs ys now r.history p.history r'.history c one.to two.to s t)
             | inr t ↦ inr (reads-ends conn xs ys now r.history p.history r'.history c one.to two.to s t)
@@ -162,6 +163,7 @@ module _ (conn : ℕ) (xs ys : List ℕ) (now : ℕ) (r p r' : Run) where
         record {
           to = one.to;
           only = ap (λ (q : Run). q.connections) two ∙ one.only;
+          stays = ap (λ (q : Run). q.folded) two ∙ one.stays;
           does = inr (subst (λ (q : Run). EndsWithin conn (xs ++ ys) now r.history q.history c one.to) (sym two) (ends-lost conn xs ys now r.history p.history c one.to s));
         }
 

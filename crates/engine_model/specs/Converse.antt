@@ -23,7 +23,8 @@ steps_of h = map step_of h.entries
 
 -- each connection keeps to its channel in these
 pub record KeepsTo (channels : List ℕ) (entries : List Entry) : Type 0 where
-  pub keeps : (place conn channel : ℕ) (raw : List ℕ) (told : Told) → slice_get entries place ≡ Some (Arrival conn channel raw told) → slice_get channels conn ≡ Some channel
+  pub keeps : (place conn channel : ℕ) (raw : List ℕ) (told : Told)
+      → slice_get entries place ≡ Some (Arrival conn channel raw told) → slice_get channels conn ≡ Some channel
 
 -- no connection has arrivals on two channels in these
 pub record KeepToOne (entries : List Entry) : Type 0 where

@@ -30,7 +30,13 @@ pub record IsCounted (w : Words) : Type 0 where
 
 -- a connection that has said this
 abbrev pub said : ℕ → List ℕ → Bool → Words → Connection
-said channel stream ended w = record { channel = channel; stream = stream; answers = map answer_of w.answers.items; output = w.replies.bytes.items; ended = ended }
+said channel stream ended w = record {
+  channel = channel;
+  stream = stream;
+  answers = map answer_of w.answers.items;
+  output = w.replies.bytes.items;
+  ended = ended;
+}
 
 -- These events were handled.
 abbrev pub Handles : ℕ → ℕ → ℕ → List Event → History → History → Words → Words → Type 0

@@ -1,12 +1,12 @@
 -- What holds of every run, whatever the steps and their order.
-use Rattle.std.specs.Prelude.{◌≡◌, Bool, true, false, List, [], ◌++◌, map, slice_get, Some, ◌≢◌, ℕ, Err}
+use Rattle.std.specs.Prelude.{◌≡◌, ◌≤◌, Bool, true, false, List, [], ◌++◌, length, map, slice_get, Some, ◌≢◌, ℕ, Err}
 use Rattle.std.specs.List.{AllByRecursion}
 use Rattle.std.specs.Option.{option_map_or}
 use Rattle.book_core.specs.declared.receipt.NotBooked.TheVariants.{NoMemory}
 use Rattle.event_log.specs.Legal.{IsLegal}
-use Rattle.conn_core.specs.Messages.{booked, messages}
+use Rattle.conn_core.specs.Messages.{messages}
 use Rattle.conn_core.specs.Replies.{Answer, replies}
-use Rattle.engine_model.specs.Run.{Connection, Run, arrivals}
+use Rattle.engine_model.specs.Run.{Connection, Run, arrivals, booked_since, folded_at}
 use Rattle.engine_model.specs.Steps.{RepliesFront}
 
 -- some messages are the first of others
@@ -34,9 +34,11 @@ pub record KeepsItsWord (r : Run) : Type 0 where
   -- what it was sent are the replies to these answers; what one that has ended was sent are whole acknowledgments, the
   -- first of its replies
   pub written : (conn : ℕ) (c : Connection) → slice_get r.connections conn ≡ Some c → AreWritten c.ended conn c.answers c.output
-  -- the booked ones of its answers are its arrivals, in order, with channel, bytes and what its sender was told; a number
-  -- that no connection has has none
-  pub booked : (conn : ℕ) → arrivals conn r.history ≡ option_map_or (λ (c : Connection). booked conn c.channel c.answers) (slice_get r.connections conn) []
+  -- the booked ones of its answers since the history was last folded are its arrivals that the history holds, in order, with
+  -- channel, bytes and what its sender was told: all of its answers, where it never was folded; a number that no connection
+  -- has has none
+  pub booked : (conn : ℕ) → arrivals conn r.history ≡ option_map_or (booked_since (folded_at r conn) conn) (slice_get r.connections conn) []
+  pub before : (conn : ℕ) (c : Connection) → slice_get r.connections conn ≡ Some c → folded_at r conn ≤ length c.answers
 
 -- a text is the front of another
 pub record IsFrontOf (text whole : List ℕ) : Type 0 where

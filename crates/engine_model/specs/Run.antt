@@ -1,12 +1,12 @@
 -- A run so far: what was booked, and what every connection read, was told and was sent.
-use Rattle.std.specs.Prelude.{ℕ, Bool, false, ◌==◌, if◌then◌else◌, List, [], map, slice_get, Option, None, Some}
+use Rattle.std.specs.Prelude.{ℕ, Bool, false, ◌==◌, if◌then◌else◌, List, [], drop, map, slice_get, slice_index_or, Option, None, Some}
 use Rattle.std.specs.List.{filter_map}
 use Rattle.std.specs.Option.{option_map_or}
 use Rattle.event_log.specs.declared.entry.Entry.{Entry}
 use Rattle.event_log.specs.declared.entry.Entry.TheVariants.{Arrival, Take, Settle, Cancel, Deploy}
 use Rattle.event_log.specs.History.{History, Opening, begun, blank}
 use Rattle.plan_text.specs.Entries.{PlanEntry}
-use Rattle.conn_core.specs.Messages.{BookedMessage}
+use Rattle.conn_core.specs.Messages.{BookedMessage, booked}
 use Rattle.conn_core.specs.Replies.{Answer}
 
 -- a connection: its channel, all bytes that came, the messages that were answered, all bytes that were sent, and whether
@@ -18,10 +18,12 @@ pub record Connection : Type 0 where
   pub output : List ℕ
   pub ended : Bool
 
--- what was booked, and the connections; a connection's number is its place
+-- What was booked, and the connections; a connection's number is its place. So many of the answers of each were given before the
+-- history was last folded; none, where it never was.
 pub record Run : Type 0 where
   pub history : History
   pub connections : List Connection
+  pub folded : List ℕ
 
 -- a connection on which nothing came yet
 abbrev pub silent : ℕ → Connection
@@ -29,7 +31,7 @@ silent channel = record { channel = channel; stream = []; answers = []; output =
 
 -- the run of no step from an opening on, with a connection on each of these channels
 abbrev pub started : Opening → List ℕ → Run
-started opening channels = record { history = begun opening; connections = map silent channels }
+started opening channels = record { history = begun opening; connections = map silent channels; folded = map (λ _. 0) channels }
 
 -- the same where nothing was booked before
 abbrev pub opened : PlanEntry → ℕ → List ℕ → Run
@@ -37,7 +39,8 @@ opened plan events_max channels = started (blank plan events_max) channels
 
 -- what an entry books for a connection, if it is an arrival there
 abbrev pub arrival_on : ℕ → Entry → Option BookedMessage
-arrival_on conn (Arrival came channel raw told) = if came == conn then Some (record { conn = came; channel = channel; raw = raw; told = told }) else None
+arrival_on conn (Arrival came channel raw told) =
+    if came == conn then Some (record { conn = came; channel = channel; raw = raw; told = told }) else None
 arrival_on conn (Take ticket now) = None
 arrival_on conn (Settle ticket outcome now state) = None
 arrival_on conn (Cancel number mask) = None
@@ -46,6 +49,14 @@ arrival_on conn (Deploy plan) = None
 -- the arrivals of a connection, in the order in which they were booked
 abbrev pub arrivals : ℕ → History → List BookedMessage
 arrivals conn h = filter_map (arrival_on conn) h.entries
+
+-- how many of the answers of a connection were given before the history was last folded
+abbrev pub folded_at : Run → ℕ → ℕ
+folded_at r conn = slice_index_or r.folded conn 0
+
+-- what the answers of a connection book, but for so many at their beginning
+abbrev pub booked_since : ℕ → ℕ → Connection → List BookedMessage
+booked_since n conn c = booked conn c.channel (drop n c.answers)
 
 -- what a connection was sent; nothing where there is no connection of that number
 abbrev pub output_of : Run → ℕ → List ℕ

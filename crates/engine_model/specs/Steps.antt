@@ -4,6 +4,7 @@ use Rattle.book_core.specs.declared.receipt.NotBooked.{NotBooked}
 use Rattle.book_core.specs.declared.receipt.NotBooked.TheVariants.{NoMemory, Full, PlanChanged}
 use Rattle.event_log.specs.declared.entry.Entry.TheVariants.{Arrival}
 use Rattle.event_log.specs.declared.entry.Told.{Told}
+use Rattle.event_log.specs.Folding.{prune_answer, pruned}
 use Rattle.event_log.specs.History.{History, followed_by}
 use Rattle.event_log.specs.Legal.{MayArrive}
 use Rattle.plan_text.specs.Entries.{IsPlan}
@@ -13,7 +14,7 @@ use Rattle.mllp_frame.specs.Framing.{blocks}
 use Rattle.conn_core.specs.Messages.{messages}
 use Rattle.conn_core.specs.Replies.{Answer, Due, dues, numbered}
 use Rattle.engine_model.specs.Run.{Connection, Run}
-use Rattle.engine_model.specs.Turn.{Turn, chunk, taking, settling, cancelling, deploying}
+use Rattle.engine_model.specs.Turn.{Turn, chunk, taking, settling, cancelling, deploying, pruning}
 
 -- the most frame events of a connection: having had so many it ends
 unfoldable pub frame_events_max : ℕ
@@ -95,6 +96,7 @@ pub record EndsWithin (conn : ℕ) (bytes : List ℕ) (now : ℕ) (h h' : Histor
 pub record Hears (conn : ℕ) (bytes : List ℕ) (now : ℕ) (r r' : Run) (c : Connection) : Type 0 where
   pub to : Connection
   pub only : r'.connections ≡ set r.connections conn to
+  pub stays : r'.folded ≡ r.folded
   pub does : ReadsOn conn bytes now r.history r'.history c to ⊎ EndsWithin conn bytes now r.history r'.history c to
 
 -- a connection that has ended hears nothing
@@ -111,14 +113,23 @@ HearsAt (Some c) conn bytes now r r' = HearsIf c.ended conn bytes now r r' c
 abbrev pub with_history : Run → History → Run
 with_history r h = record r { history = h }
 
--- One step. An event that the sequential engine refuses books nothing, and a take, a cancellation and a deployment may be
--- refused for memory; a settlement needs none. What is deployed is a plan.
+-- the run once its history is folded: all answers so far were given before
+abbrev pub folded_run : ℕ → Run → Run
+folded_run bound r = record {
+  history = pruned bound r.history;
+  connections = r.connections;
+  folded = map (λ (c : Connection). length c.answers) r.connections;
+}
+
+-- One step. An event that the sequential engine refuses books nothing, and a take, a cancellation, a deployment and a pruning may
+-- be refused for memory; a settlement needs none. What is deployed is a plan.
 abbrev pub Steps : Turn → Run → Run → Type 0
 Steps (chunk conn bytes now) r r' = HearsAt (slice_get r.connections conn) conn bytes now r r'
 Steps (taking d now) r r' = (r' ≡ with_history r (next r.history (asked d now))) ⊎ (r' ≡ r)
 Steps (settling ticket outcome now) r r' = r' ≡ with_history r (next r.history (ended ticket outcome now))
 Steps (cancelling number) r r' = (r' ≡ with_history r (next r.history (revoked number))) ⊎ (r' ≡ r)
 Steps (deploying plan) r r' = (IsPlan plan × (r' ≡ with_history r (next r.history (planned plan)))) ⊎ (r' ≡ r)
+Steps (pruning bound) r r' = ((prune_answer r.history bound ≡ None) × (r' ≡ folded_run bound r)) ⊎ (r' ≡ r)
 
 -- step after step
 abbrev pub Runs : List Turn → Run → Run → Type 0

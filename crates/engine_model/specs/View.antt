@@ -7,9 +7,9 @@ use Rattle.mllp_frame.specs.Framing.{blocks, open_end}
 use Rattle.engine_model.specs.Handling.{IsCounted, said}
 use Rattle.engine_model.specs.declared.connection.Connected.{Connected}
 use Rattle.engine_model.specs.declared.step.Step.{Step}
-use Rattle.engine_model.specs.declared.step.Step.TheVariants.{Chunk, Take, Settle, Cancel, Deploy}
+use Rattle.engine_model.specs.declared.step.Step.TheVariants.{Chunk, Take, Settle, Cancel, Deploy, Prune}
 use Rattle.engine_model.specs.Run.{Connection, Run}
-use Rattle.engine_model.specs.Turn.{Turn, chunk, taking, settling, cancelling, deploying}
+use Rattle.engine_model.specs.Turn.{Turn, chunk, taking, settling, cancelling, deploying, pruning}
 use Rattle.engine_model.specs.Promise.{KeepsItsWord}
 
 abbrev pub connection_of : Connected → Connection
@@ -37,10 +37,15 @@ turn_by (Take d now) = taking d now
 turn_by (Settle ticket outcome now) = settling ticket outcome now
 turn_by (Cancel number) = cancelling number
 turn_by (Deploy plan) = deploying (arc_value plan)
+turn_by (Prune before) = pruning before
 
 -- the run of a world with this history and these connections
 abbrev pub run_of : History → List Connected → Run
-run_of h connections = record { history = h; connections = map connection_of connections }
+run_of h connections = record { history = h; connections = map connection_of connections; folded = map (λ (c : Connected). c.folded) connections }
+
+-- a connection whose answers so far were given before the history was folded
+abbrev pub with_folded : Connected → Connected
+with_folded c = record c { folded = length c.words.answers.items }
 
 -- A world: each connection is fit, and the run keeps its word.
 pub record IsWorld (h : History) (connections : List Connected) : Type 0 where

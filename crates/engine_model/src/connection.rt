@@ -54,6 +54,8 @@ pub struct Connected {
     /// All bytes that came.
     pub stream: Vec<u8>,
     pub words: Words,
+    /// How many of its answers were given before the history was last folded.
+    pub folded: usize,
     /// Whether it has ended.
     pub ended: bool,
 }
@@ -192,6 +194,7 @@ impl Connected {
     pub fn new(alloc: Global, channel: u32) -> Self
         ensures silent { connection_of result ≡ silent channel }
         ensures stands { IsOpen result }
+        ensures folded { result.folded ≡ 0 }
     {
         Connected {
             channel,
@@ -202,6 +205,7 @@ impl Connected {
                 answers: Vec::new(alloc),
                 replies: Replies::new(alloc),
             },
+            folded: 0,
             ended: false,
         }
     }
@@ -221,6 +225,7 @@ impl Connected {
         ensures stands { OnOk result (IsOpen self.new) }
         ensures err { OnErr result (EndsWithin conn bytes.now now book.old book.new (connection_of self.old) (record (connection_of self.new) { ended = true })) }
         ensures channel { self.new.channel ≡ self.old.channel }
+        ensures folded { self.new.folded ≡ self.old.folded }
         ensures plan { plan_in_force book.new ≡ plan_in_force book.old }
     {
         longer_streams();
@@ -255,6 +260,7 @@ impl Connected {
         requires fit { IsFit (length (plan_in_force book.old).channels) self.old }
         ensures heard { HearsOn self.old.ended conn bytes.now now book.old book.new (connection_of self.old) (connection_of self.new) }
         ensures fit { IsFit (length (plan_in_force book.old).channels) self.new }
+        ensures folded { self.new.folded ≡ self.old.folded }
         ensures plan { plan_in_force book.new ≡ plan_in_force book.old }
     {
         if self.ended {

@@ -57,7 +57,8 @@ pub fn steps_of<S: RowStore<Addressed<Letter>>>(
     book: &Book<S>,
 ) -> Result<Vec<Step>, AllocError>
     ensures steps { IfOk result (λ steps. map turn_by steps.items ≡ steps_of book.now) }
-    ensures reached { IfOk result (λ steps. (channels : List ℕ) → KeepsTo channels book.now.entries → IsRunOf (map turn_by steps.items) book.now channels) }
+    ensures reached { IfOk result (λ steps. (channels : List ℕ) → KeepsTo channels book.now.entries →
+        IsRunOf (map turn_by steps.items) book.now channels) }
 {
     book.rules();
     let Ok(first) = Moment::of_unix(0) else {

@@ -24,19 +24,22 @@ pub fn run_rules()
     ensures goes_on { (xs ys : List Turn) (r between r' : Run) → Runs xs r between → Runs ys between r' → Runs (xs ++ ys) r r' }
 
     // Two pieces at one moment do what the piece may do that they make.
-    ensures joined { (conn : ℕ) (xs ys : List ℕ) (now : ℕ) (r between r' : Run) → Steps (chunk conn xs now) r between → Steps (chunk conn ys now) between r' → Steps (chunk conn (xs ++ ys) now) r r' }
+    ensures joined { (conn : ℕ) (xs ys : List ℕ) (now : ℕ) (r between r' : Run) →
+        Steps (chunk conn xs now) r between → Steps (chunk conn ys now) between r' → Steps (chunk conn (xs ++ ys) now) r r' }
 
     // Each connection keeps to its channel.
     ensures kept { (r : Run) → KeepsItsWord r → KeepsTo (map (λ c. c.channel) r.connections) r.history.entries }
 
     // Conversely, each legal history in which every connection keeps to its channel comes of the steps made of it.
-    ensures reached { (h : History) (channels : List ℕ) → IsLegal h → KeepsTo channels h.entries → length h.entries < frame_events_max → IsRunOf (steps_of h) h channels }
+    ensures reached { (h : History) (channels : List ℕ) → IsLegal h → KeepsTo channels h.entries →
+        length h.entries < frame_events_max → IsRunOf (steps_of h) h channels }
 
     // Where no connection has arrivals on two channels, there are channels to which they keep.
     ensures fit { (h : History) → KeepToOne h.entries → HaveChannels h.entries }
 
     // What a piece does is determined, unless a message was told that memory was refused.
-    ensures determined { (conn : ℕ) (bytes : List ℕ) (now : ℕ) (h g g' : History) (c d d' : Connection) (one : ReadsOn conn bytes now h g c d) (other : ReadsOn conn bytes now h g' c d') →
+    ensures determined { (conn : ℕ) (bytes : List ℕ) (now : ℕ) (h g g' : History) (c d d' : Connection)
+        (one : ReadsOn conn bytes now h g c d) (other : ReadsOn conn bytes now h g' c d') →
         NoneLacked one.new → NoneLacked other.new → (g ≡ g') × (d ≡ d') }
 
     // What a connection that has ended was sent is the front of its replies.

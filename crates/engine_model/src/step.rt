@@ -34,4 +34,8 @@ pub enum Step {
     Deploy {
         plan: Arc<Plan>,
     },
+    /// The messages numbered below `before` are forgotten, and the history is folded.
+    Prune {
+        before: u32,
+    },
 }

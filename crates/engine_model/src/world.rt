@@ -5,8 +5,8 @@ ghost use Rattle.std.specs.Arc.{arc_value};
 ghost use Rattle.engine_model.specs.Promise.{KeepsItsWord};
 ghost use Rattle.engine_model.specs.Run.{ended_at, opened, output_of, silent};
 ghost use Rattle.engine_model.specs.Steps.{Runs, Steps};
-ghost use Rattle.engine_model.specs.Turn.{chunk, taking, settling, cancelling, deploying};
-ghost use Rattle.engine_model.specs.View.{IsOpen, connection_of, turn_by};
+ghost use Rattle.engine_model.specs.Turn.{chunk, taking, settling, cancelling, deploying, pruning};
+ghost use Rattle.engine_model.specs.View.{IsOpen, connection_of, turn_by, with_folded};
 
 use crate::connection::Connected;
 use crate::step::Step;
@@ -140,6 +140,15 @@ impl<S: RowStore<Addressed<Letter>>> World<S> {
         }
     }
 
+    /// The messages below a number are forgotten, and the history is folded.
+    fn prune(&mut self, before: u32)
+        ensures { Steps (pruning before) self.old self.new }
+    {
+        if self.book.prune(before).is_ok() {
+            note_folding(&mut self.connections);
+        }
+    }
+
     /// Takes a step that is lent.
     fn advance(&mut self, step: &Step)
         ensures { Steps (turn_by step.now) self.old self.new }
@@ -154,6 +163,7 @@ impl<S: RowStore<Addressed<Letter>>> World<S> {
             } => self.settle(ticket, *outcome, *now),
             Step::Cancel { number } => self.cancel(*number),
             Step::Deploy { plan } => self.deploy(plan),
+            Step::Prune { before } => self.prune(*before),
         }
     }
 
@@ -179,10 +189,20 @@ impl<S: RowStore<Addressed<Letter>>> World<S> {
 fn listening(alloc: Global, channels: &[u32]) -> Result<Vec<Connected>, AllocError>
     ensures silent { IfOk result (λ connections. map connection_of connections.items ≡ map silent channels.now) }
     ensures stand { IfOk result (λ connections. All IsOpen connections.items) }
+    ensures none_folded { IfOk result (λ connections. All (λ c. c.folded ≡ 0) connections.items) }
 {
     let mut connections = Vec::with_capacity(alloc, channels.len())?;
     for channel in channels {
         connections.push_reserved(Connected::new(alloc, *channel));
     }
     Ok(connections)
+}
+
+/// Notes that the answers that these connections gave so far were given before the history was folded.
+fn note_folding(connections: &mut [Connected])
+    ensures { connections.new ≡ map with_folded connections.old }
+{
+    for connection in connections {
+        connection.folded = connection.words.answers.len();
+    }
 }

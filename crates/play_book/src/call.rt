@@ -51,6 +51,10 @@ pub enum Call<'a> {
         count: u32,
         plan: &'a str,
     },
+    /// The messages numbered below this are forgotten.
+    Prune {
+        before: u32,
+    },
     /// Each message of a queue is taken and delivered at a moment.
     Drain {
         d: u32,
@@ -196,6 +200,9 @@ fn changing<'a>(name: &str, words: &mut SplitWhitespace<'a>) -> Option<Call<'a>>
         }),
         "deploy" => Some(Call::Deploy {
             plan: words.next()?,
+        }),
+        "prune" => Some(Call::Prune {
+            before: number(words)?,
         }),
         _ => asking(name, words),
     }

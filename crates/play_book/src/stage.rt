@@ -119,6 +119,7 @@ impl Stage {
             Call::Cancel { number } => self.cancel(number),
             Call::Deploy { plan } => self.deploy(rt, plan),
             Call::Deploys { count, plan } => self.deploys(rt, count, plan),
+            Call::Prune { before } => self.prune(before),
             Call::Drain { d, now } => self.drain(d, now),
             Call::Queue { d } => self.queue(d),
             Call::Status { number, d } => self.status(number, d),
@@ -168,6 +169,15 @@ impl Stage {
             }
         }
         Ok(format!(in self.alloc; "{booked} deployed")?)
+    }
+
+    /// The answer to a pruning.
+    fn prune(&mut self, before: u32) -> Result<String> {
+        let alloc = self.alloc;
+        match self.book.prune(before) {
+            Ok(()) => Ok(format!(in alloc; "ok")?),
+            Err(refusal) => Ok(format!(in alloc; "{refusal:?}, code {}", refusal.code())?),
+        }
     }
 
     /// How many messages a queue has.

@@ -13,6 +13,7 @@
 //! - `take D MOMENT`: the front of a destination's queue is taken.
 //! - `settle NUMBER D ATTEMPT OUTCOME MOMENT`: an attempt is settled, as `delivered`, `again` or `rejected`.
 //! - `cancel NUMBER`: a message is cancelled.
+//! - `prune NUMBER`: the messages numbered below this are forgotten.
 //!
 //! Questions:
 //!

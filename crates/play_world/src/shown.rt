@@ -71,6 +71,7 @@ pub fn step_shown(alloc: Global, step: &Step) -> Result<String, AllocError> {
         } => settlement_shown(alloc, ticket, *outcome, *now),
         Step::Cancel { number } => format!(in alloc; "cancel {number}"),
         Step::Deploy { .. } => format!(in alloc; "deploy"),
+        Step::Prune { before } => format!(in alloc; "prune {before}"),
     }
 }
 

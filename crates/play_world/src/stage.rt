@@ -79,6 +79,7 @@ impl Stage {
             "take" => self.take(&mut words),
             "settle" => self.settle(&mut words),
             "cancel" => self.cancel(&mut words),
+            "prune" => self.prune(&mut words),
             question => self.asked(question, &mut words),
         }
     }
@@ -161,6 +162,12 @@ impl Stage {
     fn cancel(&mut self, words: &mut SplitWhitespace<'_>) -> Result<String> {
         let number = number(words)?;
         self.step(Step::Cancel { number })
+    }
+
+    /// Messages are forgotten.
+    fn prune(&mut self, words: &mut SplitWhitespace<'_>) -> Result<String> {
+        let before = number(words)?;
+        self.step(Step::Prune { before })
     }
 
     /// What came of a step.
