@@ -3,7 +3,7 @@
 
 Usage: bench/audit.py [PROGRAM]
 
-PROGRAM is the built crate bench_audit, crates/bench_audit/out/bench_audit where left out ('rt run' in crates/bench_audit
+PROGRAM is the built crate bench_parts, crates/bench_parts/out/bench_parts where left out ('rt run' in crates/bench_parts
 builds it). It books 1,000,000 messages at a shared book, closes it, and audits their receipts in the order of the arrivals
 and in the other one: each audit has to take less than SECONDS. Then it tells how long 500 arrivals took at a shared book
 that nobody else calls, behind 1,000 entries and behind 990,000: that is taking the lock, booking, and leaving it, so no less
@@ -16,7 +16,7 @@ import subprocess
 import sys
 
 HERE = os.path.dirname(os.path.abspath(__file__))
-PROGRAM = os.path.join(HERE, '..', 'crates', 'bench_audit', 'out', 'bench_audit')
+PROGRAM = os.path.join(HERE, '..', 'crates', 'bench_parts', 'out', 'bench_parts')
 RECEIPTS = 1_000_000
 FEW, MANY = 1_000, 990_000
 CALLS = 500
@@ -25,18 +25,29 @@ SECONDS = 1.0
 BOUND = 1.5
 
 
-def told(program, receipts, entries):
-    """What a run tells: nanoseconds of the audit in both orders, and of one arrival."""
-    lines = subprocess.run([program, str(receipts), str(entries), '--time'], check=True, capture_output=True, text=True).stdout.splitlines()
-    assert lines[:2] == [f'{receipts} receipts audited', f'{CALLS} arrivals behind {entries} entries'], lines
-    rising, falling, arrive = lines[2].split()[1], lines[2].split()[3], lines[3].split()[1]
-    return int(rising), int(falling), int(arrive) / CALLS
+def lines(program, *words):
+    """What a run tells."""
+    return subprocess.run([program, *map(str, words), '--time'], check=True, capture_output=True, text=True).stdout.splitlines()
+
+
+def audits_of(program, receipts):
+    """Nanoseconds of the audit of so many receipts, in both orders."""
+    told = lines(program, 'audit', receipts)
+    assert told[0] == f'{receipts} receipts audited', told
+    return int(told[1].split()[1]), int(told[1].split()[3])
+
+
+def arrival_behind(program, entries):
+    """Nanoseconds of an arrival behind so many entries."""
+    told = lines(program, 'arrivals', entries)
+    assert told[0] == f'{CALLS} arrivals behind {entries} entries', told
+    return int(told[1].split()[1]) / CALLS
 
 
 def main():
     program = os.path.abspath(sys.argv[1] if len(sys.argv) > 1 else PROGRAM)
-    audits = [told(program, RECEIPTS, FEW) for _ in range(AUDITS)]
-    pairs = [(told(program, 1, FEW)[2], told(program, 1, MANY)[2]) for _ in range(ARRIVALS)]
+    audits = [audits_of(program, RECEIPTS) for _ in range(AUDITS)]
+    pairs = [(arrival_behind(program, FEW), arrival_behind(program, MANY)) for _ in range(ARRIVALS)]
     missed = False
     for place, order in enumerate(['in the order of the arrivals', 'in the other order']):
         took = min(run[place] for run in audits)

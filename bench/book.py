@@ -3,8 +3,8 @@
 
 Usage: bench/book.py [PROGRAM]
 
-PROGRAM is the built crate bench_book, crates/bench_book/out/bench_book where left out ('rt run' in
-crates/bench_book builds it). It books messages and cancels them, and then tells how long 1,000 arrivals
+PROGRAM is the built crate bench_parts, crates/bench_parts/out/bench_parts where left out ('rt run' in
+crates/bench_parts builds it). It books messages and cancels them, and then tells how long 1,000 arrivals
 took, and 500 takes, settlements and cancellations: first in a history of about 1,000 entries, and then in
 one of about a million. Half of the takes find their message at the front of all rows, and half behind the
 rows of all others. A call may cost at most BOUND times as much in the longer, whose memory no
@@ -16,7 +16,7 @@ import subprocess
 import sys
 
 HERE = os.path.dirname(os.path.abspath(__file__))
-PROGRAM = os.path.join(HERE, '..', 'crates', 'bench_book', 'out', 'bench_book')
+PROGRAM = os.path.join(HERE, '..', 'crates', 'bench_parts', 'out', 'bench_parts')
 FEW, MANY = 500, 495_000
 CALLS = 500
 TIMES = 15
@@ -31,7 +31,7 @@ def entries(messages):
 
 def nanoseconds(program, messages):
     """Nanoseconds a call, by its kind."""
-    lines = subprocess.run([program, str(messages), '--time'], check=True, capture_output=True, text=True).stdout.splitlines()
+    lines = subprocess.run([program, 'calls', str(messages), '--time'], check=True, capture_output=True, text=True).stdout.splitlines()
     told = f'{entries(messages)} entries before'
     assert lines[0] == told, f'{lines[0]!r}, not {told!r}'
     words = (lines[2] + ' ' + lines[3]).split()

@@ -3,8 +3,8 @@
 
 Usage: bench/text.py [PROGRAM]
 
-PROGRAM is the built crate bench_text, crates/bench_text/out/bench_text where left out ('rt run' in
-crates/bench_text builds it). Each work is done so many times on messages of 10, 100 and 4,096
+PROGRAM is the built crate bench_parts, crates/bench_parts/out/bench_parts where left out ('rt run' in
+crates/bench_parts builds it). Each work is done so many times on messages of 10, 100 and 4,096
 segments; the time of a byte at 4,096 segments has to be at most three times that at 100, which a
 quadratic cost would pass by far. The exit status is 0 where it is, else 1.
 """
@@ -14,7 +14,7 @@ import sys
 import time
 
 HERE = os.path.dirname(os.path.abspath(__file__))
-PROGRAM = os.path.join(HERE, '..', 'crates', 'bench_text', 'out', 'bench_text')
+PROGRAM = os.path.join(HERE, '..', 'crates', 'bench_parts', 'out', 'bench_parts')
 HEAD = 76 + 91
 RESULT = 69
 BYTES = {segments: HEAD + (segments - 2) * RESULT for segments in (10, 100, 4096)}

@@ -14,6 +14,7 @@ use engine_workers::{Staff, Worked, run_workers};
 use log::Log;
 use plan_text::Plan;
 use row_store::PlainRows;
+use stat_count::Counts;
 use std::alloc::Global;
 use std::hash::RandomState;
 use std::marker::Brand;
@@ -40,9 +41,11 @@ fn empty_book(rt: &HostRuntime) -> Result<Book<Rows>, Fail> {
     Ok(Book::new(alloc, plan, EVENTS_MAX, RandomState::new(rt)?))
 }
 
-/// What came of a run.
+/// What came of a run: the statistics that were shown at its end, and how many arrivals each desk made.
 #[derive(Drop)]
 struct Ended {
+    shown: Counts,
+    made: (u64, u64),
     closed: Closed<Rows>,
     served: Vec<ServeReport>,
     delivered: Vec<DeliverReport>,
@@ -94,14 +97,24 @@ fn run<
         delivered,
     } = worked;
     let Staff {
-        desks,
+        mut desks,
         stations,
         ..
     } = staff;
+    let Some(first) = desks.get_mut(0) else {
+        return Err("desks".into());
+    };
+    let shown = shared.counts(rt, first);
+    let (Some(first), Some(second)) = (desks.get(0), desks.get(1)) else {
+        return Err("desks".into());
+    };
+    let made = (first.made(), second.made());
     let Ok(closed) = shared.close(desks, stations) else {
         return Err("shares".into());
     };
     Ok(Ended {
+        shown,
+        made,
         closed,
         served,
         delivered,
@@ -136,7 +149,8 @@ const BOTH: DeliverReport = DeliverReport {
 
 /// Connection 1 comes once connection 0 is read, and connection 0 brings its message once connection 1 has its reply.
 /// Connection 1 ends once its message is answered by destination 1. The first send to each destination ends once that to the
-/// other was begun, and the first receive likewise. All get on, and both messages are delivered to both destinations.
+/// other was begun, and the first receive likewise. All get on, and both messages are delivered to both destinations. The
+/// desks made an arrival each, and the statistics shown before the close are those of the closed book.
 #[test]
 fn workers_wait_for_one_another(rt: HostRuntime) -> Result<(), Fail> {
     let alloc = rt.alloc();
@@ -155,6 +169,11 @@ fn workers_wait_for_one_another(rt: HostRuntime) -> Result<(), Fail> {
     let receipts = receipts_of(alloc, ended.served)?;
     assert!(rt; audit(&ended.closed, &receipts).is_ok());
     assert_eq!(rt; receipts.len(), 2);
+    assert!(rt; ended.made == (1, 1) && ended.shown == *ended.closed.book().counts());
+    assert!(rt; ended.shown.channel(0).received == 2);
+    assert!(rt;
+        ended.shown.destination(0).delivered == 2 && ended.shown.destination(1).delivered == 2
+    );
     assert!(rt; ended.delivered.as_slice() == [BOTH, BOTH].as_slice());
     Ok(())
 }

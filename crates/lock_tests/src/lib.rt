@@ -1,5 +1,5 @@
-//! Tests of a shared book: its calls, its refusals, plans that are deployed, its close, the audit of its receipts, and two
-//! threads at it.
+//! Tests of a shared book: its calls, its refusals, plans that are deployed, messages that are forgotten, its close, the audit
+//! of its receipts, and two threads at it; and of serving a connection, at a desk and over devices that fail.
 #![tactic(auto)]
 
 #[cfg(test)]
@@ -9,9 +9,17 @@ mod calls;
 #[cfg(test)]
 mod deploys;
 #[cfg(test)]
+mod devices;
+#[cfg(test)]
+mod prunings;
+#[cfg(test)]
 mod refusals;
 #[cfg(test)]
 mod refused_calls;
+#[cfg(test)]
+mod refused_serving;
+#[cfg(test)]
+mod serving;
 #[cfg(test)]
 mod stage;
 #[cfg(test)]

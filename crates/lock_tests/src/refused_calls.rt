@@ -8,11 +8,12 @@ ghost use Rattle.event_log.specs.Counting.{counted};
 
 use crate::stage::{M1, Rows};
 use book_core::{
-    Book, CancelRefusal, DeployRefusal, EVENTS_MAX, NotBooked, Receipt, TakeRefusal, Ticket,
+    Book, CancelRefusal, DeployRefusal, EVENTS_MAX, NotBooked, PruneRefusal, Receipt, TakeRefusal,
+    Ticket,
 };
 use book_lock::{Closed, Desk, Opening, Shared, Station, audit};
 use conn_worker::nearest;
-use dest_queue::{FailCause, Outcome, SlotState};
+use dest_queue::{Outcome, SlotState};
 use judge_core::{Judged, fits_block, judge};
 use plan_text::Plan;
 use stat_count::{Counts, DestinationCounts};
@@ -186,8 +187,28 @@ fn deploy<A: Opening, T: Ledger, U: Ledger, H: Wait>(
     }
 }
 
-/// Makes one call of each kind: the message is delivered at destination 0, is to be sent again at 1, and is cancelled there
-/// and at 2. Settlements, the plan and the statistics ask for no memory.
+/// Forgets message 0.
+fn prune<A: Opening, T: Ledger, U: Ledger, H: Wait>(
+    rt: &H,
+    shared: &Shared<A, T, U, Rows>,
+    desk: &mut Desk<A>,
+    refused: &mut u32,
+) -> Option<()> {
+    let before = shared.counts(rt, desk);
+    match shared.prune(rt, 1) {
+        Err(PruneRefusal::NoMemory) => {
+            *refused = refused.saturating_add(1);
+            if shared.counts(rt, desk) != before {
+                return None;
+            }
+            shared.prune(rt, 1).ok()
+        }
+        answer => answer.ok(),
+    }
+}
+
+/// Makes one call of each kind: the message is delivered at destination 0, is to be sent again at 1, is cancelled there and
+/// at 2, and is forgotten in the end. Settlements, the plan and the statistics ask for no memory.
 fn call_each<A: Opening, T: Ledger, U: Ledger, H: Wait>(
     rt: &H,
     shared: &Shared<A, T, U, Rows>,
@@ -206,6 +227,7 @@ fn call_each<A: Opening, T: Ledger, U: Ledger, H: Wait>(
     let again = shared.settle(rt, station, &to_b, Outcome::Again, nearest(0));
     let cancelled = cancel(rt, shared, desk, refused)?;
     deploy(rt, shared, desk, deployed, refused)?;
+    prune(rt, shared, desk, refused)?;
     if delivered != Ok(SlotState::Delivered) || again.is_err() || cancelled != 6 {
         return None;
     }
@@ -301,13 +323,12 @@ fn ended(delivered: u64, attempts: u64) -> DestinationCounts {
     }
 }
 
-/// Whether the book has what the calls did, each once: seven entries, the slots at their ends, empty queues.
+/// Whether the book has what the calls did, each once: seven entries that are folded, what became of the message in the
+/// statistics, empty queues, and no receipt that is due.
 fn is_done_once(answers: &Answers, closed: &Closed<Rows>, deployed: &Arc<Plan>) -> bool {
     let (book, counts) = (closed.book(), closed.book().counts());
-    let cancelled = Some(SlotState::Failed(FailCause::Cancelled));
-    book.len() == 7
-        && book.status(0, 0) == Some(SlotState::Delivered)
-        && (book.status(0, 1), book.status(0, 2)) == (cancelled, cancelled)
+    (book.first_place(), book.len()) == (7, 7)
+        && (book.status(0, 0), book.status(0, 1), book.status(0, 2)) == (None, None, None)
         && (book.queue_len(0), book.queue_len(1), book.queue_len(2)) == (0, 0, 0)
         && counts.destination(0) == ended(1, 1)
         && counts.destination(1) == ended(0, 1)
@@ -316,6 +337,7 @@ fn is_done_once(answers: &Answers, closed: &Closed<Rows>, deployed: &Arc<Plan>) 
         && *answers.told == **deployed
         && **book.plan() == **deployed
         && audit(closed, slice::from_ref(&answers.receipt)).is_ok()
+        && audit(closed, &[]).is_ok()
 }
 
 /// Whichever request is refused: the call that was refused changed nothing, and made again it is done.

@@ -1,8 +1,5 @@
-//! Tests of the stores of rows: each item of a linked row is dropped once, a refused row changes nothing, and the worked
-//! rows are played on both stores.
+//! Tests of the linked rows: each item is dropped once, and a refused row changes nothing.
 #![tactic(auto)]
 
 #[cfg(test)]
 mod dropped;
-#[cfg(test)]
-mod worked;

@@ -1,0 +1,96 @@
+//! The audit of receipts, in the order of their arrivals and in the other one.
+
+ghost use Rattle.std.specs.Prelude.{◌≡◌, ◌+◌, length};
+ghost use Rattle.event_log.specs.History.{next_place, plan_in_force};
+ghost use Rattle.event_log.specs.Counting.{counted};
+
+use crate::message::{MANY, RESULT, Rows, judged, nanoseconds_since};
+use book_core::{Book, Receipt};
+use book_lock::{Closed, Desk, Opening, Shared, audit};
+use std::alloc::Global;
+use std::marker::Brand;
+use std::sync::Wait;
+use std::sync::ledger::{Blank, Ledger};
+use std::time::{Clock, Instant};
+
+/// Nanoseconds of the two audits.
+#[derive(Clone, Copy)]
+pub struct Audits {
+    pub rising: u64,
+    pub falling: u64,
+}
+
+/// Brings so many messages to a desk, each with bytes of its own, and gives their receipts.
+fn receipts_of<A: Opening, T: Ledger, U: Ledger, H: Wait>(
+    rt: &H,
+    alloc: Global,
+    shared: &Shared<A, T, U, Rows>,
+    desk: &mut Desk<A>,
+    count: u32,
+) -> Option<Vec<Receipt>> {
+    let plan = shared.plan(rt).ok()?;
+    let mut receipts = Vec::new(alloc);
+    for control_id in 0..count {
+        let message = judged(alloc, &plan, MANY, RESULT, control_id)?;
+        let receipt = shared.arrive(rt, desk, MANY, &message).ok()?;
+        receipts.push(receipt).ok()?;
+    }
+    Some(receipts)
+}
+
+/// How long an audit takes, where the receipts are right.
+fn time_audit<H: Clock>(rt: &H, closed: &Closed<Rows>, receipts: &[Receipt]) -> Option<u64> {
+    let began = Instant::now(rt).ok()?;
+    let answer = audit(closed, receipts);
+    let took = nanoseconds_since(rt, began)?;
+    answer.ok()?;
+    Some(took)
+}
+
+/// Books so many messages at a shared book, closes it, and audits their receipts twice.
+fn time_both<A: Opening, T: Ledger, U: Ledger, H: Wait + Clock>(
+    rt: &H,
+    alloc: Global,
+    book: Book<Rows>,
+    arrivals: Blank,
+    takes: Blank,
+    settlements: Blank,
+    count: u32,
+) -> Option<Audits>
+    requires counts { counted book ≡ A.counts }
+    requires first { next_place book ≡ A.first }
+    requires channels { length (plan_in_force book).channels ≡ A.channels }
+    requires arrivals { (arrivals.name ≡ A.name) × (arrivals.parts ≡ A.parts) × (A.parts ≡ 2) }
+    requires takes { (takes.name ≡ T.name) × (takes.parts ≡ T.parts) × (T.parts ≡ 1) }
+    requires settlements { (settlements.name ≡ U.name) × (settlements.parts ≡ U.parts) × (U.parts ≡ 1) }
+{
+    let opened = Shared::<A, T, U, Rows>::new(alloc, book, 1, 0, arrivals, takes, settlements);
+    let (shared, mut desks, stations) = opened.ok()?;
+    let mut desk = desks.pop()?;
+    let mut receipts = receipts_of(rt, alloc, &shared, &mut desk, count)?;
+    desks.push(desk).ok()?;
+    let closed = shared.close(desks, stations).ok()?;
+    let rising = time_audit(rt, &closed, &receipts)?;
+    receipts.reverse();
+    let falling = time_audit(rt, &closed, &receipts)?;
+    Some(Audits { rising, falling })
+}
+
+/// How long the audits of so many receipts take, at an empty book that is shared. None where a message was not booked, or
+/// memory was refused.
+pub fn time_audits<H: Wait + Clock>(
+    rt: &H,
+    alloc: Global,
+    book: Option<Book<Rows>>,
+    count: u32,
+) -> Option<Audits> {
+    time_both::<Brand, Brand, Brand, H>(
+        rt,
+        alloc,
+        book?,
+        Blank::new(2),
+        Blank::new(1),
+        Blank::new(1),
+        count,
+    )
+}

@@ -1,0 +1,128 @@
+//! Measures message text, the calls on a book, arrivals at a shared one, the audit of receipts, and prunings, for the scripts of
+//! bench/.
+//!
+//! Words: one of `parse SEGMENTS TIMES`, `get ..` and `set ..`, `calls MESSAGES`, `arrivals ENTRIES`, `audit RECEIPTS` and
+//! `foldings MESSAGES TIMES KEPT`, and `--time` where the times are told. Numbers that are left out are small, and with no such
+//! word all are measured.
+#![tactic(auto)]
+
+mod arrivals;
+mod audits;
+mod calls;
+mod foldings;
+mod message;
+mod text;
+mod words;
+
+use anyhow::{Result, bail};
+use arrivals::time_arrivals;
+use audits::time_audits;
+use calls::{fill, measure};
+use foldings::time_foldings;
+use message::empty_book;
+use std::env;
+use std::sync::Wait;
+use std::time::Clock;
+use text::{Work, repeated};
+use words::{Measure, Request, asked};
+
+/// How many calls of each kind are measured, and twice as many arrivals.
+const CALLS: u32 = 500;
+
+/// Fills a book, and measures the calls on it.
+fn tell_calls(rt: &HostRuntime, asked: Request) -> Result<()> {
+    let Some(mut book) = empty_book(rt) else {
+        bail!("there is no memory for a book");
+    };
+    if fill(rt, &mut book, asked.count).is_none() {
+        bail!("a call was refused");
+    }
+    println!(rt; "{} entries before", book.len())?;
+    let Some(times) = measure(rt, &mut book, asked.count, CALLS) else {
+        bail!("a measured call was refused");
+    };
+    println!(rt; "{} entries after", book.len())?;
+    if asked.timed {
+        println!(rt;
+            "arrive {} take {} settle {}",
+            times.arrive, times.take, times.settle
+        )?;
+        println!(rt; "behind {} cancel {}", times.behind, times.cancel)?;
+    }
+    Ok(())
+}
+
+/// Measures arrivals at a shared book.
+fn tell_arrivals<H: Wait + Clock>(rt: &H, host: &HostRuntime, asked: Request) -> Result<()> {
+    let Some(took) = time_arrivals(rt, host.alloc(), empty_book(host), asked.count, CALLS) else {
+        bail!("a message was not booked");
+    };
+    println!(host; "{} arrivals behind {} entries", CALLS, asked.count)?;
+    if asked.timed {
+        println!(host; "arrive {took}")?;
+    }
+    Ok(())
+}
+
+/// Measures the audit of receipts in both orders.
+fn tell_audits<H: Wait + Clock>(rt: &H, host: &HostRuntime, asked: Request) -> Result<()> {
+    let Some(audits) = time_audits(rt, host.alloc(), empty_book(host), asked.count) else {
+        bail!("a message was not booked, or the receipts are not right");
+    };
+    println!(host; "{} receipts audited", asked.count)?;
+    if asked.timed {
+        println!(host; "rising {} falling {}", audits.rising, audits.falling)?;
+    }
+    Ok(())
+}
+
+/// Fills a book and prunes it, time and again.
+fn tell_foldings(rt: &HostRuntime, asked: Request) -> Result<()> {
+    let Some(mut book) = empty_book(rt) else {
+        bail!("there is no memory for a book");
+    };
+    let Some(longest) = time_foldings(rt, &mut book, asked) else {
+        bail!("a call was refused");
+    };
+    println!(rt;
+        "{} foldings of {} messages, {} kept",
+        asked.times, asked.count, asked.kept
+    )?;
+    println!(rt;
+        "next place {}, next message {}",
+        book.len(),
+        book.message_count()
+    )?;
+    if asked.timed {
+        println!(rt; "longest {longest}")?;
+    }
+    Ok(())
+}
+
+/// Reads, looks up or changes a message.
+fn tell_text(rt: &HostRuntime, work: Work, asked: Request) -> Result<()> {
+    let sum = repeated(rt.alloc(), work, asked.count, asked.times)?;
+    println!(rt; "{work:?} {} {} {sum}", asked.count, asked.times)?;
+    Ok(())
+}
+
+fn main(rt: HostRuntime) -> Result<()> {
+    let words: Vec<String> = env::args(&rt)?.collect(rt.alloc())?;
+    let asked = asked(words.as_slice());
+    match asked.measure {
+        Some(Measure::Calls) => tell_calls(&rt, asked),
+        Some(Measure::Arrivals) => tell_arrivals(&rt, &rt, asked),
+        Some(Measure::Audit) => tell_audits(&rt, &rt, asked),
+        Some(Measure::Foldings) => tell_foldings(&rt, asked),
+        Some(Measure::Text(work)) => tell_text(&rt, work, asked),
+        None => {
+            tell_text(&rt, Work::Parse, asked)?;
+            tell_text(&rt, Work::Get, asked)?;
+            tell_text(&rt, Work::Set, asked)?;
+            tell_calls(&rt, asked)?;
+            tell_arrivals(&rt, &rt, asked)?;
+            tell_audits(&rt, &rt, asked)?;
+            tell_foldings(&rt, asked)
+        }
+    }
+}
