@@ -33,7 +33,8 @@ IsOutcome conn channel raw (Message booked) =
     IsTrue (is_bookable raw) × IfOk booked.outcome (λ r. (r.conn ≡ conn) × (r.channel ≡ channel) × (r.raw ≡ raw))
 
 -- The message was judged for the channel, and what its sender is told of it is what may be told.
-pub record IsJudgedSo (outcomes : Judgement → Result Told NotBooked → Type 0) (channel : ℕ) (raw : List ℕ) (told : Result Told NotBooked) : Type 0 where
+pub record IsJudgedSo (outcomes : Judgement → Result Told NotBooked → Type 0) (channel : ℕ) (raw : List ℕ) (told : Result Told NotBooked)
+    : Type 0 where
   pub judged : Judgement
   pub for_channel : judged.channel ≡ channel
   pub of_text : judged.raw ≡ raw

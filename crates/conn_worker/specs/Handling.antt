@@ -19,7 +19,8 @@ pub record BooksMore {B : Type 0} (books : B → B → List Receipt → Type 0) 
 
 -- A booked message has its receipt kept, any other none.
 abbrev pub KeepsReceipt : ℕ → ℕ → List ℕ → Result Told NotBooked → List Receipt → List Receipt → Type 0
-KeepsReceipt conn channel raw (Ok told) old new = (r : Receipt) × (new ≡ old ++ r ∷ []) × (message_by r ≡ record { conn = conn; channel = channel; raw = raw; told = told })
+KeepsReceipt conn channel raw (Ok told) old new =
+    (r : Receipt) × (new ≡ old ++ r ∷ []) × (message_by r ≡ record { conn = conn; channel = channel; raw = raw; told = told })
 KeepsReceipt conn channel raw (Err refusal) old new = new ≡ old
 
 -- The dialogue stands where these events were handled and this text was written.
@@ -39,7 +40,8 @@ pub record Fits (d : Dialogue) : Type 0 where
 
 -- From one dialogue to another all of these events were handled.
 abbrev pub HandlesAll : ℕ → ℕ → List Event → Dialogue → Dialogue → Type 0
-HandlesAll conn channel events old new = (before : List Event) (text : List ℕ) → Stands conn channel before text old → Stands conn channel (before ++ events) text new
+HandlesAll conn channel events old new =
+    (before : List Event) (text : List ℕ) → Stands conn channel before text old → Stands conn channel (before ++ events) text new
 
 -- one of them
 abbrev pub Handles : ℕ → ℕ → Event → Dialogue → Dialogue → Type 0
@@ -57,7 +59,8 @@ pub record StandsAmid (conn channel : ℕ) (before events : List Event) (text : 
 
 -- From one dialogue to another the first of these events were handled.
 abbrev pub HandlesFront : ℕ → ℕ → List Event → Dialogue → Dialogue → Type 0
-HandlesFront conn channel events old new = (before : List Event) (text : List ℕ) → Stands conn channel before text old → StandsAmid conn channel before events text new
+HandlesFront conn channel events old new =
+    (before : List Event) (text : List ℕ) → Stands conn channel before text old → StandsAmid conn channel before events text new
 
 -- how handling events stops
 abbrev pub StopsHandling : ServeEnd → Type 0

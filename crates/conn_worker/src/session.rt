@@ -42,7 +42,8 @@ impl Session {
     fn new(alloc: Global, bound: u64) -> Result<Session, AllocError>
         requires { bound ≤ TURNS_MAX }
         ensures ready { IfOk result (λ s. IsReady s) }
-        ensures start { IfOk result (λ s. (conn channel : ℕ) (to_read held : Option (List ℕ)) → SoFar conn channel to_read to_read held held s) }
+        ensures start { IfOk result (λ s. (conn channel : ℕ) (to_read held : Option (List ℕ))
+            → SoFar conn channel to_read to_read held held s) }
         ensures none { IfOk result (λ s. s.dialogue.report.receipts.items ≡ []) }
     {
         Ok(Session {
@@ -72,7 +73,8 @@ impl Session {
         ensures progress { OnOk result (self.new.turns < self.old.turns) }
         ensures err { IfErr result (λ end. (to_read held : Option (List ℕ)) →
             SoFar line.now.conn line.now.channel to_read (R.remaining reader.old.inner) held (W.contents writer.old.inner) self.old →
-            Serves line.now.conn line.now.channel to_read (R.remaining reader.new.inner) held (W.contents writer.new.inner) (record self.new.dialogue.report { end = end })) }
+            Serves line.now.conn line.now.channel to_read (R.remaining reader.new.inner) held (W.contents writer.new.inner)
+            (record self.new.dialogue.report { end = end })) }
         ensures booked { BooksMore B.books book.old book.new self.old.dialogue.report.receipts.items self.new.dialogue.report.receipts.items }
         ensures reader { reader.old.faults ≤ reader.new.faults }
         ensures writer { writer.old.faults ≤ writer.new.faults }
@@ -112,8 +114,10 @@ impl Session {
     ) -> ServeEnd
         requires ready { IsReady self.old }
         requires channel { line.now.channel < B.channels book.old }
-        requires start { SoFar line.now.conn line.now.channel (R.remaining reader.old.inner) (R.remaining reader.old.inner) (W.contents writer.old.inner) (W.contents writer.old.inner) self.old }
-        ensures served { Serves line.now.conn line.now.channel (R.remaining reader.old.inner) (R.remaining reader.new.inner) (W.contents writer.old.inner) (W.contents writer.new.inner) (record self.new.dialogue.report { end = result }) }
+        requires start { SoFar line.now.conn line.now.channel (R.remaining reader.old.inner) (R.remaining reader.old.inner)
+            (W.contents writer.old.inner) (W.contents writer.old.inner) self.old }
+        ensures served { Serves line.now.conn line.now.channel (R.remaining reader.old.inner) (R.remaining reader.new.inner)
+            (W.contents writer.old.inner) (W.contents writer.new.inner) (record self.new.dialogue.report { end = result }) }
         ensures booked { BooksMore B.books book.old book.new self.old.dialogue.report.receipts.items self.new.dialogue.report.receipts.items }
         ensures read_fault { result ≡ ServeEnd.ReadFault → Rose reader.old.faults reader.new.faults }
         ensures write_fault { result ≡ ServeEnd.WriteFault → Rose writer.old.faults writer.new.faults }
@@ -143,7 +147,8 @@ pub fn serve_within<B: Booking, R: Read, W: Write, C: Clock>(
     requires bound { bound ≤ 1_000_000_000 }
 
     // The messages read, what was told of them, and what was written.
-    ensures served { Serves line.now.conn line.now.channel (R.remaining reader.old.inner) (R.remaining reader.new.inner) (W.contents writer.old.inner) (W.contents writer.new.inner) result }
+    ensures served { Serves line.now.conn line.now.channel (R.remaining reader.old.inner) (R.remaining reader.new.inner)
+        (W.contents writer.old.inner) (W.contents writer.new.inner) result }
 
     // The receipts are those of the messages that were booked here.
     ensures booked { B.books book.old book.new result.receipts.items }

@@ -28,7 +28,8 @@ pub fn read_piece<R: Read>(
 ) -> Result<usize, ServeEnd>
     requires { 0 < length buffer.old }
     ensures same_room { length buffer.new ≡ length buffer.old }
-    ensures piece { IfOk result (λ n. (n ≤ length buffer.new) × Consumes (R.remaining reader.old.inner) (R.remaining reader.new.inner) (take n buffer.new)) }
+    ensures piece { IfOk result (λ n.
+        (n ≤ length buffer.new) × Consumes (R.remaining reader.old.inner) (R.remaining reader.new.inner) (take n buffer.new)) }
     ensures progress { OnOk result (turns.new < turns.old) }
     ensures nothing { OnErr result (Consumes (R.remaining reader.old.inner) (R.remaining reader.new.inner) []) }
     ensures stop { IfErr result (λ end. StopsReading end (R.remaining reader.new.inner) reader.old.faults reader.new.faults) }

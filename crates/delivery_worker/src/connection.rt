@@ -114,7 +114,8 @@ fn take_answers(
 
 /// Receives the next bytes.
 fn receive_piece<L: Link>(link: &mut L, framer: &mut Framer, buffer: &mut [u8]) -> Result<(), Lost>
-    ensures ok { OnOk result ((piece : List ℕ) × (framer.new ≡ fed framer.old piece) × Appends (L.received link.old) (L.received link.new) piece) }
+    ensures ok { OnOk result (
+        (piece : List ℕ) × (framer.new ≡ fed framer.old piece) × Appends (L.received link.old) (L.received link.new) piece) }
     ensures lost { OnErr result ((piece : List ℕ) × Appends (L.received link.old) (L.received link.new) piece) }
     ensures kept { Keeps (L.sent link.old) (L.sent link.new) }
 {

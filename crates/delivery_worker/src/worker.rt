@@ -37,8 +37,10 @@ fn take_turn<
     clock: &mut C,
 ) -> Result<Outcome, TakeRefusal>
     ensures taken { OnOk result (station.new.takes ≡ station.old.takes + 1) }
-    ensures settled { OnOk result ((station.old.settlements ≤ station.new.settlements) × (station.new.settlements ≤ station.old.settlements + 1)) }
-    ensures attempt { IfOk result (λ outcome. Tries connection.old.framer connection.new.framer (L.sent link.old) (L.sent link.new) (L.received link.old) (L.received link.new) outcome) }
+    ensures settled { OnOk result (
+        (station.old.settlements ≤ station.new.settlements) × (station.new.settlements ≤ station.old.settlements + 1)) }
+    ensures attempt { IfOk result (λ outcome.
+        Tries connection.old.framer connection.new.framer (L.sent link.old) (L.sent link.new) (L.received link.old) (L.received link.new) outcome) }
     ensures refused { OnErr result ((station.new ≡ station.old) × (connection.new.framer ≡ connection.old.framer)) }
     ensures unused { OnErr result (Keeps (L.sent link.old) (L.sent link.new) × Keeps (L.received link.old) (L.received link.new)) }
 {

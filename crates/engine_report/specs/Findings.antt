@@ -33,7 +33,8 @@ IsRising r = IsStrictlyIncreasing (map (λ x. x.entry) r.receipts.items)
 abbrev pub IsFinding : Option Held → List ServeReport → Option Finding → Type 0
 IsFinding None served found = found ≡ Some finding.SharesMissing
 IsFinding (Some closed) served None = IsPermutation (unfolded closed (receipts_in served)) (receipts_due closed) × All IsRising served
-IsFinding (Some closed) served (Some finding.OutOfOrder) = IsPermutation (unfolded closed (receipts_in served)) (receipts_due closed) × (All IsRising served → ⊥)
+IsFinding (Some closed) served (Some finding.OutOfOrder) =
+    IsPermutation (unfolded closed (receipts_in served)) (receipts_due closed) × (All IsRising served → ⊥)
 IsFinding (Some closed) served (Some found) = (first : AuditFault) × IsFirstFault closed (receipts_in served) first × (found ≡ finding_of first)
 
 -- the channel that a fault of listening names
@@ -43,7 +44,8 @@ listening _ = None
 
 -- a fault that names a channel of these
 abbrev pub NamesChannel : List ChannelEntry → Fault → Type 0
-NamesChannel channels f = (place : ℕ) × (channel : ChannelEntry) × (slice_get channels place ≡ Some channel) × (listening f ≡ Some channel.name)
+NamesChannel channels f =
+    (place : ℕ) × (channel : ChannelEntry) × (slice_get channels place ≡ Some channel) × (listening f ≡ Some channel.name)
 
 -- the name of a channel whose door counted a fault
 abbrev pub failed_channel : ChannelEntry × ℕ → Option (List ℕ)

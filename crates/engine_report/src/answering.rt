@@ -34,7 +34,8 @@ pub fn answer_stream<S: RowStore<Addressed<Letter>>, R: Read, W: Write, C: Clock
     clock: &mut C,
 ) -> ServeReport
     // The messages read, what was told of them, and what was written.
-    ensures served { Serves CONNECTION CHANNEL (R.remaining reader.old.inner) (R.remaining reader.new.inner) (W.contents writer.old.inner) (W.contents writer.new.inner) result }
+    ensures served { Serves CONNECTION CHANNEL (R.remaining reader.old.inner) (R.remaining reader.new.inner)
+        (W.contents writer.old.inner) (W.contents writer.new.inner) result }
 
     // The receipts are the book's new entries.
     ensures booked { Books book.old book.new result.receipts.items }

@@ -18,7 +18,8 @@ pub fn add_listen_fault<'f>(
     channel: &Channel,
     failed: u64,
 ) -> Result<(), AllocError>
-    ensures added { OnOk result (map listening faults.new.items ≡ map listening faults.old.items ++ map Some (failed_channels (channel.now ∷ []) (failed ∷ []))) }
+    ensures added { OnOk result (map listening faults.new.items
+        ≡ map listening faults.old.items ++ map Some (failed_channels (channel.now ∷ []) (failed ∷ []))) }
     ensures refused { IsErr result → faults.new.items ≡ faults.old.items }
 {
     if failed > 0 {

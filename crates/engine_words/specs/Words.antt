@@ -17,10 +17,12 @@ abbrev pub now_rule : Rule
 now_rule = record (new_rule (codes "now")) { long = Some (codes "now"); value_names = 1; parser = Some (parser.Unsigned 0 253_370_764_799) }
 
 abbrev pub events_rule : Rule
-events_rule = record (new_rule (codes "events")) { long = Some (codes "events"); value_names = 1; parser = Some (parser.Signed (pos 1) (pos 1_000_000)) }
+events_rule =
+    record (new_rule (codes "events")) { long = Some (codes "events"); value_names = 1; parser = Some (parser.Signed (pos 1) (pos 1_000_000)) }
 
 abbrev pub accept_rule : Rule
-accept_rule = record (new_rule (codes "accept")) { long = Some (codes "accept"); value_names = 1; required = true; parser = Some (parser.Signed (pos 1) (pos 9_999)) }
+accept_rule =
+    record (new_rule (codes "accept")) { long = Some (codes "accept"); value_names = 1; required = true; parser = Some (parser.Signed (pos 1) (pos 9_999)) }
 
 -- answer [PLAN] [--now SECS] [--events N]
 abbrev pub answer_app : App
@@ -89,7 +91,8 @@ AsksAnswer _ rows = ⊥
 -- what the words of a command ask, by the command's name
 abbrev pub AsksBy : Request → Option (Text × List Row) → Type 0
 AsksBy request None = request ≡ without_words
-AsksBy (Answer plan now events) (Some (name, rows)) = (name ≡ codes "check" → ⊥) × (name ≡ codes "run" → ⊥) × AsksAnswer (Answer plan now events) rows
+AsksBy (Answer plan now events) (Some (name, rows)) =
+    (name ≡ codes "check" → ⊥) × (name ≡ codes "run" → ⊥) × AsksAnswer (Answer plan now events) rows
 AsksBy (Check plan) (Some (name, rows)) = (name ≡ codes "check") × (plan.now ≡ unwrap_or (first_of (codes "PLAN") rows) [])
 AsksBy (Run plan accept events) (Some (name, rows)) = (name ≡ codes "run") × AsksRun (Run plan accept events) rows
 

@@ -51,7 +51,8 @@ fn read_inside<'a>(
     piece: &'a [u8],
 ) -> Result<(Stage, &'a [u8]), AllocError>
     requires { IsShortData bytes.items }
-    ensures reads { IfOk result (λ next. Reads (map event_of events.old.items) (map event_of events.new.items) (begun_block bytes.items ++ piece.now) (open_block next.0 ++ next.1.now)) }
+    ensures reads { IfOk result (λ next.
+        Reads (map event_of events.old.items) (map event_of events.new.items) (begun_block bytes.items ++ piece.now) (open_block next.0 ++ next.1.now)) }
     ensures short { IfOk result (λ next. HoldsShortData next.0) }
     ensures nearer { IfOk result (λ next. 0 < length piece.now → work next.0 next.1.now < 2 * length piece.now) }
     ensures err { OnErr result (events.new.items ≡ events.old.items) }
@@ -92,7 +93,8 @@ fn read_ended<'a>(
 ) -> Result<(Stage, &'a [u8]), AllocError>
     requires short { IsShortData bytes.items }
     requires some { 0 < length piece.now }
-    ensures reads { IfOk result (λ next. Reads (map event_of events.old.items) (map event_of events.new.items) (ending_block bytes.items ++ piece.now) (open_block next.0 ++ next.1.now)) }
+    ensures reads { IfOk result (λ next.
+        Reads (map event_of events.old.items) (map event_of events.new.items) (ending_block bytes.items ++ piece.now) (open_block next.0 ++ next.1.now)) }
     ensures short { IfOk result (λ next. HoldsShortData next.0) }
     ensures nearer { IfOk result (λ next. work next.0 next.1.now < 2 * length piece.now + 1) }
     ensures err { OnErr result (events.new.items ≡ events.old.items) }
@@ -114,7 +116,8 @@ fn advance<'a>(
 ) -> Result<(Stage, &'a [u8]), AllocError>
     requires short { HoldsShortData stage }
     requires some { 0 < length piece.now }
-    ensures reads { IfOk result (λ next. Reads (map event_of events.old.items) (map event_of events.new.items) (open_block stage ++ piece.now) (open_block next.0 ++ next.1.now)) }
+    ensures reads { IfOk result (λ next.
+        Reads (map event_of events.old.items) (map event_of events.new.items) (open_block stage ++ piece.now) (open_block next.0 ++ next.1.now)) }
     ensures short { IfOk result (λ next. HoldsShortData next.0) }
     ensures nearer { IfOk result (λ next. work next.0 next.1.now < work stage piece.now) }
     ensures err { OnErr result (events.new.items ≡ events.old.items) }
@@ -135,7 +138,8 @@ pub fn read(
     piece: &[u8],
 ) -> Result<Stage, AllocError>
     requires { HoldsShortData start }
-    ensures reads { IfOk result (λ last. Reads (map event_of events.old.items) (map event_of events.new.items) (open_block start ++ piece.now) (open_block last)) }
+    ensures reads { IfOk result (λ last.
+        Reads (map event_of events.old.items) (map event_of events.new.items) (open_block start ++ piece.now) (open_block last)) }
     ensures short { IfOk result (λ last. HoldsShortData last) }
     ensures err { OnErr result (AddsFront (map event_of events.old.items) (map event_of events.new.items) (blocks (open_block start ++ piece.now))) }
     ensures quiet { IsQuiet (open_block start) piece.now → IsOk result }

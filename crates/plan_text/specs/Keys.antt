@@ -92,7 +92,8 @@ list_within most (array ds) = if nat_le (item_count ds) most then Ok ds else Err
 list_within most _ = Err name.BadRange
 
 -- the members of the list at a path, each read with those before it
-abbrev pub each_after : {A : Type 0} → (List A → List ℕ → Data → Result A PlanFault) → List ℕ → List A → Items → Result (List A) PlanFault
+abbrev pub each_after : {A : Type 0} → (List A → List ℕ → Data → Result A PlanFault)
+    → List ℕ → List A → Items → Result (List A) PlanFault
 each_after read at before no_items = Ok before
 each_after read at before (item d ds) = read before (member_path at (length before)) d >>= λ x. each_after read at (before ++ x ∷ []) ds
 

@@ -154,7 +154,8 @@ impl SequentialBook {
     ) -> Result<SlotState, NotSettled>
         ensures answer { IfOk result (λ state. settle_answer self.old ticket.now outcome now ≡ Ok state) }
         ensures booked { IfOk result (λ state. self.new ≡ followed_by self.old (Entry.Settle ticket.now outcome now state)) }
-        ensures refused { (refusal : SettleRefusal) → result ≡ Err (NotSettled.Refused refusal) → settle_answer self.old ticket.now outcome now ≡ Err refusal }
+        ensures refused { (refusal : SettleRefusal) → result ≡ Err (NotSettled.Refused refusal) →
+            settle_answer self.old ticket.now outcome now ≡ Err refusal }
         ensures err { OnErr result (self.new ≡ self.old) }
     {
         let state = self.settle_answer(ticket, outcome, now)??;
@@ -193,7 +194,8 @@ impl SequentialBook {
     pub fn deploy(&mut self, plan: Arc<Plan>) -> Result<(), DeployRefusal>
         ensures answer { OnOk result (MayFollow self.old (Entry.Deploy (arc_value plan))) }
         ensures booked { OnOk result (self.new ≡ followed_by self.old (Entry.Deploy (arc_value plan))) }
-        ensures refused { IfErr result (λ e. (deploy_answer self.old (arc_value plan) ≡ Some e) ⊎ (e ≡ DeployRefusal.Full) ⊎ (e ≡ DeployRefusal.NoMemory)) }
+        ensures refused { IfErr result (λ e.
+            (deploy_answer self.old (arc_value plan) ≡ Some e) ⊎ (e ≡ DeployRefusal.Full) ⊎ (e ≡ DeployRefusal.NoMemory)) }
         ensures err { OnErr result (self.new ≡ self.old) }
     {
         self.rules();

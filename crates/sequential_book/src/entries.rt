@@ -129,7 +129,8 @@ fn acceptance<'a>(
     number: u32,
 ) -> Option<(&'a Arc<Plan>, &'a Entry)>
     requires { All (IsJudgeable (length (arc_value plan.now).channels)) entries.now }
-    ensures brought { option_map_or (λ found. accepted_by (arc_value found.0.now) found.1.now) result None ≡ slice_get (accepted_from (arc_value plan.now) entries.now) number }
+    ensures brought { option_map_or (λ found. accepted_by (arc_value found.0.now) found.1.now) result None
+        ≡ slice_get (accepted_from (arc_value plan.now) entries.now) number }
     ensures judgeable { IfSome result (λ found. IsJudgeable (length (arc_value found.0.now).channels) found.1.now) }
 {
     let mut in_force = plan;
@@ -181,7 +182,8 @@ fn deliveries_by(
     entry: &Entry,
 ) -> Result<Option<Deliveries>, AllocError>
     requires { IsJudgeable (length (arc_value plan.now).channels) entry.now }
-    ensures { IfOk result (λ found. option_map_or (λ deliveries. deliveries) found [] ≡ option_map_or (λ message. message.deliveries) (accepted_by (arc_value plan.now) entry.now) []) }
+    ensures { IfOk result (λ found. option_map_or (λ deliveries. deliveries) found []
+        ≡ option_map_or (λ message. message.deliveries) (accepted_by (arc_value plan.now) entry.now) []) }
 {
     match entry {
         Entry::Arrival {
@@ -261,7 +263,8 @@ pub(crate) fn known(
 
 /// What the sender is told of a message whose key is known by the entry at this place.
 pub(crate) fn told_again(entries: &[Entry], raw: &[u8], place: usize) -> Told
-    ensures { result ≡ (if option_map_or (brings raw.now) (slice_get entries.now place) false then Told.Repeat place else Told.Refused Cause.IdReused) }
+    ensures { result
+        ≡ (if option_map_or (brings raw.now) (slice_get entries.now place) false then Told.Repeat place else Told.Refused Cause.IdReused) }
 {
     match entries.get(place) {
         Some(entry) if entry.brings(raw) => Told::Repeat(place),
