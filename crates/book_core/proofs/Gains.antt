@@ -1,6 +1,8 @@
 -- What follows of what an arrival adds.
-use Rattle.std.proofs.Common.{◌≡◌, ℕ, ◌<◌, List, Some, refl, sym, ◌∙◌, ap, subst}
+use Rattle.std.proofs.Common.{◌≡◌, ℕ, ◌<◌, List, [], Option, None, Some, refl, sym, ◌∙◌, ap, subst}
 use Rattle.std.specs.Prelude.{All}
+use Rattle.std.specs.Option.{option_map, option_map_or}
+use Rattle.hl7_head.specs.Header.{Msh}
 use Rattle.plan_text.specs.Entries.{PlanEntry}
 use Rattle.judge_core.specs.declared.judged.Verdict.{Verdict}
 use Rattle.judge_core.specs.Delivering.{destinations_of}
@@ -76,3 +78,13 @@ gain-next (told.Refused cause) id v gain.Nothing next rows is numbered below = t
 gain-next (told.Repeat place) id v (gain.Message n c ds) next rows is numbered below = absurd is
 gain-next (told.Repeat place) id v gain.Key next rows is numbered below = tt
 gain-next (told.Repeat place) id v gain.Nothing next rows is numbered below = tt
+
+-- the control id of a text that has a header
+pub id_known : (o : Option Msh) (id : List ℕ) → Some id ≡ option_map (λ h. h.control_id) o → id ≡ option_map_or (λ h. h.control_id) o []
+id_known None id e = absurd cc
+id_known (Some h) id e = let same : id ≡ h.control_id = cc in same
+
+-- a text with no control id has no header
+pub id_missing : (o : Option Msh) → None ≡ option_map (λ h. h.control_id) o → None ≡ o
+id_missing None e = refl
+id_missing (Some h) e = absurd cc

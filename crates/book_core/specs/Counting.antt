@@ -46,10 +46,12 @@ pub record CountsArrival (channel : ℕ) (told : Told) (named : List ℕ) (old n
   pub destinations : length new.destinations ≡ length old.destinations
   pub its_channel : channel_at channel new ≡ told_one told (channel_at channel old)
   pub other_channels : (c : ℕ) → c ≢ channel → channel_at c new ≡ channel_at c old
-  pub each_destination : (d : ℕ) → d < 32 → destination_at d new ≡ (if list_any (λ e. e == d) named then waits_one (destination_at d old) else destination_at d old)
+  pub each_destination : (d : ℕ) → d < 32 →
+      destination_at d new ≡ (if list_any (λ e. e == d) named then waits_one (destination_at d old) else destination_at d old)
 
 -- one cancellation was counted, at the destinations of the mask
 pub record CountsCancel (mask : ℕ) (old new : Statistics) : Type 0 where
   pub channels : new.channels ≡ old.channels
   pub destinations : length new.destinations ≡ length old.destinations
-  pub each_destination : (d : ℕ) → d < 32 → destination_at d new ≡ (if bit_at mask d == 1 then cancelled_one (destination_at d old) else destination_at d old)
+  pub each_destination : (d : ℕ) → d < 32 →
+      destination_at d new ≡ (if bit_at mask d == 1 then cancelled_one (destination_at d old) else destination_at d old)

@@ -46,13 +46,17 @@ pub record AddsRow (number : ℕ) (control_id : List ℕ) (deliveries : List Del
   pub stands : (d : ℕ) → d < 32 → (bit_at mask d == 1) ≡ names d deliveries
   pub added : new ≡ old ++ record {
     number = number;
-    item = record { content = record { control_id = control_id; deliveries = deliveries }; slots = slots_by (λ _. Waiting 0 0) (destinations_of deliveries) };
+    item = record {
+      content = record { control_id = control_id; deliveries = deliveries };
+      slots = slots_by (λ _. Waiting 0 0) (destinations_of deliveries);
+    };
     mask = mask;
   } ∷ []
 
 -- what is added by an arrival that is told so, of a message with this control id and this verdict
 abbrev pub IsGain : Told → List ℕ → Verdict → Gain → Type 0
-IsGain (told.Accepted number) control_id v (gain.Message own_number own_id deliveries) = (own_number ≡ number) × (own_id.now ≡ control_id) × (deliveries.now ≡ deliveries_of v)
+IsGain (told.Accepted number) control_id v (gain.Message own_number own_id deliveries) =
+    (own_number ≡ number) × (own_id.now ≡ control_id) × (deliveries.now ≡ deliveries_of v)
 IsGain told.Filtered control_id v gain.Key = Unit {0}
 IsGain (told.Refused cause) control_id v gain.Nothing = Unit {0}
 IsGain (told.Repeat place) control_id v gain.Nothing = Unit {0}

@@ -43,7 +43,7 @@ pub enum Gain<'a> {
     /// The row and the key of a message that is accepted.
     Message {
         number: u32,
-        control_id: &'a [u8],
+        control_id: &'a Text,
         deliveries: &'a Deliveries,
     },
     /// The key of a message that is filtered.
@@ -53,16 +53,19 @@ pub enum Gain<'a> {
 }
 
 /// What an arrival adds that is told so.
+#[tactic(auto, using(crate::proofs::Gains::id_known, crate::proofs::Gains::id_missing))]
 pub fn gain_of(told: Told, judged: &Judged) -> Gain<'_>
     requires { IsAccepting told (verdict judged.now.plan judged.now.channel judged.now.raw) }
     ensures { IsGain told (control_id_of judged.now.raw) (verdict judged.now.plan judged.now.channel judged.now.raw) result }
 {
-    match (told, judged.verdict(), judged.header()) {
-        (Told::Accepted(number), Verdict::Accept(deliveries), Some(header)) => Gain::Message {
-            number,
-            control_id: header.control_id(),
-            deliveries,
-        },
+    match (told, judged.verdict(), judged.control_id()) {
+        (Told::Accepted(number), Verdict::Accept(deliveries), Some(control_id)) => {
+            Gain::Message {
+                number,
+                control_id,
+                deliveries,
+            }
+        }
         (Told::Filtered, _, _) => Gain::Key,
         _ => Gain::Nothing,
     }
@@ -118,7 +121,7 @@ fn add_row<S: RowStore<Addressed<Letter>>>(
     alloc: Global,
     rows: &mut S,
     number: u32,
-    control_id: &[u8],
+    control_id: &Text,
     deliveries: &Deliveries,
 ) -> Result<(), AllocError>
     requires { All (λ row. row.number < number) (S.rows rows.old) }
@@ -128,7 +131,7 @@ fn add_row<S: RowStore<Addressed<Letter>>>(
     let slots = first_slots(alloc, deliveries.as_slice())?;
     let mask = mask_of(deliveries.as_slice());
     let content = Letter {
-        control_id: Text::new(alloc, Vec::from_slice(alloc, control_id)?)?,
+        control_id: control_id.share()?,
         deliveries: deliveries.share()?,
     };
     match rows.push(number, Addressed { content, slots }, mask) {
@@ -181,7 +184,9 @@ pub fn key_to_keep(
 pub fn keep_key(keys: &mut Keys, key: Option<Vec<u8>>, place: usize)
     requires unknown { IfSome key (λ key. place_of key.items keys.old.known ≡ None) }
     requires room { IfSome key (λ key. 0 < keys.old.room) }
-    ensures { MatchOption key (keys.new.known ≡ keys.old.known) (λ key. keys.new.known ≡ keys.old.known ++ record { key = key.items; place = place } ∷ []) }
+    ensures { MatchOption key
+        (keys.new.known ≡ keys.old.known)
+        (λ key. keys.new.known ≡ keys.old.known ++ record { key = key.items; place = place } ∷ []) }
 {
     if let Some(key) = key {
         keys.add(key, place);

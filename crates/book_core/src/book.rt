@@ -183,12 +183,14 @@ impl<S: RowStore<Addressed<Letter>>> Book<S> {
         ensures channel { IfOk result (λ receipt. receipt.channel ≡ judged.now.channel) }
         ensures raw { IfOk result (λ receipt. receipt.raw ≡ judged.now.raw) }
         ensures told { IfOk result (λ receipt. answer self.old judged.now.channel judged.now.raw ≡ Some receipt.told) }
-        ensures booked { IfOk result (λ receipt. self.new ≡ followed_by self.old (Entry.Arrival conn judged.now.channel judged.now.raw receipt.told)) }
+        ensures booked { IfOk result (λ receipt.
+            self.new ≡ followed_by self.old (Entry.Arrival conn judged.now.channel judged.now.raw receipt.told)) }
         ensures follows { IfOk result (λ receipt. MayFollow self.old (Entry.Arrival conn judged.now.channel judged.now.raw receipt.told)) }
 
         // It is judged by the plan in force, and there is room for it.
         ensures plan { IsErrOf result NotBooked.PlanChanged ↔ judged.now.plan ≢ plan_in_force self.old }
-        ensures full { IsErrOf result NotBooked.Full ↔ (judged.now.plan ≡ plan_in_force self.old) × IsTrue (is_full self.old judged.now.channel judged.now.raw) }
+        ensures full { IsErrOf result NotBooked.Full ↔
+            (judged.now.plan ≡ plan_in_force self.old) × IsTrue (is_full self.old judged.now.channel judged.now.raw) }
         ensures err { OnErr result (self.new ≡ self.old) }
     {
         if !judged.plan().same(self.log.plan()) {
@@ -206,7 +208,8 @@ impl<S: RowStore<Addressed<Letter>>> Book<S> {
         ensures channel { IfOk result (λ receipt. receipt.channel ≡ judged.now.channel) }
         ensures raw { IfOk result (λ receipt. receipt.raw ≡ judged.now.raw) }
         ensures told { IfOk result (λ receipt. answer self.old judged.now.channel judged.now.raw ≡ Some receipt.told) }
-        ensures booked { IfOk result (λ receipt. self.new ≡ followed_by self.old (Entry.Arrival conn judged.now.channel judged.now.raw receipt.told)) }
+        ensures booked { IfOk result (λ receipt.
+            self.new ≡ followed_by self.old (Entry.Arrival conn judged.now.channel judged.now.raw receipt.told)) }
         ensures follows { IfOk result (λ receipt. MayFollow self.old (Entry.Arrival conn judged.now.channel judged.now.raw receipt.told)) }
         ensures full { IsErrOf result NotBooked.Full ↔ IsTrue (is_full self.old judged.now.channel judged.now.raw) }
         ensures plan { result ≢ Err NotBooked.PlanChanged }
@@ -368,7 +371,9 @@ impl<S: RowStore<Addressed<Letter>>> Book<S> {
     pub fn cancel(&mut self, number: u32) -> Result<u32, CancelRefusal>
         ensures answer { IfOk result (λ mask. cancel_answer self.old number ≡ Ok mask) }
         ensures booked { IfOk result (λ mask. self.new ≡ followed_by self.old (Entry.Cancel number mask)) }
-        ensures refused { IfErr result (λ e. (cancel_answer self.old number ≡ Err e) ⊎ (e ≡ CancelRefusal.NoMemory) × IsOk (cancel_answer self.old number)) }
+        ensures refused { IfErr result (λ e.
+            (cancel_answer self.old number ≡ Err e)
+            ⊎ (e ≡ CancelRefusal.NoMemory) × IsOk (cancel_answer self.old number)) }
         ensures err { OnErr result (self.new ≡ self.old) }
     {
         let Some(message) = self.rows.get(number) else {
@@ -402,7 +407,9 @@ impl<S: RowStore<Addressed<Letter>>> Book<S> {
     pub fn deploy(&mut self, plan: Arc<Plan>) -> Result<(), DeployRefusal>
         ensures answer { OnOk result (MayFollow self.old (Entry.Deploy (arc_value plan))) }
         ensures booked { OnOk result (self.new ≡ followed_by self.old (Entry.Deploy (arc_value plan))) }
-        ensures refused { IfErr result (λ e. (deploy_answer self.old (arc_value plan) ≡ Some e) ⊎ (deploy_answer self.old (arc_value plan) ≡ None) × ((e ≡ DeployRefusal.Full) ⊎ (e ≡ DeployRefusal.NoMemory))) }
+        ensures refused { IfErr result (λ e.
+            (deploy_answer self.old (arc_value plan) ≡ Some e)
+            ⊎ (deploy_answer self.old (arc_value plan) ≡ None) × ((e ≡ DeployRefusal.Full) ⊎ (e ≡ DeployRefusal.NoMemory))) }
         ensures full { IsErrOf result DeployRefusal.Full ↔ (deploy_answer self.old (arc_value plan) ≡ None) × IsTrue (exceeds self.old 0) }
         ensures err { OnErr result (self.new ≡ self.old) }
     {
@@ -433,7 +440,9 @@ impl<S: RowStore<Addressed<Letter>>> Book<S> {
     pub fn prune(&mut self, before: u32) -> Result<(), PruneRefusal>
         ensures answer { OnOk result (prune_answer self.old before ≡ None) }
         ensures folded { OnOk result (self.new ≡ pruned before self.old) }
-        ensures refused { IfErr result (λ e. (prune_answer self.old before ≡ Some e) ⊎ (prune_answer self.old before ≡ None) × (e ≡ PruneRefusal.NoMemory)) }
+        ensures refused { IfErr result (λ e.
+            (prune_answer self.old before ≡ Some e)
+            ⊎ (prune_answer self.old before ≡ None) × (e ≡ PruneRefusal.NoMemory)) }
         ensures err { OnErr result (self.new ≡ self.old) }
     {
         if let Some(refusal) = prune_refusal(&self.log, &mut self.rows, before) {

@@ -17,11 +17,13 @@ ghost use Rattle.book_core.specs.Counting.{SumsRise};
 /// The laws of the three sums of the statistics: an arrival adds one to the arrivals, a take one to the attempts begun, a
 /// settlement one to the attempts settled, and a cancellation and a deployment add to none.
 pub fn three_sums()
-    ensures arrival { (h : History) (conn channel : ℕ) (raw : List ℕ) (told : Told) → IsSound h → MayFollow h (Arrival conn channel raw told) → channel < length (plan_in_force h).channels →
+    ensures arrival { (h : History) (conn channel : ℕ) (raw : List ℕ) (told : Told) →
+        IsSound h → MayFollow h (Arrival conn channel raw told) → channel < length (plan_in_force h).channels →
         SumsRise 1 0 0 (counted h) (counted (followed_by h (Arrival conn channel raw told))) }
     ensures take { (h : History) (d now : ℕ) (ticket : Ticket) → IsSound h → take_answer h d now ≡ Ok ticket →
         SumsRise 0 1 0 (counted h) (counted (followed_by h (Take ticket now))) }
-    ensures settlement { (h : History) (ticket : Ticket) (outcome : Outcome) (now : ℕ) (state : SlotState) → IsSound h → settle_answer h ticket outcome now ≡ Ok state →
+    ensures settlement { (h : History) (ticket : Ticket) (outcome : Outcome) (now : ℕ) (state : SlotState) →
+        IsSound h → settle_answer h ticket outcome now ≡ Ok state →
         SumsRise 0 0 1 (counted h) (counted (followed_by h (Settle ticket outcome now state))) }
     ensures cancellation { (h : History) (number mask : ℕ) → IsSound h → cancel_answer h number ≡ Ok mask →
         SumsRise 0 0 0 (counted h) (counted (followed_by h (Cancel number mask))) }

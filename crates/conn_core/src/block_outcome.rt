@@ -86,15 +86,12 @@ pub fn book_and_reply<B: Booking>(
         (numbered line.now.conn (replies.old.made + 1) (dues_of (answer_to judged.now.raw result.outcome now))) }
     ensures few { replies.new.made ≤ replies.old.made + 2 }
 {
-    let _raw = judged.raw();
     let Some(header) = judged.header() else {
         unreachable!();
     };
     let outcome = book.arrive(line.conn, judged);
     let told = told_by(&outcome);
-    let whole = replies
-        .append(line.alloc, line.conn, header, told, now)
-        .is_ok();
+    let whole = replies.append(line.conn, header, told, now).is_ok();
     Booked { outcome, whole }
 }
 

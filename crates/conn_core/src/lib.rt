@@ -4,10 +4,12 @@
 
 mod block_outcome;
 mod booking;
+mod laws;
 mod line;
 mod replies;
 
 pub use block_outcome::{BlockOutcome, Booked, answer_block, book_and_reply};
 pub use booking::Booking;
+pub use laws::replies_fit_blocks;
 pub use line::Line;
 pub use replies::Replies;

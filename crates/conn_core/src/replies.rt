@@ -1,15 +1,17 @@
 //! The acknowledgments of a connection.
 
-ghost use Rattle.std.specs.Prelude.{◌≡◌, ◌+◌, ◌<◌, ◌≤◌, [], ◌++◌, map, length, OnOk, OnErr};
+ghost use Rattle.std.specs.Prelude.{◌≡◌, ◌+◌, ◌<◌, ◌≤◌, [], ◌++◌, map, length, take, OnOk, OnErr};
 ghost use Rattle.std.specs.Option.{option_to_list};
-ghost use Rattle.conn_core.specs.Outcomes.{AppendsFront, CameInBlock};
+ghost use Rattle.hl7_head.specs.Ack.{ack};
+ghost use Rattle.mllp_frame.specs.Framing.{block_bytes};
+ghost use Rattle.conn_core.specs.Outcomes.{AppendsFront};
 ghost use Rattle.conn_core.specs.Replies.{numbered, dues_by, told_of};
 
 use ack_rule::{AckMode, Verdictum, parts};
 use book_core::NotBooked;
 use event_log::Told;
-use hl7_head::{AckPart, Cause, Header, Moment, ack_adds_no_control, ack_text};
-use mllp_frame::write_block;
+use hl7_head::{AckPart, Cause, Header, Moment, append_ack};
+use mllp_frame::{CARRIAGE_RETURN, END_BLOCK, START_BLOCK};
 use std::alloc::{AllocError, Global};
 
 /// The acknowledgments of a connection.
@@ -34,6 +36,23 @@ fn told_of(outcome: Result<Told, NotBooked>) -> Verdictum
     }
 }
 
+/// Appends an acknowledgment as a block. It is made where it stands, for speed: it asks for no memory of its own.
+fn append_block(
+    bytes: &mut Vec<u8>,
+    header: &Header,
+    part: &AckPart,
+    now: Moment,
+    conn: u32,
+    number: u32,
+) -> Result<(), AllocError>
+    ensures ok { OnOk result (bytes.new.items ≡ bytes.old.items ++ block_bytes (ack header.now part.now now conn number)) }
+    ensures err { OnErr result (take (length bytes.old.items) bytes.new.items ≡ bytes.old.items) }
+{
+    bytes.push(START_BLOCK)?;
+    append_ack(bytes, header, part, now, conn, number)?;
+    bytes.extend_from_slice(&[END_BLOCK, CARRIAGE_RETURN])
+}
+
 impl Replies {
     /// With none made yet.
     pub fn new(alloc: Global) -> Self
@@ -49,14 +68,12 @@ impl Replies {
     /// Appends an acknowledgment, if there is one, with the next number.
     fn append_part(
         &mut self,
-        alloc: Global,
         conn: u32,
         header: &Header,
         part: Option<AckPart>,
         now: Moment,
     ) -> Result<(), AllocError>
-        requires framed { CameInBlock header.now }
-        requires few { self.old.made < u32.MAX }
+        requires { self.old.made < u32.MAX }
         ensures ok { OnOk result (self.new.bytes.items ≡ self.old.bytes.items
             ++ numbered conn (self.old.made + 1) (map (λ p. record { header = header.now; part = p; moment = now }) (option_to_list part))) }
         ensures counted { OnOk result (self.new.made ≡ self.old.made + length (option_to_list part)) }
@@ -66,25 +83,26 @@ impl Replies {
         let Some(part) = part else {
             return Ok(());
         };
-        ack_adds_no_control(part, now, conn, self.made + 1);
-        let text = ack_text(alloc, header, &part, now, conn, self.made + 1)?;
-        write_block(&text, &mut self.bytes)?;
-        self.made += 1;
-        Ok(())
+        let before = self.bytes.len();
+        let appended = append_block(&mut self.bytes, header, &part, now, conn, self.made + 1);
+        if appended.is_err() {
+            self.bytes.truncate(before);
+        } else {
+            self.made += 1;
+        }
+        appended
     }
 
     /// Appends the acknowledgments that a message with this header is due, two at most (HL7 v2.5.1, 2.9.2 and 2.9.3).
     /// Where memory is refused, the first of them may be appended.
     pub fn append(
         &mut self,
-        alloc: Global,
         conn: u32,
         header: &Header,
         outcome: Result<Told, NotBooked>,
         now: Moment,
     ) -> Result<(), AllocError>
-        requires framed { CameInBlock header.now }
-        requires few { self.old.made + 2 ≤ u32.MAX }
+        requires { self.old.made + 2 ≤ u32.MAX }
         ensures ok { OnOk result (self.new.bytes.items ≡ self.old.bytes.items
             ++ numbered conn (self.old.made + 1) (dues_by header.now outcome now)) }
         ensures counted { OnOk result (self.new.made ≡ self.old.made + length (dues_by header.now outcome now)) }
@@ -93,7 +111,7 @@ impl Replies {
             (numbered conn (self.old.made + 1) (dues_by header.now outcome now))) }
     {
         let [first, second] = parts(AckMode::of(header), told_of(outcome));
-        self.append_part(alloc, conn, header, first, now)?;
-        self.append_part(alloc, conn, header, second, now)
+        self.append_part(conn, header, first, now)?;
+        self.append_part(conn, header, second, now)
     }
 }

@@ -33,10 +33,6 @@ pub bounded-cancelled : (slots : List Slot) → All (λ slot. slot.destination <
 bounded-cancelled = bounded-map (λ slot. cond (is_waiting slot.state) (record slot { state = Failed Cancelled }) slot)
     (λ slot. elim (is_waiting slot.state) as (λ b. (cond b (record slot { state = Failed Cancelled }) slot).destination ≡ slot.destination) [ true ↦ refl | false ↦ refl ])
 
--- what a write of a whole slice leaves
-pub whole-written : (n : ℕ) (new old : List Slot) → length new ≡ n → length old ≡ n → take n (new ++ drop (length new) old) ≡ new
-whole-written n new old same whole = grind (arith, common_steps)
-
 -- a loop's step: slot i is changed in place
 pub map-step : (change : Slot → Slot) (xs ys zs : List Slot) (i : ℕ) (e y : Slot) → i < length xs → ys ≡ map change (take i xs) ++ drop i xs → y ≡ change (get_or ys i e) → zs ≡ set ys i y
     → zs ≡ map change (take (i + 1) xs) ++ drop (i + 1) xs

@@ -5,6 +5,7 @@ ghost use Rattle.row_store.specs.Rows.{without};
 ghost use Rattle.dest_queue.specs.declared.SlotState.{SlotState};
 ghost use Rattle.dest_queue.specs.declared.slots.Slot.{Slot};
 ghost use Rattle.dest_queue.specs.States.{is_waiting};
+ghost use Rattle.dest_queue.specs.Listed.{listed};
 ghost use Rattle.dest_queue.specs.SlotsBy.{slots_by, is_among};
 ghost use Rattle.dest_queue.specs.Queues.{waiting_at, without_each};
 ghost use Rattle.std.specs.Int.{bit_at};
@@ -14,6 +15,7 @@ use crate::{ATTEMPTS_MAX, FailCause, SlotState};
 use row_store::QUEUES;
 use std::alloc::{AllocError, Global};
 use std::marker::Model;
+use std::slice;
 
 /// A message at one of its destinations.
 #[derive(Clone, Copy, Debug, PartialEq, Eq)]
@@ -22,21 +24,96 @@ pub struct Slot {
     pub state: SlotState,
 }
 
+/// Slots, with a list on the heap only where there are several. It is there for speed: a message for one destination takes
+/// a request for memory less.
+#[derive(Drop)]
+enum SlotList {
+    Nowhere,
+    One(Slot),
+    Several(Vec<Slot>),
+}
+
+impl SlotList {
+    /// All of them, in order.
+    fn as_slice(&self) -> &[Slot]
+        ensures { result.now ≡ listed self.now }
+    {
+        match self {
+            SlotList::Nowhere => &[],
+            SlotList::One(slot) => slice::from_ref(slot),
+            SlotList::Several(list) => list.as_slice(),
+        }
+    }
+
+    /// With one more.
+    fn add(&mut self, alloc: Global, slot: Slot) -> Result<(), AllocError>
+        ensures ok { OnOk result (listed self.new ≡ listed self.old ++ slot ∷ []) }
+        ensures err { OnErr result (listed self.new ≡ listed self.old) }
+    {
+        match self {
+            SlotList::Nowhere => *self = SlotList::One(slot),
+            SlotList::One(first) => {
+                let both = vec![in alloc; *first, slot]?;
+                *self = SlotList::Several(both);
+            }
+            SlotList::Several(list) => list.push(slot)?,
+        }
+        Ok(())
+    }
+
+    /// The same slots, held apart.
+    fn copy(&self) -> Result<SlotList, AllocError>
+        ensures { IfOk result (λ list. listed list ≡ listed self.now) }
+    {
+        Ok(match self {
+            SlotList::Nowhere => SlotList::Nowhere,
+            SlotList::One(slot) => SlotList::One(*slot),
+            SlotList::Several(list) => SlotList::Several(list.clone()?),
+        })
+    }
+
+    /// Puts the slot at d into a state.
+    fn put(&mut self, d: u32, state: SlotState)
+        ensures { listed self.new ≡ with_state d state (listed self.old) }
+    {
+        match self {
+            SlotList::Nowhere => {}
+            SlotList::One(slot) => put_in(slice::from_mut(slot), d, state),
+            SlotList::Several(list) => put_in(list, d, state),
+        }
+    }
+
+    /// Cancels the slots that wait, and answers their destinations as a mask.
+    fn cancel(&mut self) -> u32
+        requires { All (λ slot. slot.destination < QUEUES) (listed self.old) }
+        ensures slots { listed self.new ≡ cancelled (listed self.old) }
+        ensures mask { (d : ℕ) → (bit_at result d == 1) ≡ waits_at d (listed self.old) }
+    {
+        match self {
+            SlotList::Nowhere => 0,
+            SlotList::One(slot) => cancel_in(slice::from_mut(slot)),
+            SlotList::Several(list) => cancel_in(list),
+        }
+    }
+}
+
 /// The slots of a message in the order in which it names its destinations, which are all below `QUEUES`.
 #[derive(Drop)]
 pub struct Slots {
-    list: Vec<Slot>,
+    alloc: Global,
+    list: SlotList,
 }
 
 impl Model for Slots {
     ghost use Rattle.std.specs.Prelude.{List, ◌<◌, All};
     ghost use Rattle.dest_queue.specs.declared.slots.Slot.{Slot};
+    ghost use Rattle.dest_queue.specs.Listed.{listed};
 
     ghost Value = { List Slot };
 
-    ghost view = { λ s. s.list.items };
+    ghost view = { λ s. listed s.list };
 
-    ghost invariant = { λ s. All (λ slot. slot.destination < 32) s.list.items };
+    ghost invariant = { λ s. All (λ slot. slot.destination < 32) (listed s.list) };
 }
 
 impl Slots {
@@ -45,7 +122,8 @@ impl Slots {
         ensures { result ≡ [] }
     {
         Slots {
-            list: Vec::new(alloc),
+            alloc,
+            list: SlotList::Nowhere,
         }
     }
 
@@ -55,21 +133,21 @@ impl Slots {
         ensures ok { OnOk result (self.new ≡ self.old ++ new_slot d ∷ []) }
         ensures err { OnErr result (self.new ≡ self.old) }
     {
-        self.list.push(Slot {
+        let slot = Slot {
             destination: d,
             state: SlotState::Waiting {
                 attempts: 0,
                 due: 0,
             },
-        })?;
-        Ok(())
+        };
+        self.list.add(self.alloc, slot)
     }
 
     /// The slots in their order.
     pub fn as_slice(&self) -> &[Slot]
         ensures { result.now ≡ self.now }
     {
-        &self.list
+        self.list.as_slice()
     }
 
     /// The same slots, held apart.
@@ -77,7 +155,8 @@ impl Slots {
         ensures { IfOk result (λ slots. slots ≡ self.now) }
     {
         Ok(Slots {
-            list: self.list.clone()?,
+            alloc: self.alloc,
+            list: self.list.copy()?,
         })
     }
 
@@ -86,6 +165,7 @@ impl Slots {
         ensures { result ≡ state_at d self.now }
     {
         self.list
+            .as_slice()
             .iter()
             .find(|slot| slot.destination == d)
             .map(|slot| slot.state)
@@ -95,7 +175,7 @@ impl Slots {
     pub fn put(&mut self, d: u32, state: SlotState)
         ensures { self.new ≡ with_state d state self.old }
     {
-        put_in(&mut self.list, d, state);
+        self.list.put(d, state);
     }
 
     /// Cancels the slots that wait, and answers their destinations: bit d is set where the message waited at d.
@@ -103,7 +183,7 @@ impl Slots {
         ensures slots { self.new ≡ cancelled self.old }
         ensures mask { (d : ℕ) → (bit_at result d == 1) ≡ waits_at d self.old }
     {
-        cancel_in(&mut self.list)
+        self.list.cancel()
     }
 }
 

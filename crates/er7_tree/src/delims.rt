@@ -1,7 +1,7 @@
 //! The delimiters that a header declares. A value of them is made by reading a header and in no other way, so whoever holds
 //! one knows that no two are the same and that none is a letter: an escape sequence can be told from text.
 
-ghost use Rattle.std.specs.Prelude.{◌≡◌, ◌≤◌, ◌∷◌, IfSome, length};
+ghost use Rattle.std.specs.Prelude.{IsTrue, true, ◌≡◌, ◌≤◌, ◌∷◌, IfSome, length};
 ghost use Rattle.std.specs.List.{list_all};
 ghost use Rattle.er7_tree.specs.Delims.{is_delimiter, has_other_use, all_distinct, are_delimiters, lacks};
 
@@ -73,11 +73,22 @@ fn all_delimiters(bytes: &[u8]) -> bool
     bytes.iter().all(|byte| is_delimiter(*byte))
 }
 
+/// Whether these are the delimiters that the standard recommends (HL7 v2.5.1, 2.5.4). It is there for speed: nearly every message
+/// declares them, and they need no further test.
+fn are_recommended(field: u8, characters: &[u8]) -> bool
+    ensures { IsTrue result → are_delimiters (field ∷ characters.now) ≡ true }
+{
+    field == b'|' && matches!(characters, [b'^', b'~', b'\\', b'&'])
+}
+
 /// Whether a field separator and encoding characters may be declared together.
 fn may_be_declared(field: u8, characters: &[u8]) -> bool
     requires { length characters.now ≤ ENCODING_CHARACTERS_MAX }
     ensures { result ≡ are_delimiters (field ∷ characters.now) }
 {
+    if are_recommended(field, characters) {
+        return true;
+    }
     is_delimiter(field)
         && all_delimiters(characters)
         && lacks(characters, field)

@@ -6,7 +6,7 @@ ghost use Rattle.std.specs.List.{find, flat_map};
 ghost use Rattle.std.specs.Option.{option_copied};
 ghost use Rattle.er7_tree.specs.Path.{header_place, raw, segment_at, value};
 ghost use Rattle.std.specs.Arc.{arc_value};
-ghost use Rattle.er7_tree.specs.Spans.{covered, spanned, InOrder};
+ghost use Rattle.er7_tree.specs.Spans.{covered, spanned, InOrder, IsBetween};
 ghost use Rattle.er7_tree.specs.Tree.{Gives, IsMessage, IsOccurrence, ended, has_name, is_header, is_name, text_of, tree};
 
 use crate::delims::Delims;
@@ -197,6 +197,17 @@ impl Message {
         ensures message { IsMessage self.now }
     {
         self.spans[0].of(self.text.as_slice())
+    }
+
+    /// The text that the message keeps, and where its header segment stands in it.
+    ///
+    /// It is there for speed: who keeps pieces of the header shares that text, and copies nothing.
+    pub fn shared_header(&self) -> (&Arc<Vec<u8>>, Span)
+        ensures first { slice_get self.now.segments 0 ≡ Some (covered (arc_value result.0.now).items result.1) }
+        ensures named { is_header (covered (arc_value result.0.now).items result.1) ≡ true }
+        ensures between { IsBetween 0 (length (arc_value result.0.now).items) result.1 }
+    {
+        (&self.text, self.spans[0])
     }
 
     /// The first segment of that name, where there is one.

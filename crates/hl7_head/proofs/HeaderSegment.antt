@@ -12,18 +12,18 @@ use Rattle.hl7_head.specs.Places.{AreFirstPieces}
 use Rattle.hl7_head.specs.Segment.{component_at, header_in}
 
 -- a field of a header segment, of whose pieces the name is the first and stands for MSH-1
-pub field_read : (d : Delims) (segment : List ℕ) (spans : List Span) → is_header segment ≡ true
-    → AreFirstPieces segment (split d.field segment) spans
-    → (n : ℕ) (s : Span) → 1 ≤ n → n < length spans → covered segment (get_or spans n s) ≡ field_at d (n + 1) segment
-field_read d segment spans is all n s low short =
+pub field_read : (d : Delims) (segment text : List ℕ) (spans : List Span) → is_header segment ≡ true
+    → AreFirstPieces text (split d.field segment) spans
+    → (n : ℕ) (s : Span) → 1 ≤ n → n < length spans → covered text (get_or spans n s) ≡ field_at d (n + 1) segment
+field_read d segment text spans is all n s low short =
     let not_first : nat_eq (n + 1) 1 ≡ false = ne_eqb (n + 1) 1 (λ e. absurd (omega arith)) in
     all.read n s short ∙ rw (is, not_first) refl
 
 -- a component of the first repetition of a field of a header segment
-pub component_read : (d : Delims) (segment : List ℕ) (field : Span) (f : ℕ) (spans : List Span) → covered segment field ≡ field_at d f segment
-    → AreFirstPieces segment (split d.component (piece_at 1 (split d.repetition (covered segment field)))) spans
-    → (n : ℕ) (s : Span) → n < length spans → covered segment (get_or spans n s) ≡ component_at d f (n + 1) segment
-component_read d segment field f spans is all n s short = all.read n s short ∙ ap (λ text. piece_at (n + 1) (split d.component (piece_at 1 (split d.repetition text)))) is
+pub component_read : (d : Delims) (segment text : List ℕ) (field : Span) (f : ℕ) (spans : List Span) → covered text field ≡ field_at d f segment
+    → AreFirstPieces text (split d.component (piece_at 1 (split d.repetition (covered text field)))) spans
+    → (n : ℕ) (s : Span) → n < length spans → covered text (get_or spans n s) ≡ component_at d f (n + 1) segment
+component_read d segment text field f spans is all n s short = all.read n s short ∙ ap (λ piece. piece_at (n + 1) (split d.component (piece_at 1 (split d.repetition piece)))) is
 
 header_first : (d : Delims) (segments : List (List ℕ)) (first : List ℕ) → slice_get segments 0 ≡ Some first → is_header first ≡ true
     → header_in d first ≡ header (record { delims = d; segments = segments })

@@ -3,6 +3,7 @@ pub mod Counting
 pub mod Cutting
 pub mod HeaderSegment
 pub mod Assembling
+pub mod Fronts
 pub mod Bytes
 pub mod AckBytes
 pub mod ReadBack

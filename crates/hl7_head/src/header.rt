@@ -1,43 +1,50 @@
-ghost use Rattle.std.specs.Prelude.{◌≡◌, IfOk};
+ghost use Rattle.std.specs.Prelude.{◌≡◌, IfOk, length};
+ghost use Rattle.std.specs.Arc.{arc_value};
+ghost use Rattle.er7_tree.specs.Spans.{covered, IsBetween};
 
 use crate::places::Places;
-use er7_tree::{Delims, Message};
-use std::alloc::{AllocError, Global};
+use er7_tree::{Delims, Message, Span};
+use std::alloc::AllocError;
 use std::marker::Model;
+use std::sync::Arc;
 
-/// The header of a message: the fields and components of its segment MSH that an engine reads, raw.
+/// The header of a message: the fields and components of its segment MSH that an engine reads, raw. It keeps the text of the
+/// message, as one more of its owners.
 #[derive(Debug, Drop)]
 pub struct Header {
     delims: Delims,
-    segment: Vec<u8>,
+    text: Arc<Vec<u8>>,
+    size: usize,
     places: Places,
 }
 
 impl Model for Header {
     ghost use Rattle.std.specs.Prelude.{length};
     ghost use Rattle.hl7_head.specs.Header.{Msh};
+    ghost use Rattle.std.specs.Arc.{arc_value};
     ghost use Rattle.hl7_head.specs.Places.{AreWithin, pieces_at};
 
     ghost Value = { Msh };
 
-    ghost view = { λ h. pieces_at h.delims h.segment.items h.places };
+    ghost view = { λ h. pieces_at h.delims (arc_value h.text).items h.places };
 
-    ghost invariant = { λ h. AreWithin (length h.segment.items) h.places };
+    ghost invariant = { λ h. AreWithin (length (arc_value h.text).items) h.places };
 }
 
 impl Header {
     ghost use Rattle.hl7_head.specs.Header.{header};
 
     /// The header of a message.
-    pub fn read(alloc: Global, message: &Message) -> Result<Header, AllocError>
+    pub fn read(message: &Message) -> Result<Header, AllocError>
         ensures { IfOk result (λ h. h ≡ header message.now) }
     {
         let delims = message.delims();
-        let segment = message.header();
-        let places = Places::of(segment, delims);
+        let (text, segment) = message.shared_header();
+        let places = Places::of(text.as_slice(), segment, delims);
         Ok(Header {
             delims,
-            segment: Vec::from_slice(alloc, segment)?,
+            text: Arc::try_clone(text)?,
+            size: segment.end - segment.start,
             places,
         })
     }
@@ -51,104 +58,114 @@ impl Header {
 
     /// How many bytes the segment has.
     pub(crate) fn size(&self) -> usize {
-        self.segment.len()
+        self.size
     }
 
     /// MSH-2, the encoding characters, with the fifth where there is one.
     pub fn encoding_characters(&self) -> &[u8]
         ensures { result.now ≡ self.now.encoding_characters }
     {
-        self.places.encoding_characters.of(&self.segment)
+        self.places.encoding_characters.of(self.text.as_slice())
     }
 
     /// MSH-3, the sending application.
     pub fn sending_application(&self) -> &[u8]
         ensures { result.now ≡ self.now.sending_application }
     {
-        self.places.sending_application.of(&self.segment)
+        self.places.sending_application.of(self.text.as_slice())
     }
 
     /// MSH-4, the sending facility.
     pub fn sending_facility(&self) -> &[u8]
         ensures { result.now ≡ self.now.sending_facility }
     {
-        self.places.sending_facility.of(&self.segment)
+        self.places.sending_facility.of(self.text.as_slice())
     }
 
     /// MSH-5, the receiving application.
     pub fn receiving_application(&self) -> &[u8]
         ensures { result.now ≡ self.now.receiving_application }
     {
-        self.places.receiving_application.of(&self.segment)
+        self.places.receiving_application.of(self.text.as_slice())
     }
 
     /// MSH-6, the receiving facility.
     pub fn receiving_facility(&self) -> &[u8]
         ensures { result.now ≡ self.now.receiving_facility }
     {
-        self.places.receiving_facility.of(&self.segment)
+        self.places.receiving_facility.of(self.text.as_slice())
     }
 
     /// MSH-9.1, the message code.
     pub fn message_code(&self) -> &[u8]
         ensures { result.now ≡ self.now.message_code }
     {
-        self.places.message_code.of(&self.segment)
+        self.places.message_code.of(self.text.as_slice())
     }
 
     /// MSH-9.2, the trigger event.
     pub fn trigger_event(&self) -> &[u8]
         ensures { result.now ≡ self.now.trigger_event }
     {
-        self.places.trigger_event.of(&self.segment)
+        self.places.trigger_event.of(self.text.as_slice())
     }
 
     /// MSH-10, the message control id.
     pub fn control_id(&self) -> &[u8]
         ensures { result.now ≡ self.now.control_id }
     {
-        self.places.control_id.of(&self.segment)
+        self.places.control_id.of(self.text.as_slice())
+    }
+
+    /// The text of the message, and where MSH-10 stands in it.
+    ///
+    /// It is there for speed: who keeps the control id shares that text, and copies nothing.
+    pub fn shared_control_id(&self) -> (&Arc<Vec<u8>>, Span)
+        ensures value { covered (arc_value result.0.now).items result.1 ≡ self.now.control_id }
+        ensures between { IsBetween 0 (length (arc_value result.0.now).items) result.1 }
+    {
+        (&self.text, self.places.control_id)
     }
 
     /// MSH-11, the processing id.
     pub fn processing_id(&self) -> &[u8]
         ensures { result.now ≡ self.now.processing_id }
     {
-        self.places.processing_id.of(&self.segment)
+        self.places.processing_id.of(self.text.as_slice())
     }
 
     /// MSH-11.1, the processing id proper (table 0103).
     pub fn processing_code(&self) -> &[u8]
         ensures { result.now ≡ self.now.processing_code }
     {
-        self.places.processing_code.of(&self.segment)
+        self.places.processing_code.of(self.text.as_slice())
     }
 
     /// MSH-12, the version id.
     pub fn version_id(&self) -> &[u8]
         ensures { result.now ≡ self.now.version_id }
     {
-        self.places.version_id.of(&self.segment)
+        self.places.version_id.of(self.text.as_slice())
     }
 
     /// MSH-12.1, the version id proper (table 0104).
     pub fn version_code(&self) -> &[u8]
         ensures { result.now ≡ self.now.version_code }
     {
-        self.places.version_code.of(&self.segment)
+        self.places.version_code.of(self.text.as_slice())
     }
 
     /// MSH-15, the accept acknowledgment type (table 0155).
     pub fn accept_type(&self) -> &[u8]
         ensures { result.now ≡ self.now.accept_type }
     {
-        self.places.accept_type.of(&self.segment)
+        self.places.accept_type.of(self.text.as_slice())
     }
 
     /// MSH-16, the application acknowledgment type (table 0155).
     pub fn application_type(&self) -> &[u8]
         ensures { result.now ≡ self.now.application_type }
     {
-        self.places.application_type.of(&self.segment)
+        self.places.application_type.of(self.text.as_slice())
     }
 }

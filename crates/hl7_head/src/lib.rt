@@ -16,5 +16,5 @@ pub use header::Header;
 pub use laws::{ack_adds_no_control, ack_reads_back, constant_rules};
 pub use moment::{LAST_MOMENT, Moment, MomentRange};
 pub use msa::Msa;
-pub use reply::ack_text;
+pub use reply::{ack_text, append_ack};
 pub use time_stamp::stamp;

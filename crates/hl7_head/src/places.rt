@@ -10,14 +10,14 @@ use er7_tree::{Delims, Span};
 /// MSH is read up to its sixteenth field; its name stands in the place of the first, the field separator.
 const FIELDS_READ: usize = 16;
 
-/// The first piece of a part of a segment between separators. The fields of a header are short: a loop over their bytes takes
+/// The first piece of a part of a text between separators. The fields of a header are short: a loop over their bytes takes
 /// less than a search by `memchr` for each.
-fn first_piece(segment: &[u8], part: Span, separator: u8) -> Span
-    requires { IsBetween 0 (length segment.now) part }
-    ensures { ReadsFirst segment.now separator part result }
+fn first_piece(text: &[u8], part: Span, separator: u8) -> Span
+    requires { IsBetween 0 (length text.now) part }
+    ensures { ReadsFirst text.now separator part result }
 {
     let mut end = part.start;
-    while end < part.end && segment[end] != separator {
+    while end < part.end && text[end] != separator {
         end += 1;
     }
     Span {
@@ -26,22 +26,22 @@ fn first_piece(segment: &[u8], part: Span, separator: u8) -> Span
     }
 }
 
-/// The first `N` pieces of a part of a segment between separators. A piece that isn't there is empty.
-pub fn first_pieces<const N: usize>(segment: &[u8], part: Span, separator: u8) -> [Span; N]
-    requires { IsBetween 0 (length segment.now) part }
-    ensures { AreFirstPieces segment.now (split separator (covered segment.now part)) result }
+/// The first `N` pieces of a part of a text between separators. A piece that isn't there is empty.
+pub fn first_pieces<const N: usize>(text: &[u8], part: Span, separator: u8) -> [Span; N]
+    requires { IsBetween 0 (length text.now) part }
+    ensures { AreFirstPieces text.now (split separator (covered text.now part)) result }
 {
     let mut pieces = [Span::EMPTY; N];
     let mut left = part;
     for piece in &mut pieces {
-        let first = first_piece(segment, left, separator);
+        let first = first_piece(text, left, separator);
         *piece = first;
         left.start = left.end.min(first.end + 1);
     }
     pieces
 }
 
-/// Where the pieces of a header stand in its segment.
+/// Where the pieces of a header stand in the text of its message.
 #[derive(Clone, Copy, Debug)]
 pub struct Places {
     pub encoding_characters: Span,
@@ -61,20 +61,21 @@ pub struct Places {
 }
 
 /// The first two components of the first repetition of a field.
-fn components(segment: &[u8], delims: Delims, field: Span) -> [Span; 2]
-    requires { IsBetween 0 (length segment.now) field }
-    ensures { AreFirstPieces segment.now (split delims.component (piece_at 1 (split delims.repetition (covered segment.now field)))) result }
+fn components(text: &[u8], delims: Delims, field: Span) -> [Span; 2]
+    requires { IsBetween 0 (length text.now) field }
+    ensures { AreFirstPieces text.now (split delims.component (piece_at 1 (split delims.repetition (covered text.now field)))) result }
 {
-    let [repetition] = first_pieces::<1>(segment, field, delims.repetition());
-    first_pieces(segment, repetition, delims.component())
+    let [repetition] = first_pieces::<1>(text, field, delims.repetition());
+    first_pieces(text, repetition, delims.component())
 }
 
 impl Places {
-    /// Reads the fields of a header segment in their order.
-    pub fn of(segment: &[u8], delims: Delims) -> Places
-        requires { is_header segment.now ≡ true }
-        ensures within { AreWithin (length segment.now) result }
-        ensures pieces { pieces_at delims segment.now result ≡ header_in delims segment.now }
+    /// Reads the fields of a header segment, a part of a text, in their order.
+    pub fn of(text: &[u8], segment: Span, delims: Delims) -> Places
+        requires between { IsBetween 0 (length text.now) segment }
+        requires header { is_header (covered text.now segment) ≡ true }
+        ensures within { AreWithin (length text.now) result }
+        ensures pieces { pieces_at delims text.now result ≡ header_in delims (covered text.now segment) }
     {
         let [
             _name,
@@ -93,10 +94,10 @@ impl Places {
             _continuation_pointer,
             accept_type,
             application_type,
-        ] = first_pieces::<FIELDS_READ>(segment, Span::whole(segment), delims.field());
-        let [message_code, trigger_event] = components(segment, delims, message_type);
-        let [processing_code, _] = components(segment, delims, processing_id);
-        let [version_code, _] = components(segment, delims, version_id);
+        ] = first_pieces::<FIELDS_READ>(text, segment, delims.field());
+        let [message_code, trigger_event] = components(text, delims, message_type);
+        let [processing_code, _] = components(text, delims, processing_id);
+        let [version_code, _] = components(text, delims, version_id);
         Places {
             encoding_characters,
             sending_application,

@@ -1,7 +1,8 @@
-ghost use Rattle.std.specs.Prelude.{◌≡◌, ◌++◌, [], ◌∷◌, map, codes, IfOk, OnOk};
-ghost use Rattle.hl7_head.specs.Ack.{ack, fields_text, reply_answer, reply_header, reply_id, reply_mode, reply_type, segment_text};
+ghost use Rattle.std.specs.Prelude.{◌≡◌, ◌++◌, [], ◌∷◌, map, option_map, codes, length, take, IfOk, OnOk, OnErr};
+ghost use Rattle.std.specs.Option.{option_to_list};
+ghost use Rattle.hl7_head.specs.Ack.{ack, cause_text, fields_text, reply_answer, reply_header, reply_id, reply_mode, reply_type, segment_text};
 
-use crate::ack::AckPart;
+use crate::ack::{AckPart, Cause};
 use crate::header::Header;
 use crate::moment::Moment;
 use crate::time_stamp::stamp;
@@ -14,7 +15,8 @@ const OWN_BYTES: usize = 128;
 
 /// Appends a field after its separator.
 fn push_field(text: &mut Vec<u8>, separator: u8, field: &[u8]) -> Result<(), AllocError>
-    ensures { OnOk result (text.new.items ≡ text.old.items ++ separator ∷ field.now) }
+    ensures ok { OnOk result (text.new.items ≡ text.old.items ++ separator ∷ field.now) }
+    ensures err { OnErr result (take (length text.old.items) text.new.items ≡ text.old.items) }
 {
     text.push(separator)?;
     text.extend_from_slice(field)
@@ -22,7 +24,8 @@ fn push_field(text: &mut Vec<u8>, separator: u8, field: &[u8]) -> Result<(), All
 
 /// Appends fields, each after a separator.
 fn push_fields(text: &mut Vec<u8>, separator: u8, fields: &[&[u8]]) -> Result<(), AllocError>
-    ensures { OnOk result (text.new.items ≡ text.old.items ++ fields_text separator (map (λ field. field.now) fields.now)) }
+    ensures ok { OnOk result (text.new.items ≡ text.old.items ++ fields_text separator (map (λ field. field.now) fields.now)) }
+    ensures err { OnErr result (take (length text.old.items) text.new.items ≡ text.old.items) }
 {
     for field in fields {
         push_field(text, separator, field)?;
@@ -32,7 +35,8 @@ fn push_fields(text: &mut Vec<u8>, separator: u8, fields: &[&[u8]]) -> Result<()
 
 /// Appends MSH-9 after its separator.
 fn push_reply_type(text: &mut Vec<u8>, header: &Header) -> Result<(), AllocError>
-    ensures { OnOk result (text.new.items ≡ text.old.items ++ header.now.delims.field ∷ reply_type header.now) }
+    ensures ok { OnOk result (text.new.items ≡ text.old.items ++ header.now.delims.field ∷ reply_type header.now) }
+    ensures err { OnErr result (take (length text.old.items) text.new.items ≡ text.old.items) }
 {
     let event = header.trigger_event();
     let component = header.delims().component();
@@ -51,7 +55,8 @@ fn push_reply_id(
     connection: u32,
     number: u32,
 ) -> Result<(), AllocError>
-    ensures { OnOk result (text.new.items ≡ text.old.items ++ separator ∷ reply_id connection number) }
+    ensures ok { OnOk result (text.new.items ≡ text.old.items ++ separator ∷ reply_id connection number) }
+    ensures err { OnErr result (take (length text.old.items) text.new.items ≡ text.old.items) }
 {
     let mut buffer = Buffer::new();
     push_field(text, separator, buffer.format(connection).as_bytes())?;
@@ -61,7 +66,8 @@ fn push_reply_id(
 
 /// Appends MSH-13 to MSH-16 in enhanced mode. In original mode MSH ends before them.
 fn push_reply_mode(text: &mut Vec<u8>, separator: u8, enhanced: bool) -> Result<(), AllocError>
-    ensures { OnOk result (text.new.items ≡ text.old.items ++ fields_text separator (reply_mode enhanced)) }
+    ensures ok { OnOk result (text.new.items ≡ text.old.items ++ fields_text separator (reply_mode enhanced)) }
+    ensures err { OnErr result (take (length text.old.items) text.new.items ≡ text.old.items) }
 {
     if enhanced {
         push_fields(text, separator, &[b"", b"", b"NE", b"NE"])?;
@@ -78,8 +84,9 @@ fn push_header(
     connection: u32,
     number: u32,
 ) -> Result<(), AllocError>
-    ensures { OnOk result (text.new.items ≡ text.old.items
+    ensures ok { OnOk result (text.new.items ≡ text.old.items
         ++ segment_text header.now.delims.field (codes "MSH") (reply_header header.now part.now moment (reply_id connection number))) }
+    ensures err { OnErr result (take (length text.old.items) text.new.items ≡ text.old.items) }
 {
     let separator = header.delims().field();
     let stamp = stamp(moment);
@@ -106,20 +113,71 @@ fn push_header(
     Ok(())
 }
 
+/// Appends MSA-3 where a message is refused.
+fn push_cause(text: &mut Vec<u8>, separator: u8, cause: Option<Cause>) -> Result<(), AllocError>
+    ensures ok { OnOk result (text.new.items ≡ text.old.items ++ fields_text separator (option_to_list (option_map cause_text cause))) }
+    ensures err { OnErr result (take (length text.old.items) text.new.items ≡ text.old.items) }
+{
+    if let Some(cause) = cause {
+        push_field(text, separator, cause.text())?;
+    }
+    Ok(())
+}
+
 /// Appends the segment MSA.
 fn push_answer(text: &mut Vec<u8>, header: &Header, part: &AckPart) -> Result<(), AllocError>
-    ensures { OnOk result (text.new.items ≡ text.old.items
+    ensures ok { OnOk result (text.new.items ≡ text.old.items
         ++ segment_text header.now.delims.field (codes "MSA") (reply_answer header.now part.now)) }
+    ensures err { OnErr result (take (length text.old.items) text.new.items ≡ text.old.items) }
 {
     let separator = header.delims().field();
     text.extend_from_slice(b"MSA")?;
     push_field(text, separator, part.code.text())?;
     push_field(text, separator, header.control_id())?;
-    if let Some(cause) = part.cause {
-        push_field(text, separator, cause.text())?;
-    }
+    push_cause(text, separator, part.cause)?;
     text.push(CARRIAGE_RETURN)?;
     Ok(())
+}
+
+/// Appends the segments MSH and MSA.
+fn push_segments(
+    text: &mut Vec<u8>,
+    header: &Header,
+    part: &AckPart,
+    moment: Moment,
+    connection: u32,
+    number: u32,
+) -> Result<(), AllocError>
+    ensures ok { OnOk result (text.new.items ≡ text.old.items ++ ack header.now part.now moment connection number) }
+    ensures err { OnErr result (take (length text.old.items) text.new.items ≡ text.old.items) }
+{
+    text.reserve(header.size().saturating_add(OWN_BYTES))?;
+    push_header(text, header, part, moment, connection, number)?;
+    push_answer(text, header, part)
+}
+
+/// Appends the acknowledgment of a message with this header, which is that of `ack_text`.
+///
+/// # Errors
+///
+/// `AllocError` where `text` could not grow; it is then as it was.
+pub fn append_ack(
+    text: &mut Vec<u8>,
+    header: &Header,
+    part: &AckPart,
+    moment: Moment,
+    connection: u32,
+    number: u32,
+) -> Result<(), AllocError>
+    ensures ok { OnOk result (text.new.items ≡ text.old.items ++ ack header.now part.now moment connection number) }
+    ensures err { OnErr result (text.new.items ≡ text.old.items) }
+{
+    let before = text.len();
+    let appended = push_segments(text, header, part, moment, connection, number);
+    if appended.is_err() {
+        text.truncate(before);
+    }
+    appended
 }
 
 /// The acknowledgment of a message with this header (HL7 v2.5.1, 2.9): its segments MSH and MSA, each ended by a carriage
@@ -134,8 +192,7 @@ pub fn ack_text(
 ) -> Result<Vec<u8>, AllocError>
     ensures { IfOk result (λ text. text.items ≡ ack header.now part.now moment connection number) }
 {
-    let mut text = Vec::with_capacity(alloc, header.size().saturating_add(OWN_BYTES))?;
-    push_header(&mut text, header, part, moment, connection, number)?;
-    push_answer(&mut text, header, part)?;
+    let mut text = Vec::new(alloc);
+    append_ack(&mut text, header, part, moment, connection, number)?;
     Ok(text)
 }

@@ -1,4 +1,5 @@
 pub mod Coding
 pub mod Delivering
+pub mod Outgoing
 pub mod Judging
 pub mod Rows

@@ -1,6 +1,6 @@
 //! Where a message goes.
 
-ghost use Rattle.std.specs.Prelude.{◌≡◌, ◌≢◌, ◌<◌, IfOk, MatchOption, All, AllPairs, option_map, true, false};
+ghost use Rattle.std.specs.Prelude.{◌≡◌, ◌≢◌, ◌<◌, ◌==◌, ◌∷◌, [], ◌++◌, length, IfOk, MatchOption, All, AllPairs, option_map, true, false};
 ghost use Rattle.std.specs.List.{list_any};
 ghost use Rattle.std.specs.Result.{result_ok};
 ghost use Rattle.hl7_transform.specs.Step.{after};
@@ -9,6 +9,7 @@ ghost use Rattle.plan_text.specs.Entries.{AllStand};
 ghost use Rattle.mllp_frame.specs.Framing.{IsData};
 ghost use Rattle.er7_tree.specs.Tree.{text_of};
 ghost use Rattle.hl7_filter.specs.View.{view as condition_view};
+ghost use Rattle.judge_core.specs.Outgoing.{listed};
 ghost use Rattle.judge_core.specs.Judging.{passes, deliveries_by, is_stopped, open_routes};
 
 use crate::text::Text;
@@ -18,6 +19,7 @@ use hl7_transform::{Step, StepFault, apply};
 use plan_text::Route;
 use std::alloc::{AllocError, Global};
 use std::marker::Model;
+use std::slice;
 use std::sync::Arc;
 
 /// A text for one destination, by its place in the plan.
@@ -27,23 +29,84 @@ pub struct Delivery {
     pub payload: Text,
 }
 
+/// The texts of a message for its destinations, with a list on the heap only where there are several. It is there for speed: a
+/// message for one destination takes a request for memory less.
+#[derive(Debug, Drop)]
+pub(crate) enum Outgoing {
+    Nowhere,
+    One(Delivery),
+    Several(Vec<Delivery>),
+}
+
+/// Deliveries as their owners keep them. It is there for speed: a single one is kept in place, and shares its text alone, so
+/// that it takes no memory of its own.
+#[derive(Debug, Drop)]
+pub(crate) enum Kept {
+    One(Delivery),
+    Several(Arc<Vec<Delivery>>),
+}
+
 /// Where a message goes and with which texts, held once for all its owners: at most 32 destinations, each once.
 #[derive(Debug, Drop)]
 pub struct Deliveries {
-    items: Arc<Vec<Delivery>>,
+    items: Kept,
 }
 
 impl Model for Deliveries {
     ghost use Rattle.std.specs.Prelude.{List};
-    ghost use Rattle.std.specs.Arc.{arc_value};
     ghost use Rattle.judge_core.specs.declared.delivery.Delivery.{Delivery};
     ghost use Rattle.judge_core.specs.Delivering.{AreDeliveries};
+    ghost use Rattle.judge_core.specs.Outgoing.{kept};
 
     ghost Value = { List Delivery };
 
-    ghost view = { λ d. (arc_value d.items).items };
+    ghost view = { λ d. kept d.items };
 
-    ghost invariant = { λ d. AreDeliveries (arc_value d.items).items };
+    ghost invariant = { λ d. AreDeliveries (kept d.items) };
+}
+
+impl Outgoing {
+    /// With one more.
+    fn with(self, alloc: Global, delivery: Delivery) -> Result<Outgoing, AllocError>
+        ensures { IfOk result (λ more. listed more ≡ listed self ++ delivery ∷ []) }
+    {
+        match self {
+            Outgoing::Nowhere => Ok(Outgoing::One(delivery)),
+            Outgoing::One(first) => {
+                let mut all = Vec::new(alloc);
+                all.push(first)?;
+                all.push(delivery)?;
+                Ok(Outgoing::Several(all))
+            }
+            Outgoing::Several(mut all) => {
+                all.push(delivery)?;
+                Ok(Outgoing::Several(all))
+            }
+        }
+    }
+
+    /// Whether there is none.
+    pub(crate) fn is_empty(&self) -> bool
+        ensures { result ≡ (length (listed self.now) == 0) }
+    {
+        match self {
+            Outgoing::Nowhere => true,
+            Outgoing::One(_) => false,
+            Outgoing::Several(all) => all.is_empty(),
+        }
+    }
+}
+
+impl Delivery {
+    /// The same delivery for one more owner.
+    fn share(&self) -> Result<Delivery, AllocError>
+        ensures { IfOk result (λ delivery. delivery ≡ self.now) }
+    {
+        Ok(Delivery {
+            destination: self.destination,
+            payload: self.payload.share()?,
+        })
+    }
 }
 
 /// Whether a message passes a filter; where there is none each message does.
@@ -96,21 +159,24 @@ pub(crate) fn by_routes(
     routes: &[Route],
     message: &Message,
     payload: &Text,
-) -> Result<Option<Vec<Delivery>>, AllocError>
+) -> Result<Option<Outgoing>, AllocError>
     requires stand { All (λ r. AllStand r.steps) routes.now }
     requires payload { payload.now ≡ text_of message.now }
     ensures { IfOk result (λ all. MatchOption all (list_any (is_stopped message.now) (open_routes routes.now message.now) ≡ true)
-        (λ ds. (list_any (is_stopped message.now) (open_routes routes.now message.now) ≡ false) × (ds.items ≡ deliveries_by routes.now message.now))) }
+        (λ ds. (list_any (is_stopped message.now) (open_routes routes.now message.now) ≡ false) × (listed ds ≡ deliveries_by routes.now message.now))) }
 {
-    let mut all = Vec::new(alloc);
+    let mut all = Outgoing::Nowhere;
     let mut stopped = false;
     for route in routes {
         if passes(route.filter(), message)? {
             match text_by(alloc, route.steps(), message, payload)? {
-                Some(text) => all.push(Delivery {
-                    destination: route.to(),
-                    payload: text,
-                })?,
+                Some(text) => {
+                    let delivery = Delivery {
+                        destination: route.to(),
+                        payload: text,
+                    };
+                    all = all.with(alloc, delivery)?;
+                }
                 None => stopped = true,
             }
         }
@@ -122,13 +188,16 @@ impl Deliveries {
     ghost use Rattle.judge_core.specs.Delivering.{AreDeliveries};
 
     /// Deliveries to at most 32 destinations, to each once.
-    pub(crate) fn new(alloc: Global, items: Vec<Delivery>) -> Result<Deliveries, AllocError>
-        requires { AreDeliveries items.items }
-        ensures { IfOk result (λ deliveries. deliveries ≡ items.items) }
+    pub(crate) fn new(alloc: Global, items: Outgoing) -> Result<Deliveries, AllocError>
+        requires { AreDeliveries (listed items) }
+        ensures { IfOk result (λ deliveries. deliveries ≡ listed items) }
     {
-        Ok(Deliveries {
-            items: Arc::new(alloc, items)?,
-        })
+        let items = match items {
+            Outgoing::Nowhere => Kept::Several(Arc::new(alloc, Vec::new(alloc))?),
+            Outgoing::One(delivery) => Kept::One(delivery),
+            Outgoing::Several(all) => Kept::Several(Arc::new(alloc, all)?),
+        };
+        Ok(Deliveries { items })
     }
 
     /// The deliveries, in the order of the routes.
@@ -138,15 +207,20 @@ impl Deliveries {
         ensures once { AllPairs (λ x y. x.destination ≢ y.destination) result.now }
         ensures plain { All (λ x. IsData x.payload) result.now }
     {
-        self.items.as_slice()
+        match &self.items {
+            Kept::One(delivery) => slice::from_ref(delivery),
+            Kept::Several(all) => all.as_slice(),
+        }
     }
 
     /// The same deliveries for one more owner.
     pub fn share(&self) -> Result<Deliveries, AllocError>
         ensures { IfOk result (λ deliveries. deliveries ≡ self.now) }
     {
-        Ok(Deliveries {
-            items: Arc::try_clone(&self.items)?,
-        })
+        let items = match &self.items {
+            Kept::One(delivery) => Kept::One(delivery.share()?),
+            Kept::Several(all) => Kept::Several(Arc::try_clone(all)?),
+        };
+        Ok(Deliveries { items })
     }
 }

@@ -62,12 +62,13 @@ pub struct Judged {
     channel: u32,
     raw: Text,
     header: Option<Header>,
+    control_id: Option<Text>,
     key: Vec<u8>,
     verdict: Verdict,
 }
 
 impl Model for Judged {
-    ghost use Rattle.std.specs.Prelude.{◌≡◌, ◌<◌, length};
+    ghost use Rattle.std.specs.Prelude.{◌≡◌, ◌<◌, length, option_map};
     ghost use Rattle.std.specs.Arc.{arc_value};
     ghost use Rattle.hl7_head.specs.Header.{header_of};
     ghost use Rattle.mllp_frame.specs.Framing.{IsBlockData};
@@ -85,17 +86,18 @@ impl Model for Judged {
       known : j.channel < length (arc_value j.plan).channels;
       fits : IsBlockData j.raw;
       header_is : j.header ≡ header_of j.raw;
+      control_id_is : j.control_id ≡ option_map (λ h. h.control_id) (header_of j.raw);
       key_is : j.key.items ≡ key_of j.channel j.raw;
       verdict_is : j.verdict ≡ decided (arc_value j.plan) j.channel j.raw;
     } };
 }
 
 /// The message that a text says, if it says one, and whether the text is that message as it is printed.
-fn read(alloc: Global, text: &Text) -> Result<Option<(Message, bool)>, AllocError>
-    ensures message { IfOk result (λ read. option_map (λ r. r.0) read ≡ result_ok (tree text.now)) }
-    ensures printed { IfOk result (λ read. IfSome read (λ r. IsTrue r.1 → text_of r.0 ≡ text.now)) }
+fn read(alloc: Global, text: &Arc<Vec<u8>>) -> Result<Option<(Message, bool)>, AllocError>
+    ensures message { IfOk result (λ read. option_map (λ r. r.0) read ≡ result_ok (tree (arc_value text.now).items)) }
+    ensures printed { IfOk result (λ read. IfSome read (λ r. IsTrue r.1 → text_of r.0 ≡ (arc_value text.now).items)) }
 {
-    match Message::parse_shared(alloc, text.shared()) {
+    match Message::parse_shared(alloc, text) {
         Ok(read) => Ok(Some(read)),
         Err(Refusal::NoMemory) => Err(AllocError),
         Err(_) => Ok(None),
@@ -138,6 +140,14 @@ fn payload_of(alloc: Global, message: &Message, raw: &Text, same: bool) -> Resul
     } else {
         Text::new(alloc, printed)
     }
+}
+
+/// The control id of a message, as a span of the message's text.
+fn control_id_of(header: &Header) -> Result<Text, AllocError>
+    ensures { IfOk result (λ control_id. control_id ≡ header.now.control_id) }
+{
+    let (text, place) = header.shared_control_id();
+    Text::part(text, place)
 }
 
 /// The key of a message, by which its repeats are known.
@@ -214,19 +224,23 @@ pub fn judge(
     ensures { IfOk result (λ judged. judged ≡ record { plan = arc_value plan.now; channel = channel; raw = raw.items }) }
 {
     plan.rules();
-    let raw = Text::new(alloc, raw)?;
+    let shared = Arc::new(alloc, raw)?;
     let plan = Arc::try_clone(plan)?;
-    let Some((message, printed)) = read(alloc, &raw)? else {
+    let read = read(alloc, &shared)?;
+    let raw = Text::whole(shared);
+    let Some((message, printed)) = read else {
         return Ok(Judged {
             plan,
             channel,
             raw,
             header: None,
+            control_id: None,
             key: Vec::new(alloc),
             verdict: Verdict::Unreadable,
         });
     };
-    let header = Header::read(alloc, &message)?;
+    let header = Header::read(&message)?;
+    let control_id = control_id_of(&header)?;
     let key = key_bytes(alloc, channel as u8, &header)?;
     let rules = plan.channel(channel).unwrap();
     let verdict = decide(alloc, rules, message, &header, &raw, printed)?;
@@ -235,6 +249,7 @@ pub fn judge(
         channel,
         raw,
         header: Some(header),
+        control_id: Some(control_id),
         key,
         verdict,
     })
@@ -271,6 +286,13 @@ impl Judged {
         ensures { option_copied result ≡ header_of self.now.raw }
     {
         self.header.as_ref()
+    }
+
+    /// The control id, MSH-10, if the text is a message. It shares the bytes of the text, and who keeps it may share it again.
+    pub fn control_id(&self) -> Option<&Text>
+        ensures { option_copied result ≡ option_map (λ h. h.control_id) (header_of self.now.raw) }
+    {
+        self.control_id.as_ref()
     }
 
     /// The key: the channel as one byte, MSH-3, 0x0D, MSH-4, 0x0D and MSH-10; empty where the text is no message.

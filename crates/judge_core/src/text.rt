@@ -1,27 +1,34 @@
 //! Bytes that many owners share.
 
-ghost use Rattle.std.specs.Prelude.{◌≡◌, ◌↔◌, IfOk, IsTrue};
+ghost use Rattle.std.specs.Prelude.{◌≡◌, ◌↔◌, IfOk, IsTrue, length};
 ghost use Rattle.std.specs.Arc.{arc_value};
+ghost use Rattle.er7_tree.specs.Spans.{covered, IsBetween};
 ghost use Rattle.mllp_frame.specs.Framing.{IsBlockData};
 
+use er7_tree::Span;
 use mllp_frame::{DATA_MAX, END_BLOCK, START_BLOCK};
 use std::alloc::{AllocError, Global};
 use std::marker::Model;
 use std::sync::Arc;
 
-/// The bytes of a text, held once for all its owners.
+/// The bytes of a text, held once for all its owners. They are all that is shared, or a span of it: so a piece of a text that is
+/// kept takes no memory of its own.
 #[derive(Debug, Drop)]
 pub struct Text {
-    bytes: Arc<Vec<u8>>,
+    shared: Arc<Vec<u8>>,
+    span: Span,
 }
 
 impl Model for Text {
-    ghost use Rattle.std.specs.Prelude.{List, ℕ};
+    ghost use Rattle.std.specs.Prelude.{List, ℕ, length};
     ghost use Rattle.std.specs.Arc.{arc_value};
+    ghost use Rattle.er7_tree.specs.Spans.{covered, IsBetween};
 
     ghost Value = { List ℕ };
 
-    ghost view = { λ t. (arc_value t.bytes).items };
+    ghost view = { λ t. covered (arc_value t.shared).items t.span };
+
+    ghost invariant = { λ t. IsBetween 0 (length (arc_value t.shared).items) t.span };
 }
 
 impl Text {
@@ -29,8 +36,25 @@ impl Text {
     pub fn new(alloc: Global, bytes: Vec<u8>) -> Result<Text, AllocError>
         ensures { IfOk result (λ text. text ≡ bytes.items) }
     {
+        Ok(Text::whole(Arc::new(alloc, bytes)?))
+    }
+
+    /// The text of all bytes that are shared.
+    pub(crate) fn whole(shared: Arc<Vec<u8>>) -> Text
+        ensures { result ≡ (arc_value shared).items }
+    {
+        let span = Span::whole(shared.as_slice());
+        Text { shared, span }
+    }
+
+    /// The text of a span of bytes that are shared, as one more of their owners.
+    pub fn part(shared: &Arc<Vec<u8>>, span: Span) -> Result<Text, AllocError>
+        requires { IsBetween 0 (length (arc_value shared.now).items) span }
+        ensures { IfOk result (λ text. text ≡ covered (arc_value shared.now).items span) }
+    {
         Ok(Text {
-            bytes: Arc::new(alloc, bytes)?,
+            shared: Arc::try_clone(shared)?,
+            span,
         })
     }
 
@@ -38,23 +62,14 @@ impl Text {
     pub fn share(&self) -> Result<Text, AllocError>
         ensures { IfOk result (λ text. text ≡ self.now) }
     {
-        Ok(Text {
-            bytes: Arc::try_clone(&self.bytes)?,
-        })
-    }
-
-    /// The bytes, for those who share them.
-    pub(crate) fn shared(&self) -> &Arc<Vec<u8>>
-        ensures { (arc_value result.now).items ≡ self.now }
-    {
-        &self.bytes
+        Text::part(&self.shared, self.span)
     }
 
     /// The bytes.
     pub fn as_slice(&self) -> &[u8]
         ensures { result.now ≡ self.now }
     {
-        self.bytes.as_slice()
+        self.span.of(self.shared.as_slice())
     }
 }
 

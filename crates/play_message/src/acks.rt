@@ -135,7 +135,7 @@ fn pieces(header: &Header) -> [(&str, &[u8]); 14] {
 
 /// The delimiters, fields and components of the header.
 pub fn fields(alloc: Global, message: &Message) -> Result<String> {
-    let header = Header::read(alloc, message)?;
+    let header = Header::read(message)?;
     let mut told = format!(in alloc; "delimiters={}", shown(alloc, &delimiters(&header))?)?;
     for (name, piece) in pieces(&header) {
         told.push_str(name)?;
@@ -147,7 +147,7 @@ pub fn fields(alloc: Global, message: &Message) -> Result<String> {
 
 /// The mode of acknowledgment that the header asks for.
 pub fn mode(alloc: Global, message: &Message) -> Result<String> {
-    let mode = AckMode::of(&Header::read(alloc, message)?);
+    let mode = AckMode::of(&Header::read(message)?);
     Ok(format!(in alloc; "{mode:?}")?)
 }
 
@@ -182,7 +182,7 @@ pub fn ack(alloc: Global, message: &Message, words: &str) -> Result<String> {
     let (told, words) = first_word(words);
     let (seconds, words) = first_word(words);
     let (connection, first) = first_word(words);
-    let header = Header::read(alloc, message)?;
+    let header = Header::read(message)?;
     let verdictum = verdictum_named(told)?;
     let moment = Moment::of_unix(seconds.parse()?)?;
     acknowledged(

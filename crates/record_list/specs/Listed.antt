@@ -1,5 +1,5 @@
 -- The rows' numbers, each with the place of its node.
-use Rattle.std.specs.Prelude.{◌≡◌, ℕ, ◌==◌, cond, List, [], ◌∷◌, map}
+use Rattle.std.specs.Prelude.{◌≡◌, ℕ, ◌<◌, ◌==◌, cond, List, [], ◌∷◌, map, AllPairs}
 use Rattle.std.specs.declared.option.Option.{Option}
 use Rattle.std.specs.declared.option.Option.TheVariants.{None, Some}
 use Rattle.node_heap.specs.Held.{Held}
@@ -21,6 +21,10 @@ without_number number (e ∷ es) = cond (e.0 == number) es (e ∷ without_number
 abbrev pub IsListed : Option (ℕ × Place) → List (ℕ × Place) → Type 0
 IsListed None es = Unit {0}
 IsListed (Some e) es = place_of e.0 es ≡ Some e.1
+
+-- the numbers rise along the list
+abbrev pub NumbersAscend : List (ℕ × Place) → Type 0
+NumbersAscend es = AllPairs (λ x y. x.0 < y.0) es
 
 -- the numbers of the nodes' rows, with their places
 abbrev pub listed : {T : Type 0} → List (Held (Node T)) → List (ℕ × Place)

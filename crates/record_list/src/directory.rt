@@ -1,19 +1,22 @@
 //! Where the node of each row lies.
 
-ghost use Rattle.std.specs.Prelude.{◌≡◌, ◌<◌, [], ◌∷◌, ◌++◌, All, OnOk, OnErr, length};
+ghost use Rattle.std.specs.Prelude.{◌≡◌, ◌≢◌, ◌<◌, [], ◌∷◌, ◌++◌, All, IfSome, IfNone, OnOk, OnErr, length};
+ghost use Rattle.std.specs.List.{HoldsAt};
 ghost use Rattle.std.specs.declared.option.Option.TheVariants.{Some};
 ghost use Rattle.record_list.specs.Listed.{place_of, without_number};
 
 use node_heap::Place;
 use std::alloc::{AllocError, Global};
-use std::collections::BTreeMap;
+use std::collections::VecDeque;
 use std::marker::Model;
 
 /// The places of the rows' nodes by the rows' numbers, in rising order, and the row that was asked for last, which is
-/// found again with no look into the map.
+/// found again with no look among them. Numbers are added at the end alone, so the places stand in one list for speed: it takes
+/// fewer requests for memory than a tree, and less memory. Where a row is forgotten, those before it move up, or those behind it,
+/// whichever are fewer.
 #[derive(Drop)]
 pub struct Directory {
-    places: BTreeMap<u32, Place>,
+    places: VecDeque<(u32, Place)>,
     latest: Option<(u32, Place)>,
 }
 
@@ -23,11 +26,11 @@ impl Model for Directory {
 
     ghost Value = { List (ℕ × Place) };
 
-    ghost use Rattle.record_list.specs.Listed.{IsListed};
+    ghost use Rattle.record_list.specs.Listed.{IsListed, NumbersAscend};
 
-    ghost view = { λ s. s.places.entries };
+    ghost view = { λ s. s.places.items };
 
-    ghost invariant = { λ s. IsListed s.latest s.places.entries };
+    ghost invariant = { λ s. record { listed : IsListed s.latest s.places.items; rise : NumbersAscend s.places.items } };
 }
 
 impl Directory {
@@ -36,9 +39,20 @@ impl Directory {
         ensures { result ≡ [] }
     {
         Directory {
-            places: BTreeMap::new(alloc),
+            places: VecDeque::new(alloc),
             latest: None,
         }
+    }
+
+    /// Which of the entries is that of a row.
+    fn index_of(&self, number: u32) -> Option<usize>
+        ensures within { IfSome result (λ index. index < length self.now) }
+        ensures found { IfSome result (HoldsAt (λ entry. entry.0 ≡ number) self.now) }
+        ensures missing { IfNone result (All (λ entry. entry.0 ≢ number) self.now) }
+    {
+        self.places
+            .binary_search_by_key(&number, |entry| entry.0)
+            .ok()
     }
 
     /// The place of a row's node.
@@ -47,7 +61,10 @@ impl Directory {
     {
         match self.latest {
             Some((latest, at)) if latest == number => Some(at),
-            _ => self.places.get(&number).copied(),
+            _ => {
+                let index = self.index_of(number)?;
+                Some(self.places[index].1)
+            }
         }
     }
 
@@ -75,7 +92,7 @@ impl Directory {
         ensures ok { OnOk result (self.new ≡ self.old ++ (number, at) ∷ []) }
         ensures err { OnErr result (self.new ≡ self.old) }
     {
-        self.places.insert(number, at)?;
+        self.places.push_back((number, at))?;
         Ok(())
     }
 
@@ -84,7 +101,9 @@ impl Directory {
         ensures { self.new ≡ without_number number self.old }
     {
         self.latest = None;
-        let _place = self.places.remove(&number);
+        if let Some(index) = self.index_of(number) {
+            let _entry = self.places.remove(index);
+        }
     }
 
     /// How many rows there are.

@@ -1,7 +1,14 @@
-use Rattle.std.proofs.Common.{ap}
-use Rattle.judge_core.specs.Judging.{Judgement}
+use Rattle.std.proofs.Common.{rules, ◌≡◌, ap, subst}
+use Rattle.std.specs.Prelude.{IfOk, IsTrue}
+use Rattle.judge_core.specs.Judging.{Judgement, is_bookable}
 use Rattle.conn_core.proofs.Answering.{booked_in, told_either}
 use Rattle.conn_core.proofs.block_outcome.answer_block.Goals as goal
+
+pub returns-clause-kind : goal.returns-clause-kind
+returns-clause-kind g c =
+    let bookable : IsTrue (is_bookable c.in_ok-judged.judged.raw) = search rules in
+    subst (λ (j : Judgement). IsTrue (is_bookable j.raw) × IfOk c.book_and_reply-booked.result.outcome (λ r. (r.conn ≡ c.args.line.now.conn) × (r.channel ≡ j.channel) × (r.raw ≡ j.raw)))
+    c.in_ok-judged.ensures (bookable, c.book_and_reply-booked.ensures.receipt)
 
 pub returns-clause-booked : goal.returns-clause-booked
 returns-clause-booked g c =

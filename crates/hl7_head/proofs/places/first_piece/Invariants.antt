@@ -1,11 +1,11 @@
-use Rattle.std.proofs.Common.{◌≡◌, ◌≢◌, ℕ, ◌≤◌, ◌<◌, ◌-◌, get_or}
+use Rattle.std.proofs.Common.{◌≢◌, ℕ, ◌≤◌, ◌<◌, ◌-◌, get_or}
 use Rattle.hl7_head.proofs.places.first_piece.Given as goal
 
 abbrev pub invariant-loop-end : goal.invariant-loop-end
 invariant-loop-end l = record {
   behind : l.part.start ≤ l.end;
   within : l.end ≤ l.part.end;
-  other : (k : ℕ) → l.part.start ≤ k → k < l.end → get_or l.segment k 0 ≢ l.separator;
+  other : (k : ℕ) → l.part.start ≤ k → k < l.end → get_or l.text k 0 ≢ l.separator;
 }
 
 abbrev pub decreases-loop-end : goal.decreases-loop-end

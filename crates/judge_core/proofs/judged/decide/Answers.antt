@@ -3,6 +3,7 @@ use Rattle.std.specs.Result.{result_ok}
 use Rattle.std.proofs.lemmas.Bool.Decides.{nat_tests}
 use Rattle.hl7_transform.specs.Step.{after}
 use Rattle.judge_core.specs.declared.judged.Verdict.TheVariants.{Accept}
+use Rattle.judge_core.specs.Outgoing.{listed}
 use Rattle.judge_core.specs.Judging.{header_fault, is_acknowledgment, passes}
 use Rattle.judge_core.proofs.Judgements.{verdict-routed, verdict-stopped, routed-sent, routed-nowhere, delivered}
 use Rattle.judge_core.proofs.judged.decide.Goals as goal
@@ -22,10 +23,10 @@ returns c =
     let lets : passes c.args.message c.args.channel.now.filter ≡ true = rw (← c.filter.ensures) (sym c.in_ok-passes.ensures ∙ c.if-not-branch.false) in
     let made : Some c.in-Some-2.message ≡ result_ok (after c.args.channel.now.steps c.args.message) = rw (← c.steps.ensures) (sym c.in-Some-2.is ∙ c.in_ok-message.ensures) in
     let went = rw c.in-Some-3.is at c.in_ok-deliveries.ensures in
-    let some : 0 < length c.in-Some-3.deliveries.items = grind (arith, nat_tests, c.is_empty.ensures, c.if-is_empty.false, c.in-Some-3.deliveries.ok) in
+    let some : 0 < length (listed c.in-Some-3.deliveries) = grind (arith, nat_tests, c.is_empty.ensures, c.if-is_empty.false) in
     ap Accept c.in_ok-new.ensures ∙ sym (
     verdict-routed c.args.channel.now c.args.header.now c.args.message c.in-Some-2.message new good lets made
-    ∙ rw (← c.routes.ensures) (routed-sent c.routes.result.now c.in-Some-2.message c.in-Some-3.deliveries.items went.0 went.1 some))
+    ∙ rw (← c.routes.ensures) (routed-sent c.routes.result.now c.in-Some-2.message (listed c.in-Some-3.deliveries) went.0 went.1 some))
 
 pub returns-then-is_empty : goal.returns-then-is_empty
 returns-then-is_empty c =
@@ -34,12 +35,12 @@ returns-then-is_empty c =
     let lets : passes c.args.message c.args.channel.now.filter ≡ true = rw (← c.filter.ensures) (sym c.in_ok-passes.ensures ∙ c.if-not-branch.false) in
     let made : Some c.in-Some-2.message ≡ result_ok (after c.args.channel.now.steps c.args.message) = rw (← c.steps.ensures) (sym c.in-Some-2.is ∙ c.in_ok-message.ensures) in
     let went = rw c.in-Some-3.is at c.in_ok-deliveries.ensures in
-    let none : length c.in-Some-3.deliveries.items ≡ 0 = grind (arith, nat_tests, c.is_empty.ensures, c.if-is_empty.true, c.in-Some-3.deliveries.ok) in
+    let none : length (listed c.in-Some-3.deliveries) ≡ 0 = grind (arith, nat_tests, c.is_empty.ensures, c.if-is_empty.true) in
     sym (verdict-routed c.args.channel.now c.args.header.now c.args.message c.in-Some-2.message new good lets made
-    ∙ rw (← c.routes.ensures) (routed-nowhere c.routes.result.now c.in-Some-2.message c.in-Some-3.deliveries.items went.0 went.1 none))
+    ∙ rw (← c.routes.ensures) (routed-nowhere c.routes.result.now c.in-Some-2.message (listed c.in-Some-3.deliveries) went.0 went.1 none))
 
 pub new-requires : goal.new-requires
 new-requires c =
     let made : Some c.in-Some-2.message ≡ result_ok (after c.args.channel.now.steps c.args.message) = rw (← c.steps.ensures) (sym c.in-Some-2.is ∙ c.in_ok-message.ensures) in
     let went = rw c.in-Some-3.is at c.in_ok-deliveries.ensures in
-    delivered c.args.channel.now.steps c.args.message c.in-Some-2.message c.args.channel.now.routes c.in-Some-3.deliveries.items c.requires.goes made (rw c.routes.ensures at went.1)
+    delivered c.args.channel.now.steps c.args.message c.in-Some-2.message c.args.channel.now.routes (listed c.in-Some-3.deliveries) c.requires.goes made (rw c.routes.ensures at went.1)

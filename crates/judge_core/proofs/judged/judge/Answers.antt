@@ -1,8 +1,9 @@
-use Rattle.std.proofs.Common.{◌≡◌, Bool, ◌<◌, ◌≤◌, ◌∙◌, Some, length, sym, ap, arith, rules}
+use Rattle.std.proofs.Common.{◌≡◌, Bool, ℕ, List, Vec, Global, ◌<◌, ◌≤◌, ◌∙◌, Some, length, sym, ap, arith, rules}
 use Rattle.std.specs.Prelude.{slice_get, option_copied, option_map}
 use Rattle.std.specs.Arc.{arc_value}
-use Rattle.er7_tree.specs.Tree.{Tree}
-use Rattle.hl7_head.specs.Header.{header}
+use Rattle.std.specs.Result.{result_ok}
+use Rattle.er7_tree.specs.Tree.{Tree, tree}
+use Rattle.hl7_head.specs.Header.{Msh, header}
 use Rattle.judge_core.specs.Judging.{verdict_of}
 use Rattle.plan_text.specs.Entries.{IsPlan}
 use Rattle.judge_core.proofs.Judgements.{says-nothing, says}
@@ -11,12 +12,14 @@ use Rattle.judge_core.proofs.judged.judge.Goals as goal
 
 pub invariant_of-result : goal.invariant_of-result
 invariant_of-result c =
-    let read = ap (option_map (λ (r : Tree × Bool). r.0)) (sym c.in_default.is) ∙ c.in_ok-message.ensures.message in
-    let nothing = says-nothing (arc_value c.in_ok-plan.plan) c.args.channel c.in_ok-raw.raw read in
+    let came = c.whole-raw.ensures ∙ ap (λ (v : Vec ℕ Global). v.items) c.in_ok-shared.ensures.ok in
+    let read = ap (option_map (λ (r : Tree × Bool). r.0)) (sym c.in_default.is) ∙ c.in_ok-read.ensures.message ∙ ap (λ (text : List ℕ). result_ok (tree text)) (sym c.whole-raw.ensures) in
+    let nothing = says-nothing (arc_value c.in_ok-plan.plan) c.args.channel c.whole-raw.result read in
     record {
       known = rw c.in_ok-plan.ensures c.requires.known;
-      fits = rw c.in_ok-raw.ensures c.requires.fits;
+      fits = rw came c.requires.fits;
       header_is = nothing.header_is;
+      control_id_is = ap (option_map (λ (h : Msh). h.control_id)) nothing.header_is;
       key_is = c.new-in_default.ensures.items ∙ nothing.key_is;
       verdict_is = nothing.verdict_is;
     }
@@ -33,10 +36,10 @@ unwrap-rules-requires c =
     (rw (c.deref-2.ensures, c.in_ok-plan.ensures) at c.channel.ensures) c.requires.known
 
 -- the plan's rules, and the channel that was found
-rules-of : (c : goal.After-raw-3-1) → IsPlan (arc_value c.args.plan.now)
+rules-of : (c : goal.After-raw-1) → IsPlan (arc_value c.args.plan.now)
 rules-of c = rw c.deref.ensures at c.rules.ensures
 
-found-of : (c : goal.After-raw-3-1) → slice_get (arc_value c.args.plan.now).channels c.args.channel ≡ Some c.unwrap-rules.result.now
+found-of : (c : goal.After-raw-1) → slice_get (arc_value c.args.plan.now).channels c.args.channel ≡ Some c.unwrap-rules.result.now
 found-of c = sym (rw (c.deref-2.ensures, c.in_ok-plan.ensures) at c.channel.ensures) ∙ ap option_copied c.unwrap-rules.ensures
 
 pub decide-requires-clause-stand : goal.decide-requires-clause-stand
@@ -49,21 +52,25 @@ decide-requires-clause-routes_stand c =
 
 pub decide-requires-clause-goes : goal.decide-requires-clause-goes
 decide-requires-clause-goes c =
-    let read = ap (option_map (λ (r : Tree × Bool). r.0)) (sym c.in-Some.is) ∙ c.in_ok-message.ensures.message in
-    let message = says (arc_value c.in_ok-plan.plan) c.args.channel c.in_ok-raw.raw c.in-Some.message read in
-    goes-after (arc_value c.args.plan.now) c.args.channel c.unwrap-rules.result.now c.in_ok-raw.raw c.in-Some.message (rules-of c) (found-of c) message.read
-    (rw c.in_ok-raw.ensures c.requires.fits.plain)
+    let came = c.whole-raw.ensures ∙ ap (λ (v : Vec ℕ Global). v.items) c.in_ok-shared.ensures.ok in
+    let read = ap (option_map (λ (r : Tree × Bool). r.0)) (sym c.in-Some.is) ∙ c.in_ok-read.ensures.message ∙ ap (λ (text : List ℕ). result_ok (tree text)) (sym c.whole-raw.ensures) in
+    let message = says (arc_value c.in_ok-plan.plan) c.args.channel c.whole-raw.result c.in-Some.message read in
+    goes-after (arc_value c.args.plan.now) c.args.channel c.unwrap-rules.result.now c.whole-raw.result c.in-Some.message (rules-of c) (found-of c) message.read
+    (rw came c.requires.fits.plain)
 
 pub invariant_of-result-2 : goal.invariant_of-result-2
 invariant_of-result-2 c =
-    let read = ap (option_map (λ (r : Tree × Bool). r.0)) (sym c.in-Some.is) ∙ c.in_ok-message.ensures.message in
-    let message = says (arc_value c.in_ok-plan.plan) c.args.channel c.in_ok-raw.raw c.in-Some.message read in
+    let came = c.whole-raw.ensures ∙ ap (λ (v : Vec ℕ Global). v.items) c.in_ok-shared.ensures.ok in
+    let read = ap (option_map (λ (r : Tree × Bool). r.0)) (sym c.in-Some.is) ∙ c.in_ok-read.ensures.message ∙ ap (λ (text : List ℕ). result_ok (tree text)) (sym c.whole-raw.ensures) in
+    let message = says (arc_value c.in_ok-plan.plan) c.args.channel c.whole-raw.result c.in-Some.message read in
     let found : slice_get (arc_value c.in_ok-plan.plan).channels c.args.channel ≡ Some c.unwrap-rules.result.now =
     sym (rw c.deref-2.ensures at c.channel.ensures) ∙ ap option_copied c.unwrap-rules.ensures in
     record {
       known = rw c.in_ok-plan.ensures c.requires.known;
-      fits = rw c.in_ok-raw.ensures c.requires.fits;
+      fits = rw came c.requires.fits;
       header_is = ap Some c.in_ok-header.ensures ∙ message.header_is;
+      control_id_is = ap Some (c.in_ok-control_id.ensures ∙ ap (λ (h : Msh). h.control_id) c.in_ok-header.ensures)
+          ∙ ap (option_map (λ (h : Msh). h.control_id)) message.header_is;
       key_is = rw c.in_ok-header.ensures at c.in_ok-key.ensures ∙ message.key_is;
       verdict_is = c.in_ok-verdict.ensures
           ∙ (ap (λ h. verdict_of (Some c.unwrap-rules.result.now) h c.in-Some.message) c.in_ok-header.ensures

@@ -1,4 +1,4 @@
-use Rattle.std.proofs.Common.{◌≡◌, ◌<◌, false, refl, ap, subst, sym, ◌∙◌, arith}
+use Rattle.std.proofs.Common.{rules, ◌≡◌, ◌<◌, false, refl, ap, subst, sym, ◌∙◌, arith}
 use Rattle.mllp_frame.specs.Framing.{IsBlockData}
 use Rattle.judge_core.specs.Judging.{verdict as decided}
 use Rattle.event_log.specs.History.{control_id_of, plan_in_force}
@@ -7,7 +7,7 @@ use Rattle.event_log.specs.Room.{is_full, owed}
 use Rattle.book_core.specs.Sending.{has_key}
 use Rattle.book_core.proofs.Answering.{asked-full, never-full, refused-memory, then-full, told-accepting}
 use Rattle.book_core.proofs.Gains.{gain-added, gain-owed, key-kept}
-use Rattle.book_core.proofs.KeepingArrivals.{arrived-next, arrived-owed, few-slots, kept-arrived, key-unknown, keys-arrived}
+use Rattle.book_core.proofs.KeepingArrivals.{arrived-next, arrived-owed, few-received, few-repeats, few-slots, kept-arrived, key-unknown, keys-arrived}
 use Rattle.book_core.proofs.book.Book.book_arrival.Goals as goal
 
 pub returns-then-not-room-clause-full : goal.returns-then-not-room-clause-full
@@ -38,6 +38,12 @@ returns-in_err-add_message-clause-full g c = never-full _ _ _ _ c.self.view_is (
 pub keep_key-requires-clause-unknown : goal.keep_key-requires-clause-unknown
 keep_key-requires-clause-unknown g c =
     key-unknown _ _ _ _ _ _ c.self.invariant c.args.judged.now.channel c.args.judged.now.raw c.key.result.now c.told-told.result (has_key c.gain_of-gain.result) c.in_ok-key.key _ _ c.told-told.ensures (key-kept c.told-told.result (control_id_of c.args.judged.now.raw) (decided c.args.judged.now.plan c.args.judged.now.channel c.args.judged.now.raw) c.gain_of-gain.result c.gain_of-gain.ensures) c.key.ensures c.key_to_keep.ensures.known c.in_ok-key.ensures.copy
+
+pub count_arrival-requires-clause-few : goal.count_arrival-requires-clause-few
+count_arrival-requires-clause-few g c = few-received _ _ _ _ _ _ c.self.invariant _ (search rules)
+
+pub count_arrival-requires-clause-few_repeats : goal.count_arrival-requires-clause-few_repeats
+count_arrival-requires-clause-few_repeats g c = few-repeats _ _ _ _ _ _ c.self.invariant _ (search rules)
 
 pub count_arrival-requires-clause-few_slots : goal.count_arrival-requires-clause-few_slots
 count_arrival-requires-clause-few_slots g c = few-slots _ _ _ _ _ _ c.self.invariant

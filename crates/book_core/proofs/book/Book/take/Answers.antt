@@ -2,7 +2,7 @@ use Rattle.std.proofs.Common.{◌≡◌, ◌+◌, ◌≤◌, Ok, true, ◌∙◌
 use Rattle.event_log.specs.Answers.{take_answer}
 use Rattle.event_log.specs.History.{deliveries, names}
 use Rattle.book_core.proofs.Keeping.{few-flights}
-use Rattle.book_core.proofs.KeepingTakes.{kept-taken, taken-inside, taken-less, taken-named, taken-owed, taken-waits, taken-within}
+use Rattle.book_core.proofs.KeepingTakes.{kept-taken, taken-attempts, taken-inside, taken-less, taken-named, taken-owed, taken-waits, taken-within}
 use Rattle.book_core.proofs.book.Book.take.Goals as goal
 
 pub letter-requires : goal.letter-requires
@@ -19,6 +19,11 @@ pub count_taken-requires-clause-waits : goal.count_taken-requires-clause-waits
 count_taken-requires-clause-waits g c =
     let asked : take_answer c.self.inside.log.history c.args.d c.args.now ≡ Ok c.in_ok-ticket.ticket = ap (λ h. take_answer h c.args.d c.args.now) (c.self.view_is ∙ c.ticket.ensures.unchanged) ∙ sym c.in_ok-ticket.ensures.answer in
     taken-waits _ _ _ _ _ _ c.self.invariant c.args.d c.args.now c.in_ok-ticket.ticket asked
+
+pub count_taken-requires-clause-room : goal.count_taken-requires-clause-room
+count_taken-requires-clause-room g c =
+    let asked : take_answer c.self.inside.log.history c.args.d c.args.now ≡ Ok c.in_ok-ticket.ticket = ap (λ h. take_answer h c.args.d c.args.now) (c.self.view_is ∙ c.ticket.ensures.unchanged) ∙ sym c.in_ok-ticket.ensures.answer in
+    omega (arith, taken-attempts _ _ _ _ _ _ c.self.invariant c.args.d c.args.now c.in_ok-ticket.ticket asked)
 
 pub overflow_add-self : goal.overflow_add-self
 overflow_add-self g c =

@@ -1,4 +1,7 @@
-use Rattle.std.proofs.Common.{ap, ◌∙◌}
+use Rattle.std.proofs.Common.{ℕ, List, Vec, Global, sym, ap, ◌∙◌}
+use Rattle.std.specs.Arc.{arc_value}
+use Rattle.er7_tree.specs.Delims.{Delims}
+use Rattle.er7_tree.specs.Spans.{covered}
 use Rattle.hl7_head.specs.Places.{pieces_at}
 use Rattle.hl7_head.specs.Segment.{header_in}
 use Rattle.hl7_head.proofs.HeaderSegment.{header_by_segment}
@@ -6,7 +9,12 @@ use Rattle.hl7_head.proofs.header.Header.read.Goals as goal
 
 pub returns : goal.returns
 returns c =
-    let segment = c.header-segment.result.now in
-    let copied = ap (λ bytes. pieces_at c.delims-delims.result bytes c.of-places.result) c.in_ok-from_slice.ensures.items in
-    let declared = ap (λ delims. header_in delims segment) c.delims-delims.ensures in
-    copied ∙ c.of-places.ensures.pieces ∙ declared ∙ header_by_segment c.args.message.now segment c.header-segment.ensures.first c.header-segment.ensures.named
+    let t = c.args.message.now in
+    let span = c.shared_header.result.1 in
+    let shared = c.as_slice.ensures.value ∙ ap (λ (v : Vec ℕ Global). v.items) c.deref.ensures in
+    let kept = c.as_slice.ensures.value ∙ ap (λ (v : Vec ℕ Global). v.items) (c.deref.ensures ∙ sym c.in_ok-try_clone.ensures) in
+    ap (λ (text : List ℕ). pieces_at c.delims-delims.result text c.of-places.result) (sym kept)
+    ∙ c.of-places.ensures.pieces
+    ∙ ap (λ (d : Delims). header_in d (covered c.as_slice.result.now span)) c.delims-delims.ensures
+    ∙ ap (λ (text : List ℕ). header_in t.delims (covered text span)) shared
+    ∙ header_by_segment t (covered (arc_value c.shared_header.result.0.now).items span) c.shared_header.ensures.first c.shared_header.ensures.named

@@ -1,0 +1,19 @@
+-- The texts of a message for its destinations, as they are kept.
+use Rattle.std.specs.Prelude.{List, [], ◌∷◌}
+use Rattle.std.specs.Arc.{arc_value}
+use Rattle.judge_core.specs.declared.delivery.Delivery.{Delivery}
+use Rattle.judge_core.specs.declared.delivery.Outgoing.{Outgoing}
+use Rattle.judge_core.specs.declared.delivery.Outgoing.TheVariants.{Nowhere, One, Several}
+use Rattle.judge_core.specs.declared.delivery.Kept.{Kept}
+use Rattle.judge_core.specs.declared.delivery.Kept.TheVariants.{One as KeptOne, Several as KeptSeveral}
+
+-- all that were found, in their order
+abbrev pub listed : Outgoing → List Delivery
+listed Nowhere = []
+listed (One delivery) = delivery ∷ []
+listed (Several all) = all.items
+
+-- all that are kept, in their order
+abbrev pub kept : Kept → List Delivery
+kept (KeptOne delivery) = delivery ∷ []
+kept (KeptSeveral all) = (arc_value all).items
