@@ -217,9 +217,12 @@ pub fn audit_stations<T: Ledger, U: Ledger>(
     ensures stations { stations.new ≡ stations.old }
     ensures books { (takes.new.total ≡ takes.old.total) × (settlements.new.total ≡ settlements.old.total) }
     ensures takes_share { (whole_takes.new.parts ≡ whole_takes.old.parts) × (whole_takes.new.amount ≡ whole_takes.old.amount) }
-    ensures settlements_share { (whole_settlements.new.parts ≡ whole_settlements.old.parts) × (whole_settlements.new.amount ≡ whole_settlements.old.amount) }
-    ensures all_takes { whole_takes.old.parts + length stations.old ≡ T.parts → whole_takes.old.amount + sum_by (λ (s : Made). s.takes) stations.old ≡ takes.old.total }
-    ensures all_settlements { whole_settlements.old.parts + length stations.old ≡ U.parts → whole_settlements.old.amount + sum_by (λ (s : Made). s.settlements) stations.old ≡ settlements.old.total }
+    ensures settlements_share { (whole_settlements.new.parts ≡ whole_settlements.old.parts)
+        × (whole_settlements.new.amount ≡ whole_settlements.old.amount) }
+    ensures all_takes { whole_takes.old.parts + length stations.old ≡ T.parts →
+        whole_takes.old.amount + sum_by (λ (s : Made). s.takes) stations.old ≡ takes.old.total }
+    ensures all_settlements { whole_settlements.old.parts + length stations.old ≡ U.parts →
+        whole_settlements.old.amount + sum_by (λ (s : Made). s.settlements) stations.old ≡ settlements.old.total }
 {
     let Some((first, rest)) = stations.split_first_mut() else {
         takes.audit(whole_takes);

@@ -230,11 +230,13 @@ impl<A: Opening, T: Ledger, U: Ledger, S: RowStore<Addressed<Letter>>> Locked<A,
         ensures channel { IfOk result (λ receipt. receipt.channel ≡ judged.now.channel) }
         ensures raw { IfOk result (λ receipt. receipt.raw ≡ judged.now.raw) }
         ensures told { IfOk result (λ receipt. answer self.old.book judged.now.channel judged.now.raw ≡ Some receipt.told) }
-        ensures booked { IfOk result (λ receipt. self.new ≡ with_book self.old (followed_by self.old.book (Entry.Arrival conn judged.now.channel judged.now.raw receipt.told))) }
+        ensures booked { IfOk result (λ receipt.
+            self.new ≡ with_book self.old (followed_by self.old.book (Entry.Arrival conn judged.now.channel judged.now.raw receipt.told))) }
         ensures counted { OnOk result (desk.new ≡ desk.old + 1) }
 
         ensures plan { IsErrOf result NotBooked.PlanChanged ↔ judged.now.plan ≢ plan_in_force self.old.book }
-        ensures full { IsErrOf result NotBooked.Full ↔ (judged.now.plan ≡ plan_in_force self.old.book) × IsTrue (is_full self.old.book judged.now.channel judged.now.raw) }
+        ensures full { IsErrOf result NotBooked.Full ↔
+            (judged.now.plan ≡ plan_in_force self.old.book) × IsTrue (is_full self.old.book judged.now.channel judged.now.raw) }
         ensures err { OnErr result ((self.new ≡ self.old) × (desk.new ≡ desk.old)) }
     {
         three_sums();
@@ -262,7 +264,9 @@ impl<A: Opening, T: Ledger, U: Ledger, S: RowStore<Addressed<Letter>>> Locked<A,
         ensures ack { IfOk result (λ job. job.ack ≡ awaits_ack (plan_in_force self.old.book) d) }
         ensures booked { IfOk result (λ job. self.new ≡ with_book self.old (followed_by self.old.book (Entry.Take job.ticket now))) }
         ensures counted { OnOk result (station.new ≡ with_take station.old) }
-        ensures refused { IfErr result (λ e. (take_answer self.old.book d now ≡ Err e) ⊎ (e ≡ TakeRefusal.NoMemory) × IsOk (take_answer self.old.book d now)) }
+        ensures refused { IfErr result (λ e.
+            (take_answer self.old.book d now ≡ Err e)
+            ⊎ (e ≡ TakeRefusal.NoMemory) × IsOk (take_answer self.old.book d now)) }
         ensures err { OnErr result ((self.new ≡ self.old) × (station.new ≡ station.old)) }
     {
         three_sums();
@@ -285,7 +289,8 @@ impl<A: Opening, T: Ledger, U: Ledger, S: RowStore<Addressed<Letter>>> Locked<A,
         now: Moment,
     ) -> Result<SlotState, SettleRefusal>
         ensures answer { result ≡ settle_answer self.old.book ticket.now outcome now }
-        ensures booked { IfOk result (λ state. self.new ≡ with_book self.old (followed_by self.old.book (Entry.Settle ticket.now outcome now state))) }
+        ensures booked { IfOk result (λ state.
+            self.new ≡ with_book self.old (followed_by self.old.book (Entry.Settle ticket.now outcome now state))) }
         ensures counted { OnOk result (station.new ≡ with_settlement station.old) }
         ensures err { OnErr result ((self.new ≡ self.old) × (station.new ≡ station.old)) }
     {
@@ -304,7 +309,9 @@ impl<A: Opening, T: Ledger, U: Ledger, S: RowStore<Addressed<Letter>>> Locked<A,
     pub fn cancel(&mut self, number: u32) -> Result<u32, CancelRefusal>
         ensures answer { IfOk result (λ mask. cancel_answer self.old.book number ≡ Ok mask) }
         ensures booked { IfOk result (λ mask. self.new ≡ with_book self.old (followed_by self.old.book (Entry.Cancel number mask))) }
-        ensures refused { IfErr result (λ e. (cancel_answer self.old.book number ≡ Err e) ⊎ (e ≡ CancelRefusal.NoMemory) × IsOk (cancel_answer self.old.book number)) }
+        ensures refused { IfErr result (λ e.
+            (cancel_answer self.old.book number ≡ Err e)
+            ⊎ (e ≡ CancelRefusal.NoMemory) × IsOk (cancel_answer self.old.book number)) }
         ensures err { OnErr result (self.new ≡ self.old) }
     {
         three_sums();
@@ -321,8 +328,11 @@ impl<A: Opening, T: Ledger, U: Ledger, S: RowStore<Addressed<Letter>>> Locked<A,
     pub fn deploy(&mut self, plan: Arc<Plan>) -> Result<(), DeployRefusal>
         ensures answer { OnOk result (MayFollow self.old.book (Entry.Deploy (arc_value plan))) }
         ensures booked { OnOk result (self.new ≡ with_book self.old (followed_by self.old.book (Entry.Deploy (arc_value plan)))) }
-        ensures refused { IfErr result (λ e. (deploy_answer self.old.book (arc_value plan) ≡ Some e) ⊎ (deploy_answer self.old.book (arc_value plan) ≡ None) × ((e ≡ DeployRefusal.Full) ⊎ (e ≡ DeployRefusal.NoMemory))) }
+        ensures refused { IfErr result (λ e.
+            (deploy_answer self.old.book (arc_value plan) ≡ Some e)
+            ⊎ (deploy_answer self.old.book (arc_value plan) ≡ None) × ((e ≡ DeployRefusal.Full) ⊎ (e ≡ DeployRefusal.NoMemory))) }
         ensures full { IsErrOf result DeployRefusal.Full ↔ (deploy_answer self.old.book (arc_value plan) ≡ None) × IsTrue (exceeds self.old.book 0) }
+        ensures channels { OnOk result (length (arc_value plan).channels ≡ A.channels) }
         ensures err { OnErr result (self.new ≡ self.old) }
     {
         three_sums();
@@ -339,7 +349,9 @@ impl<A: Opening, T: Ledger, U: Ledger, S: RowStore<Addressed<Letter>>> Locked<A,
     pub fn prune(&mut self, before: u32) -> Result<(), PruneRefusal>
         ensures answer { OnOk result (prune_answer self.old.book before ≡ None) }
         ensures folded { OnOk result (self.new ≡ with_book self.old (pruned before self.old.book)) }
-        ensures refused { IfErr result (λ e. (prune_answer self.old.book before ≡ Some e) ⊎ (prune_answer self.old.book before ≡ None) × (e ≡ PruneRefusal.NoMemory)) }
+        ensures refused { IfErr result (λ e.
+            (prune_answer self.old.book before ≡ Some e)
+            ⊎ (prune_answer self.old.book before ≡ None) × (e ≡ PruneRefusal.NoMemory)) }
         ensures err { OnErr result (self.new ≡ self.old) }
     {
         self.book.rules();

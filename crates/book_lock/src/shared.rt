@@ -1,6 +1,6 @@
 //! The book that threads share, and its end.
 
-ghost use Rattle.std.specs.Prelude.{◌≡◌, ◌+◌, ◌<◌, ◌≤◌, All, length, vec_len, IfOk, IfErr, IsOk, OnOk, OnErr, IsTrue};
+ghost use Rattle.std.specs.Prelude.{◌≡◌, ◌+◌, ◌<◌, ◌≤◌, ◌↔◌, All, length, vec_len, IfOk, IfErr, IsOk, OnOk, OnErr, IsTrue};
 ghost use Rattle.std.specs.Arc.{arc_value};
 ghost use Rattle.judge_core.specs.Judging.{is_bookable};
 ghost use Rattle.stat_count.specs.Sums.{arrivals};
@@ -191,6 +191,7 @@ impl<A: Opening, T: Ledger, U: Ledger, S: RowStore<Addressed<Letter>>> Shared<A,
         d: u32,
         now: Moment,
     ) -> Result<Job, TakeRefusal>
+        ensures destination { IfOk result (λ job. job.ticket.destination ≡ d) }
         ensures counted { OnOk result (station.new ≡ with_take station.old) }
         ensures refused { OnErr result (station.new ≡ station.old) }
     {
@@ -210,6 +211,7 @@ impl<A: Opening, T: Ledger, U: Ledger, S: RowStore<Addressed<Letter>>> Shared<A,
         outcome: Outcome,
         now: Moment,
     ) -> Result<SlotState, SettleRefusal>
+        ensures delivered { IfOk result (λ state. (state ≡ SlotState.Delivered) ↔ (outcome ≡ Outcome.Delivered)) }
         ensures counted { OnOk result (station.new ≡ with_settlement station.old) }
         ensures refused { OnErr result (station.new ≡ station.old) }
     {
@@ -221,7 +223,9 @@ impl<A: Opening, T: Ledger, U: Ledger, S: RowStore<Addressed<Letter>>> Shared<A,
     /// # Errors
     ///
     /// The book's.
-    pub fn cancel<H: Wait>(&self, rt: &H, number: u32) -> Result<u32, CancelRefusal> {
+    pub fn cancel<H: Wait>(&self, rt: &H, number: u32) -> Result<u32, CancelRefusal>
+        ensures somewhere { IfOk result (λ mask. 0 < mask) }
+    {
         let mut locked = self.locked.lock(rt);
         let mask = locked.cancel(number)?;
         let rung = locked.ring(mask);
@@ -236,7 +240,9 @@ impl<A: Opening, T: Ledger, U: Ledger, S: RowStore<Addressed<Letter>>> Shared<A,
     /// # Errors
     ///
     /// The book's. A refusal drops the plan.
-    pub fn deploy<H: Wait>(&self, rt: &H, plan: Arc<Plan>) -> Result<(), DeployRefusal> {
+    pub fn deploy<H: Wait>(&self, rt: &H, plan: Arc<Plan>) -> Result<(), DeployRefusal>
+        ensures channels { OnOk result (length (arc_value plan).channels ≡ A.channels) }
+    {
         self.locked.lock(rt).deploy(plan)
     }
 

@@ -31,3 +31,6 @@ returns-in_err-deploy-clause-full g c =
     let plan : PlanEntry = arc_value c.args.plan in
     let there : IsErrOf c.from_residual.result Full ↔ (deploy_answer c.self.inside.book plan ≡ None) × IsTrue (exceeds c.self.inside.book 0) = search rules in
     subst (λ (h : History). IsErrOf c.from_residual.result Full ↔ (deploy_answer h plan ≡ None) × IsTrue (exceeds h 0)) b there
+
+pub returns-clause-channels : goal.returns-clause-channels
+returns-clause-channels g c = channels-same c.self.inside.book (arc_value c.args.plan) c.in_ok-deploy.ensures.answer ∙ c.self.invariant.0.channels_are
