@@ -2,40 +2,31 @@
 
 ghost use Rattle.std.specs.Prelude.{◌<◌};
 
+use crate::plan::Said;
 use anyhow::Result;
 use dest_queue::Outcome;
 use event_log::Ticket;
+use hl7_head::Moment;
 use std::alloc::Global;
 
-/// What plans differ in: a destination's name, attempts and interval, and a channel's name.
-#[derive(Clone, Copy)]
-pub struct Said {
-    pub destination: &'static str,
-    pub attempts: &'static str,
-    pub interval: &'static str,
-    pub channel: &'static str,
-}
+/// A ticket that no take gives: attempts are counted from 1.
+pub const NO_TICKET: Ticket = Ticket {
+    number: 0,
+    destination: 0,
+    attempt: 0,
+};
 
-impl Said {
-    /// What the first plan says.
-    pub const FIRST: Said = Said {
-        destination: "A",
-        attempts: "2",
-        interval: "3",
-        channel: "ADT",
-    };
-}
-
-/// Numbers that look like chance.
+/// Numbers that look like chance, and the moment in seconds since 1970.
 #[derive(Drop)]
 pub struct Dice {
     state: u32,
+    seconds: u32,
 }
 
 impl Dice {
-    /// The numbers that begin with this one.
+    /// The numbers that begin with this one, at the first moment of 1970.
     pub fn new(state: u32) -> Dice {
-        Dice { state }
+        Dice { state, seconds: 0 }
     }
 
     /// A number below `sides`.
@@ -55,15 +46,43 @@ impl Dice {
         from[self.roll(4) as usize]
     }
 
-    /// The text of a message under a control id (MSH-10), one of a few.
-    pub fn message(&mut self, alloc: Global, id: u32) -> Result<String> {
+    /// The next moment, the same as the last or a second later.
+    pub fn now(&mut self) -> Result<Moment> {
+        let passed = self.roll(2);
+        self.seconds = self.seconds.wrapping_add(passed);
+        Ok(Moment::of_unix(i64::from(self.seconds))?)
+    }
+
+    /// The text of a message under a control id (MSH-10). What stands behind its version is given.
+    pub fn message(&mut self, alloc: Global, id: u32, asked: &str) -> Result<String> {
         let event = self.pick(["A01", "A08", "A08", "A04"]);
         let version = self.pick(["2.5.1", "2.5.1", "2.5.1", "2.9"]);
         let patient = self.pick(["77", "77", "", "78"]);
         let class = self.pick(["I", "O", "I", "E"]);
         Ok(format!(in alloc;
-            "MSH|^~\\&|REG|HOSP|ENG|HUB|||ADT^{event}|{id}|P|{version}\rPID|1||{patient}\rPV1|1|{class}\r"
+            "MSH|^~\\&|REG|HOSP|ENG|HUB|||ADT^{event}|{id}|P|{version}{asked}\rPID|1||{patient}\rPV1|1|{class}\r"
         )?)
+    }
+
+    /// Which acknowledgments a message asks for (MSH-15 and MSH-16), as it stands behind its version.
+    pub fn asked(&mut self) -> &'static str {
+        self.pick(["", "|||AL|NE", "|||AL|AL", "|||ER|SU"])
+    }
+
+    /// A text that is no message, or an acknowledgment: it is not answered.
+    pub fn unanswered(&mut self, alloc: Global) -> Result<String> {
+        let text = self.pick([
+            "HELLO",
+            "",
+            "MSH|^~\\&|A|B|C|D|||ACK|9|P|2.5.1\rMSA|AA|1\r",
+            "PID|1\r",
+        ]);
+        Ok(String::from_str(alloc, text)?)
+    }
+
+    /// What comes between two blocks: nothing, bytes that are skipped, or a block that is broken.
+    pub fn between(&mut self) -> &'static str {
+        self.pick(["", "\r\n", "\x0bMSH|", "\x0bMSH|\x1cx"])
     }
 
     /// What a plan says, mostly what the first one does.
@@ -76,8 +95,11 @@ impl Dice {
         }
     }
 
-    /// A ticket of an attempt of a message, each part of which is small.
-    pub fn ticket(&mut self, number: u32) -> Ticket {
+    /// The last ticket, mostly, or one of an attempt of a message, each part of which is small.
+    pub fn ticket(&mut self, last: Ticket, number: u32) -> Ticket {
+        if self.roll(4) > 0 {
+            return last;
+        }
         Ticket {
             number,
             destination: self.roll(5),

@@ -1,5 +1,6 @@
 //! The keys by which messages are known again, and which of them are forgotten.
 
+use anyhow::{Result, bail};
 use event_log::Told;
 use std::alloc::{AllocError, Global};
 
@@ -40,14 +41,22 @@ impl Keys {
     }
 
     /// Whether the key of a control id on a channel was forgotten.
-    pub fn is_forgotten(&self, channel: u32, id: u32) -> bool {
+    fn is_forgotten(&self, channel: u32, id: u32) -> bool {
         self.forgotten
             .iter()
             .any(|key| key.channel == channel && key.id == id)
     }
 
-    /// Forgets the keys of the messages numbered below `before`, and of those that were filtered before message `before` came:
-    /// before `next`, the next place, where it is still to come.
+    /// The first control id from `id` on whose key on a channel wasn't forgotten.
+    pub fn unforgotten(&self, channel: u32, id: u32) -> Result<u32> {
+        match (id..u32::MAX).find(|id| !self.is_forgotten(channel, *id)) {
+            Some(id) => Ok(id),
+            None => bail!("all control ids were forgotten"),
+        }
+    }
+
+    /// Forgets the keys of the messages numbered below `before`, and of those that were filtered before message
+    /// `before` came: before `next`, the next place, where it is still to come.
     pub fn forget(&mut self, before: u32, next: usize) -> Result<(), AllocError> {
         let accepted = Told::Accepted(before);
         let floor = match self.known.iter().find(|key| key.told == accepted) {

@@ -1,78 +1,20 @@
-//! The engines, asked the same.
+//! Books and the sequential engine, asked the same.
 
-use crate::dice::{Dice, Said};
+use crate::dice::{Dice, NO_TICKET};
 use crate::known::{Key, Keys};
+use crate::plan::{Said, judged_by, plan_of};
 use anyhow::{Result, bail};
 use book_core::{Book, CancelRefusal, DeployRefusal, Letter, NotBooked, PruneRefusal};
 use dest_queue::{Addressed, SettleRefusal, SlotState};
 use event_log::{Ticket, Told};
-use hl7_head::Moment;
-use judge_core::{fits_block, judge};
-use plan_text::Plan;
 use row_store::{PlainRows, QUEUES};
 use sequential_book::{NotBooked as OtherRefusal, NotSettled, SequentialBook};
 use std::alloc::Global;
 use std::hash::RandomState;
 use std::sync::Arc;
 
-/// Inpatients go to A, outpatients to B, patients with an identifier to C, and updates to D, twice at most. A channel of
-/// its own takes everything for C. The name, the attempts and the interval of A and the name of the first channel are given.
-fn plan_of(alloc: Global, said: Said) -> Result<Arc<Plan>> {
-    let text = format!(in alloc;
-        r#"
-[[destination]]
-name = "{}"
-address = "127.0.0.1:6661"
-attempts = {}
-interval = {}
-
-[[destination]]
-name = "B"
-address = "127.0.0.1:6662"
-attempts = 1
-
-[[destination]]
-name = "C"
-address = "127.0.0.1:6663"
-attempts = 2
-interval = 0
-
-[[destination]]
-name = "D"
-address = "127.0.0.1:6664"
-await = "none"
-
-[[channel]]
-name = "{}"
-listen = "127.0.0.1:6660"
-types = ["ADT"]
-processing = ["P"]
-versions = ["2.5.1"]
-route = [
-    {{ to = "{}", filter = {{ equals = ["PV1-2", "I"] }} }},
-    {{ to = "B", filter = {{ equals = ["PV1-2", "O"] }} }},
-    {{ to = "C", filter = {{ exists = "PID-3.1" }} }},
-    {{ to = "D", filter = {{ equals = ["MSH-9.2", "A08"] }} }},
-]
-
-[[channel]]
-name = "ALL"
-listen = "127.0.0.1:6670"
-types = ["*"]
-processing = ["P"]
-versions = ["*"]
-route = [{{ to = "C" }}]
-"#,
-        said.destination, said.attempts, said.interval, said.channel, said.destination
-    )?;
-    match Plan::read(alloc, text.as_bytes()) {
-        Ok(plan) => Ok(Arc::new(alloc, plan)?),
-        Err(fault) => bail!("{fault}"),
-    }
-}
-
 /// How many entries the engines may hold, fewer than a run makes calls.
-const ENTRIES: u32 = 60;
+const ENTRIES: u32 = 200;
 
 /// How many entries the books may hold where the sequential engine isn't asked.
 const MANY_ENTRIES: u32 = 1000;
@@ -80,41 +22,35 @@ const MANY_ENTRIES: u32 = 1000;
 /// The number of the connection by which all messages come.
 const CONNECTION: u32 = 7;
 
-/// A book and the sequential engine, if it is asked, and a book of which the messages below a number are forgotten, all of one
-/// plan. The moment in seconds since 1970, the ticket that was taken last, and the first of the control ids of messages.
+/// A book and the sequential engine, if it is asked, and a book of which the messages below a number are forgotten, all
+/// of one plan. The first of the control ids of messages, and the ticket that was taken last.
 #[derive(Drop)]
-pub struct Pair {
+pub struct Books {
     book: Book<PlainRows<Addressed<Letter>>>,
     other: Option<SequentialBook>,
     pruned: Book<PlainRows<Addressed<Letter>>>,
     forgotten: u32,
     keys: Keys,
     first_id: u32,
-    seconds: u32,
     last: Ticket,
 }
 
-impl Pair {
+impl Books {
     /// Engines in which nothing is booked.
-    pub fn new(rt: &HostRuntime, asked: bool) -> Result<Pair> {
+    pub fn new(rt: &HostRuntime, asked: bool) -> Result<Books> {
         let alloc = rt.alloc();
         let plan = plan_of(alloc, Said::FIRST)?;
         let (shared, third) = (Arc::try_clone(&plan)?, Arc::try_clone(&plan)?);
         let room = if asked { ENTRIES } else { MANY_ENTRIES };
         let other = asked.then(|| SequentialBook::new(alloc, shared, ENTRIES));
-        Ok(Pair {
+        Ok(Books {
             book: Book::new(alloc, plan, room, RandomState::new(rt)?),
             other,
             pruned: Book::new(alloc, third, room, RandomState::new(rt)?),
             forgotten: 0,
             keys: Keys::new(alloc),
             first_id: 0,
-            seconds: 0,
-            last: Ticket {
-                number: 0,
-                destination: 0,
-                attempt: 0,
-            },
+            last: NO_TICKET,
         })
     }
 
@@ -124,25 +60,15 @@ impl Pair {
         above.saturating_sub(4)
     }
 
-    /// The moment of the next call, the same as that of the last or a second later.
-    fn now(&mut self, dice: &mut Dice) -> Result<Moment> {
-        self.seconds = self.seconds.wrapping_add(dice.roll(2));
-        Ok(Moment::of_unix(i64::from(self.seconds))?)
-    }
-
-    /// Whether all book a message under one of twelve control ids, so that some come again, with the same bytes or with others.
-    /// One whose key was forgotten doesn't come. An error where they tell its sender different things.
+    /// Whether all book a message under one of twelve control ids, so that some come again, with the same bytes or with
+    /// others. Where its key was forgotten it comes under the next. An error where they tell its sender different
+    /// things.
     pub fn arrive(&mut self, alloc: Global, dice: &mut Dice) -> Result<bool> {
         let channel = dice.roll(8) / 7;
         let id = self.first_id.saturating_add(dice.roll(12));
-        let raw = dice.message(alloc, id)?.into_bytes();
-        if self.keys.is_forgotten(channel, id) {
-            return Ok(false);
-        }
-        if channel >= self.book.plan().channels() || !fits_block(&raw) {
-            bail!("it can't be judged");
-        }
-        let judged = judge(alloc, self.book.plan(), channel, raw)?;
+        let id = self.keys.unforgotten(channel, id)?;
+        let raw = dice.message(alloc, id, "")?.into_bytes();
+        let judged = judged_by(alloc, self.book.plan(), channel, raw)?;
         if !judged.bookable() {
             bail!("it isn't booked");
         }
@@ -180,7 +106,7 @@ impl Pair {
     /// Whether all take the front of a queue. An error where they don't take the same, or refuse it for two reasons.
     pub fn take(&mut self, dice: &mut Dice) -> Result<bool> {
         let d = dice.roll(5);
-        let now = self.now(dice)?;
+        let now = dice.now()?;
         let ticket = self.book.take(d, now).map(|job| job.ticket);
         let again = self.pruned.take(d, now).map(|job| job.ticket);
         let other = self.other.as_mut().map(|other| other.take(d, now));
@@ -193,17 +119,13 @@ impl Pair {
         Ok(ticket.is_ok())
     }
 
-    /// Whether all settle an attempt, that of the last ticket or another. An error where they leave its slot in two states, or
-    /// refuse it for two reasons; one of a forgotten message is refused since it has no slot.
+    /// Whether all settle an attempt, that of the last ticket or another. An error where they leave its slot in two
+    /// states, or refuse it for two reasons; one of a forgotten message is refused since it has no slot.
     pub fn settle(&mut self, dice: &mut Dice) -> Result<bool> {
-        let ticket = if dice.roll(4) == 0 {
-            let number = self.number(dice);
-            dice.ticket(number)
-        } else {
-            self.last
-        };
+        let number = self.number(dice);
+        let ticket = dice.ticket(self.last, number);
         let outcome = dice.outcome();
-        let now = self.now(dice)?;
+        let now = dice.now()?;
         let answer = self.book.settle(&ticket, outcome, now);
         let due = if ticket.number < self.forgotten {
             Err(SettleRefusal::NoSlot)
@@ -221,8 +143,8 @@ impl Pair {
         Ok(answer.is_ok())
     }
 
-    /// Whether all cancel a message. An error where they cancel it at other destinations, or refuse it for two reasons; a
-    /// forgotten message isn't there.
+    /// Whether all cancel a message. An error where they cancel it at other destinations, or refuse it for two reasons;
+    /// a forgotten message isn't there.
     pub fn cancel(&mut self, dice: &mut Dice) -> Result<bool> {
         let number = self.number(dice);
         let mask = self.book.cancel(number);
@@ -238,8 +160,8 @@ impl Pair {
         Ok(mask.is_ok())
     }
 
-    /// Whether all deploy a plan. An error where one does, or they refuse it for two reasons. Where the history is folded there
-    /// may be room for one that is full otherwise, so it isn't deployed there.
+    /// Whether all deploy a plan. An error where one does, or they refuse it for two reasons. Where the history is
+    /// folded there may be room for one that is full otherwise, so it isn't deployed there.
     pub fn deploy(&mut self, alloc: Global, dice: &mut Dice) -> Result<bool> {
         let plan = plan_of(alloc, dice.said())?;
         let (shared, third) = (Arc::try_clone(&plan)?, Arc::try_clone(&plan)?);
@@ -270,7 +192,8 @@ impl Pair {
         Ok(answer.is_ok())
     }
 
-    /// Why the messages below a number may not be forgotten, by the book that keeps them. None that is forgotten was live.
+    /// Why the messages below a number may not be forgotten, by the book that keeps them. None that is forgotten was
+    /// live.
     fn prune_refusal(&self, before: u32) -> Option<PruneRefusal> {
         if before > self.book.message_count() {
             return Some(PruneRefusal::NoSuchMessage);
@@ -289,8 +212,8 @@ impl Pair {
         })
     }
 
-    /// An error where a slot, a queue, the statistics or the number of entries is not the same in all; forgotten messages have no
-    /// slots.
+    /// An error where a slot, a queue, the statistics or the number of entries is not the same in all; forgotten
+    /// messages have no slots.
     pub fn compare(&self, dice: &mut Dice) -> Result<()> {
         let number = self.number(dice);
         let d = dice.roll(5);

@@ -1,69 +1,20 @@
-//! The three engines, to which the same happens.
+//! Worlds and the sequential engine, to which the same happens.
 
-use crate::dice::Dice;
+use crate::dice::{Dice, NO_TICKET};
 use crate::line::{Line, Piece};
+use crate::plan::{Said, judged_by, plan_of};
 use anyhow::{Result, bail};
 use book_core::Letter;
 use dest_queue::Addressed;
 use engine_model::{Step, World, steps_of};
 use event_log::{Entry, Ticket};
 use hl7_head::Moment;
-use judge_core::{fits_block, judge};
-use plan_text::Plan;
 use row_store::PlainRows;
 use sequential_book::SequentialBook;
 use std::alloc::Global;
 use std::hash::RandomState;
-use std::sync::Arc;
 
 type Engine = World<PlainRows<Addressed<Letter>>>;
-
-/// Inpatients go to A, outpatients to B, patients with an identifier to C, and updates to D, twice at most. A channel of
-/// its own takes everything for C.
-const PLAN: &str = r#"
-[[destination]]
-name = "A"
-address = "127.0.0.1:6661"
-attempts = 2
-interval = 3
-
-[[destination]]
-name = "B"
-address = "127.0.0.1:6662"
-attempts = 1
-
-[[destination]]
-name = "C"
-address = "127.0.0.1:6663"
-attempts = 2
-interval = 0
-
-[[destination]]
-name = "D"
-address = "127.0.0.1:6664"
-await = "none"
-
-[[channel]]
-name = "ADT"
-listen = "127.0.0.1:6660"
-types = ["ADT"]
-processing = ["P"]
-versions = ["2.5.1"]
-route = [
-    { to = "A", filter = { equals = ["PV1-2", "I"] } },
-    { to = "B", filter = { equals = ["PV1-2", "O"] } },
-    { to = "C", filter = { exists = "PID-3.1" } },
-    { to = "D", filter = { equals = ["MSH-9.2", "A08"] } },
-]
-
-[[channel]]
-name = "ALL"
-listen = "127.0.0.1:6670"
-types = ["*"]
-processing = ["P"]
-versions = ["*"]
-route = [{ to = "C" }]
-"#;
 
 /// How many entries the engines may hold.
 const ENTRIES: u32 = 60;
@@ -72,31 +23,21 @@ const ENTRIES: u32 = 60;
 const CHANNELS: [u32; 4] = [0, 1, 0, 0];
 
 /// A world that hears pieces as they come, one that hears them byte by byte, and the sequential engine, which is handed
-/// each message when its block has ended. Further what comes on the connections, the moment in seconds since 1970, and the
-/// ticket that was taken last.
+/// each message when its block has ended. Further what comes on the connections, and the ticket that was taken last.
 #[derive(Drop)]
-pub struct Trio {
+pub struct Worlds {
     alloc: Global,
     whole: Engine,
     bytewise: Engine,
     other: SequentialBook,
     lines: Vec<Line>,
-    seconds: u32,
     last: Ticket,
-}
-
-/// The plan of all three.
-fn plan(alloc: Global) -> Result<Arc<Plan>> {
-    match Plan::read(alloc, PLAN.as_bytes()) {
-        Ok(plan) => Ok(Arc::new(alloc, plan)?),
-        Err(fault) => bail!("{fault}"),
-    }
 }
 
 /// A world in which nothing came.
 fn silent(rt: &HostRuntime) -> Result<Engine> {
     let alloc = rt.alloc();
-    let plan = plan(alloc)?;
+    let plan = plan_of(alloc, Said::FIRST)?;
     if plan.channels() != 2 {
         bail!("the plan has two channels");
     }
@@ -115,45 +56,34 @@ fn one_by_one(alloc: Global, conn: u32, bytes: &[u8], now: Moment) -> Result<Vec
 }
 
 /// What an entry says.
-fn said(alloc: Global, entry: Option<&Entry>) -> Result<String> {
+fn entry_text(alloc: Global, entry: Option<&Entry>) -> Result<String> {
     match entry {
         Some(entry) => Ok(format!(in alloc; "{entry:?}")?),
         None => bail!("there is no entry"),
     }
 }
 
-impl Trio {
+impl Worlds {
     /// Three engines in which nothing came.
-    pub fn new(rt: &HostRuntime) -> Result<Trio> {
+    pub fn new(rt: &HostRuntime) -> Result<Worlds> {
         let alloc = rt.alloc();
         let mut lines = Vec::new(alloc);
         for _ in CHANNELS {
             lines.push(Line::new(alloc))?;
         }
-        Ok(Trio {
+        Ok(Worlds {
             alloc,
             whole: silent(rt)?,
             bytewise: silent(rt)?,
-            other: SequentialBook::new(alloc, plan(alloc)?, ENTRIES),
+            other: SequentialBook::new(alloc, plan_of(alloc, Said::FIRST)?, ENTRIES),
             lines,
-            seconds: 0,
-            last: Ticket {
-                number: 0,
-                destination: 0,
-                attempt: 0,
-            },
+            last: NO_TICKET,
         })
-    }
-
-    /// The moment of the next step, the same as that of the last or a second later.
-    fn now(&mut self, dice: &mut Dice) -> Result<Moment> {
-        self.seconds = self.seconds.wrapping_add(dice.roll(2));
-        Ok(Moment::of_unix(i64::from(self.seconds))?)
     }
 
     /// A piece comes on a connection.
     pub fn chunk(&mut self, dice: &mut Dice) -> Result<()> {
-        let now = self.now(dice)?;
+        let now = dice.now()?;
         let place = dice.roll(4);
         let (Some(line), Some(channel)) = (
             self.lines.get_mut(place as usize),
@@ -177,10 +107,7 @@ impl Trio {
 
     /// The sequential engine books a message, if it is one.
     fn arrive(&mut self, conn: u32, channel: u32, raw: Vec<u8>) -> Result<()> {
-        if channel >= self.other.plan().channels() || !fits_block(&raw) {
-            bail!("it can't be judged");
-        }
-        let judged = judge(self.alloc, self.other.plan(), channel, raw)?;
+        let judged = judged_by(self.alloc, self.other.plan(), channel, raw)?;
         if judged.bookable() {
             let _ = self.other.arrive(conn, &judged);
         }
@@ -190,7 +117,7 @@ impl Trio {
     /// The front of a queue is taken.
     pub fn take(&mut self, dice: &mut Dice) -> Result<()> {
         let d = dice.roll(5);
-        let now = self.now(dice)?;
+        let now = dice.now()?;
         if let Ok(ticket) = self.other.take(d, now) {
             self.last = ticket;
         }
@@ -201,13 +128,10 @@ impl Trio {
 
     /// An attempt is settled, that of the last ticket or another.
     pub fn settle(&mut self, dice: &mut Dice) -> Result<()> {
-        let ticket = if dice.roll(4) == 0 {
-            dice.ticket()
-        } else {
-            self.last
-        };
+        let number = dice.roll(16);
+        let ticket = dice.ticket(self.last, number);
         let outcome = dice.outcome();
-        let now = self.now(dice)?;
+        let now = dice.now()?;
         let _ = self.other.settle(&ticket, outcome, now);
         self.whole.step(Step::Settle {
             ticket,
@@ -230,7 +154,8 @@ impl Trio {
         self.bytewise.step(Step::Cancel { number });
     }
 
-    /// An error where there are two numbers of entries, or where the worlds count a destination or a channel in two ways.
+    /// An error where there are two numbers of entries, or where the worlds count a destination or a channel in two
+    /// ways.
     pub fn compare(&self, dice: &mut Dice) -> Result<()> {
         let (book, bytewise) = (self.whole.book(), self.bytewise.book());
         let len = self.other.entries().len();
@@ -261,7 +186,8 @@ impl Trio {
         Ok(())
     }
 
-    /// How many bytes the connections were sent. An error where one was sent other bytes in the other world, or has ended.
+    /// How many bytes the connections were sent. An error where one was sent other bytes in the other world, or has
+    /// ended.
     pub fn compare_output(&self) -> Result<usize> {
         let mut sent = 0_usize;
         for conn in 0..4 {
@@ -277,8 +203,8 @@ impl Trio {
         Ok(sent)
     }
 
-    /// How many entries there are. An error where one isn't the same in all three, or where a world that takes the steps of
-    /// the history has another.
+    /// How many entries there are. An error where one isn't the same in all three, or where a world that takes the
+    /// steps of the history has another.
     pub fn compare_entries(&self, rt: &HostRuntime) -> Result<usize> {
         let mut again = silent(rt)?;
         again.run(&steps_of(self.alloc, self.whole.book())?);
@@ -286,9 +212,9 @@ impl Trio {
             bail!("the steps of the history give another");
         }
         for (place, entry) in self.other.entries().iter().enumerate() {
-            let entry = said(self.alloc, Some(entry))?;
+            let entry = entry_text(self.alloc, Some(entry))?;
             for engine in [&self.whole, &self.bytewise, &again] {
-                if said(self.alloc, engine.book().entry(place))? != entry {
+                if entry_text(self.alloc, engine.book().entry(place))? != entry {
                     bail!("entry {place} isn't the same");
                 }
             }

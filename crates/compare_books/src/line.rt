@@ -39,7 +39,10 @@ impl Line {
     fn add_block(&mut self, dice: &mut Dice) -> Result<()> {
         let text = match dice.roll(8) {
             0 => dice.unanswered(self.alloc)?,
-            _ => dice.message(self.alloc)?,
+            _ => {
+                let (id, asked) = (dice.roll(12), dice.asked());
+                dice.message(self.alloc, id, asked)?
+            }
         };
         let block = format!(in self.alloc; "{}\x0b{text}\x1c\r", dice.between())?;
         self.coming.extend_from_slice(block.as_bytes())?;

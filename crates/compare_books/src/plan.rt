@@ -1,0 +1,97 @@
+//! The plans of the engines, and messages judged by them.
+
+ghost use Rattle.std.specs.Prelude.{◌≡◌, IfOk};
+ghost use Rattle.std.specs.Arc.{arc_value};
+
+use anyhow::{Result, bail};
+use judge_core::{Judged, fits_block, judge};
+use plan_text::Plan;
+use std::alloc::Global;
+use std::sync::Arc;
+
+/// What plans differ in: a destination's name, attempts and interval, and a channel's name.
+#[derive(Clone, Copy)]
+pub struct Said {
+    pub destination: &'static str,
+    pub attempts: &'static str,
+    pub interval: &'static str,
+    pub channel: &'static str,
+}
+
+impl Said {
+    /// What the first plan says.
+    pub const FIRST: Said = Said {
+        destination: "A",
+        attempts: "2",
+        interval: "3",
+        channel: "ADT",
+    };
+}
+
+/// Inpatients go to A, outpatients to B, patients with an identifier to C, and updates to D, twice at most. A channel
+/// of its own takes everything for C. The name, the attempts and the interval of A and the name of the first channel
+/// are given.
+pub fn plan_of(alloc: Global, said: Said) -> Result<Arc<Plan>> {
+    let text = format!(in alloc;
+        r#"
+[[destination]]
+name = "{}"
+address = "127.0.0.1:6661"
+attempts = {}
+interval = {}
+
+[[destination]]
+name = "B"
+address = "127.0.0.1:6662"
+attempts = 1
+
+[[destination]]
+name = "C"
+address = "127.0.0.1:6663"
+attempts = 2
+interval = 0
+
+[[destination]]
+name = "D"
+address = "127.0.0.1:6664"
+await = "none"
+
+[[channel]]
+name = "{}"
+listen = "127.0.0.1:6660"
+types = ["ADT"]
+processing = ["P"]
+versions = ["2.5.1"]
+route = [
+    {{ to = "{}", filter = {{ equals = ["PV1-2", "I"] }} }},
+    {{ to = "B", filter = {{ equals = ["PV1-2", "O"] }} }},
+    {{ to = "C", filter = {{ exists = "PID-3.1" }} }},
+    {{ to = "D", filter = {{ equals = ["MSH-9.2", "A08"] }} }},
+]
+
+[[channel]]
+name = "ALL"
+listen = "127.0.0.1:6670"
+types = ["*"]
+processing = ["P"]
+versions = ["*"]
+route = [{{ to = "C" }}]
+"#,
+        said.destination, said.attempts, said.interval, said.channel, said.destination
+    )?;
+    match Plan::read(alloc, text.as_bytes()) {
+        Ok(plan) => Ok(Arc::new(alloc, plan)?),
+        Err(fault) => bail!("{fault}"),
+    }
+}
+
+/// A message that came on a channel, judged by a plan. An error where there is no such channel, or where no block holds
+/// it.
+pub fn judged_by(alloc: Global, plan: &Arc<Plan>, channel: u32, raw: Vec<u8>) -> Result<Judged>
+    ensures { IfOk result (λ judged. judged.plan ≡ arc_value plan.now) }
+{
+    if channel >= plan.channels() || !fits_block(&raw) {
+        bail!("it can't be judged");
+    }
+    Ok(judge(alloc, plan, channel, raw)?)
+}

@@ -1,0 +1,50 @@
+//! Takes steps at random with two worlds, of which one hears pieces as they come and the other byte by byte, and with
+//! the sequential engine, which is handed whole messages; compares what was booked, counted and sent; and takes the
+//! steps of each history again.
+
+use crate::dice::Dice;
+use crate::worlds::Worlds;
+use anyhow::{Result, bail};
+
+/// How many runs there are, each with engines in which nothing came.
+const RUNS: u32 = 24;
+
+/// How many steps a run takes.
+const STEPS: u32 = 250;
+
+/// Takes a step at random.
+fn step(dice: &mut Dice, worlds: &mut Worlds) -> Result<()> {
+    match dice.roll(12) {
+        0..7 => worlds.chunk(dice),
+        7..9 => worlds.take(dice),
+        9..11 => worlds.settle(dice),
+        _ => {
+            worlds.cancel(dice);
+            Ok(())
+        }
+    }
+}
+
+/// Takes the steps of one run. An error where nothing was booked or sent.
+fn run(rt: &HostRuntime, seed: u32) -> Result<()> {
+    let mut dice = Dice::new(seed);
+    let mut worlds = Worlds::new(rt)?;
+    for _ in 0..STEPS {
+        step(&mut dice, &mut worlds)?;
+        worlds.compare(&mut dice)?;
+    }
+    worlds.compare_queues()?;
+    if worlds.compare_entries(rt)? == 0 || worlds.compare_output()? == 0 {
+        bail!("nothing was booked or sent");
+    }
+    Ok(())
+}
+
+/// Takes the steps of all runs, and says how many they were.
+pub fn compare_steps(rt: &HostRuntime) -> Result<()> {
+    for seed in 0..RUNS {
+        run(rt, seed)?;
+    }
+    println!(rt; "{} steps, no difference", RUNS * STEPS)?;
+    Ok(())
+}
