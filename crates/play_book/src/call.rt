@@ -55,6 +55,11 @@ pub enum Call<'a> {
     Prune {
         before: u32,
     },
+    /// So many prunings are made, each of the messages numbered below this.
+    Prunes {
+        count: u32,
+        before: u32,
+    },
     /// Each message of a queue is taken and delivered at a moment.
     Drain {
         d: u32,
@@ -174,6 +179,14 @@ fn deploys<'a>(words: &mut SplitWhitespace<'a>) -> Option<Call<'a>> {
     })
 }
 
+/// Many prunings.
+fn prunes<'a>(words: &mut SplitWhitespace<'a>) -> Option<Call<'a>> {
+    Some(Call::Prunes {
+        count: number(words)?,
+        before: number(words)?,
+    })
+}
+
 /// A slot that is asked for.
 fn status<'a>(words: &mut SplitWhitespace<'a>) -> Option<Call<'a>> {
     Some(Call::Status {
@@ -192,6 +205,7 @@ fn changing<'a>(name: &str, words: &mut SplitWhitespace<'a>) -> Option<Call<'a>>
         "settle" => settle(words),
         "drain" => drain(words),
         "deploys" => deploys(words),
+        "prunes" => prunes(words),
         "judge" => Some(Call::Judge {
             plan: words.next()?,
         }),

@@ -120,6 +120,7 @@ impl Stage {
             Call::Deploy { plan } => self.deploy(rt, plan),
             Call::Deploys { count, plan } => self.deploys(rt, count, plan),
             Call::Prune { before } => self.prune(before),
+            Call::Prunes { count, before } => self.prunes(count, before),
             Call::Drain { d, now } => self.drain(d, now),
             Call::Queue { d } => self.queue(d),
             Call::Status { number, d } => self.status(number, d),
@@ -178,6 +179,17 @@ impl Stage {
             Ok(()) => Ok(format!(in alloc; "ok")?),
             Err(refusal) => Ok(format!(in alloc; "{refusal:?}, code {}", refusal.code())?),
         }
+    }
+
+    /// How many of so many prunings are made.
+    fn prunes(&mut self, count: u32, before: u32) -> Result<String> {
+        let mut made = 0_u32;
+        for _ in 0..count {
+            if self.book.prune(before).is_ok() {
+                made = made.saturating_add(1);
+            }
+        }
+        Ok(format!(in self.alloc; "{made} pruned")?)
     }
 
     /// How many messages a queue has.
