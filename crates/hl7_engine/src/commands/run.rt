@@ -12,18 +12,14 @@ use crate::commands::{EngineBook, EngineRows, read_plan};
 use crate::handle::Handle;
 use book_core::EVENTS_MAX;
 use book_lock::{Closed, Opening, Shared};
-use conn_worker::{Clock, Running, ServeReport};
+use conn_worker::{Running, ServeReport};
 use engine_report::{Fault, add_finding, connections_of, find, hasher, statistics_text};
-use engine_workers::{Staff, TcpDoor, Worked, run_workers};
-use log::Log;
+use engine_workers::{Door, Staff, TcpDoor, Worked, run_workers};
 use plan_text::Plan;
 use std::alloc::{AllocError, Global};
 use std::marker::Brand;
-use std::net::{Net, TcpListener, TcpStream};
+use std::sync::Arc;
 use std::sync::ledger::{Blank, Ledger};
-use std::sync::{Arc, Wait};
-use std::thread::Threads;
-use std::time;
 
 /// How the work ended: the book, unless shares of it are missing, what serving each connection came to, and a fault for
 /// each channel whose door failed.
@@ -34,16 +30,33 @@ struct Ended<'f> {
     failed: Vec<Fault<'f>>,
 }
 
+/// Takes the book out of its lock, once the workers have ended.
+fn close<'f, A: Opening, T: Ledger, U: Ledger, D: Door + Drop, L: Drop>(
+    alloc: Global,
+    plan: &Plan,
+    shared: Shared<A, T, U, EngineRows>,
+    worked: Worked<A, T, U, D, L>,
+) -> Result<Ended<'f>, AllocError>
+    ensures opening { IfOk result (λ ended. IfSome ended.closed (λ closed. (closed.opening ≡ A.counts) × (closed.first ≡ A.first))) }
+{
+    let Worked { staff, served, .. } = worked;
+    let Staff {
+        desks,
+        doors,
+        stations,
+        ..
+    } = staff;
+    let failed = listen_faults(alloc, plan, &doors)?;
+    let closed = shared.close(desks, stations).ok();
+    Ok(Ended {
+        closed,
+        served,
+        failed,
+    })
+}
+
 /// Shares the book, runs all workers over it, and closes it.
-fn work<
-    'a,
-    'f,
-    A: Opening + Sync,
-    T: Ledger + Sync,
-    U: Ledger + Sync,
-    C: Clock + Copy + Sync,
-    H: Net<Listener = TcpListener, Stream = TcpStream> + Log + Wait + Threads + time::Clock + Sync,
->(
+fn work<'a, 'f, A: Opening + Sync, T: Ledger + Sync, U: Ledger + Sync, H: Handle>(
     rt: &'a H,
     alloc: Global,
     plan: &'a Plan,
@@ -54,7 +67,6 @@ fn work<
     arrivals: Blank,
     takes: Blank,
     settlements: Blank,
-    clock: C,
 ) -> Result<Ended<'f>, AllocError>
     requires counts { counted book ≡ A.counts }
     requires first { next_place book ≡ A.first }
@@ -64,12 +76,11 @@ fn work<
     requires settlements { (settlements.name ≡ U.name) × (settlements.parts ≡ U.parts) × (U.parts ≡ length plan.now.destinations + 1) }
     ensures opening { IfOk result (λ ended. IfSome ended.closed (λ closed. (closed.opening ≡ A.counts) × (closed.first ≡ A.first))) }
 {
-    let stations = plan.destinations() as usize;
     let opened = Shared::<A, T, U, EngineRows>::new(
         alloc,
         book,
         connections as usize,
-        stations,
+        plan.destinations() as usize,
         arrivals,
         takes,
         settlements,
@@ -83,29 +94,10 @@ fn work<
         stations,
         links: make_links(rt, alloc, plan)?,
     };
-    let Ok(worked) = run_workers(rt, alloc, &shared, staff, accept, clock) else {
-        return Err(AllocError);
-    };
-    let Worked { staff, served, .. } = worked;
-    let Staff {
-        desks,
-        doors,
-        stations,
-        ..
-    } = staff;
-    let failed = listen_faults(alloc, plan, &doors)?;
-    let Ok(closed) = shared.close(desks, stations) else {
-        return Ok(Ended {
-            closed: None,
-            served,
-            failed,
-        });
-    };
-    Ok(Ended {
-        closed: Some(closed),
-        served,
-        failed,
-    })
+    match run_workers(rt, alloc, &shared, staff, accept, Running(rt)) {
+        Ok(worked) => close(alloc, plan, shared, worked),
+        Err(_) => Err(AllocError),
+    }
 }
 
 /// The statistics that are printed: those of the closed book, which keeps its promise, and none where shares are missing.
@@ -198,7 +190,7 @@ pub fn run<'a, H: Handle>(
     let shared_plan = Arc::try_clone(&plan)?;
     let book = EngineBook::new(alloc, shared_plan, events, hasher);
     let stations = u64::from(plan.destinations()) + 1;
-    let ended = work::<Brand, Brand, Brand, _, _>(
+    let ended = work::<Brand, Brand, Brand, _>(
         handle,
         alloc,
         &plan,
@@ -209,7 +201,6 @@ pub fn run<'a, H: Handle>(
         Blank::new(u64::from(connections) + 1),
         Blank::new(stations),
         Blank::new(stations),
-        Running(handle),
     )?;
     conclude(rt, alloc, &plan, ended)
 }
