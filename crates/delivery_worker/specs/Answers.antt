@@ -9,8 +9,8 @@ use Rattle.hl7_head.specs.Msa.{MsaFields}
 use Rattle.hl7_head.specs.Laws.{msa_of}
 use Rattle.mllp_frame.specs.Event.{Event, block, broken}
 
--- what an acknowledgment code of table 0008 comes to: accepted is delivered, rejected stays rejected, and on an error, as on any other code, the message
--- is sent again
+-- what an acknowledgment code of table 0008 comes to: accepted is delivered, rejected stays rejected, and on an error,
+-- as on any other code, the message is sent again
 abbrev pub code_outcome : List ℕ → Outcome
 code_outcome code =
     if bytes_eq code (codes "AA") || bytes_eq code (codes "CA") then Delivered

@@ -29,7 +29,8 @@ pub record KeepsTo (channels : List ℕ) (entries : List Entry) : Type 0 where
 -- no connection has arrivals on two channels in these
 pub record KeepToOne (entries : List Entry) : Type 0 where
   pub same : (place later conn channel other : ℕ) (raw text : List ℕ) (told reply : Told)
-      → slice_get entries place ≡ Some (Arrival conn channel raw told) → slice_get entries later ≡ Some (Arrival conn other text reply) → channel ≡ other
+      → slice_get entries place ≡ Some (Arrival conn channel raw told)
+      → slice_get entries later ≡ Some (Arrival conn other text reply) → channel ≡ other
 
 -- there are channels to which the connections keep in these
 pub record HaveChannels (entries : List Entry) : Type 0 where

@@ -223,7 +223,8 @@ impl Connected {
         requires stands { IsOpen self.old }
         ensures ok { OnOk result (ReadsOn conn bytes.now now book.old book.new (connection_of self.old) (connection_of self.new)) }
         ensures stands { OnOk result (IsOpen self.new) }
-        ensures err { OnErr result (EndsWithin conn bytes.now now book.old book.new (connection_of self.old) (record (connection_of self.new) { ended = true })) }
+        ensures err { OnErr result (EndsWithin conn bytes.now now book.old book.new
+            (connection_of self.old) (record (connection_of self.new) { ended = true })) }
         ensures channel { self.new.channel ≡ self.old.channel }
         ensures folded { self.new.folded ≡ self.old.folded }
         ensures plan { plan_in_force book.new ≡ plan_in_force book.old }

@@ -22,7 +22,12 @@ events_rule =
 
 abbrev pub accept_rule : Rule
 accept_rule =
-    record (new_rule (codes "accept")) { long = Some (codes "accept"); value_names = 1; required = true; parser = Some (parser.Signed (pos 1) (pos 9_999)) }
+    record (new_rule (codes "accept")) {
+      long = Some (codes "accept");
+      value_names = 1;
+      required = true;
+      parser = Some (parser.Signed (pos 1) (pos 9_999));
+    }
 
 -- answer [PLAN] [--now SECS] [--events N]
 abbrev pub answer_app : App

@@ -51,7 +51,9 @@ known_before opening key = option_map (λ r. r.place) (find (has_key key) openin
 
 -- the place of the message with this key, if one was accepted or filtered and isn't forgotten
 abbrev pub known : History → List ℕ → Option ℕ
-known h key = option_map_or (λ place. Some place) (known_before h.opening key) (option_map (λ k. h.opening.places + k) (position (keeps key) h.entries))
+known h key =
+    option_map_or (λ place. Some place) (known_before h.opening key)
+    (option_map (λ k. h.opening.places + k) (position (keeps key) h.entries))
 
 -- whether an entry is the arrival of these bytes
 abbrev pub brings : List ℕ → Entry → Bool
@@ -91,12 +93,15 @@ told_by number (verdict.Accept deliveries) = Some (told.Accepted number)
 -- the answer to a text that arrives on a channel; its key is looked up before it is judged
 unfoldable pub answer : History → ℕ → List ℕ → Option Told
 answer h channel raw =
-    if is_bookable raw then option_map_or (λ place. Some (told_again h raw place)) (known h (key_of channel raw)) (told_by (message_count h) (decided (plan_in_force h) channel raw))
+    if is_bookable raw then
+    option_map_or (λ place. Some (told_again h raw place)) (known h (key_of channel raw))
+    (told_by (message_count h) (decided (plan_in_force h) channel raw))
     else None
 
 -- the answer to a take at d, by the front's slot; a settled slot has left the queue
 abbrev pub front_answer : ℕ → ℕ → ℕ → Option SlotState → Result Ticket TakeRefusal
-front_answer d now n (Some (Waiting attempts due)) = if nat_lt now due then Err (NotDue due) else Ok (record { number = n; destination = d; attempt = attempts + 1 })
+front_answer d now n (Some (Waiting attempts due)) =
+    if nat_lt now due then Err (NotDue due) else Ok (record { number = n; destination = d; attempt = attempts + 1 })
 front_answer d now n (Some (InFlight attempt)) = Err (InFlightNow n)
 front_answer d now n (Some Delivered) = Err Idle
 front_answer d now n (Some (Failed cause)) = Err Idle

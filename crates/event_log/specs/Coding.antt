@@ -29,7 +29,8 @@ statistics_code =
 abbrev pub remembered_code : Coded Remembered
 remembered_code =
     code_by (ℕ × (ℕ × (List ℕ × (Told × (List Delivery × List Slot)))))
-    (coded× coded_ℕ (coded× coded_ℕ (coded× (coded_list coded_ℕ) (coded× told.the_row.coded (coded× (coded_list delivery.the_row.coded) (coded_list slot.the_row.coded))))))
+    (coded× coded_ℕ (coded× coded_ℕ (coded× (coded_list coded_ℕ)
+    (coded× told.the_row.coded (coded× (coded_list delivery.the_row.coded) (coded_list slot.the_row.coded))))))
     (λ r. (r.place, (r.channel, (r.raw, (r.told, (r.deliveries, r.slots))))))
     (λ p. record { place = p.0; channel = p.1.0; raw = p.1.1.0; told = p.1.1.1.0; deliveries = p.1.1.1.1.0; slots = p.1.1.1.1.1 }) (λ _. refl)
 
@@ -37,7 +38,8 @@ remembered_code =
 abbrev pub opening_code : Coded Opening
 opening_code =
     code_by (PlanEntry × (ℕ × (ℕ × (ℕ × (ℕ × (ℕ × (Statistics × List Remembered)))))))
-    (coded× plan_code (coded× coded_ℕ (coded× coded_ℕ (coded× coded_ℕ (coded× coded_ℕ (coded× coded_ℕ (coded× statistics_code (coded_list remembered_code))))))))
+    (coded× plan_code (coded× coded_ℕ (coded× coded_ℕ (coded× coded_ℕ (coded× coded_ℕ (coded× coded_ℕ
+    (coded× statistics_code (coded_list remembered_code))))))))
     (λ o. (o.plan, (o.events_max, (o.places, (o.messages, (o.deployments, (o.prunings, (o.forgotten, o.remembered))))))))
     (λ p. record {
       plan = p.0;

@@ -52,5 +52,7 @@ first_lost h plan = find (is_lost h plan) (range_with_len 0 32)
 -- why a plan isn't deployed, if there is room and memory for it: nothing where it is
 unfoldable pub deploy_answer : History → PlanEntry → Option DeployRefusal
 deploy_answer h plan =
-    if same_channels (plan_in_force h) plan then option_map_or (λ d. Some (DestinationInUse d)) (first_lost h plan) (if nat_lt (deployments h) 1000 then None else Some TooMany)
+    if same_channels (plan_in_force h) plan then
+    option_map_or (λ d. Some (DestinationInUse d)) (first_lost h plan)
+    (if nat_lt (deployments h) 1000 then None else Some TooMany)
     else Some ChannelsDiffer

@@ -36,7 +36,8 @@ is_live_message h n = list_any (λ d. is_queued h d n) (range_with_len 0 32)
 unfoldable pub prune_answer : History → ℕ → Option PruneRefusal
 prune_answer h bound =
     if nat_lt (message_count h) bound then Some NoSuchMessage
-    else option_map_or (λ n. Some (StillLive n)) (find (is_live_message h) (range_with_len 0 bound)) (if nat_lt h.opening.prunings 1000 then None else Some TooMany)
+    else option_map_or (λ n. Some (StillLive n)) (find (is_live_message h) (range_with_len 0 bound))
+    (if nat_lt h.opening.prunings 1000 then None else Some TooMany)
 
 -- ---- the arrivals that a history keeps
 
@@ -46,11 +47,13 @@ told_deliveries h told = option_map_or (deliveries h) (number_told told) []
 
 -- the slots of the message of an arrival, one for each delivery, in their states now
 abbrev pub told_slots : History → Told → List Slot
-told_slots h told = option_map_or (λ n. map (λ x. record { destination = x.destination; state = state h n x.destination }) (deliveries h n)) (number_told told) []
+told_slots h told =
+    option_map_or (λ n. map (λ x. record { destination = x.destination; state = state h n x.destination }) (deliveries h n)) (number_told told) []
 
 -- an arrival as it is remembered from now on
 abbrev pub recalled : History → ℕ → ℕ → List ℕ → Told → Remembered
-recalled h place channel raw told = record { place = place; channel = channel; raw = raw; told = told; deliveries = told_deliveries h told; slots = told_slots h told }
+recalled h place channel raw told =
+    record { place = place; channel = channel; raw = raw; told = told; deliveries = told_deliveries h told; slots = told_slots h told }
 
 -- what is remembered of the entry at a place: an arrival told Accepted or Filtered
 abbrev pub recalled_from : History → ℕ → Entry → Option Remembered
@@ -68,9 +71,11 @@ arrivals h =
 
 -- ---- what is forgotten
 
--- the place of the arrival of message n, or of the next entry where it is still to come; 0 where it is forgotten, since all that came before it is forgotten too
+-- the place of the arrival of message n, or of the next entry where it is still to come; 0 where it is forgotten, since
+-- all that came before it is forgotten too
 abbrev pub arrival_place : History → ℕ → ℕ
-arrival_place h n = option_map_or (λ r. r.place) (find (λ r. is_numbered n r.told) (arrivals h)) (if nat_lt n (message_count h) then 0 else next_place h)
+arrival_place h n =
+    option_map_or (λ r. r.place) (find (λ r. is_numbered n r.told) (arrivals h)) (if nat_lt n (message_count h) then 0 else next_place h)
 
 -- whether an arrival told so is forgotten, where the messages below a bound are: an accepted one by its number, and a filtered one that came before
 -- the message of that number did
@@ -99,7 +104,8 @@ forgotten_at h bound d = record {
 
 -- what is counted of all entries that are folded, and isn't remembered
 abbrev pub forgotten : History → ℕ → Statistics
-forgotten h bound = record { channels = map (channel_counts h) (range_with_len 0 64); destinations = map (forgotten_at h bound) (range_with_len 0 32) }
+forgotten h bound =
+    record { channels = map (channel_counts h) (range_with_len 0 64); destinations = map (forgotten_at h bound) (range_with_len 0 32) }
 
 -- ---- what remains
 

@@ -31,8 +31,9 @@ pub record Remembered : Type 0 where
   pub deliveries : List Delivery
   pub slots : List Slot
 
--- what a book starts with, or goes on from: the plan in force there, and the most entries that the book may hold; how many entries were folded, messages
--- accepted, plans deployed and prunings made before it; what is counted of what was folded and isn't remembered; and what is remembered, in its order
+-- what a book starts with, or goes on from: the plan in force there, and the most entries that the book may hold; how
+-- many entries were folded, messages accepted, plans deployed and prunings made before it; what is counted of what was
+-- folded and isn't remembered; and what is remembered, in its order
 pub record Opening : Type 0 where
   pub plan : PlanEntry
   pub events_max : ℕ
@@ -50,7 +51,16 @@ pub record History : Type 0 where
 
 -- the opening of a book with this plan and bound, before which nothing was booked
 abbrev pub blank : PlanEntry → ℕ → Opening
-blank plan events_max = record { plan = plan; events_max = events_max; places = 0; messages = 0; deployments = 0; prunings = 0; forgotten = empty; remembered = [] }
+blank plan events_max = record {
+  plan = plan;
+  events_max = events_max;
+  places = 0;
+  messages = 0;
+  deployments = 0;
+  prunings = 0;
+  forgotten = empty;
+  remembered = [];
+}
 
 -- an opening, and what was booked since
 abbrev pub continued : Opening → List Entry → History
@@ -179,7 +189,9 @@ message_of r = record { channel = r.channel; raw = r.raw; deliveries = r.deliver
 
 -- message n: one that is remembered, or one accepted since the opening; a forgotten one is gone
 abbrev pub message_at : History → ℕ → Option Accepted
-message_at h n = if nat_lt n h.opening.messages then option_map message_of (remembered_as h.opening n) else slice_get (accepted h) (n - h.opening.messages)
+message_at h n =
+    if nat_lt n h.opening.messages then option_map message_of (remembered_as h.opening n)
+    else slice_get (accepted h) (n - h.opening.messages)
 
 -- the numbers of all messages that were accepted, in order
 abbrev pub numbers : History → List ℕ

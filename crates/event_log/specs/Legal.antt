@@ -62,8 +62,9 @@ IsWithin max (InFlight attempt) = attempt ≤ max
 IsWithin max Delivered = Unit {0}
 IsWithin max (Failed cause) = Unit {0}
 
--- what is remembered of an arrival, where this plan is in force: it can have come in a block, it was accepted or filtered, and a filtered one goes nowhere;
--- it stands once at each destination that it names, within the attempts that the plan allows
+-- what is remembered of an arrival, where this plan is in force: it can have come in a block, it was accepted or
+-- filtered, and a filtered one goes nowhere; it stands once at each destination that it names, within the attempts that
+-- the plan allows
 pub record IsMemory (plan : PlanEntry) (r : Remembered) : Type 0 where
   pub fits : IsBlockData r.raw
   pub kept : is_kept r.told ≡ true
@@ -81,8 +82,9 @@ pub record AreForgotten (places messages : ℕ) (forgotten : Statistics) : Type 
   pub named : All (λ d. d.delivered + d.failed ≤ messages) forgotten.destinations
   pub taken : All (λ d. d.attempts ≤ places) forgotten.destinations
 
--- an opening that a book may go on from: its plan is one; what is remembered has places, numbers and keys of its own, in order; no message is forgotten
--- that came after one that is remembered; what its messages owe is within the bound; no more of them were delivered or are in flight than attempts were begun
+-- an opening that a book may go on from: its plan is one; what is remembered has places, numbers and keys of its own,
+-- in order; no message is forgotten that came after one that is remembered; what its messages owe is within the bound;
+-- no more of them were delivered or are in flight than attempts were begun
 pub record IsGoodOpening (opening : Opening) : Type 0 where
   pub plan : IsPlan opening.plan
   pub memories : All (IsMemory opening.plan) opening.remembered
@@ -90,10 +92,13 @@ pub record IsGoodOpening (opening : Opening) : Type 0 where
   pub places_within : All (λ r. r.place < opening.places) opening.remembered
   pub numbers : IsStrictlyIncreasing (filter_map number_of opening.remembered)
   pub numbers_within : All (λ n. n < opening.messages) (filter_map number_of opening.remembered)
-  pub in_turn : (n m : ℕ) → n ≤ m → m < opening.messages → is_some (message_at (begun opening) n) ≡ true → is_some (message_at (begun opening) m) ≡ true
+  pub in_turn : (n m : ℕ) → n ≤ m → m < opening.messages →
+      is_some (message_at (begun opening) n) ≡ true → is_some (message_at (begun opening) m) ≡ true
   pub keys : AllPairs (λ r s. has_key (key_of r.channel r.raw) s ≡ false) opening.remembered
   pub forgotten : AreForgotten opening.places (forgotten_messages (begun opening)) opening.forgotten
-  pub were_taken : (d : ℕ) → d < 32 → (destination_counts (begun opening) d).inflight + (destination_counts (begun opening) d).delivered ≤ (destination_counts (begun opening) d).attempts
+  pub were_taken : (d : ℕ) → d < 32 →
+      (destination_counts (begun opening) d).inflight + (destination_counts (begun opening) d).delivered
+      ≤ (destination_counts (begun opening) d).attempts
   pub messages_few : opening.messages ≤ opening.places
   pub places_few : opening.places ≤ opening.prunings * 1000000
   pub prunings_few : opening.prunings ≤ 1000

@@ -21,7 +21,12 @@ second = codes "MSH|^~\\&|A|B|||||ADT|2|P|2.5.1" ++ 13 ∷ []
 
 -- both were accepted, and the first was taken and delivered
 abbrev pub settled : History
-settled = history_of built_in 100 (Arrival 0 0 first (Accepted 0) ∷ (Arrival 0 0 second (Accepted 1) ∷ (Take (attempt 1) 0 ∷ (Settle (attempt 1) outcome.Delivered 0 Delivered ∷ []))))
+settled =
+    history_of built_in 100
+    (Arrival 0 0 first (Accepted 0)
+    ∷ (Arrival 0 0 second (Accepted 1)
+    ∷ (Take (attempt 1) 0
+    ∷ (Settle (attempt 1) outcome.Delivered 0 Delivered ∷ []))))
 
 -- ---- what may be forgotten
 

@@ -25,7 +25,8 @@ pub fn folding_rules()
     ensures memories { (h : History) (bound : ℕ) → IsSound h → All (IsMemory (plan_in_force h)) (folded bound h).remembered }
     ensures places { (h : History) (bound : ℕ) → IsSound h → IsStrictlyIncreasing (map (λ r. r.place) (folded bound h).remembered) }
     ensures numbers { (h : History) (bound : ℕ) → IsSound h → IsStrictlyIncreasing (filter_map number_of (folded bound h).remembered) }
-    ensures numbers_within { (h : History) (bound : ℕ) → IsSound h → All (λ n. n < message_count h) (filter_map number_of (folded bound h).remembered) }
+    ensures numbers_within { (h : History) (bound : ℕ) → IsSound h →
+        All (λ n. n < message_count h) (filter_map number_of (folded bound h).remembered) }
     ensures keys { (h : History) (bound : ℕ) → IsSound h → AllPairs (λ r s. has_key (key_of r.channel r.raw) s ≡ false) (folded bound h).remembered }
     ensures owes { (h : History) (bound : ℕ) → IsSound h → prune_answer h bound ≡ None → owed (pruned bound h) ≡ owed h }
 
@@ -35,16 +36,19 @@ pub fn folding_rules()
 
     // So a book may go on from it, where no more messages were delivered or are in flight at a destination than attempts were begun.
     ensures good { (h : History) (bound : ℕ) → IsSound h → prune_answer h bound ≡ None → h.opening.events_max ≤ EVENTS_MAX
-        → ((d : ℕ) → d < 32 → (destination_counts h d).inflight + (destination_counts h d).delivered ≤ (destination_counts h d).attempts) → IsGoodOpening (folded bound h) }
+        → ((d : ℕ) → d < 32 → (destination_counts h d).inflight + (destination_counts h d).delivered ≤ (destination_counts h d).attempts)
+        → IsGoodOpening (folded bound h) }
 
     // Two histories that are alike, but for what is left aside, answer alike each event that names nothing of it, where both have room for it. They
     // stay alike with it.
-    ensures answered { (aside : Aside) (h k : History) (request : Request) → IsSound h → IsSound k → IsAlike aside h k → IsMet aside h k request → AnswersAlike h k request }
+    ensures answered { (aside : Aside) (h k : History) (request : Request) → IsSound h → IsSound k →
+        IsAlike aside h k → IsMet aside h k request → AnswersAlike h k request }
     ensures followed { (aside : Aside) (h k : History) (request : Request) → IsSound h → IsSound k → IsAlike aside h k → IsMet aside h k request
         → IsAlike aside (next h request) (next k request) }
 
     // So it is with every list of such events.
-    ensures answered_all { (aside : Aside) (h k : History) (requests : List Request) → IsSound h → IsSound k → IsAlike aside h k → AreMet aside h k requests → AllAnswerAlike h k requests }
+    ensures answered_all { (aside : Aside) (h k : History) (requests : List Request) → IsSound h → IsSound k →
+        IsAlike aside h k → AreMet aside h k requests → AllAnswerAlike h k requests }
     ensures run_on { (aside : Aside) (h k : History) (requests : List Request) → IsSound h → IsSound k → IsAlike aside h k → AreMet aside h k requests
         → IsAlike aside (run h requests) (run k requests) }
 
@@ -52,5 +56,6 @@ pub fn folding_rules()
     ensures pruned_answers { (h : History) (bound : ℕ) (requests : List Request) → IsSound h → prune_answer h bound ≡ None
         → AreMet (forgotten_by bound h) h (pruned bound h) requests → AllAnswerAlike h (pruned bound h) requests }
     ensures pruned_runs { (h : History) (bound : ℕ) (requests : List Request) → IsSound h → prune_answer h bound ≡ None
-        → AreMet (forgotten_by bound h) h (pruned bound h) requests → IsAlike (forgotten_by bound h) (run h requests) (run (pruned bound h) requests) }
+        → AreMet (forgotten_by bound h) h (pruned bound h) requests
+        → IsAlike (forgotten_by bound h) (run h requests) (run (pruned bound h) requests) }
 {}

@@ -31,7 +31,8 @@ pub fn history_rules()
     // A take, a settlement and a cancellation need no room beyond what is owed: none is ever refused for it.
     ensures take_fits { (h : History) (d now : ℕ) (ticket : Ticket) → IsSound h → take_answer h d now ≡ Ok ticket →
         let after = followed_by h (Take ticket now) in next_place after + owed after ≤ next_place h + owed h }
-    ensures settle_fits { (h : History) (ticket : Ticket) (outcome : Outcome) (now : ℕ) (state : SlotState) → IsSound h → settle_answer h ticket outcome now ≡ Ok state →
+    ensures settle_fits { (h : History) (ticket : Ticket) (outcome : Outcome) (now : ℕ) (state : SlotState) →
+        IsSound h → settle_answer h ticket outcome now ≡ Ok state →
         let after = followed_by h (Settle ticket outcome now state) in next_place after + owed after ≤ next_place h + owed h }
     ensures cancel_fits { (h : History) (number mask : ℕ) → IsSound h → cancel_answer h number ≡ Ok mask →
         let after = followed_by h (Cancel number mask) in next_place after + owed after ≤ next_place h + owed h }
@@ -39,7 +40,12 @@ pub fn history_rules()
     // A key is known where it is remembered, else at the first entry that keeps it, and unknown where there is neither.
     ensures known_inside { (h : History) (key : List ℕ) (place : ℕ) → IsGoodOpening h.opening → known h key ≡ Some place → place < next_place h }
     ensures known_remembered { (h : History) (key : List ℕ) (place : ℕ) → known_before h.opening key ≡ Some place → known h key ≡ Some place }
-    ensures known_there { (h : History) (key : List ℕ) (place : ℕ) → known_before h.opening key ≡ None → known h key ≡ Some (h.opening.places + place) → HoldsAt (λ e. IsTrue (keeps key e)) h.entries place }
-    ensures known_first { (h : History) (key : List ℕ) (place : ℕ) → known_before h.opening key ≡ None → known h key ≡ Some (h.opening.places + place) → AllWithin (λ e. IsFalse (keeps key e)) h.entries 0 place }
-    ensures unknown { (h : History) (key : List ℕ) → known h key ≡ None → (known_before h.opening key ≡ None) × All (λ e. IsFalse (keeps key e)) h.entries }
+    ensures known_there { (h : History) (key : List ℕ) (place : ℕ) →
+        known_before h.opening key ≡ None → known h key ≡ Some (h.opening.places + place) →
+        HoldsAt (λ e. IsTrue (keeps key e)) h.entries place }
+    ensures known_first { (h : History) (key : List ℕ) (place : ℕ) →
+        known_before h.opening key ≡ None → known h key ≡ Some (h.opening.places + place) →
+        AllWithin (λ e. IsFalse (keeps key e)) h.entries 0 place }
+    ensures unknown { (h : History) (key : List ℕ) → known h key ≡ None →
+        (known_before h.opening key ≡ None) × All (λ e. IsFalse (keeps key e)) h.entries }
 {}

@@ -39,7 +39,14 @@ impl Model for Remembered {
 
     ghost coded = { remembered_code };
 
-    ghost view = { λ r. record { place = r.place; channel = r.channel; raw = r.raw; told = r.told; deliveries = option_map_or (λ ds. ds) r.deliveries []; slots = r.slots } };
+    ghost view = { λ r. record {
+      place = r.place;
+      channel = r.channel;
+      raw = r.raw;
+      told = r.told;
+      deliveries = option_map_or (λ ds. ds) r.deliveries [];
+      slots = r.slots;
+    } };
 }
 
 impl Remembered {
@@ -53,7 +60,14 @@ impl Remembered {
         deliveries: Option<Deliveries>,
         slots: Slots,
     ) -> Remembered
-        ensures { result ≡ record { place = place; channel = channel; raw = raw; told = told; deliveries = option_map_or (λ ds. ds) deliveries []; slots = slots } }
+        ensures { result ≡ record {
+          place = place;
+          channel = channel;
+          raw = raw;
+          told = told;
+          deliveries = option_map_or (λ ds. ds) deliveries [];
+          slots = slots;
+        } }
     {
         Remembered {
             place,

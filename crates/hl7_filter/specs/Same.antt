@@ -75,8 +75,10 @@ same_place-Decides : (p q : Place) → Decides (same_place p q) (p ≡ q)
 same_place-Decides p q =
     let front = Decides-and _ _ (bytes_eq-Decides p.segment q.segment) (Decides-eqb p.occurrence q.occurrence) in
     let more = Decides-and _ _ front (Decides-eqb p.field q.field) in
-    let all = Decides-and _ _ more (same_part-Decides p.part q.part) in
-    (λ h. let e = all.0 h in same_fields p q e.0.0.0 e.0.0.1 e.0.1 e.1, λ e. all.1 (((ap (λ x. x.segment) e, ap (λ x. x.occurrence) e), ap (λ x. x.field) e), ap (λ x. x.part) e))
+    let all = Decides-and _ _ more (same_part-Decides p.part q.part) in (
+      λ h. let e = all.0 h in same_fields p q e.0.0.0 e.0.0.1 e.0.1 e.1,
+      λ e. all.1 (((ap (λ x. x.segment) e, ap (λ x. x.occurrence) e), ap (λ x. x.field) e), ap (λ x. x.part) e),
+    )
 
 pub place-discrete : (x y : Place) → Dec (x ≡ y)
 place-discrete x y = by_test (same_place x y) (same_place-Decides x y)

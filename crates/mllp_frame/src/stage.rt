@@ -52,7 +52,8 @@ fn read_inside<'a>(
 ) -> Result<(Stage, &'a [u8]), AllocError>
     requires { IsShortData bytes.items }
     ensures reads { IfOk result (λ next.
-        Reads (map event_of events.old.items) (map event_of events.new.items) (begun_block bytes.items ++ piece.now) (open_block next.0 ++ next.1.now)) }
+        Reads (map event_of events.old.items) (map event_of events.new.items)
+        (begun_block bytes.items ++ piece.now) (open_block next.0 ++ next.1.now)) }
     ensures short { IfOk result (λ next. HoldsShortData next.0) }
     ensures nearer { IfOk result (λ next. 0 < length piece.now → work next.0 next.1.now < 2 * length piece.now) }
     ensures err { OnErr result (events.new.items ≡ events.old.items) }
@@ -94,7 +95,8 @@ fn read_ended<'a>(
     requires short { IsShortData bytes.items }
     requires some { 0 < length piece.now }
     ensures reads { IfOk result (λ next.
-        Reads (map event_of events.old.items) (map event_of events.new.items) (ending_block bytes.items ++ piece.now) (open_block next.0 ++ next.1.now)) }
+        Reads (map event_of events.old.items) (map event_of events.new.items)
+        (ending_block bytes.items ++ piece.now) (open_block next.0 ++ next.1.now)) }
     ensures short { IfOk result (λ next. HoldsShortData next.0) }
     ensures nearer { IfOk result (λ next. work next.0 next.1.now < 2 * length piece.now + 1) }
     ensures err { OnErr result (events.new.items ≡ events.old.items) }

@@ -43,7 +43,8 @@ part_code = code_by (List ℕ) text_code numbers part_from part_back
 abbrev pub place_code : Coded Place
 place_code =
     code_by (List ℕ × (ℕ × (ℕ × Part))) (coded× text_code (coded× coded_ℕ (coded× coded_ℕ part_code)))
-    (λ p. (p.segment, (p.occurrence, (p.field, p.part)))) (λ q. record { segment = q.0; occurrence = q.1.0; field = q.1.1.0; part = q.1.1.1 }) (λ _. refl)
+    (λ p. (p.segment, (p.occurrence, (p.field, p.part))))
+    (λ q. record { segment = q.0; occurrence = q.1.0; field = q.1.1.0; part = q.1.1.1 }) (λ _. refl)
 
 -- a condition as a tree: the number of its kind, and what it says
 abbrev mutual
@@ -71,14 +72,16 @@ tail (gcons a b) = b
 tail g = g
 
 -- what two trees with a place and a text have in common
-said_inj : (p q : Place) (t u : List ℕ) → gcons (place_code.code p) (text_code.code t) ≡ gcons (place_code.code q) (text_code.code u) → (p ≡ q) × (t ≡ u)
+said_inj : (p q : Place) (t u : List ℕ)
+    → gcons (place_code.code p) (text_code.code t) ≡ gcons (place_code.code q) (text_code.code u) → (p ≡ q) × (t ≡ u)
 said_inj p q t u e = (place_code.inj p q (ap head e), text_code.inj t u (ap tail e))
 
 mutual
   pub condition_inj : (c d : Condition) → condition_tree c ≡ condition_tree d → c ≡ d
   condition_inj (equals p t) (equals q u) e = let same = said_inj p q t u (ap tail e) in λ i. equals (same.0 i) (same.1 i)
   condition_inj (one_of p ts) (one_of q us) e =
-      let place = place_code.inj p q (ap head (ap tail e)) in let texts = texts_code.inj ts us (ap tail (ap tail e)) in λ i. one_of (place i) (texts i)
+      let place = place_code.inj p q (ap head (ap tail e)) in
+      let texts = texts_code.inj ts us (ap tail (ap tail e)) in λ i. one_of (place i) (texts i)
   condition_inj (exists p) (exists q) e = ap exists (place_code.inj p q (ap tail e))
   condition_inj (starts p t) (starts q u) e = let same = said_inj p q t u (ap tail e) in λ i. starts (same.0 i) (same.1 i)
   condition_inj (contains p t) (contains q u) e = let same = said_inj p q t u (ap tail e) in λ i. contains (same.0 i) (same.1 i)
@@ -123,7 +126,8 @@ edit_back (remove name) = refl
 abbrev pub edit_code : Coded Edit
 edit_code =
     code_by EditSum
-    (coded⊎ (coded× place_code text_code) (coded⊎ (coded× place_code place_code) (coded⊎ place_code (coded⊎ (coded× place_code (coded× (coded_list (coded× text_code text_code)) (coded_option text_code))) text_code))))
+    (coded⊎ (coded× place_code text_code) (coded⊎ (coded× place_code place_code) (coded⊎ place_code
+    (coded⊎ (coded× place_code (coded× (coded_list (coded× text_code text_code)) (coded_option text_code))) text_code))))
     edit_sum sum_edit edit_back
 
 abbrev pub route_code : Coded RouteEntry
@@ -148,7 +152,9 @@ type_back (type.Code c) = refl
 type_back (type.CodeAndEvent c e) = refl
 
 abbrev pub type_code : Coded MessageType
-type_code = code_by (Unit {0} ⊎ (List ℕ ⊎ (List ℕ × List ℕ))) (coded⊎ coded_unit (coded⊎ text_code (coded× text_code text_code))) type_sum sum_type type_back
+type_code =
+    code_by (Unit {0} ⊎ (List ℕ ⊎ (List ℕ × List ℕ))) (coded⊎ coded_unit (coded⊎ text_code (coded× text_code text_code)))
+    type_sum sum_type type_back
 
 abbrev pub processing_sum : ProcessingId → Unit {0} ⊎ (Unit {0} ⊎ Unit {0})
 processing_sum processing.Production = inl tt
@@ -166,7 +172,8 @@ processing_back processing.Training = refl
 processing_back processing.Debugging = refl
 
 abbrev pub processing_code : Coded ProcessingId
-processing_code = code_by (Unit {0} ⊎ (Unit {0} ⊎ Unit {0})) (coded⊎ coded_unit (coded⊎ coded_unit coded_unit)) processing_sum sum_processing processing_back
+processing_code =
+    code_by (Unit {0} ⊎ (Unit {0} ⊎ Unit {0})) (coded⊎ coded_unit (coded⊎ coded_unit coded_unit)) processing_sum sum_processing processing_back
 
 abbrev pub version_option : VersionId → Option (List ℕ)
 version_option version.Any = None
@@ -186,9 +193,19 @@ version_code = code_by (Option (List ℕ)) (coded_option text_code) version_opti
 abbrev pub channel_code : Coded ChannelEntry
 channel_code =
     code_by (List ℕ × (List ℕ × (List MessageType × (List ProcessingId × (List VersionId × (Option Condition × (List Edit × List RouteEntry)))))))
-    (coded× text_code (coded× text_code (coded× (coded_list type_code) (coded× (coded_list processing_code) (coded× (coded_list version_code) (coded× (coded_option condition_code) (coded× (coded_list edit_code) (coded_list route_code))))))))
+    (coded× text_code (coded× text_code (coded× (coded_list type_code) (coded× (coded_list processing_code)
+    (coded× (coded_list version_code) (coded× (coded_option condition_code) (coded× (coded_list edit_code) (coded_list route_code))))))))
     (λ c. (c.name, (c.listen, (c.types, (c.processing, (c.versions, (c.filter, (c.steps, c.routes))))))))
-    (λ p. record { name = p.0; listen = p.1.0; types = p.1.1.0; processing = p.1.1.1.0; versions = p.1.1.1.1.0; filter = p.1.1.1.1.1.0; steps = p.1.1.1.1.1.1.0; routes = p.1.1.1.1.1.1.1 })
+    (λ p. record {
+      name = p.0;
+      listen = p.1.0;
+      types = p.1.1.0;
+      processing = p.1.1.1.0;
+      versions = p.1.1.1.1.0;
+      filter = p.1.1.1.1.1.0;
+      steps = p.1.1.1.1.1.1.0;
+      routes = p.1.1.1.1.1.1.1;
+    })
     (λ _. refl)
 
 abbrev pub wait_sum : Await → Unit {0} ⊎ Unit {0}
@@ -209,7 +226,14 @@ destination_code =
     (coded× text_code (coded× text_code (coded× coded_ℕ (coded× coded_ℕ (coded× coded_ℕ (coded⊎ coded_unit coded_unit))))))
     (λ d. (d.name, (d.address, (d.attempts, (d.interval, (d.timeout, wait_sum d.wait))))))
     (λ p. record { name = p.0; address = p.1.0; attempts = p.1.1.0; interval = p.1.1.1.0; timeout = p.1.1.1.1.0; wait = sum_wait p.1.1.1.1.1 })
-    (λ d. λ i. record { name = d.name; address = d.address; attempts = d.attempts; interval = d.interval; timeout = d.timeout; wait = wait_back d.wait i })
+    (λ d. λ i. record {
+      name = d.name;
+      address = d.address;
+      attempts = d.attempts;
+      interval = d.interval;
+      timeout = d.timeout;
+      wait = wait_back d.wait i;
+    })
 
 abbrev pub plan_code : Coded PlanEntry
 plan_code =

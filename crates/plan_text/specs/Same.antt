@@ -98,8 +98,24 @@ lists {same = same} d xs ys = slice_eq-Decides d xs ys (pointwise same xs ys) re
 
 pub same_destination-Decides : (x y : DestinationEntry) → Decides (same_destination x y) (x ≡ y)
 same_destination-Decides x y = Decides-like _
-    (λ h. λ i. record { name = h.0 i; address = h.1.0 i; attempts = h.1.1.0 i; interval = h.1.1.1.0 i; timeout = h.1.1.1.1.0 i; wait = h.1.1.1.1.1 i })
-    (λ h. (ap (λ d. d.name) h, (ap (λ d. d.address) h, (ap (λ d. d.attempts) h, (ap (λ d. d.interval) h, (ap (λ d. d.timeout) h, ap (λ d. d.wait) h))))))
+    (λ h. λ i. record {
+      name = h.0 i;
+      address = h.1.0 i;
+      attempts = h.1.1.0 i;
+      interval = h.1.1.1.0 i;
+      timeout = h.1.1.1.1.0 i;
+      wait = h.1.1.1.1.1 i;
+    })
+    (λ h. (
+      ap (λ d. d.name) h,
+      (
+        ap (λ d. d.address) h,
+        (
+          ap (λ d. d.attempts) h,
+          (ap (λ d. d.interval) h, (ap (λ d. d.timeout) h, ap (λ d. d.wait) h)),
+        ),
+      ),
+    ))
     (Decides-and _ _ (bytes_eq-Decides x.name y.name) (Decides-and _ _ (bytes_eq-Decides x.address y.address)
     (Decides-and _ _ (Decides-eqb x.attempts y.attempts) (Decides-and _ _ (Decides-eqb x.interval y.interval)
     (Decides-and _ _ (Decides-eqb x.timeout y.timeout) (same_wait-Decides x.wait y.wait))))))
@@ -111,17 +127,41 @@ same_filter-Decides (Some c) None = (λ h. cc, λ h. cc)
 same_filter-Decides (Some c) (Some d) = Decides-like _ (λ h. ap Some h) (λ h. cc) (same_condition-Decides c d)
 
 pub same_route-Decides : (x y : RouteEntry) → Decides (same_route x y) (x ≡ y)
-same_route-Decides x y = Decides-like _ (λ h. λ i. record { to = h.0 i; filter = h.1.0 i; steps = h.1.1 i }) (λ h. (ap (λ r. r.to) h, (ap (λ r. r.filter) h, ap (λ r. r.steps) h)))
+same_route-Decides x y =
+    Decides-like _ (λ h. λ i. record { to = h.0 i; filter = h.1.0 i; steps = h.1.1 i })
+    (λ h. (ap (λ r. r.to) h, (ap (λ r. r.filter) h, ap (λ r. r.steps) h)))
     (Decides-and _ _ (Decides-eqb x.to y.to) (Decides-and _ _ (same_filter-Decides x.filter y.filter) (lists same_edit-Decides x.steps y.steps)))
 
 pub same_channel-Decides : (x y : ChannelEntry) → Decides (same_channel x y) (x ≡ y)
 same_channel-Decides x y = Decides-like _
-    (λ h. λ i. record { name = h.0 i; listen = h.1.0 i; types = h.1.1.0 i; processing = h.1.1.1.0 i; versions = h.1.1.1.1.0 i; filter = h.1.1.1.1.1.0 i; steps = h.1.1.1.1.1.1.0 i; routes = h.1.1.1.1.1.1.1 i })
-    (λ h. (ap (λ c. c.name) h, (ap (λ c. c.listen) h, (ap (λ c. c.types) h, (ap (λ c. c.processing) h, (ap (λ c. c.versions) h, (ap (λ c. c.filter) h, (ap (λ c. c.steps) h, ap (λ c. c.routes) h))))))))
+    (λ h. λ i. record {
+      name = h.0 i;
+      listen = h.1.0 i;
+      types = h.1.1.0 i;
+      processing = h.1.1.1.0 i;
+      versions = h.1.1.1.1.0 i;
+      filter = h.1.1.1.1.1.0 i;
+      steps = h.1.1.1.1.1.1.0 i;
+      routes = h.1.1.1.1.1.1.1 i;
+    })
+    (λ h. (
+      ap (λ c. c.name) h,
+      (
+        ap (λ c. c.listen) h,
+        (
+          ap (λ c. c.types) h,
+          (
+            ap (λ c. c.processing) h,
+            (ap (λ c. c.versions) h, (ap (λ c. c.filter) h, (ap (λ c. c.steps) h, ap (λ c. c.routes) h))),
+          ),
+        ),
+      ),
+    ))
     (Decides-and _ _ (bytes_eq-Decides x.name y.name) (Decides-and _ _ (bytes_eq-Decides x.listen y.listen)
     (Decides-and _ _ (lists same_type-Decides x.types y.types) (Decides-and _ _ (lists same_processing-Decides x.processing y.processing)
     (Decides-and _ _ (lists same_version-Decides x.versions y.versions)
-    (Decides-and _ _ (same_filter-Decides x.filter y.filter) (Decides-and _ _ (lists same_edit-Decides x.steps y.steps) (lists same_route-Decides x.routes y.routes))))))))
+    (Decides-and _ _ (same_filter-Decides x.filter y.filter)
+    (Decides-and _ _ (lists same_edit-Decides x.steps y.steps) (lists same_route-Decides x.routes y.routes))))))))
 
 pub same_plan-Decides : (x y : PlanEntry) → Decides (same_plan x y) (x ≡ y)
 same_plan-Decides x y = Decides-like _
