@@ -30,6 +30,9 @@ HERE = os.path.dirname(os.path.abspath(__file__))
 PROGRAM = os.path.join(HERE, '..', 'crates', 'hl7_engine', 'out', 'hl7_engine')
 FEW, MANY, ROUTED = 2_000, 200_000, 5_000
 COUNTED = (1_000, 3_000)  # messages of the two runs under valgrind, whose difference is told
+TOOLS = [('callgrind', r'Collected : ([0-9]+)', 'instructions', 10_500),
+         ('memcheck', r'total heap usage: ([0-9,]+) allocs', 'requests for memory', 8)]  # each with its bound for a message
+BESIDE = 300  # bytes that a message may take at the peak, beside those that came
 ROW = 200  # bytes that a message takes beside its text: 72 of its row for the links, its slots, its key and its entry
 LARGE, LARGE_SEGMENTS = (2_000, 20_000), 660
 HELD_ONCE = 1.5
@@ -54,6 +57,14 @@ def admission(n):
         'DG1|1|I10|J18.9^Pneumonia, unspecified organism^I10C||20231114|A',
     ]
     return ('\r'.join(fields) + '\r').encode()
+
+
+def shorter(n):
+    """The same in 676 bytes, without its diagnosis and the end of its visit."""
+    *fields, visit, allergy, _, end = admission(n).split(b'\r')
+    text = b'\r'.join([*fields, visit.removesuffix(b'|IP|V100245^^^MCM^VN|SELF'), allergy, end])
+    assert len(text) == 676, len(text)
+    return text
 
 
 def framed(text):
@@ -175,11 +186,11 @@ class Bench:
         with open(self.plan, 'w') as f:
             f.write(text)
 
-    def give_messages(self, count, extra=b''):
+    def give_messages(self, count, extra=b'', made=admission):
         """Writes so many admissions with further segments; gives how many bytes these are."""
         with open(self.source, 'wb') as f:
             for n in range(count):
-                f.write(framed(admission(n) + extra))
+                f.write(framed(made(n) + extra))
         return os.path.getsize(self.source)
 
     def answered(self, times, program=None):
@@ -273,18 +284,22 @@ def under_valgrind(bench, tool, told):
 
 
 def measure_work(bench):
-    """Instructions and requests for memory of a message, as valgrind counts them."""
-    for tool, told, what in (('callgrind', r'Collected : ([0-9]+)', 'instructions'),
-                             ('memcheck', r'total heap usage: ([0-9,]+) allocs', 'requests for memory')):
+    """Instructions and requests for memory of a message of 676 bytes, as valgrind counts them, and what many such take."""
+    for tool, told, what, most in TOOLS:
         counted = []
         for count in COUNTED:
-            size = bench.give_messages(count)
+            bench.give_messages(count, made=shorter)
             counted.append(under_valgrind(bench, tool, told))
         if None in counted:
             bench.tell(f'valgrind is not installed: no {what} a message')
             continue
-        few, many = COUNTED
-        bench.tell(f'{(counted[1] - counted[0]) / (many - few):,.1f} {what} a message of {size // many} bytes')
+        cost = (counted[1] - counted[0]) / (COUNTED[1] - COUNTED[0])
+        bench.tell(f'{cost:,.1f} {what} a message of 676 bytes (at most {most:,})', cost <= most)
+    size = bench.give_messages(MANY, made=shorter)
+    _, peak = bench.answered(1)
+    bench.all_accepted(MANY)
+    bench.tell(f'{MANY:>7} messages of 676 bytes: peak memory {peak / MIB:.0f} MiB, {(peak - size) / MANY:.0f} bytes a message '
+               f'beside those that came (at most {BESIDE})', peak <= size + BESIDE * MANY)
 
 
 def compare_library(bench, seconds):

@@ -14,6 +14,8 @@ import argparse
 import asyncio
 import multiprocessing
 import os
+import re
+import shutil
 import socket
 import subprocess
 import sys
@@ -21,6 +23,7 @@ import tempfile
 import time
 
 sys.path.insert(0, os.path.join(os.path.dirname(os.path.abspath(__file__)), '..', 'peers'))
+from answer import COUNTED, TOOLS, framed, shorter  # noqa: E402
 from engine import PROGRAM, Engine, one_channel  # noqa: E402
 from hostile import idle_connections  # noqa: E402
 from mllp import block, field, free_ports, message  # noqa: E402
@@ -173,6 +176,35 @@ def idle_share(program, folder):
             return (processor_seconds(engine.process) - before) / 10
 
 
+def counted(program, folder, messages, tool, told):
+    """The number that a tool of valgrind tells of an engine that so many messages come to, all for one destination."""
+    under = ['valgrind', f'--tool={tool}', *(['--callgrind-out-file=/dev/null'] if tool == 'callgrind' else [])]
+    port, = free_ports(1)
+    with Server('acknowledged') as sink:
+        text = one_channel(port, [('D0', sink.port, ['attempts = 1'])])
+        with Engine(program, text, 1, folder, under=under) as engine:
+            with socket.create_connection(('127.0.0.1', port)) as peer:
+                for n in range(messages):
+                    peer.sendall(framed(shorter(n)))
+                    while not peer.recv(65_536).endswith(b'\x1c\r'):
+                        pass
+            status, counts = engine.ended(300)
+    if status != 0 or counts['destination', 'D0']['delivered'] != messages:
+        raise RuntimeError(f'{status} {counts}')
+    return int(re.search(told, '\n'.join(engine.told)).group(1).replace(',', ''))
+
+
+def measure_work(program, folder):
+    """What a message costs from its block to its delivery's settlement, without the system's share."""
+    if shutil.which('valgrind') is None:
+        print('valgrind is not installed: no instructions and no requests for memory of a message')
+        return
+    few, many = COUNTED
+    for tool, told, what, _ in TOOLS:
+        more = counted(program, folder, many, tool, told) - counted(program, folder, few, tool, told)
+        print(f'run, one connection, one destination: {more / (many - few):,.1f} {what} a message of 676 bytes', flush=True)
+
+
 def measure(program, folder, messages, idle):
     """Prints a line for each figure, and gives whether each bound is met."""
     met, limits, rates = [], {}, {}
@@ -205,6 +237,7 @@ def measure(program, folder, messages, idle):
               'times as many (at least 10, or 0.7 of what the senders can)', told >= 10 * other or told >= 0.7 * limits[8])
     else:
         print('python3-hl7 is not installed: left out')
+    measure_work(program, folder)
     share = idle_share(program, folder)
     bound(f'run with nothing to do, one connection, four destinations: {100 * share:.2f} % of a core (under 1)', share < 0.01)
     lines = idle_connections(program, folder, idle)

@@ -26,13 +26,13 @@ def one_channel(port, destinations):
 
 
 class Engine:
-    """The program under `run`, once it listens on all channels. Leaving it ends the program."""
+    """The program under `run`, by itself or under a tool, once it listens on all channels. Leaving it ends the program."""
 
-    def __init__(self, program, text, accept, folder, events=1_000_000):
+    def __init__(self, program, text, accept, folder, events=1_000_000, under=()):
         path = os.path.join(folder, 'plan.toml')
         with open(path, 'w', encoding='utf-8') as file:
             file.write(text)
-        self.process = subprocess.Popen([program, 'run', path, '--accept', str(accept), '--events', str(events)],
+        self.process = subprocess.Popen([*under, program, 'run', path, '--accept', str(accept), '--events', str(events)],
                                         stdin=subprocess.DEVNULL, stdout=subprocess.PIPE, stderr=subprocess.PIPE)
         self.told, self._channels = [], text.count('[[channel]]')
         self._listens, self._reader = threading.Event(), threading.Thread(target=self._read, daemon=True)

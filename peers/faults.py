@@ -1,7 +1,9 @@
 """The faults of `run` in their order, with their lines and statuses."""
 import os
+import re
 import resource
 import socket
+import struct
 import subprocess
 import time
 
@@ -113,6 +115,25 @@ def refused_thread(program, folder):
     return []
 
 
+def reset_connection(program, folder):
+    """A connection that its peer resets is told in one line, by its number, its channel and its peer."""
+    ports = free_ports(3)
+    text = plan([(name, port, [('LAB', None, None)]) for name, port in zip('AB', ports)], [('LAB', ports[2], [])])
+    with Engine(program, text, 1, folder) as engine, connected(ports[0]) as other:
+        peer = connected(ports[1])
+        peer.setsockopt(socket.SOL_SOCKET, socket.SO_LINGER, struct.pack('ii', 1, 0))
+        place = peer.getsockname()[1]
+        peer.sendall(b'\x0bMSH|')
+        time.sleep(0.5)
+        peer.close()
+        other.close()
+        status, counts = engine.ended(30)
+    told, due = engine.warnings(), f'connection 1 of channel B from 127.0.0.1:{place}: read: .+'
+    if status != 0 or len(told) != 1 or not re.search(due, told[0]):
+        return [f'a reset connection: status {status}, {told}, {counts}']
+    return []
+
+
 def full_disk(program, folder):
     """Counts that can't be written are a fault of the device."""
     port, = free_ports(1)
@@ -129,4 +150,4 @@ def full_disk(program, folder):
 
 def all_faults(program, folder):
     return (before_a_run(program, folder) + failed_accept(program, folder) + refused_thread(program, folder)
-            + full_disk(program, folder))
+            + reset_connection(program, folder) + full_disk(program, folder))
