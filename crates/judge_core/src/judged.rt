@@ -227,7 +227,7 @@ pub fn judge(
     let shared = Arc::new(alloc, raw)?;
     let plan = Arc::try_clone(plan)?;
     let read = read(alloc, &shared)?;
-    let raw = Text::whole(shared);
+    let raw = Text::whole(shared)?;
     let Some((message, printed)) = read else {
         return Ok(Judged {
             plan,

@@ -16,8 +16,12 @@ use std::sync::Arc;
 #[derive(Debug, Drop)]
 pub struct Text {
     shared: Arc<Vec<u8>>,
-    span: Span,
+    start: u32,
+    end: u32,
 }
+
+/// A text takes 16 bytes beside the bytes that it shares.
+const _: () = prove!(size_of::<Text>() == 16);
 
 impl Model for Text {
     ghost use Rattle.std.specs.Prelude.{List, ℕ, length};
@@ -26,35 +30,50 @@ impl Model for Text {
 
     ghost Value = { List ℕ };
 
-    ghost view = { λ t. covered (arc_value t.shared).items t.span };
+    ghost view = { λ t. covered (arc_value t.shared).items (record { start = t.start; end = t.end }) };
 
-    ghost invariant = { λ t. IsBetween 0 (length (arc_value t.shared).items) t.span };
+    ghost invariant = { λ t. IsBetween 0 (length (arc_value t.shared).items) (record { start = t.start; end = t.end }) };
+}
+
+/// A place in a text as 32 bits. A place of 4 GiB or more is answered as want of memory.
+fn place(offset: usize) -> Result<u32, AllocError>
+    ensures { IfOk result (λ p. p ≡ offset) }
+{
+    u32::try_from(offset).map_err(|_| AllocError)
 }
 
 impl Text {
-    /// The text of these bytes.
+    /// The text of these bytes. 4 GiB or more are answered as want of memory.
     pub fn new(alloc: Global, bytes: Vec<u8>) -> Result<Text, AllocError>
         ensures { IfOk result (λ text. text ≡ bytes.items) }
     {
-        Ok(Text::whole(Arc::new(alloc, bytes)?))
+        Text::whole(Arc::new(alloc, bytes)?)
     }
 
-    /// The text of all bytes that are shared.
-    pub(crate) fn whole(shared: Arc<Vec<u8>>) -> Text
-        ensures { result ≡ (arc_value shared).items }
+    /// The text of all bytes that are shared. 4 GiB or more are answered as want of memory.
+    pub(crate) fn whole(shared: Arc<Vec<u8>>) -> Result<Text, AllocError>
+        ensures { IfOk result (λ text. text ≡ (arc_value shared).items) }
     {
-        let span = Span::whole(shared.as_slice());
-        Text { shared, span }
+        let end = place(shared.len())?;
+        Ok(Text {
+            shared,
+            start: 0,
+            end,
+        })
     }
 
-    /// The text of a span of bytes that are shared, as one more of their owners.
+    /// The text of a span of bytes that are shared, as one more of their owners. A span that ends at 4 GiB or behind it is
+    /// answered as want of memory.
     pub fn part(shared: &Arc<Vec<u8>>, span: Span) -> Result<Text, AllocError>
         requires { IsBetween 0 (length (arc_value shared.now).items) span }
         ensures { IfOk result (λ text. text ≡ covered (arc_value shared.now).items span) }
     {
+        let start = place(span.start)?;
+        let end = place(span.end)?;
         Ok(Text {
             shared: Arc::try_clone(shared)?,
-            span,
+            start,
+            end,
         })
     }
 
@@ -62,14 +81,22 @@ impl Text {
     pub fn share(&self) -> Result<Text, AllocError>
         ensures { IfOk result (λ text. text ≡ self.now) }
     {
-        Text::part(&self.shared, self.span)
+        Ok(Text {
+            shared: Arc::try_clone(&self.shared)?,
+            start: self.start,
+            end: self.end,
+        })
     }
 
     /// The bytes.
     pub fn as_slice(&self) -> &[u8]
         ensures { result.now ≡ self.now }
     {
-        self.span.of(self.shared.as_slice())
+        let span = Span {
+            start: self.start as usize,
+            end: self.end as usize,
+        };
+        span.of(self.shared.as_slice())
     }
 }
 

@@ -2,5 +2,6 @@ pub mod Chain
 pub mod Linked
 pub mod Listed
 pub mod Packing
+pub mod Seating
 pub mod Stands
 pub mod Visit

@@ -1,6 +1,5 @@
 -- How a node's links are kept.
 use Rattle.std.specs.Prelude.{ℕ, ◌-◌, ◌==◌, nat_lt, if◌then◌else◌, List, [], ◌∷◌, map, slice_index_or}
-use Rattle.std.specs.Global.{Box}
 use Rattle.std.specs.List.{range_with_len}
 use Rattle.std.specs.declared.option.Option.{Option}
 use Rattle.std.specs.declared.option.Option.TheVariants.{None, Some}
@@ -21,11 +20,6 @@ abbrev pub links_of : List Seat → List Ends → List (Option Link)
 links_of [] es = []
 links_of (s ∷ ss) [] = []
 links_of (s ∷ ss) (e ∷ es) = link_of s e ∷ links_of ss es
-
--- the links in other queues, where there is a block of them
-abbrev pub others_of : Option (Box (List (Option Link))) → List (Option Link)
-others_of None = []
-others_of (Some block) = block.value
 
 -- the slot of queue d among all queues but one
 abbrev pub slot_of : ℕ → ℕ → ℕ

@@ -105,17 +105,58 @@ impl OtherLinks {
     }
 }
 
+/// The seats of a node among all rows and in its row's first queue.
+#[derive(Clone, Copy)]
+struct Seats {
+    /// The first queue of the row as it was pushed.
+    queue: u8,
+    /// Its seat among all rows.
+    row_seat: Seat,
+    /// Its seat in that queue.
+    queue_seat: Seat,
+}
+
+/// The seats of a node, and the links in queues other than its first.
+#[derive(Drop)]
+enum Seating {
+    /// The row was pushed into one queue, or none.
+    OneQueue(Seats),
+    /// The row was pushed into several queues.
+    Several(Seats, Box<OtherLinks>),
+}
+
+impl Seating {
+    ghost use Rattle.record_list.specs.Seating.{seats_of, others_of};
+
+    /// The seats, whichever links there are beside them.
+    fn seats(&self) -> Seats
+        ensures { result ≡ seats_of self.now }
+    {
+        match self {
+            Seating::OneQueue(seats) => *seats,
+            Seating::Several(seats, _) => *seats,
+        }
+    }
+
+    /// Writes the seats, and no link in another queue.
+    fn set_seats(&mut self, seats: Seats)
+        ensures seats { seats_of self.new ≡ seats }
+        ensures others { others_of self.new ≡ others_of self.old }
+    {
+        match self {
+            Seating::OneQueue(kept) => *kept = seats,
+            Seating::Several(kept, _) => *kept = seats,
+        }
+    }
+}
+
 /// A link for each of 33 chains, or none. Those in the last chain and in the first queue of the row stand here, and those
 /// in other queues in a block of their own, which a row that was pushed into one queue goes without.
 #[derive(Drop)]
 pub struct LinkTable {
-    /// The first queue of the row as it was pushed.
-    queue: u8,
-    row_seat: Seat,
-    queue_seat: Seat,
     row_ends: Ends,
     queue_ends: Ends,
-    others: Option<Box<OtherLinks>>,
+    seating: Seating,
 }
 
 /// The block of the links in other queues takes 528 bytes.
@@ -125,13 +166,13 @@ impl Model for LinkTable {
     ghost use Rattle.std.specs.Prelude.{List, ◌<◌};
     ghost use Rattle.std.specs.declared.option.Option.{Option};
     ghost use Rattle.record_list.specs.declared.link_table.Link.{Link};
-    ghost use Rattle.record_list.specs.Packing.{link_of, others_of, table_of};
+    ghost use Rattle.record_list.specs.Seating.{seats_of, table_by};
 
     ghost Value = { List (Option Link) };
 
-    ghost view = { λ s. table_of s.queue (link_of s.queue_seat s.queue_ends) (others_of s.others) (link_of s.row_seat s.row_ends) };
+    ghost view = { λ s. table_by s.row_ends s.queue_ends s.seating };
 
-    ghost invariant = { λ s. s.queue < 32 };
+    ghost invariant = { λ s. (seats_of s.seating).queue < 32 };
 }
 
 impl LinkTable {
@@ -143,22 +184,24 @@ impl LinkTable {
         let queue = mask.trailing_zeros() as usize % 32;
         let in_queue = stands(mask, queue);
         let rest = if in_queue { mask - (1 << queue) } else { mask };
-        let others = if rest == 0 {
-            None
+        let seats = Seats {
+            queue: queue as u8,
+            row_seat: Seat::Alone,
+            queue_seat: Seat::alone(in_queue),
+        };
+        let seating = if rest == 0 {
+            Seating::OneQueue(seats)
         } else {
-            Some(Box::new(alloc, OtherLinks::alone(mask, queue))?)
+            Seating::Several(seats, Box::new(alloc, OtherLinks::alone(mask, queue))?)
         };
         let nowhere = Ends {
             prev: Place::nowhere(),
             next: Place::nowhere(),
         };
         Ok(LinkTable {
-            queue: queue as u8,
-            row_seat: Seat::Alone,
-            queue_seat: Seat::alone(in_queue),
             row_ends: nowhere,
             queue_ends: nowhere,
-            others,
+            seating,
         })
     }
 
@@ -167,16 +210,17 @@ impl LinkTable {
         requires { d < 33 }
         ensures { result ≡ slice_index_or self.now d None }
     {
-        let queue = self.queue as usize;
+        let seats = self.seating.seats();
+        let queue = seats.queue as usize;
         if d == 32 {
-            return unpacked(self.row_seat, self.row_ends);
+            return unpacked(seats.row_seat, self.row_ends);
         }
         if d == queue {
-            return unpacked(self.queue_seat, self.queue_ends);
+            return unpacked(seats.queue_seat, self.queue_ends);
         }
-        match &self.others {
-            Some(others) => others.get(slot_of(queue, d)),
-            None => None,
+        match &self.seating {
+            Seating::OneQueue(_) => None,
+            Seating::Several(_, others) => others.get(slot_of(queue, d)),
         }
     }
 
@@ -186,15 +230,18 @@ impl LinkTable {
         requires stands { is_some (slice_index_or self.old d None) ≡ true }
         ensures { self.new ≡ slice_set self.old d link }
     {
-        let queue = self.queue as usize;
+        let mut seats = self.seating.seats();
+        let queue = seats.queue as usize;
         let (seat, ends) = packed(link);
         if d == 32 {
-            self.row_seat = seat;
+            seats.row_seat = seat;
+            self.seating.set_seats(seats);
             self.row_ends = ends;
         } else if d == queue {
-            self.queue_seat = seat;
+            seats.queue_seat = seat;
+            self.seating.set_seats(seats);
             self.queue_ends = ends;
-        } else if let Some(others) = &mut self.others {
+        } else if let Seating::Several(_, others) = &mut self.seating {
             others.set(slot_of(queue, d), link);
         }
     }

@@ -18,10 +18,10 @@ pub struct Node<T> {
     pub(crate) links: LinkTable,
 }
 
-/// A row of a word takes 72 bytes beside its item, and one of several queues 600 with the block of its other links.
-const _: () = prove!(size_of::<Node<u64>>() == size_of::<u64>() + 72);
+/// A row of a word takes 56 bytes beside its item, and one of several queues 584 with the block of its other links.
+const _: () = prove!(size_of::<Node<u64>>() == size_of::<u64>() + 56);
 
-const _: () = prove!(size_of::<Node<u64>>() + size_of::<OtherLinks>() == size_of::<u64>() + 600);
+const _: () = prove!(size_of::<Node<u64>>() + size_of::<OtherLinks>() == size_of::<u64>() + 584);
 
 /// The ends of the chains, and the memory of the nodes.
 pub struct Links<T> {

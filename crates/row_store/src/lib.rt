@@ -20,8 +20,8 @@ pub const QUEUES: u32 = 32;
 #[derive(Drop)]
 pub struct Row<T> {
     pub number: u32,
-    pub item: T,
     pub mask: u32,
+    pub item: T,
 }
 
 impl<T> Row<T> {
