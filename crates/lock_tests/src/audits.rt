@@ -4,7 +4,7 @@ ghost use Rattle.std.specs.Prelude.{◌≡◌, ◌+◌, length};
 ghost use Rattle.event_log.specs.History.{next_place, plan_in_force};
 ghost use Rattle.event_log.specs.Counting.{counted};
 
-use crate::stage::{M1, M2, Rows, judged, waiting};
+use crate::stage::{M1, M2, Rows, judged, open, waiting};
 use book_core::{Book, EVENTS_MAX, Receipt, Told};
 use book_lock::{AuditFault, Closed, Desk, NotClosed, Opening, Shared, Station, audit, rising};
 use conn_worker::nearest;
@@ -203,7 +203,36 @@ fn close_at_last<A: Opening, T: Ledger, U: Ledger>(
     Ok(Day { back, closed })
 }
 
-/// Books a message by connection 5, takes it, and books another.
+/// The desks and stations that are handed in, or those that are kept.
+type Shares<A, T, U> = (Vec<Desk<A>>, Vec<Station<T, U>>);
+
+/// Closes a book with the shares that are handed in, and with the others too where that was refused.
+fn close_twice<A: Opening, T: Ledger, U: Ledger>(
+    shared: Shared<A, T, U, Rows>,
+    handed: Shares<A, T, U>,
+    kept: Shares<A, T, U>,
+) -> Result<Day, Fail> {
+    match shared.close(handed.0, handed.1) {
+        Ok(closed) => Ok(Day { back: None, closed }),
+        Err(missing) => close_at_last(missing, kept.0, kept.1),
+    }
+}
+
+/// Books a message by connection 5.
+fn book_message<A: Opening, T: Ledger, U: Ledger, H: Wait>(
+    rt: &H,
+    alloc: Global,
+    shared: &Shared<A, T, U, Rows>,
+    desk: &mut Desk<A>,
+    text: &str,
+) -> Result<(), Fail> {
+    let plan = shared.plan(rt)?;
+    let judged = judged(alloc, &plan, text)?;
+    shared.arrive(rt, desk, 5, &judged)?;
+    Ok(())
+}
+
+/// Books a message, takes it, and books another.
 fn work<A: Opening, T: Ledger, U: Ledger, H: Wait>(
     rt: &H,
     alloc: Global,
@@ -211,13 +240,9 @@ fn work<A: Opening, T: Ledger, U: Ledger, H: Wait>(
     desk: &mut Desk<A>,
     station: &mut Station<T, U>,
 ) -> Result<(), Fail> {
-    let plan = shared.plan(rt)?;
-    let first = judged(alloc, &plan, M1)?;
-    let second = judged(alloc, &plan, M2)?;
-    shared.arrive(rt, desk, 5, &first)?;
+    book_message(rt, alloc, shared, desk, M1)?;
     shared.take(rt, station, 0, nearest(0))?;
-    shared.arrive(rt, desk, 5, &second)?;
-    Ok(())
+    book_message(rt, alloc, shared, desk, M2)
 }
 
 /// Works at one of two desks and at a station, and closes the book, a second time with all shares where the first close
@@ -238,24 +263,25 @@ fn end_day<A: Opening, T: Ledger, U: Ledger, H: Wait>(
     requires takes { (takes.name ≡ T.name) × (takes.parts ≡ T.parts) × (T.parts ≡ 2) }
     requires settlements { (settlements.name ≡ U.name) × (settlements.parts ≡ U.parts) × (U.parts ≡ 2) }
 {
-    let opened = Shared::<A, T, U, Rows>::new(alloc, book, 2, 1, arrivals, takes, settlements);
-    let Ok((shared, mut desks, mut stations)) = opened else {
-        return Err("memory".into());
-    };
+    let (shared, mut desks, mut stations) = open::<A, T, U>(
+        alloc,
+        book,
+        2,
+        1,
+        arrivals,
+        takes,
+        settlements,
+    )?;
     let (Some(idle), Some(mut busy), Some(mut station)) = (desks.pop(), desks.pop(), stations.pop())
     else {
         return Err("no share".into());
     };
     work(rt, alloc, &shared, &mut busy, &mut station)?;
-    let mut kept_desks = Vec::new(alloc);
-    let mut kept_stations = Vec::new(alloc);
-    put(idle, given.idle, &mut desks, &mut kept_desks)?;
-    put(busy, given.busy, &mut desks, &mut kept_desks)?;
-    put(station, given.station, &mut stations, &mut kept_stations)?;
-    match shared.close(desks, stations) {
-        Ok(closed) => Ok(Day { back: None, closed }),
-        Err(missing) => close_at_last(missing, kept_desks, kept_stations),
-    }
+    let mut kept = (Vec::new(alloc), Vec::new(alloc));
+    put(idle, given.idle, &mut desks, &mut kept.0)?;
+    put(busy, given.busy, &mut desks, &mut kept.0)?;
+    put(station, given.station, &mut stations, &mut kept.1)?;
+    close_twice(shared, (desks, stations), kept)
 }
 
 /// The receipts of these slips.
@@ -286,21 +312,26 @@ fn unmet(alloc: Global, closed: &Closed<Rows>) -> Result<Option<usize>, Fail> {
     Ok(None)
 }
 
+/// A day at a book, of which these shares are handed in.
+fn day_at<H: Wait>(rt: &H, alloc: Global, book: Book<Rows>, given: &Given) -> Result<Day, Fail> {
+    end_day::<Brand, Brand, Brand, H>(
+        rt,
+        alloc,
+        book,
+        Blank::new(3),
+        Blank::new(2),
+        Blank::new(2),
+        given,
+    )
+}
+
 /// A close is refused where a share is missing at which something was made. Where it is refused, all comes back, and the
 /// next close with all shares is done. Each audit comes out as it is to.
 #[test]
 fn cases(rt: HostRuntime) -> Result<(), Fail> {
     for (place, given) in GIVEN.iter().enumerate() {
         let book = waiting(&rt, false, EVENTS_MAX, &[])?;
-        let day = end_day::<Brand, Brand, Brand, HostRuntime>(
-            &rt,
-            rt.alloc(),
-            book,
-            Blank::new(3),
-            Blank::new(2),
-            Blank::new(2),
-            given,
-        )?;
+        let day = day_at(&rt, rt.alloc(), book, given)?;
         let right = day.back == given.back && unmet(rt.alloc(), &day.closed)?.is_none();
         assert!(rt; right, "case {place}");
     }

@@ -4,7 +4,7 @@ ghost use Rattle.std.specs.Prelude.{◌≡◌, ◌+◌, length};
 ghost use Rattle.event_log.specs.History.{next_place, plan_in_force};
 ghost use Rattle.event_log.specs.Counting.{counted};
 
-use crate::stage::{M1, M2, Rows, UPDATE, waiting};
+use crate::stage::{M1, M2, Rows, UPDATE, close, open, waiting};
 use book_core::{Book, CancelRefusal, EVENTS_MAX, TakeRefusal, Ticket};
 use book_lock::{Closed, Opening, Shared, Station};
 use conn_worker::nearest;
@@ -230,6 +230,21 @@ fn is_met<A: Opening, T: Ledger, U: Ledger, H: Wait>(
     }
 }
 
+/// The first of these calls that is answered otherwise than is due; those behind it aren't made.
+fn first_unmet<A: Opening, T: Ledger, U: Ledger, H: Wait>(
+    rt: &H,
+    shared: &Shared<A, T, U, Rows>,
+    station: &mut Station<T, U>,
+    calls: &[Call],
+) -> Option<usize> {
+    for (place, call) in calls.iter().enumerate() {
+        if !is_met(rt, shared, station, *call) {
+            return Some(place);
+        }
+    }
+    None
+}
+
 /// What came of a case.
 #[derive(Drop)]
 struct Played {
@@ -257,26 +272,24 @@ fn play<A: Opening, T: Ledger, U: Ledger, H: Wait>(
     requires takes { (takes.name ≡ T.name) × (takes.parts ≡ T.parts) × (T.parts ≡ 2) }
     requires settlements { (settlements.name ≡ U.name) × (settlements.parts ≡ U.parts) × (U.parts ≡ 2) }
 {
-    let opened = Shared::<A, T, U, Rows>::new(alloc, book, 1, 1, arrivals, takes, settlements);
-    let Ok((shared, mut desks, mut stations)) = opened else {
-        return Err("memory".into());
-    };
+    let (shared, mut desks, mut stations) = open::<A, T, U>(
+        alloc,
+        book,
+        1,
+        1,
+        arrivals,
+        takes,
+        settlements,
+    )?;
     let (Some(mut desk), Some(mut station)) = (desks.pop(), stations.pop()) else {
         return Err("no share".into());
     };
-    let mut unmet = None;
-    for (place, call) in calls.iter().enumerate() {
-        if unmet.is_none() && !is_met(rt, &shared, &mut station, *call) {
-            unmet = Some(place);
-        }
-    }
+    let unmet = first_unmet(rt, &shared, &mut station, calls);
     let shown = shared.counts(rt, &mut desk);
     let plan = shared.plan(rt)?;
     desks.push(desk)?;
     stations.push(station)?;
-    let Ok(closed) = shared.close(desks, stations) else {
-        return Err("shares".into());
-    };
+    let closed = close(shared, desks, stations)?;
     Ok(Played {
         unmet,
         shown,
@@ -298,20 +311,30 @@ fn is_right(slots: [Option<SlotState>; 4], played: &Played) -> bool {
         && book.status(0, 3) == slots[3]
 }
 
+/// What comes of these calls of a book.
+fn play_at<H: Wait>(
+    rt: &H,
+    alloc: Global,
+    book: Book<Rows>,
+    calls: &[Call],
+) -> Result<Played, Fail> {
+    play::<Brand, Brand, Brand, H>(
+        rt,
+        alloc,
+        book,
+        Blank::new(2),
+        Blank::new(2),
+        Blank::new(2),
+        calls,
+    )
+}
+
 /// Each case comes out as it is to.
 #[test]
 fn cases(rt: HostRuntime) -> Result<(), Fail> {
     for (place, case) in CASES.iter().enumerate() {
         let book = waiting(&rt, case.four, EVENTS_MAX, case.messages)?;
-        let played = play::<Brand, Brand, Brand, HostRuntime>(
-            &rt,
-            rt.alloc(),
-            book,
-            Blank::new(2),
-            Blank::new(2),
-            Blank::new(2),
-            case.calls,
-        )?;
+        let played = play_at(&rt, rt.alloc(), book, case.calls)?;
         let right = is_right(case.slots, &played);
         assert!(rt; right, "case {place}");
     }

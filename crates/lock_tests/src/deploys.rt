@@ -4,7 +4,7 @@ ghost use Rattle.std.specs.Prelude.{◌≡◌, ◌+◌, length};
 ghost use Rattle.event_log.specs.History.{next_place, plan_in_force};
 ghost use Rattle.event_log.specs.Counting.{counted};
 
-use crate::stage::{M1, Rows, plan, waiting};
+use crate::stage::{M1, Rows, close, open, plan, waiting};
 use book_core::{Book, DeployRefusal, EVENTS_MAX};
 use book_lock::{Closed, Opening, Shared};
 use plan_text::Plan;
@@ -45,16 +45,19 @@ fn deploy_both<A: Opening, T: Ledger, U: Ledger, H: Wait>(
     requires takes { (takes.name ≡ T.name) × (takes.parts ≡ T.parts) × (T.parts ≡ 1) }
     requires settlements { (settlements.name ≡ U.name) × (settlements.parts ≡ U.parts) × (U.parts ≡ 1) }
 {
-    let opened = Shared::<A, T, U, Rows>::new(alloc, book, 0, 0, arrivals, takes, settlements);
-    let Ok((shared, desks, stations)) = opened else {
-        return Err("memory".into());
-    };
+    let (shared, desks, stations) = open::<A, T, U>(
+        alloc,
+        book,
+        0,
+        0,
+        arrivals,
+        takes,
+        settlements,
+    )?;
     let first = shared.deploy(rt, first).err();
     let second = shared.deploy(rt, second).err();
     let told = shared.plan(rt)?;
-    let Ok(closed) = shared.close(desks, stations) else {
-        return Err("shares".into());
-    };
+    let closed = close(shared, desks, stations)?;
     Ok(Deployed {
         first,
         second,
@@ -63,15 +66,31 @@ fn deploy_both<A: Opening, T: Ledger, U: Ledger, H: Wait>(
     })
 }
 
+/// The slower plan.
+fn slower_plan(alloc: Global) -> Result<Arc<Plan>, Fail> {
+    let Ok(plan) = Plan::read(alloc, SLOWER.as_bytes()) else {
+        return Err("the plan".into());
+    };
+    Ok(Arc::new(alloc, plan)?)
+}
+
+/// Whether the first plan was refused for a destination in use, and the slower one is in force and stands in the history.
+fn is_right(deployed: &Deployed, slower: &Plan) -> bool {
+    let book = deployed.closed.book();
+    deployed.first == Some(DeployRefusal::DestinationInUse(0))
+        && deployed.second.is_none()
+        && *deployed.told == *slower
+        && **book.plan() == *slower
+        && book.len() == 2
+}
+
 /// A plan that lacks a destination to which a message waits is refused. One that only waits longer between two attempts is
 /// in force from then on, and stands in the history.
 #[test]
 fn plans_are_deployed(rt: HostRuntime) -> Result<(), Fail> {
     let alloc = rt.alloc();
-    let Ok(slower) = Plan::read(alloc, SLOWER.as_bytes()) else {
-        return Err("the plan".into());
-    };
-    let slower = Arc::new(alloc, slower)?;
+    let slower = slower_plan(alloc)?;
+    let (four, same) = (plan(alloc, true)?, Arc::try_clone(&slower)?);
     let book = waiting(&rt, false, EVENTS_MAX, &[M1])?;
     let deployed = deploy_both::<Brand, Brand, Brand, HostRuntime>(
         &rt,
@@ -80,14 +99,9 @@ fn plans_are_deployed(rt: HostRuntime) -> Result<(), Fail> {
         Blank::new(1),
         Blank::new(1),
         Blank::new(1),
-        plan(alloc, true)?,
-        Arc::try_clone(&slower)?,
+        four,
+        same,
     )?;
-    let book = deployed.closed.book();
-    assert!(rt; deployed.first == Some(DeployRefusal::DestinationInUse(0)));
-    assert!(rt; deployed.second.is_none());
-    assert!(rt; *deployed.told == *slower);
-    assert!(rt; **book.plan() == *slower);
-    assert_eq!(rt; book.len(), 2);
+    assert!(rt; is_right(&deployed, &slower));
     Ok(())
 }

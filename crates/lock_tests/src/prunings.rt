@@ -5,7 +5,7 @@ ghost use Rattle.judge_core.specs.Judging.{is_bookable};
 ghost use Rattle.event_log.specs.History.{next_place, plan_in_force};
 ghost use Rattle.event_log.specs.Counting.{counted};
 
-use crate::stage::{M1, M2, Rows, judged, waiting};
+use crate::stage::{M1, M2, Rows, close, judged, open, waiting};
 use book_core::{Book, CancelRefusal, EVENTS_MAX, PruneRefusal, Receipt, Told};
 use book_lock::{Closed, Opening, Shared, audit};
 use conn_worker::nearest;
@@ -46,10 +46,15 @@ fn prune_both<A: Opening, T: Ledger, U: Ledger, H: Wait>(
     requires settlements { (settlements.name ≡ U.name) × (settlements.parts ≡ U.parts) × (U.parts ≡ 1) }
     requires bookable { IsTrue (is_bookable message.now.raw) }
 {
-    let opened = Shared::<A, T, U, Rows>::new(alloc, book, 1, 0, arrivals, takes, settlements);
-    let Ok((shared, mut desks, stations)) = opened else {
-        return Err("memory".into());
-    };
+    let (shared, mut desks, stations) = open::<A, T, U>(
+        alloc,
+        book,
+        1,
+        0,
+        arrivals,
+        takes,
+        settlements,
+    )?;
     let Some(mut desk) = desks.pop() else {
         return Err("no desk".into());
     };
@@ -58,9 +63,7 @@ fn prune_both<A: Opening, T: Ledger, U: Ledger, H: Wait>(
     let cancelled = shared.cancel(rt, 0);
     let receipt = shared.arrive(rt, &mut desk, 0, message)?;
     desks.push(desk)?;
-    let Ok(closed) = shared.close(desks, stations) else {
-        return Err("shares".into());
-    };
+    let closed = close(shared, desks, stations)?;
     Ok(Pruned {
         first,
         second,
@@ -70,13 +73,29 @@ fn prune_both<A: Opening, T: Ledger, U: Ledger, H: Wait>(
     })
 }
 
+/// A book of two messages, of which the first was delivered.
+fn half_delivered(rt: &HostRuntime) -> Result<Book<Rows>, Fail> {
+    let mut book = waiting(rt, false, EVENTS_MAX, &[M1, M2])?;
+    let job = book.take(0, nearest(0))?;
+    book.settle(&job.ticket, Outcome::Delivered, nearest(0))?;
+    Ok(book)
+}
+
+/// Whether the second message was not forgotten, and the first was and came again as a new one.
+fn is_right(pruned: &Pruned) -> bool {
+    pruned.first == Err(PruneRefusal::StillLive(1))
+        && pruned.second == Ok(())
+        && pruned.cancelled == Err(CancelRefusal::NoSuchMessage)
+        && pruned.receipt.told == Told::Accepted(2)
+        && pruned.receipt.entry == 4
+        && audit(&pruned.closed, slice::from_ref(&pruned.receipt)).is_ok()
+}
+
 /// Of two messages the first was delivered: the second is not forgotten, the first is, and comes again as a new message.
 #[test]
 fn delivered_messages_are_forgotten(rt: HostRuntime) -> Result<(), Fail> {
     let alloc = rt.alloc();
-    let mut book = waiting(&rt, false, EVENTS_MAX, &[M1, M2])?;
-    let job = book.take(0, nearest(0))?;
-    book.settle(&job.ticket, Outcome::Delivered, nearest(0))?;
+    let book = half_delivered(&rt)?;
     let message = judged(alloc, book.plan(), M1)?;
     let pruned = prune_both::<Brand, Brand, Brand, HostRuntime>(
         &rt,
@@ -87,18 +106,6 @@ fn delivered_messages_are_forgotten(rt: HostRuntime) -> Result<(), Fail> {
         Blank::new(1),
         &message,
     )?;
-    let Pruned {
-        first,
-        second,
-        cancelled,
-        receipt,
-        closed,
-    } = pruned;
-    assert!(rt; first == Err(PruneRefusal::StillLive(1)));
-    assert!(rt; second == Ok(()));
-    assert!(rt; cancelled == Err(CancelRefusal::NoSuchMessage));
-    assert!(rt; receipt.told == Told::Accepted(2));
-    assert_eq!(rt; receipt.entry, 4);
-    assert!(rt; audit(&closed, slice::from_ref(&receipt)).is_ok());
+    assert!(rt; is_right(&pruned));
     Ok(())
 }

@@ -5,7 +5,7 @@ ghost use Rattle.event_log.specs.History.{next_place, plan_in_force};
 ghost use Rattle.event_log.specs.Counting.{counted};
 ghost use Rattle.judge_core.specs.Judging.{is_bookable};
 
-use crate::stage::{M1, M2, Rows, judged, plan, waiting};
+use crate::stage::{M1, M2, Rows, close, judged, open, plan, waiting};
 use book_core::{Book, NotBooked};
 use book_lock::{Closed, Desk, Opening, Shared};
 use conn_core::{Booked, Line, Replies, book_and_reply};
@@ -92,10 +92,15 @@ fn refuse<A: Opening, T: Ledger, U: Ledger, H: Wait>(
     requires settlements { (settlements.name ≡ U.name) × (settlements.parts ≡ U.parts) × (U.parts ≡ 1) }
     requires bookable { IsTrue (is_bookable judged.now.raw) }
 {
-    let opened = Shared::<A, T, U, Rows>::new(alloc, book, 1, 0, arrivals, takes, settlements);
-    let Ok((shared, mut desks, stations)) = opened else {
-        return Err("memory".into());
-    };
+    let (shared, mut desks, stations) = open::<A, T, U>(
+        alloc,
+        book,
+        1,
+        0,
+        arrivals,
+        takes,
+        settlements,
+    )?;
     let Some(mut desk) = desks.pop() else {
         return Err("no desk".into());
     };
@@ -106,9 +111,7 @@ fn refuse<A: Opening, T: Ledger, U: Ledger, H: Wait>(
     let after = shared.counts(rt, &mut desk);
     let made = desk.made();
     desks.push(desk)?;
-    let Ok(closed) = shared.close(desks, stations) else {
-        return Err("shares".into());
-    };
+    let closed = close(shared, desks, stations)?;
     Ok(Refused {
         bare,
         answered: booked.outcome.err(),
@@ -135,24 +138,33 @@ fn is_right(case: &Case, refused: &Refused) -> bool {
         && book.queue_len(0) == 1
 }
 
+/// What comes of a case, where this book is full.
+fn refused_in<H: Wait>(
+    rt: &H,
+    alloc: Global,
+    book: Book<Rows>,
+    case: &Case,
+) -> Result<Refused, Fail> {
+    let plan = plan(alloc, case.four)?;
+    let judged = judged(alloc, &plan, M1)?;
+    refuse::<Brand, Brand, Brand, H>(
+        rt,
+        alloc,
+        book,
+        Blank::new(2),
+        Blank::new(1),
+        Blank::new(1),
+        &judged,
+    )
+}
+
 /// A message that was judged by another plan is refused for that, though the book is full, and one judged by the book's plan
 /// because it is full. The acknowledgment says so, and nothing changes.
 #[test]
 fn cases(rt: HostRuntime) -> Result<(), Fail> {
-    let alloc = rt.alloc();
     for (place, case) in CASES.iter().enumerate() {
         let book = waiting(&rt, false, 10, &[M2])?;
-        let plan = plan(alloc, case.four)?;
-        let judged = judged(alloc, &plan, M1)?;
-        let refused = refuse::<Brand, Brand, Brand, HostRuntime>(
-            &rt,
-            alloc,
-            book,
-            Blank::new(2),
-            Blank::new(1),
-            Blank::new(1),
-            &judged,
-        )?;
+        let refused = refused_in(&rt, rt.alloc(), book, case)?;
         let right = is_right(case, &refused);
         assert!(rt; right, "case {place}");
     }

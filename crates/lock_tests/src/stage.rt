@@ -1,9 +1,12 @@
 //! Books in which messages wait.
 
-ghost use Rattle.std.specs.Prelude.{◌≡◌, ◌≤◌, IfOk, IsTrue};
+ghost use Rattle.std.specs.Prelude.{◌≡◌, ◌≤◌, ◌+◌, IfOk, IsTrue, length};
 ghost use Rattle.judge_core.specs.Judging.{is_bookable};
+ghost use Rattle.event_log.specs.History.{next_place, plan_in_force};
+ghost use Rattle.event_log.specs.Counting.{counted};
 
 use book_core::{Book, EVENTS_MAX, Letter};
+use book_lock::{Closed, Desk, Opened, Opening, Shared, Station};
 use dest_queue::Addressed;
 use judge_core::{Judged, fits_block, judge};
 use plan_text::Plan;
@@ -11,6 +14,7 @@ use row_store::PlainRows;
 use std::alloc::Global;
 use std::hash::RandomState;
 use std::sync::Arc;
+use std::sync::ledger::{Blank, Ledger};
 use std::test::Fail;
 
 pub type Rows = PlainRows<Addressed<Letter>>;
@@ -59,6 +63,21 @@ pub fn judged(alloc: Global, plan: &Arc<Plan>, text: &str) -> Result<Judged, Fai
     Ok(judged)
 }
 
+/// An empty book of a plan with room for so many entries.
+fn empty_book(rt: &HostRuntime, four: bool, room: u32) -> Result<Book<Rows>, Fail> {
+    let alloc = rt.alloc();
+    let plan = plan(alloc, four)?;
+    let room = room.clamp(1, EVENTS_MAX);
+    Ok(Book::new(alloc, plan, room, RandomState::new(rt)?))
+}
+
+/// Books a message by connection 0.
+fn book_message(alloc: Global, book: &mut Book<Rows>, text: &str) -> Result<(), Fail> {
+    let judged = judged(alloc, book.plan(), text)?;
+    book.arrive(0, &judged)?;
+    Ok(())
+}
+
 /// A book of a plan with room for so many entries, in which these messages wait.
 pub fn waiting(
     rt: &HostRuntime,
@@ -66,13 +85,44 @@ pub fn waiting(
     room: u32,
     messages: &[&str],
 ) -> Result<Book<Rows>, Fail> {
-    let alloc = rt.alloc();
-    let plan = plan(alloc, four)?;
-    let room = room.clamp(1, EVENTS_MAX);
-    let mut book = Book::new(alloc, Arc::try_clone(&plan)?, room, RandomState::new(rt)?);
+    let mut book = empty_book(rt, four, room)?;
     for text in messages {
-        let judged = judged(alloc, &plan, text)?;
-        book.arrive(0, &judged)?;
+        book_message(rt.alloc(), &mut book, text)?;
     }
     Ok(book)
+}
+
+/// Shares a book among so many desks and stations.
+pub fn open<A: Opening, T: Ledger, U: Ledger>(
+    alloc: Global,
+    book: Book<Rows>,
+    desks: usize,
+    stations: usize,
+    arrivals: Blank,
+    takes: Blank,
+    settlements: Blank,
+) -> Result<Opened<A, T, U, Rows>, Fail>
+    requires counts { counted book ≡ A.counts }
+    requires first { next_place book ≡ A.first }
+    requires channels { length (plan_in_force book).channels ≡ A.channels }
+    requires arrivals { (arrivals.name ≡ A.name) × (arrivals.parts ≡ A.parts) × (A.parts ≡ desks + 1) }
+    requires takes { (takes.name ≡ T.name) × (takes.parts ≡ T.parts) × (T.parts ≡ stations + 1) }
+    requires settlements { (settlements.name ≡ U.name) × (settlements.parts ≡ U.parts) × (U.parts ≡ stations + 1) }
+{
+    match Shared::new(alloc, book, desks, stations, arrivals, takes, settlements) {
+        Ok(opened) => Ok(opened),
+        Err(_) => Err("memory".into()),
+    }
+}
+
+/// Closes a book that was shared.
+pub fn close<A: Opening, T: Ledger, U: Ledger>(
+    shared: Shared<A, T, U, Rows>,
+    desks: Vec<Desk<A>>,
+    stations: Vec<Station<T, U>>,
+) -> Result<Closed<Rows>, Fail> {
+    match shared.close(desks, stations) {
+        Ok(closed) => Ok(closed),
+        Err(_) => Err("shares".into()),
+    }
 }

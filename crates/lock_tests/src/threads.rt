@@ -4,7 +4,7 @@ ghost use Rattle.std.specs.Prelude.{◌≡◌, ◌+◌, ◌<◌, length};
 ghost use Rattle.event_log.specs.History.{next_place, plan_in_force};
 ghost use Rattle.event_log.specs.Counting.{counted};
 
-use crate::stage::{Rows, UPDATE, waiting};
+use crate::stage::{Rows, UPDATE, close, open, waiting};
 use book_core::{Book, EVENTS_MAX, Letter};
 use book_lock::{Closed, Opening, Shared, Station};
 use conn_worker::nearest;
@@ -87,19 +87,21 @@ fn cancel_and_deliver<
     requires takes { (takes.name ≡ T.name) × (takes.parts ≡ T.parts) × (T.parts ≡ 2) }
     requires settlements { (settlements.name ≡ U.name) × (settlements.parts ≡ U.parts) × (U.parts ≡ 2) }
 {
-    let opened = Shared::<A, T, U, Rows>::new(alloc, book, 0, 1, arrivals, takes, settlements);
-    let Ok((shared, desks, mut stations)) = opened else {
-        return Err("memory".into());
-    };
+    let (shared, desks, mut stations) = open::<A, T, U>(
+        alloc,
+        book,
+        0,
+        1,
+        arrivals,
+        takes,
+        settlements,
+    )?;
     let Some(station) = stations.pop() else {
         return Err("no station".into());
     };
     let station = beside(rt, &shared, station);
     stations.push(station)?;
-    let Ok(closed) = shared.close(desks, stations) else {
-        return Err("shares".into());
-    };
-    Ok(closed)
+    close(shared, desks, stations)
 }
 
 /// Whether the slot at a destination came to its end, and is counted there once.

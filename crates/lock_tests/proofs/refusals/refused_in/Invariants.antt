@@ -1,7 +1,7 @@
 use Rattle.std.proofs.Common.{length}
 use Rattle.event_log.specs.Counting.{counted}
 use Rattle.event_log.specs.History.{next_place, plan_in_force}
-use Rattle.lock_tests.proofs.refusals.cases.Given as goal
+use Rattle.lock_tests.proofs.refusals.refused_in.Given as goal
 
 abbrev pub ghosts-refuse-A-Opening : goal.ghosts-refuse-A-Opening
 ghosts-refuse-A-Opening g a = record { counts = counted a.book; first = next_place a.book; channels = length (plan_in_force a.book).channels }

@@ -1,7 +1,7 @@
 use Rattle.std.proofs.Common.{length}
 use Rattle.event_log.specs.Counting.{counted}
 use Rattle.event_log.specs.History.{next_place, plan_in_force}
-use Rattle.lock_tests.proofs.audits.cases.Given as goal
+use Rattle.lock_tests.proofs.audits.day_at.Given as goal
 
 abbrev pub ghosts-end_day-A-Opening : goal.ghosts-end_day-A-Opening
 ghosts-end_day-A-Opening g a = record { counts = counted a.book; first = next_place a.book; channels = length (plan_in_force a.book).channels }
