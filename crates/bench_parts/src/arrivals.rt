@@ -8,12 +8,28 @@ ghost use Rattle.event_log.specs.Counting.{counted};
 use crate::message::{ADMISSION, MANY, Rows, judged, nanoseconds_since};
 use book_core::Book;
 use book_lock::{Desk, Opening, Shared};
+use plan_text::Plan;
 use std::alloc::Global;
 use std::marker::Brand;
 use std::ops::Range;
-use std::sync::Wait;
 use std::sync::ledger::{Blank, Ledger};
+use std::sync::{Arc, Wait};
 use std::time::{Clock, Instant};
+
+/// Books a message and cancels it.
+fn book_and_cancel<A: Opening, T: Ledger, U: Ledger, H: Wait>(
+    rt: &H,
+    alloc: Global,
+    shared: &Shared<A, T, U, Rows>,
+    desk: &mut Desk<A>,
+    plan: &Arc<Plan>,
+    number: u32,
+) -> Option<()> {
+    let message = judged(alloc, plan, MANY, ADMISSION, number)?;
+    shared.arrive(rt, desk, MANY, &message).ok()?;
+    shared.cancel(rt, number).ok()?;
+    Some(())
+}
 
 /// Books and cancels messages, two entries each, until there are as many entries as are told.
 fn fill<A: Opening, T: Ledger, U: Ledger, H: Wait>(
@@ -25,11 +41,26 @@ fn fill<A: Opening, T: Ledger, U: Ledger, H: Wait>(
 ) -> Option<()> {
     let plan = shared.plan(rt).ok()?;
     for number in 0..entries / 2 {
-        let message = judged(alloc, &plan, MANY, ADMISSION, number)?;
-        shared.arrive(rt, desk, MANY, &message).ok()?;
-        shared.cancel(rt, number).ok()?;
+        book_and_cancel(rt, alloc, shared, desk, &plan, number)?;
     }
     Some(())
+}
+
+/// Books a message, and gives the nanoseconds that the call took.
+fn book_one<A: Opening, T: Ledger, U: Ledger, H: Wait + Clock>(
+    rt: &H,
+    alloc: Global,
+    shared: &Shared<A, T, U, Rows>,
+    desk: &mut Desk<A>,
+    plan: &Arc<Plan>,
+    control_id: u32,
+) -> Option<u64> {
+    let message = judged(alloc, plan, MANY, ADMISSION, control_id)?;
+    let began = Instant::now(rt).ok()?;
+    let receipt = shared.arrive(rt, desk, MANY, &message);
+    let took = nanoseconds_since(rt, began)?;
+    receipt.ok()?;
+    Some(took)
 }
 
 /// Books messages, and gives the nanoseconds that all calls took.
@@ -43,11 +74,7 @@ fn book_all<A: Opening, T: Ledger, U: Ledger, H: Wait + Clock>(
     let plan = shared.plan(rt).ok()?;
     let mut took = 0_u64;
     for control_id in ids {
-        let message = judged(alloc, &plan, MANY, ADMISSION, control_id)?;
-        let began = Instant::now(rt).ok()?;
-        let receipt = shared.arrive(rt, desk, MANY, &message);
-        took = took.saturating_add(nanoseconds_since(rt, began)?);
-        receipt.ok()?;
+        took = took.saturating_add(book_one(rt, alloc, shared, desk, &plan, control_id)?);
     }
     Some(took)
 }

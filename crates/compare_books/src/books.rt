@@ -1,5 +1,8 @@
 //! Books and the sequential engine, asked the same.
 
+ghost use Rattle.std.specs.Prelude.{IsTrue};
+ghost use Rattle.judge_core.specs.Judging.{is_bookable};
+
 use crate::dice::{Dice, NO_TICKET};
 use crate::known::{Key, Keys};
 use crate::plan::{Said, judged_by, plan_of};
@@ -7,6 +10,7 @@ use anyhow::{Result, bail};
 use book_core::{Book, CancelRefusal, DeployRefusal, Letter, NotBooked, PruneRefusal};
 use dest_queue::{Addressed, SettleRefusal, SlotState};
 use event_log::{Ticket, Told};
+use judge_core::Judged;
 use row_store::{PlainRows, QUEUES};
 use sequential_book::{NotBooked as OtherRefusal, NotSettled, SequentialBook};
 use std::alloc::Global;
@@ -60,38 +64,60 @@ impl Books {
         above.saturating_sub(4)
     }
 
-    /// Whether all book a message under one of twelve control ids, so that some come again, with the same bytes or with
-    /// others. Where its key was forgotten it comes under the next. An error where they tell its sender different
-    /// things.
-    pub fn arrive(&mut self, alloc: Global, dice: &mut Dice) -> Result<bool> {
-        let channel = dice.roll(8) / 7;
-        let id = self.first_id.saturating_add(dice.roll(12));
-        let id = self.keys.unforgotten(channel, id)?;
-        let raw = dice.message(alloc, id, "")?.into_bytes();
-        let judged = judged_by(alloc, self.book.plan(), channel, raw)?;
-        if !judged.bookable() {
-            bail!("it isn't booked");
+    /// An error where the sequential engine, if it is asked, tells a sender something else than this.
+    fn compare_told(&mut self, judged: &Judged, told: Result<Told, OtherRefusal>) -> Result<()>
+        requires { IsTrue (is_bookable judged.now.raw) }
+    {
+        let Some(other) = &mut self.other else {
+            return Ok(());
+        };
+        if !judged.plan().same(other.plan()) {
+            bail!("there are two plans");
         }
-        let answer = match self.book.arrive(CONNECTION, &judged) {
-            Ok(receipt) => Ok((receipt.told, receipt.entry)),
-            Err(NotBooked::Full) => Err(OtherRefusal::Full),
+        if other.arrive(CONNECTION, judged) != told {
+            bail!("an arrival has two answers");
+        }
+        Ok(())
+    }
+
+    /// What the book tells a sender, and where that stands; none where it is full. An error where the sequential engine
+    /// tells something else.
+    fn told(&mut self, judged: &Judged) -> Result<Option<(Told, usize)>>
+        requires { IsTrue (is_bookable judged.now.raw) }
+    {
+        match self.book.arrive(CONNECTION, judged) {
+            Ok(receipt) => {
+                self.compare_told(judged, Ok(receipt.told))?;
+                Ok(Some((receipt.told, receipt.entry)))
+            }
+            Err(NotBooked::Full) => {
+                self.compare_told(judged, Err(OtherRefusal::Full))?;
+                Ok(None)
+            }
             Err(refusal) => bail!("{refusal}"),
-        };
-        if let Some(other) = &mut self.other {
-            if !judged.plan().same(other.plan()) {
-                bail!("there are two plans");
-            }
-            if other.arrive(CONNECTION, &judged) != answer.map(|(told, _)| told) {
-                bail!("an arrival has two answers");
-            }
         }
-        let Ok((told, place)) = answer else {
-            return Ok(false);
-        };
-        let again = self.pruned.arrive(CONNECTION, &judged)?;
+    }
+
+    /// An error where the pruned book tells a sender something else than this, or at another place.
+    fn compare_pruned(&mut self, judged: &Judged, told: Told, place: usize) -> Result<()>
+        requires { IsTrue (is_bookable judged.now.raw) }
+    {
+        let again = self.pruned.arrive(CONNECTION, judged)?;
         if (again.told, again.entry) != (told, place) {
             bail!("an arrival has another answer where messages are forgotten");
         }
+        Ok(())
+    }
+
+    /// Whether all book a message, an error where they tell its sender different things. A new key is kept.
+    fn book(&mut self, judged: &Judged, channel: u32, id: u32) -> Result<bool> {
+        if !judged.bookable() {
+            bail!("it isn't booked");
+        }
+        let Some((told, place)) = self.told(judged)? else {
+            return Ok(false);
+        };
+        self.compare_pruned(judged, told, place)?;
         if let Told::Accepted(_) | Told::Filtered = told {
             self.keys.push(Key {
                 channel,
@@ -101,6 +127,18 @@ impl Books {
             })?;
         }
         Ok(true)
+    }
+
+    /// Whether all book a message under one of twelve control ids, so that some come again, with the same bytes or with
+    /// others. Where its key was forgotten it comes under the next. An error where they tell its sender different
+    /// things.
+    pub fn arrive(&mut self, alloc: Global, dice: &mut Dice) -> Result<bool> {
+        let channel = dice.roll(8) / 7;
+        let id = self.first_id.saturating_add(dice.roll(12));
+        let id = self.keys.unforgotten(channel, id)?;
+        let raw = dice.message(alloc, id, "")?.into_bytes();
+        let judged = judged_by(alloc, self.book.plan(), channel, raw)?;
+        self.book(&judged, channel, id)
     }
 
     /// Whether all take the front of a queue. An error where they don't take the same, or refuse it for two reasons.

@@ -93,16 +93,21 @@ fn call(rt: &HostRuntime, dice: &mut Dice, books: &mut Books, scores: &mut Score
     Ok(())
 }
 
-/// Makes the calls of one run.
-fn run(rt: &HostRuntime, seed: u32, calls: u32, asked: bool) -> Result<()> {
+/// Makes so many calls.
+fn make_calls(rt: &HostRuntime, seed: u32, calls: u32, books: &mut Books) -> Result<()> {
     let mut dice = Dice::new(seed);
-    let mut books = Books::new(rt, asked)?;
     let mut scores = Scores::NONE;
     for _ in 0..calls {
-        call(rt, &mut dice, &mut books, &mut scores)?;
+        call(rt, &mut dice, books, &mut scores)?;
         books.compare(&mut dice)?;
     }
     scores.check()
+}
+
+/// Makes the calls of one run.
+fn run(rt: &HostRuntime, seed: u32, calls: u32, asked: bool) -> Result<()> {
+    let mut books = Books::new(rt, asked)?;
+    make_calls(rt, seed, calls, &mut books)
 }
 
 /// Makes the calls of all runs, and says how many they were.

@@ -25,19 +25,30 @@ fn step(dice: &mut Dice, worlds: &mut Worlds) -> Result<()> {
     }
 }
 
-/// Takes the steps of one run. An error where nothing was booked or sent.
-fn run(rt: &HostRuntime, seed: u32) -> Result<()> {
+/// Takes the steps of one run.
+fn take_steps(seed: u32, worlds: &mut Worlds) -> Result<()> {
     let mut dice = Dice::new(seed);
-    let mut worlds = Worlds::new(rt)?;
     for _ in 0..STEPS {
-        step(&mut dice, &mut worlds)?;
+        step(&mut dice, worlds)?;
         worlds.compare(&mut dice)?;
     }
+    Ok(())
+}
+
+/// Compares what came of a run. An error where nothing was booked or sent.
+fn compare_ends(rt: &HostRuntime, worlds: &Worlds) -> Result<()> {
     worlds.compare_queues()?;
     if worlds.compare_entries(rt)? == 0 || worlds.compare_output()? == 0 {
         bail!("nothing was booked or sent");
     }
     Ok(())
+}
+
+/// Takes the steps of one run, and compares what came of them.
+fn run(rt: &HostRuntime, seed: u32) -> Result<()> {
+    let mut worlds = Worlds::new(rt)?;
+    take_steps(seed, &mut worlds)?;
+    compare_ends(rt, &worlds)
 }
 
 /// Takes the steps of all runs, and says how many they were.

@@ -63,20 +63,25 @@ fn entry_text(alloc: Global, entry: Option<&Entry>) -> Result<String> {
     }
 }
 
+/// A line for each connection.
+fn lines(alloc: Global) -> Result<Vec<Line>> {
+    let mut lines = Vec::new(alloc);
+    for _ in CHANNELS {
+        lines.push(Line::new(alloc))?;
+    }
+    Ok(lines)
+}
+
 impl Worlds {
     /// Three engines in which nothing came.
     pub fn new(rt: &HostRuntime) -> Result<Worlds> {
         let alloc = rt.alloc();
-        let mut lines = Vec::new(alloc);
-        for _ in CHANNELS {
-            lines.push(Line::new(alloc))?;
-        }
         Ok(Worlds {
             alloc,
             whole: silent(rt)?,
             bytewise: silent(rt)?,
             other: SequentialBook::new(alloc, plan_of(alloc, Said::FIRST)?, ENTRIES),
-            lines,
+            lines: lines(alloc)?,
             last: NO_TICKET,
         })
     }
@@ -203,21 +208,40 @@ impl Worlds {
         Ok(sent)
     }
 
+    /// A world that takes the steps of the history.
+    fn again(&self, rt: &HostRuntime) -> Result<Engine> {
+        let steps = steps_of(self.alloc, self.whole.book())?;
+        let mut again = silent(rt)?;
+        again.run(&steps);
+        Ok(again)
+    }
+
+    /// An error where an entry isn't the same in a world.
+    fn compare_entry(&self, engine: &Engine, place: usize, entry: &Entry) -> Result<()> {
+        let due = entry_text(self.alloc, Some(entry))?;
+        if entry_text(self.alloc, engine.book().entry(place))? != due {
+            bail!("entry {place} isn't the same");
+        }
+        Ok(())
+    }
+
+    /// An error where a world has other entries than the sequential engine.
+    fn compare_history(&self, engine: &Engine) -> Result<()> {
+        for (place, entry) in self.other.entries().iter().enumerate() {
+            self.compare_entry(engine, place, entry)?;
+        }
+        Ok(())
+    }
+
     /// How many entries there are. An error where one isn't the same in all three, or where a world that takes the
     /// steps of the history has another.
     pub fn compare_entries(&self, rt: &HostRuntime) -> Result<usize> {
-        let mut again = silent(rt)?;
-        again.run(&steps_of(self.alloc, self.whole.book())?);
+        let again = self.again(rt)?;
         if again.book().len() != self.whole.book().len() {
             bail!("the steps of the history give another");
         }
-        for (place, entry) in self.other.entries().iter().enumerate() {
-            let entry = entry_text(self.alloc, Some(entry))?;
-            for engine in [&self.whole, &self.bytewise, &again] {
-                if entry_text(self.alloc, engine.book().entry(place))? != entry {
-                    bail!("entry {place} isn't the same");
-                }
-            }
+        for engine in [&self.whole, &self.bytewise, &again] {
+            self.compare_history(engine)?;
         }
         Ok(self.other.entries().len())
     }

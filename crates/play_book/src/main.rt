@@ -8,17 +8,26 @@ mod stage;
 use anyhow::Result;
 use stage::Stage;
 
-fn main(rt: HostRuntime) -> Result<()> {
-    let alloc = rt.alloc();
-    let mut stage = Stage::new(&rt)?;
-    for line in rt.lines(alloc) {
-        let line = line?;
-        if line.is_empty() || line.starts_with('#') {
-            println!(rt; "{line}")?;
-            continue;
-        }
-        let answer = stage.play(&rt, line.as_str())?;
-        println!(rt; "{line}: {answer}")?;
+/// Writes a line, with the answer to its call.
+fn play_line(rt: &HostRuntime, stage: &mut Stage, line: &str) -> Result<()> {
+    if line.is_empty() || line.starts_with('#') {
+        println!(rt; "{line}")?;
+        return Ok(());
+    }
+    let answer = stage.play(rt, line)?;
+    println!(rt; "{line}: {answer}")?;
+    Ok(())
+}
+
+/// Plays all lines of standard input.
+fn play_all(rt: &HostRuntime, stage: &mut Stage) -> Result<()> {
+    for line in rt.lines(rt.alloc()) {
+        play_line(rt, stage, line?.as_str())?;
     }
     Ok(())
+}
+
+fn main(rt: HostRuntime) -> Result<()> {
+    let mut stage = Stage::new(&rt)?;
+    play_all(&rt, &mut stage)
 }

@@ -11,19 +11,28 @@ use anyhow::{Result, bail};
 use exchange::Exchange;
 use script::call_of;
 
-fn main(rt: HostRuntime) -> Result<()> {
-    let alloc = rt.alloc();
-    let mut exchange = Exchange::new(&rt, "built-in")?;
-    for line in rt.lines(alloc) {
-        let line = line?;
-        println!(rt; "{line}")?;
-        if line.is_empty() || line.starts_with('#') {
-            continue;
-        }
-        let Some(call) = call_of(line.as_str()) else {
-            bail!("it is no call");
-        };
-        print!(rt; "{}", exchange.play(&rt, call)?)?;
+/// Writes a line, and what comes of its call.
+fn play_line(rt: &HostRuntime, exchange: &mut Exchange, line: &str) -> Result<()> {
+    println!(rt; "{line}")?;
+    if line.is_empty() || line.starts_with('#') {
+        return Ok(());
+    }
+    let Some(call) = call_of(line) else {
+        bail!("it is no call");
+    };
+    print!(rt; "{}", exchange.play(rt, call)?)?;
+    Ok(())
+}
+
+/// Plays all lines of standard input.
+fn play_all(rt: &HostRuntime, exchange: &mut Exchange) -> Result<()> {
+    for line in rt.lines(rt.alloc()) {
+        play_line(rt, exchange, line?.as_str())?;
     }
     Ok(())
+}
+
+fn main(rt: HostRuntime) -> Result<()> {
+    let mut exchange = Exchange::new(&rt, "built-in")?;
+    play_all(&rt, &mut exchange)
 }

@@ -31,16 +31,25 @@ mod words;
 use anyhow::Result;
 use stage::Stage;
 
-fn main(rt: HostRuntime) -> Result<()> {
-    let alloc = rt.alloc();
-    let mut stage = Stage::new(&rt)?;
-    for line in rt.lines(alloc) {
-        let line = line?;
-        println!(rt; "{line}")?;
-        if line.is_empty() || line.starts_with('#') {
-            continue;
-        }
-        print!(rt; "{}", stage.play(&rt, line.as_str())?)?;
+/// Writes a line, and what comes of its call.
+fn play_line(rt: &HostRuntime, stage: &mut Stage, line: &str) -> Result<()> {
+    println!(rt; "{line}")?;
+    if line.is_empty() || line.starts_with('#') {
+        return Ok(());
+    }
+    print!(rt; "{}", stage.play(rt, line)?)?;
+    Ok(())
+}
+
+/// Plays all lines of standard input.
+fn play_all(rt: &HostRuntime, stage: &mut Stage) -> Result<()> {
+    for line in rt.lines(rt.alloc()) {
+        play_line(rt, stage, line?.as_str())?;
     }
     Ok(())
+}
+
+fn main(rt: HostRuntime) -> Result<()> {
+    let mut stage = Stage::new(&rt)?;
+    play_all(&rt, &mut stage)
 }

@@ -1,0 +1,97 @@
+#!/usr/bin/env python3
+"""Where the time of the gate goes: runs a command, by default `rt ci`, and prints what it took, crate by crate.
+
+Processor time is read from /proc every second, so up to a second of each check is missed. Of each check that is no edit
+it further tells the functions whose proof took longest, by when the prover wrote each checked part: seconds on the
+clock, not of a processor, and only roughly right where a check has several processes.
+
+Usage: bench/gate.py [COMMAND WORD..]
+"""
+
+import collections
+import os
+import re
+import subprocess
+import sys
+import time
+
+ROUND = 1.0  # seconds between two looks
+SLOWEST = 40  # how many functions are told
+TICKS = os.sysconf('SC_CLK_TCK')
+KINDS = ('proof', 'tests', 'edits')
+PARTS = re.compile(r'rattle-logic-built-locked-(\d+)-')  # the folder in which a check keeps its parts while it runs
+
+
+def check_of(pid):
+    """The crate and the kind of a check, where a process is one, and the processor seconds that it took so far."""
+    try:
+        with open(f'/proc/{pid}/cmdline', 'rb') as it:
+            words = it.read().decode(errors='replace').split('\0')
+        if '--crate-name' not in words:
+            return None
+        with open(f'/proc/{pid}/stat') as it:
+            fields = it.read().rsplit(')', 1)[1].split()
+        is_edit = '/rt-edit-' in os.readlink(f'/proc/{pid}/cwd')
+    except OSError:
+        return None
+    kind = 'edits' if is_edit else 'tests' if '--test' in words else 'proof'
+    crate = words[words.index('--crate-name') + 1]
+    return (pid, fields[19]), (crate, kind), (int(fields[11]) + int(fields[12])) / TICKS
+
+
+def look(taken, checks, parts):
+    """Notes what each check took by now, and which parts it wrote."""
+    for pid in filter(str.isdigit, os.listdir('/proc')):
+        found = check_of(pid)
+        if found:
+            taken[found[0]] = found[1:]
+            checks[pid] = found[1]
+    for folder in os.listdir('/tmp'):
+        at = PARTS.match(folder)
+        if at and checks.get(at[1], ('', 'edits'))[1] != 'edits':
+            note_parts(f'/tmp/{folder}', parts[at[1], checks[at[1]][0]])
+
+
+def note_parts(folder, times):
+    """Notes when each part in a folder was written."""
+    try:
+        for it in os.scandir(folder):
+            if '.oantt' in it.name and it.name not in times:
+                times[it.name] = it.stat().st_mtime
+    except OSError:
+        pass  # the check ended meanwhile
+
+
+def functions(parts):
+    """The seconds that each function's parts took."""
+    found = collections.Counter()
+    for (_, crate), times in parts.items():
+        order = sorted((at, name) for name, at in times.items())
+        for (before, _), (at, name) in zip(order, order[1:]):
+            path = name.split('.oantt')[0].split('-proofs.')[-1]
+            found[crate, path.rpartition('.')[0]] += at - before
+    return found
+
+
+def main():
+    """Runs the command and measures it."""
+    taken, checks, parts = {}, {}, collections.defaultdict(dict)
+    begun = time.monotonic()
+    command = subprocess.Popen(sys.argv[1:] or ['rt', 'ci'], stdin=subprocess.DEVNULL)
+    while command.poll() is None:
+        look(taken, checks, parts)
+        time.sleep(ROUND)
+    crates = collections.defaultdict(collections.Counter)
+    for (crate, kind), seconds in taken.values():
+        crates[crate][kind] += seconds
+    for crate, by_kind in sorted(crates.items(), key=lambda it: -it[1].total()):
+        print(f'{crate:18}', *(f'{by_kind[kind] / 60:6.1f} {kind}' for kind in KINDS))
+    total = sum(it.total() for it in crates.values())
+    print(f'{total / 60:.0f} processor minutes in {(time.monotonic() - begun) / 60:.0f} minutes')
+    for (crate, function), seconds in functions(parts).most_common(SLOWEST):
+        print(f'{seconds:7.1f} s {crate} {function}')
+    return command.returncode
+
+
+if __name__ == '__main__':
+    sys.exit(main())
