@@ -79,7 +79,23 @@ fn book_all<A: Opening, T: Ledger, U: Ledger, H: Wait + Clock>(
     Some(took)
 }
 
-/// Fills a shared book with so many entries, and books so many messages more.
+/// Fills a shared book with so many entries, and books so many messages more at its first desk.
+fn fill_and_book<A: Opening, T: Ledger, U: Ledger, H: Wait + Clock>(
+    rt: &H,
+    alloc: Global,
+    shared: &Shared<A, T, U, Rows>,
+    desks: &mut Vec<Desk<A>>,
+    entries: u32,
+    calls: u32,
+) -> Option<u64> {
+    let desk = desks.get_mut(0)?;
+    fill(rt, alloc, shared, desk, entries)?;
+    let first = entries / 2;
+    let ids = first..first.saturating_add(calls);
+    book_all(rt, alloc, shared, desk, ids)
+}
+
+/// Shares a book, and books so many messages behind so many entries.
 fn time_calls<A: Opening, T: Ledger, U: Ledger, H: Wait + Clock>(
     rt: &H,
     alloc: Global,
@@ -99,16 +115,7 @@ fn time_calls<A: Opening, T: Ledger, U: Ledger, H: Wait + Clock>(
 {
     let opened = Shared::<A, T, U, Rows>::new(alloc, book, 1, 0, arrivals, takes, settlements);
     let (shared, mut desks, _stations) = opened.ok()?;
-    let mut desk = desks.pop()?;
-    fill(rt, alloc, &shared, &mut desk, entries)?;
-    let first = entries / 2;
-    book_all(
-        rt,
-        alloc,
-        &shared,
-        &mut desk,
-        first..first.saturating_add(calls),
-    )
+    fill_and_book(rt, alloc, &shared, &mut desks, entries, calls)
 }
 
 /// The nanoseconds that so many arrivals take behind so many entries, at an empty book that is shared and filled. None where

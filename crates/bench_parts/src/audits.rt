@@ -7,10 +7,11 @@ ghost use Rattle.event_log.specs.Counting.{counted};
 use crate::message::{MANY, RESULT, Rows, judged, nanoseconds_since};
 use book_core::{Book, Receipt};
 use book_lock::{Closed, Desk, Opening, Shared, audit};
+use plan_text::Plan;
 use std::alloc::Global;
 use std::marker::Brand;
-use std::sync::Wait;
 use std::sync::ledger::{Blank, Ledger};
+use std::sync::{Arc, Wait};
 use std::time::{Clock, Instant};
 
 /// Nanoseconds of the two audits.
@@ -20,7 +21,20 @@ pub struct Audits {
     pub falling: u64,
 }
 
-/// Brings so many messages to a desk, each with bytes of its own, and gives their receipts.
+/// Brings a message to a desk, with bytes of its own, and gives its receipt.
+fn booked<A: Opening, T: Ledger, U: Ledger, H: Wait>(
+    rt: &H,
+    alloc: Global,
+    shared: &Shared<A, T, U, Rows>,
+    desk: &mut Desk<A>,
+    plan: &Arc<Plan>,
+    control_id: u32,
+) -> Option<Receipt> {
+    let message = judged(alloc, plan, MANY, RESULT, control_id)?;
+    shared.arrive(rt, desk, MANY, &message).ok()
+}
+
+/// Brings so many messages to a desk, and gives their receipts.
 fn receipts_of<A: Opening, T: Ledger, U: Ledger, H: Wait>(
     rt: &H,
     alloc: Global,
@@ -31,8 +45,7 @@ fn receipts_of<A: Opening, T: Ledger, U: Ledger, H: Wait>(
     let plan = shared.plan(rt).ok()?;
     let mut receipts = Vec::new(alloc);
     for control_id in 0..count {
-        let message = judged(alloc, &plan, MANY, RESULT, control_id)?;
-        let receipt = shared.arrive(rt, desk, MANY, &message).ok()?;
+        let receipt = booked(rt, alloc, shared, desk, &plan, control_id)?;
         receipts.push(receipt).ok()?;
     }
     Some(receipts)
@@ -47,8 +60,8 @@ fn time_audit<H: Clock>(rt: &H, closed: &Closed<Rows>, receipts: &[Receipt]) -> 
     Some(took)
 }
 
-/// Books so many messages at a shared book, closes it, and audits their receipts twice.
-fn time_both<A: Opening, T: Ledger, U: Ledger, H: Wait + Clock>(
+/// Books so many messages at a shared book and closes it. Gives the closed book and the receipts.
+fn booked_and_closed<A: Opening, T: Ledger, U: Ledger, H: Wait>(
     rt: &H,
     alloc: Global,
     book: Book<Rows>,
@@ -56,7 +69,7 @@ fn time_both<A: Opening, T: Ledger, U: Ledger, H: Wait + Clock>(
     takes: Blank,
     settlements: Blank,
     count: u32,
-) -> Option<Audits>
+) -> Option<(Closed<Rows>, Vec<Receipt>)>
     requires counts { counted book ≡ A.counts }
     requires first { next_place book ≡ A.first }
     requires channels { length (plan_in_force book).channels ≡ A.channels }
@@ -66,13 +79,16 @@ fn time_both<A: Opening, T: Ledger, U: Ledger, H: Wait + Clock>(
 {
     let opened = Shared::<A, T, U, Rows>::new(alloc, book, 1, 0, arrivals, takes, settlements);
     let (shared, mut desks, stations) = opened.ok()?;
-    let mut desk = desks.pop()?;
-    let mut receipts = receipts_of(rt, alloc, &shared, &mut desk, count)?;
-    desks.push(desk).ok()?;
+    let receipts = receipts_of(rt, alloc, &shared, desks.get_mut(0)?, count)?;
     let closed = shared.close(desks, stations).ok()?;
-    let rising = time_audit(rt, &closed, &receipts)?;
+    Some((closed, receipts))
+}
+
+/// Audits receipts in their order and in the other one.
+fn time_both<H: Clock>(rt: &H, closed: &Closed<Rows>, receipts: &mut Vec<Receipt>) -> Option<Audits> {
+    let rising = time_audit(rt, closed, receipts)?;
     receipts.reverse();
-    let falling = time_audit(rt, &closed, &receipts)?;
+    let falling = time_audit(rt, closed, receipts)?;
     Some(Audits { rising, falling })
 }
 
@@ -84,7 +100,7 @@ pub fn time_audits<H: Wait + Clock>(
     book: Option<Book<Rows>>,
     count: u32,
 ) -> Option<Audits> {
-    time_both::<Brand, Brand, Brand, H>(
+    let (closed, mut receipts) = booked_and_closed::<Brand, Brand, Brand, H>(
         rt,
         alloc,
         book?,
@@ -92,5 +108,6 @@ pub fn time_audits<H: Wait + Clock>(
         Blank::new(1),
         Blank::new(1),
         count,
-    )
+    )?;
+    time_both(rt, &closed, &mut receipts)
 }

@@ -17,9 +17,10 @@ mod words;
 use anyhow::{Result, bail};
 use arrivals::time_arrivals;
 use audits::time_audits;
-use calls::{fill, measure};
+use book_core::Book;
+use calls::{Times, fill, measure};
 use foldings::time_foldings;
-use message::empty_book;
+use message::{Rows, empty_book};
 use std::env;
 use std::sync::Wait;
 use std::time::Clock;
@@ -29,19 +30,25 @@ use words::{Measure, Request, asked};
 /// How many calls of each kind are measured, and twice as many arrivals.
 const CALLS: u32 = 500;
 
+/// The times of the calls, and how many entries the book held before and after them.
+type Measured = (Times, usize, usize);
+
+/// Fills an empty book, and measures the calls on it. None where a call was refused.
+fn measured(rt: &HostRuntime, book: &mut Book<Rows>, count: u32) -> Option<Measured> {
+    fill(rt, book, count)?;
+    let before = book.len();
+    let times = measure(rt, book, count, CALLS)?;
+    Some((times, before, book.len()))
+}
+
 /// Fills a book, and measures the calls on it.
 fn tell_calls(rt: &HostRuntime, asked: Request) -> Result<()> {
-    let Some(mut book) = empty_book(rt) else {
-        bail!("there is no memory for a book");
+    let done = empty_book(rt).and_then(|mut book| measured(rt, &mut book, asked.count));
+    let Some((times, before, after)) = done else {
+        bail!("a call was refused, or there is no memory for a book");
     };
-    if fill(rt, &mut book, asked.count).is_none() {
-        bail!("a call was refused");
-    }
-    println!(rt; "{} entries before", book.len())?;
-    let Some(times) = measure(rt, &mut book, asked.count, CALLS) else {
-        bail!("a measured call was refused");
-    };
-    println!(rt; "{} entries after", book.len())?;
+    println!(rt; "{before} entries before")?;
+    println!(rt; "{after} entries after")?;
     if asked.timed {
         println!(rt;
             "arrive {} take {} settle {}",
@@ -76,23 +83,26 @@ fn tell_audits<H: Wait + Clock>(rt: &H, host: &HostRuntime, asked: Request) -> R
     Ok(())
 }
 
+/// The nanoseconds of the longest of some prunings, and the next place and the next message after them.
+type Folded = (u64, usize, u32);
+
+/// Fills an empty book and prunes it, time and again. None where a call was refused.
+fn folded(rt: &HostRuntime, book: &mut Book<Rows>, asked: Request) -> Option<Folded> {
+    let longest = time_foldings(rt, book, asked)?;
+    Some((longest, book.len(), book.message_count()))
+}
+
 /// Fills a book and prunes it, time and again.
 fn tell_foldings(rt: &HostRuntime, asked: Request) -> Result<()> {
-    let Some(mut book) = empty_book(rt) else {
-        bail!("there is no memory for a book");
-    };
-    let Some(longest) = time_foldings(rt, &mut book, asked) else {
-        bail!("a call was refused");
+    let done = empty_book(rt).and_then(|mut book| folded(rt, &mut book, asked));
+    let Some((longest, place, message)) = done else {
+        bail!("a call was refused, or there is no memory for a book");
     };
     println!(rt;
         "{} foldings of {} messages, {} kept",
         asked.times, asked.count, asked.kept
     )?;
-    println!(rt;
-        "next place {}, next message {}",
-        book.len(),
-        book.message_count()
-    )?;
+    println!(rt; "next place {place}, next message {message}")?;
     if asked.timed {
         println!(rt; "longest {longest}")?;
     }

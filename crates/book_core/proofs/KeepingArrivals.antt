@@ -1,7 +1,6 @@
 -- A book is kept by an arrival.
-use Rattle.std.proofs.Common.{◌≡◌, ℕ, ◌+◌, ◌<◌, ◌≤◌, Bool, true, false, cond, ◌&&◌, List, [], ◌∷◌, ◌++◌, Option, None, Some, Vec, Global, refl, sym, ◌∙◌, ap, subst, arith, rules}
-use Rattle.std.specs.Prelude.{MatchOption}
-use Rattle.std.specs.Option.{IfSome, option_map_or}
+use Rattle.std.proofs.Common.{◌≡◌, ℕ, ◌+◌, ◌<◌, ◌≤◌, Bool, true, false, cond, ◌&&◌, List, [], ◌∷◌, ◌++◌, Option, None, Some, refl, sym, ◌∙◌, ap, subst, arith, rules, length, length-append}
+use Rattle.std.specs.Option.{option_map_or}
 use Rattle.std.specs.Str.{bytes_eq}
 use Rattle.std.proofs.lemmas.Slice.Eq.{bytes_eq-Decides}
 use Rattle.mllp_frame.specs.Framing.{IsBlockData}
@@ -60,12 +59,9 @@ module _ (h : History) (rows : List (Row (Addressed Letter))) (index : List Know
   few-slots d below = omega (arith, slots_of-places h kept.sound.opening tally d below kept.are_counted, few-places)
 
   -- the key of a message that is kept by it is not in the index
-  pub key-unknown : (channel : ℕ) (raw looked : List ℕ) (reply : Told) (keeps : Bool) (copy : Option (Vec ℕ Global)) (space : ℕ) (now : List Known) → answer h channel raw ≡ Some reply → keeps ≡ is_kept reply → looked ≡ key_of channel raw → now ≡ index
-      → MatchOption copy (keeps ≡ false) (λ copy. (keeps ≡ true) × (copy.items ≡ looked) × (0 < space))
-      → IfSome copy (λ copy. place_of copy.items now ≡ None)
-  key-unknown channel raw looked reply keeps None space now is kept-is key as_before copies = tt
-  key-unknown channel raw looked reply keeps (Some copy) space now is kept-is key as_before copies =
-      ap (place_of copy.items) as_before ∙ (ap (λ k. place_of k index) (copies.1 ∙ key) ∙ (kept.keys_agree (key_of channel raw) ∙ told-unknown h channel raw reply is (sym kept-is ∙ copies.0)))
+  pub key-unknown : (channel : ℕ) (raw looked : List ℕ) (reply : Told) (keeps : Bool) → answer h channel raw ≡ Some reply → keeps ≡ is_kept reply → looked ≡ key_of channel raw → keeps ≡ true → place_of looked index ≡ None
+  key-unknown channel raw looked reply keeps is kept-is key kept-by =
+      ap (λ k. place_of k index) key ∙ (kept.keys_agree (key_of channel raw) ∙ told-unknown h channel raw reply is (sym kept-is ∙ kept-by))
 
   module _ (conn channel : ℕ) (raw : List ℕ) (reply : Told) (fits : IsBlockData raw) (enough : is_full h channel raw ≡ false) (answered : answer h channel raw ≡ Some reply) where
     -- what it changes
@@ -75,6 +71,10 @@ module _ (h : History) (rows : List (Row (Addressed Letter))) (index : List Know
     -- what is owed grows by what it owes
     pub arrived-owed : owed h + own h channel raw ≡ owed (followed_by h (Arrival conn channel raw reply))
     arrived-owed = sym arrived.owed
+
+    -- there is room for the entry, and for what it owes
+    pub arrived-within : (mine : ℕ) → mine ≡ own h channel raw → length h.entries + 1 + (owed h + mine) ≤ h.opening.events_max
+    arrived-within mine mine_is = omega (arith, mine_is, arrived.owed, arrived.sound.room, length-append h.entries (Arrival conn channel raw reply ∷ []))
 
     -- an accepted message gets a number above those of all rows
     pub arrived-next : (id : List ℕ) (v : Verdict) (g : Gain) → IsGain reply id v g → HasRoomFor g rows
@@ -100,14 +100,12 @@ module _ (h : History) (rows : List (Row (Addressed Letter))) (index : List Know
         either false other = place-either (known h key)
 
     -- the keys agree, whether one was added or not
-    pub keys-arrived : (looked : List ℕ) (keeps : Bool) (copy : Option (Vec ℕ Global)) (space place : ℕ) (now new : List Known) → keeps ≡ is_kept reply → looked ≡ key_of channel raw → now ≡ index → place ≡ next_place h
-        → MatchOption copy (keeps ≡ false) (λ copy. (keeps ≡ true) × (copy.items ≡ looked) × (0 < space))
-        → MatchOption copy (new ≡ now) (λ copy. new ≡ now ++ record { key = copy.items; place = place } ∷ [])
+    pub keys-arrived : (looked : List ℕ) (keeps : Bool) (place : ℕ) (new : List Known) → keeps ≡ is_kept reply → looked ≡ key_of channel raw → place ≡ next_place h
+        → (keeps ≡ true → new ≡ index ++ record { key = looked; place = place } ∷ []) → (keeps ≡ false → new ≡ index)
         → KeysAgree (followed_by h (Arrival conn channel raw reply)) new
-    keys-arrived looked keeps None space place now new kept-is key as_before here copies adds = subst (KeysAgree (followed_by h (Arrival conn channel raw reply))) (sym (adds ∙ as_before)) (keys-same (sym kept-is ∙ copies))
-    keys-arrived looked keeps (Some copy) space place now new kept-is key as_before here copies adds =
-        let same : copy.items ≡ key_of channel raw = copies.1 ∙ key in
-        subst (KeysAgree (followed_by h (Arrival conn channel raw reply))) (sym (adds ∙ λ i. as_before i ++ record { key = same i; place = here i } ∷ [])) (keys-more (sym kept-is ∙ copies.0))
+    keys-arrived looked true place new kept-is key here added same =
+        subst (KeysAgree (followed_by h (Arrival conn channel raw reply))) (sym (added refl ∙ λ i. index ++ record { key = key i; place = here i } ∷ [])) (keys-more (sym kept-is))
+    keys-arrived looked false place new kept-is key here added same = subst (KeysAgree (followed_by h (Arrival conn channel raw reply))) (sym (same refl)) (keys-same (sym kept-is))
 
     -- the book is kept
     pub kept-arrived : (g : Gain) (rows' : List (Row (Addressed Letter))) (index' : List Known) (tally' : Statistics) (room' : ℕ) → channel < 64

@@ -1,7 +1,7 @@
 -- A book is kept by a cancellation.
-use Rattle.std.proofs.Common.{◌≡◌, ◌≢◌, ℕ, ◌+◌, ◌-◌, ◌^◌, ◌<◌, ◌≤◌, true, false, ◌==◌, inl, inr, List, [], ◌∷◌, None, Some, Result, Ok, Err, refl, sym, ◌∙◌, ap, arith, length, length-append, suc, zero}
+use Rattle.std.proofs.Common.{◌≡◌, ◌≢◌, ℕ, ◌+◌, ◌-◌, ◌^◌, ◌<◌, ◌≤◌, Bool, true, false, ◌==◌, inl, inr, List, [], ◌∷◌, None, Some, Result, Ok, Err, refl, sym, ◌∙◌, ap, arith, length, length-append, suc, zero}
 use Rattle.std.specs.List.{list_any}
-use Rattle.std.specs.Prelude.{is_some, if◌then◌else◌}
+use Rattle.std.specs.Prelude.{is_ok, is_some, if◌then◌else◌}
 use Rattle.std.specs.Int.{bit_at}
 use Rattle.std.proofs.lemmas.Bool.Decides.{nat_tests}
 use Rattle.std.proofs.lemmas.Nat.Bits.{bit_at-lt, same_from_bits_below}
@@ -30,23 +30,26 @@ use Rattle.book_core.specs.Sending.{owed_waiting}
 use Rattle.book_core.proofs.CountedCancels.{cancel-waits, counted-cancel}
 use Rattle.book_core.proofs.Rows.{among-kept, found-among, kept-slot, kept-waits, row-of}
 use Rattle.book_core.proofs.RowsCancelled.{rows-cancelled}
-use Rattle.book_core.proofs.Waiting.{waits_by}
+use Rattle.book_core.proofs.Waiting.{owes-none, waits-nowhere}
 
 -- the answer where there is no such message
 answer-gone : (h : History) (n : ℕ) → message_at h n ≡ None → cancel_answer h n ≡ Err NoSuchMessage
 answer-gone h n gone = rw gone refl
 
--- the answer where there is one, by the mask of where it waits
-answer-there : (h : History) (n : ℕ) → is_some (message_at h n) ≡ true → cancel_answer h n ≡ (if mask_where (waits h n) == 0 then Err NothingWaiting else Ok (mask_where (waits h n)))
-answer-there h n there = ap (λ b. if b then (if mask_where (waits h n) == 0 then Err NothingWaiting else Ok (mask_where (waits h n))) else Err NoSuchMessage) there
+-- the answer, by whether there is such a message and by the mask of where it waits
+abbrev answer-by : Bool → ℕ → Result ℕ CancelRefusal
+answer-by there mask = if there then (if mask == 0 then Err NothingWaiting else Ok mask) else Err NoSuchMessage
 
--- nothing waits
-answer-nothing : (mask : ℕ) → mask ≡ 0 → ◌≡◌ {A = Result ℕ CancelRefusal} (if mask == 0 then Err NothingWaiting else Ok mask) (Err NothingWaiting)
-answer-nothing mask none = rw none refl
+-- it is the mask where something waits
+answer-some : (mask : ℕ) → mask ≢ 0 → is_ok (answer-by true mask) ≡ true
+answer-some zero some = absurd (some refl)
+answer-some (suc mask) some = let differs : (suc mask == 0) ≡ false = grind (arith, nat_tests) in rw differs refl
 
--- something waits
-answer-mask : (mask : ℕ) → mask ≢ 0 → ◌≡◌ {A = Result ℕ CancelRefusal} (if mask == 0 then Err NothingWaiting else Ok mask) (Ok mask)
-answer-mask mask some = let differs : (mask == 0) ≡ false = grind (arith, nat_tests) in rw differs refl
+-- an answer that is no refusal is the mask
+answer-ok : (there : Bool) (mask : ℕ) → is_ok (answer-by there mask) ≡ true → answer-by there mask ≡ Ok mask
+answer-ok true zero ok = absurd cc
+answer-ok true (suc mask) ok = let differs : (suc mask == 0) ≡ false = grind (arith, nat_tests) in rw differs refl
+answer-ok false mask ok = absurd cc
 
 -- two bits that are set alike are equal
 same-bit : (a b : ℕ) → a < 2 → b < 2 → (a == 1) ≡ (b == 1) → a ≡ b
@@ -57,13 +60,13 @@ same-bit (suc zero) (suc zero) m n e = refl
 same-bit (suc (suc a)) b m n e = absurd (omega arith)
 same-bit a (suc (suc b)) m n e = absurd (omega arith)
 
-module _ (h : History) (rows : List (Row (Addressed Letter))) (index : List Known) (tally : Statistics) (flights room : ℕ) (kept : IsKept h rows index tally flights room) where
+module _ (h : History) (rows : List (Row (Addressed Letter))) (index : List Known) (tally : Statistics) (flights room : ℕ) (kept : IsKept h rows index tally flights room) (number : ℕ) where
   -- a number that has no row is no message's
-  pub asked-none : (number : ℕ) → item_at number rows ≡ None → cancel_answer h number ≡ Err NoSuchMessage
-  asked-none number none = elim (row-of h rows kept.rows_agree number)
+  pub asked-none : item_at number rows ≡ None → cancel_answer h number ≡ Err NoSuchMessage
+  asked-none none = elim (row-of h rows kept.rows_agree number)
       [ inl w ↦ let found = w.3 in absurd cc | inr w ↦ answer-gone h number w.1 ]
 
-  module _ (number : ℕ) (message : Addressed Letter) (found : item_at number rows ≡ Some message) where
+  module _ (message : Addressed Letter) (found : item_at number rows ≡ Some message) where
     -- a number that has a row is a message's
     asked-exists : is_some (message_at h number) ≡ true
     asked-exists = among-kept (λ n. is_some (message_at h n)) (numbers h) number (sym (ap (list_any (λ m. m == number)) kept.rows_agree.each_once) ∙ found-among number message rows found)
@@ -72,61 +75,73 @@ module _ (h : History) (rows : List (Row (Addressed Letter))) (index : List Know
     asked-slots : (λ d. state_at d message.slots) ≡ slot h number
     asked-slots = funext _ _ (λ d. rw found at (kept-slot h rows kept.rows_agree number d))
 
-    -- a mask whose bits say where the row waits is the mask of its slots
-    pub asked-bits : (mask : ℕ) → mask < 2 ^ 32 → ((d : ℕ) → (bit_at mask d == 1) ≡ waits_in number d rows) → mask ≡ mask_where (waits_by (λ d. state_at d message.slots))
-    asked-bits mask fits bits =
-        same_from_bits_below 32 mask (mask_where (waits h number)) fits (mask_where-below (waits h number))
-        (λ d below. same-bit (bit_at mask d) (bit_at (mask_where (waits h number)) d) (bit_at-lt mask d) (bit_at-lt (mask_where (waits h number)) d)
-        (bits d ∙ (kept-waits h rows kept.rows_agree number d ∙ sym (mask_where-bits (waits h number) d below))))
-        ∙ sym (ap (λ slots. mask_where (waits_by slots)) asked-slots)
+    module _ (plan : PlanEntry) (owes : ℕ) (in_force : plan ≡ plan_in_force h) (owes_is : owes ≡ owed_waiting plan (λ d. state_at d message.slots)) where
+      -- what the slots that wait owe
+      pub asked-owed : owes ≡ owed_waiting (plan_in_force h) (slot h number)
+      asked-owed = owes_is ∙ (ap (λ p. owed_waiting p (λ d. state_at d message.slots)) in_force ∙ ap (owed_waiting (plan_in_force h)) asked-slots)
 
-    module _ (mask : ℕ) (is : mask ≡ mask_where (waits_by (λ d. state_at d message.slots))) where
-      -- where it waits
+      -- where they owe nothing, it waits nowhere
+      pub asked-nothing : owes ≡ 0 → cancel_answer h number ≡ Err NothingWaiting
+      asked-nothing none =
+          ap (λ b. answer-by b (mask_where (waits h number))) asked-exists
+          ∙ ap (answer-by true) (waits-nowhere (plan_in_force h) (slot h number) (sym asked-owed ∙ none))
+
+      -- where they owe something, it waits somewhere
+      pub asked-some : owes ≢ 0 → is_ok (cancel_answer h number) ≡ true
+      asked-some some =
+          ap (λ b. is_ok (answer-by b (mask_where (waits h number)))) asked-exists
+          ∙ answer-some (mask_where (waits h number)) (λ none. some (asked-owed ∙ owes-none (plan_in_force h) (slot h number) none))
+
+  module _ (waits_some : is_ok (cancel_answer h number) ≡ true) where
+    -- a message that waits somewhere has a row
+    pub asked-row : item_at number rows ≢ None
+    asked-row none = let gone = asked-none none in absurd cc
+
+    module _ (mask : ℕ) (fits : mask < 2 ^ 32) (bits : (d : ℕ) → (bit_at mask d == 1) ≡ waits_in number d rows) where
+      -- a mask whose bits say where the row waits is the mask of its slots
       asked-mask : mask ≡ mask_where (waits h number)
-      asked-mask = is ∙ ap (λ slots. mask_where (waits_by slots)) asked-slots
+      asked-mask =
+          same_from_bits_below 32 mask (mask_where (waits h number)) fits (mask_where-below (waits h number))
+          (λ d below. same-bit (bit_at mask d) (bit_at (mask_where (waits h number)) d) (bit_at-lt mask d) (bit_at-lt (mask_where (waits h number)) d)
+          (bits d ∙ (kept-waits h rows kept.rows_agree number d ∙ sym (mask_where-bits (waits h number) d below))))
 
-      -- it waits nowhere
-      pub asked-nothing : mask ≡ 0 → cancel_answer h number ≡ Err NothingWaiting
-      asked-nothing none = answer-there h number asked-exists ∙ answer-nothing (mask_where (waits h number)) (sym asked-mask ∙ none)
+      -- it is the answer
+      pub asked-cancel : cancel_answer h number ≡ Ok mask
+      asked-cancel = answer-ok (is_some (message_at h number)) (mask_where (waits h number)) waits_some ∙ ap Ok (sym asked-mask)
 
-      module _ (some : mask ≢ 0) where
-        -- it waits somewhere
-        pub asked-cancel : cancel_answer h number ≡ Ok mask
-        asked-cancel = answer-there h number asked-exists ∙ (ap (λ m. if m == 0 then Err NothingWaiting else Ok m) (sym asked-mask) ∙ answer-mask mask some)
+      cancelled : CancelStep h number mask
+      cancelled = cancel-step h kept.sound number mask asked-cancel
 
-        cancelled : CancelStep h number mask
-        cancelled = cancel-step h kept.sound number mask asked-cancel
+      -- a slot waits at each destination of the mask
+      pub cancelled-waits : (d : ℕ) → d < 32 → (bit_at mask d == 1) ≡ true → 0 < (destination_at d tally).waiting
+      cancelled-waits = cancel-waits h number mask cancelled tally kept.are_counted
 
-        -- a slot waits at each destination of the mask
-        pub cancelled-waits : (d : ℕ) → d < 32 → (bit_at mask d == 1) ≡ true → 0 < (destination_at d tally).waiting
-        cancelled-waits = cancel-waits h number mask cancelled tally kept.are_counted
+      -- the book is kept
+      pub kept-cancelled : (tally' : Statistics) (room' : ℕ) → CountsCancel mask tally tally' → flights ≤ room'
+          → IsKept (followed_by h (Cancel number mask)) (changed_at number cancel rows) index tally' flights room'
+      kept-cancelled tally' room' counts left = record {
+        sound = cancelled.sound;
+        rows_agree = rows-cancelled h _ refl number mask cancelled.nothing.accepted cancelled.state cancelled.bits rows kept.rows_agree;
+        keys_agree = λ key. kept.keys_agree key ∙ sym (cancelled.nothing.known key);
+        are_counted = counted-cancel h number mask cancelled tally tally' kept.are_counted counts;
+        flights_are = omega (arith, cancelled.in_flight, kept.flights_are);
+        reserved = omega (arith, cancelled.in_flight, kept.flights_are);
+        bound = kept.bound;
+      }
 
-        -- the book is kept
-        pub kept-cancelled : (tally' : Statistics) (room' : ℕ) → CountsCancel mask tally tally' → flights ≤ room'
-            → IsKept (followed_by h (Cancel number mask)) (changed_at number cancel rows) index tally' flights room'
-        kept-cancelled tally' room' counts left = record {
-          sound = cancelled.sound;
-          rows_agree = rows-cancelled h _ refl number mask cancelled.nothing.accepted cancelled.state cancelled.bits rows kept.rows_agree;
-          keys_agree = λ key. kept.keys_agree key ∙ sym (cancelled.nothing.known key);
-          are_counted = counted-cancel h number mask cancelled tally tally' kept.are_counted counts;
-          flights_are = omega (arith, cancelled.in_flight, kept.flights_are);
-          reserved = omega (arith, cancelled.in_flight, kept.flights_are);
-          bound = kept.bound;
-        }
+      module _ (owes : ℕ) (owes_is : owes ≡ owed_waiting (plan_in_force h) (slot h number)) where
+        -- what the slots that wait owe
+        owed-is : owes ≡ waiting_owed h number
+        owed-is = owes_is
 
-        module _ (plan : PlanEntry) (owes : ℕ) (in_force : plan ≡ plan_in_force h) (owes_is : owes ≡ owed_waiting plan (λ d. state_at d message.slots)) where
-          -- what the slots that wait owe
-          asked-owed : owes ≡ waiting_owed h number
-          asked-owed = owes_is ∙ (ap (λ p. owed_waiting p (λ d. state_at d message.slots)) in_force ∙ ap (owed_waiting (plan_in_force h)) asked-slots)
+        -- so much is owed
+        pub cancelled-less : owes ≤ owed h
+        cancelled-less = omega (arith, cancelled.owed, owed-is)
 
-          -- so much is owed
-          pub cancelled-less : owes ≤ owed h
-          cancelled-less = omega (arith, cancelled.owed, asked-owed)
+        -- it is owed no more
+        pub cancelled-owed : owed h - owes ≡ owed (followed_by h (Cancel number mask))
+        cancelled-owed = omega (arith, cancelled.owed, owed-is)
 
-          -- it is owed no more
-          pub cancelled-owed : owed h - owes ≡ owed (followed_by h (Cancel number mask))
-          cancelled-owed = omega (arith, cancelled.owed, asked-owed)
-
-          -- there is room for the entry
-          pub cancelled-within : length h.entries + 1 + (owed h - owes) ≤ h.opening.events_max
-          cancelled-within = omega (arith, cancelled-owed, cancelled.sound.room, length-append h.entries (Cancel number mask ∷ []))
+        -- there is room for the entry
+        pub cancelled-within : length h.entries + 1 + (owed h - owes) ≤ h.opening.events_max
+        cancelled-within = omega (arith, cancelled-owed, cancelled.sound.room, length-append h.entries (Cancel number mask ∷ []))

@@ -4,7 +4,6 @@ use Rattle.std.specs.Prelude.{slice_get, sum_by}
 use Rattle.std.specs.List.{list_any, range_with_len}
 use Rattle.std.specs.Int.{bit_at}
 use Rattle.std.proofs.lemmas.Bool.Decides.{eqb_tells}
-use Rattle.std.proofs.lemmas.List.FromFn.{length-range_with_len}
 use Rattle.std.proofs.lemmas.List.Sums.{sum_by-cons}
 use Rattle.plan_text.specs.Entries.{PlanEntry}
 use Rattle.dest_queue.specs.declared.Outcome.{Outcome}
@@ -59,6 +58,10 @@ sum-within f g most within (n ∷ ns) = let here = within n in let rest = sum-wi
 abbrev AreTaken : DestinationCounts → Type 0
 AreTaken counts = counts.inflight + counts.delivered ≤ counts.attempts
 
+-- each destination has its counters in the statistics
+destination-inside : (h : History) (d : ℕ) → d < 32 → d < length (counted h).destinations
+destination-inside h d below = subst (λ n. d < n) (sym (counted-are h).all_destinations) below
+
 -- what holds of each destination's counters still does where it does at the one that changes
 changed-at : (P : DestinationCounts → Type 0) (change : DestinationCounts → DestinationCounts) (s : Statistics) (at d : ℕ) → at < length s.destinations
     → P (change (destination_at at s)) → P (destination_at d s) → P (destination_at d (on_destination at change s))
@@ -90,18 +93,16 @@ taken-after h (Take ticket now) sound may were d below =
     let step = (take-step h sound ticket.destination now ticket may).1 in
     let inside = slot-inside h sound ticket.number ticket.destination (Waiting step.attempts step.due) step.waited in
     let are = counted-are h in
-    let size = are.all_destinations in
     subst AreTaken ((counted-take h now ticket (counted h) step inside are).destination d below)
-    (changed-at AreTaken taken_one (counted h) ticket.destination d (omega arith)
+    (changed-at AreTaken taken_one (counted h) ticket.destination d (destination-inside h ticket.destination inside)
     (take-taken (destination_at ticket.destination (counted h)) (subst AreTaken (sym (are.destination ticket.destination inside)) (were ticket.destination inside)))
     (subst AreTaken (sym (are.destination d below)) (were d below)))
 taken-after h (Settle ticket outcome now after) sound may were d below =
     let step = settle-step h sound ticket outcome now after may in
     let inside = settle-inside h ticket outcome now after step in
     let are = counted-are h in
-    let size = are.all_destinations in
     subst AreTaken ((counted-settle h ticket outcome now after (counted h) step are).destination d below)
-    (changed-at AreTaken (settled_one after) (counted h) ticket.destination d (omega arith)
+    (changed-at AreTaken (settled_one after) (counted h) ticket.destination d (destination-inside h ticket.destination inside)
     (settle-taken after (destination_at ticket.destination (counted h)) (settle-flies h ticket outcome now after (counted h) step are) (subst AreTaken (sym (are.destination ticket.destination inside)) (were ticket.destination inside)))
     (subst AreTaken (sym (are.destination d below)) (were d below)))
 taken-after h (Cancel number mask) sound may were d below = subst AreTaken (sym (cancelled-counts h number mask (cancel-step h sound number mask may) d)) (by (bit_at mask d == 1))
@@ -128,23 +129,27 @@ were-taken h sound d below =
 
 -- ---- the sums
 
+-- what a take adds at its destination
+taken-more : (counts : DestinationCounts) → ((taken_one counts).attempts ≡ counts.attempts + 1) × ((taken_one counts).attempts - (taken_one counts).inflight ≡ counts.attempts - counts.inflight + 0)
+taken-more counts = (refl, omega arith)
+
 -- a take
 pub take-sums : (h : History) (d now : ℕ) (ticket : Ticket) → IsSound h → take_answer h d now ≡ Ok ticket → SumsRise 0 1 0 (counted h) (counted (followed_by h (Take ticket now)))
 take-sums h d now ticket sound is =
     let step = (take-step h sound d now ticket is).1 in
     let inside = slot-inside h sound ticket.number ticket.destination (Waiting step.attempts step.due) step.waited in
     let are = counted-are h in
-    let size = are.all_destinations in
+    let changes = taken-more (destination_at ticket.destination (counted h)) in
     subst (SumsRise 0 1 0 (counted h))
     (counted-is (followed_by h (Take ticket now)) (on_destination ticket.destination taken_one (counted h)) (counted-take h now ticket (counted h) step inside are))
     (record {
       arrivals = sym (add-zero (arrivals (counted h)));
-      takes = takes-more (counted h) ticket.destination 1 taken_one (omega arith) refl;
-      settlements = settlements-more (counted h) ticket.destination 0 taken_one (omega arith) (omega arith);
+      takes = takes-more (counted h) ticket.destination 1 taken_one (destination-inside h ticket.destination inside) changes.0;
+      settlements = settlements-more (counted h) ticket.destination 0 taken_one (destination-inside h ticket.destination inside) changes.1;
     })
 
 -- what a settlement adds at its destination
-settled-less : (after : SlotState) (counts : DestinationCounts) → is_in_flight after ≡ false → 0 < counts.inflight → counts.inflight ≤ counts.attempts
+settled-less : (after : SlotState) (counts : DestinationCounts) → is_in_flight after ≡ false → 0 < counts.inflight → AreTaken counts
     → ((settled_one after counts).attempts ≡ counts.attempts + 0) × ((settled_one after counts).attempts - (settled_one after counts).inflight ≡ counts.attempts - counts.inflight + 1)
 settled-less (Waiting attempts due) counts landed some within = (omega arith, omega arith)
 settled-less (InFlight attempt) counts landed some within = absurd cc
@@ -157,15 +162,14 @@ settle-sums h ticket outcome now after sound is =
     let step = settle-step h sound ticket outcome now after is in
     let inside = settle-inside h ticket outcome now after step in
     let are = counted-are h in
-    let size = are.all_destinations in
     let were : AreTaken (destination_at ticket.destination (counted h)) = subst AreTaken (sym (are.destination ticket.destination inside)) (were-taken h sound ticket.destination inside) in
-    let changes = settled-less after (destination_at ticket.destination (counted h)) step.landed (settle-flies h ticket outcome now after (counted h) step are) (omega arith) in
+    let changes = settled-less after (destination_at ticket.destination (counted h)) step.landed (settle-flies h ticket outcome now after (counted h) step are) were in
     subst (SumsRise 0 0 1 (counted h))
     (counted-is (followed_by h (Settle ticket outcome now after)) (on_destination ticket.destination (settled_one after) (counted h)) (counted-settle h ticket outcome now after (counted h) step are))
     (record {
       arrivals = sym (add-zero (arrivals (counted h)));
-      takes = takes-more (counted h) ticket.destination 0 (settled_one after) (omega arith) changes.0;
-      settlements = settlements-more (counted h) ticket.destination 1 (settled_one after) (omega arith) changes.1;
+      takes = takes-more (counted h) ticket.destination 0 (settled_one after) (destination-inside h ticket.destination inside) changes.0;
+      settlements = settlements-more (counted h) ticket.destination 1 (settled_one after) (destination-inside h ticket.destination inside) changes.1;
     })
 
 -- no more than before
@@ -206,18 +210,21 @@ told-more told.Filtered counts = omega arith
 told-more (told.Refused cause) counts = omega arith
 told-more (told.Repeat place) counts = omega arith
 
+-- each channel has its counters in the statistics
+channel-inside : (h : History) (c : ℕ) → c < 64 → c < length (counted h).channels
+channel-inside h c below = subst (λ n. c < n) (sym (counted-are h).all_channels) below
+
 -- the counters of the channels after an arrival
 channels-after : (h : History) (conn channel : ℕ) (raw : List ℕ) (reply : Told) → channel < 64
     → (on_channel channel (told_one reply) (counted h)).channels ≡ (counted (followed_by h (Arrival conn channel raw reply))).channels
 channels-after h conn channel raw reply below =
     let are = counted-are h in
-    let size = are.all_channels in
     listed (channel_counts (followed_by h (Arrival conn channel raw reply))) 64 (set (counted h).channels channel (told_one reply (channel_at channel (counted h)))) no_arrivals
-    (length-set (counted h).channels channel (told_one reply (channel_at channel (counted h))) ∙ size)
+    (length-set (counted h).channels channel (told_one reply (channel_at channel (counted h))) ∙ are.all_channels)
     (λ c inside. elim (eqb_tells c channel) [
       | inl w ↦
           subst (λ k. get_or (set (counted h).channels channel (told_one reply (channel_at channel (counted h)))) k no_arrivals ≡ channel_counts (followed_by h (Arrival conn channel raw reply)) k) (sym w.1)
-          (get_or-set_same (counted h).channels channel (told_one reply (channel_at channel (counted h))) no_arrivals (omega arith) ∙ (ap (told_one reply) (are.channel channel below) ∙ sym (channel-told h conn channel raw reply)))
+          (get_or-set_same (counted h).channels channel (told_one reply (channel_at channel (counted h))) no_arrivals (channel-inside h channel below) ∙ (ap (told_one reply) (are.channel channel below) ∙ sym (channel-told h conn channel raw reply)))
       | inr w ↦
           get_or-set_other (counted h).channels channel c (told_one reply (channel_at channel (counted h))) no_arrivals w.1 ∙ (are.channel c inside ∙ sym (channel-kept h conn channel raw reply c w.1))
     ])
@@ -227,12 +234,10 @@ pub arrival-sums : (h : History) (conn channel : ℕ) (raw : List ℕ) (reply : 
     → SumsRise 1 0 0 (counted h) (counted (followed_by h (Arrival conn channel raw reply)))
 arrival-sums h conn channel raw reply sound may known =
     let below : channel < 64 = omega (arith, sound.plan.few_channels) in
-    let are = counted-are h in
-    let size = are.all_channels in
     record {
       arrivals =
           ap (λ cs. sum_by (λ (c : ChannelCounts). c.received + c.repeats) cs) (sym (channels-after h conn channel raw reply below))
-          ∙ arrivals-more (counted h) channel 1 (told_one reply) (omega arith) (told-more reply (channel_at channel (counted h)));
+          ∙ arrivals-more (counted h) channel 1 (told_one reply) (channel-inside h channel below) (told-more reply (channel_at channel (counted h)));
       takes = and-none _ _ (sum-same (λ (c : DestinationCounts). c.attempts) (destination_counts (followed_by h (Arrival conn channel raw reply))) (destination_counts h)
           (λ d. attempts-kept h (Arrival conn channel raw reply) d refl) (range_with_len 0 32));
       settlements = and-none _ _ (sum-same (λ (c : DestinationCounts). c.attempts - c.inflight) (destination_counts (followed_by h (Arrival conn channel raw reply))) (destination_counts h)
@@ -247,11 +252,18 @@ arrival-sums h conn channel raw reply sound may known =
 
 -- ---- their bound
 
+-- a channel counts at most two for each place, and a destination one
+twice-few : (places most : ℕ) → places ≤ 1001000000 → most ≤ 2 * places → most ≤ 2002000000
+twice-few places most few within = omega arith
+
+once-few : (places attempts inflight : ℕ) → places ≤ 1001000000 → attempts ≤ places → (attempts ≤ 1001000000) × (attempts - inflight ≤ 1001000000)
+once-few places attempts inflight few within = (omega arith, omega arith)
+
 -- the places are few, and so are the sums
 pub sums-few : (h : History) → IsSound h → length h.entries ≤ 1000000 → (arrivals (counted h) ≤ 128128000000) × (takes (counted h) ≤ 32032000000) × (settlements (counted h) ≤ 32032000000)
 sums-few h sound few =
-    let places : next_place h ≤ 1001000000 = omega (arith, sound.opening.places_few, sound.opening.prunings_few) in
-    let came = sum-within (λ (c : ChannelCounts). c.received + c.repeats) (channel_counts h) 2002000000 (λ c. let most = channel-places h sound.opening c in omega arith) (range_with_len 0 64) in
-    let begun = sum-within (λ (c : DestinationCounts). c.attempts) (destination_counts h) 1001000000 (λ d. let most = attempts-places h sound.opening d in omega arith) (range_with_len 0 32) in
-    let ended = sum-within (λ (c : DestinationCounts). c.attempts - c.inflight) (destination_counts h) 1001000000 (λ d. let most = attempts-places h sound.opening d in omega arith) (range_with_len 0 32) in
-    (omega (arith, length-range_with_len 0 64), omega (arith, length-range_with_len 0 32), omega (arith, length-range_with_len 0 32))
+    let places : next_place h ≤ 1001000000 = omega (arith, sound.opening.places_few, sound.opening.prunings_few) in (
+      sum-within (λ (c : ChannelCounts). c.received + c.repeats) (channel_counts h) 2002000000 (λ c. twice-few (next_place h) _ places (channel-places h sound.opening c)) (range_with_len 0 64),
+      sum-within (λ (c : DestinationCounts). c.attempts) (destination_counts h) 1001000000 (λ d. (once-few (next_place h) _ (destination_counts h d).inflight places (attempts-places h sound.opening d)).0) (range_with_len 0 32),
+      sum-within (λ (c : DestinationCounts). c.attempts - c.inflight) (destination_counts h) 1001000000 (λ d. (once-few (next_place h) _ (destination_counts h d).inflight places (attempts-places h sound.opening d)).1) (range_with_len 0 32),
+    )

@@ -1,5 +1,5 @@
 -- What a message owes where it waits, from one destination to the next.
-use Rattle.std.proofs.Common.{◌≡◌, ◌≢◌, ℕ, ◌+◌, ◌*◌, ◌<◌, ◌≤◌, Bool, true, false, Option, None, Some, refl, sym, ◌∙◌, ap, arith, suc, zero, add-one}
+use Rattle.std.proofs.Common.{◌≡◌, ℕ, ◌+◌, ◌*◌, ◌<◌, ◌≤◌, Bool, true, false, Option, None, Some, refl, sym, ◌∙◌, ap, arith, suc, zero, add-one}
 use Rattle.std.specs.Prelude.{sum_by, if◌then◌else◌}
 use Rattle.std.specs.List.{range_with_len}
 use Rattle.std.specs.Option.{option_map_or}
@@ -112,7 +112,3 @@ waits-nowhere plan slots none = nowhere-below 32 plan slots none
 -- where it waits nowhere, it owes nothing
 pub owes-none : (plan : PlanEntry) (slots : ℕ → Option SlotState) → mask_where (waits_by slots) ≡ 0 → owed_waiting plan slots ≡ 0
 owes-none plan slots none = nothing-below 32 plan slots (mask_where-zero (waits_by slots) none)
-
--- where it owes something, it waits somewhere
-pub some-waits : (mask : ℕ) (plan : PlanEntry) (slots : ℕ → Option SlotState) → mask ≡ mask_where (waits_by slots) → owed_waiting plan slots ≢ 0 → mask ≢ 0
-some-waits mask plan slots is some none = some (owes-none plan slots (sym is ∙ none))

@@ -1,6 +1,6 @@
 //! What an arrival is told, and what is kept of it.
 
-ghost use Rattle.std.specs.Prelude.{◌≡◌, ◌≢◌, ◌<◌, ◌≤◌, ◌==◌, ℕ, true, false, [], ◌∷◌, ◌++◌, IfOk, IfSome, OnOk, OnErr, IsTrue, Some, None, MatchOption, All, AllPairs};
+ghost use Rattle.std.specs.Prelude.{◌≡◌, ◌≢◌, ◌<◌, ◌≤◌, ◌==◌, ℕ, true, false, [], ◌∷◌, ◌++◌, IfOk, OnOk, OnErr, IsTrue, Some, None, All, AllPairs};
 ghost use Rattle.std.specs.Int.{bit_at};
 ghost use Rattle.std.specs.Option.{option_map_or};
 ghost use Rattle.dup_index.specs.Known.{place_of};
@@ -116,6 +116,20 @@ fn first_slots(alloc: Global, deliveries: &[Delivery]) -> Result<Slots, AllocErr
     Ok(slots)
 }
 
+/// What is kept of a message that waits for its first attempt wherever it goes.
+fn first_item(
+    alloc: Global,
+    control_id: &Text,
+    deliveries: &Deliveries,
+) -> Result<Addressed<Letter>, AllocError>
+    ensures content { IfOk result (λ item. item.content ≡ record { control_id = control_id.now; deliveries = deliveries.now }) }
+    ensures slots { IfOk result (λ item. item.slots ≡ slots_by (λ _. SlotState.Waiting 0 0) (destinations_of deliveries.now)) }
+{
+    let content = Letter::share(control_id, deliveries)?;
+    let slots = first_slots(alloc, deliveries.as_slice())?;
+    Ok(Addressed { content, slots })
+}
+
 /// Adds the row of a message, which waits wherever it goes.
 fn add_row<S: RowStore<Addressed<Letter>>>(
     alloc: Global,
@@ -128,67 +142,56 @@ fn add_row<S: RowStore<Addressed<Letter>>>(
     ensures ok { OnOk result (AddsRow number control_id.now deliveries.now (S.rows rows.old) (S.rows rows.new)) }
     ensures err { OnErr result (S.rows rows.new ≡ S.rows rows.old) }
 {
-    let slots = first_slots(alloc, deliveries.as_slice())?;
     let mask = mask_of(deliveries.as_slice());
-    let content = Letter {
-        control_id: control_id.share()?,
-        deliveries: deliveries.share()?,
-    };
-    match rows.push(number, Addressed { content, slots }, mask) {
+    let item = first_item(alloc, control_id, deliveries)?;
+    match rows.push(number, item, mask) {
         Ok(()) => Ok(()),
         Err(_) => Err(AllocError),
     }
 }
 
-/// Adds the row, where one is added.
-pub fn add_message<S: RowStore<Addressed<Letter>>>(
+/// A copy of a key, with room for it among the keys.
+fn key_to_add(alloc: Global, keys: &mut Keys, key: &[u8]) -> Result<Vec<u8>, AllocError>
+    ensures known { keys.new.known ≡ keys.old.known }
+    ensures copy { IfOk result (λ copy. copy.items ≡ key.now) }
+    ensures room { OnOk result (0 < keys.new.room) }
+{
+    keys.reserve(1)?;
+    Ok(Vec::from_slice(alloc, key)?)
+}
+
+/// Adds the row and the key that an arrival adds, the key at the place of its entry.
+pub fn add_gain<S: RowStore<Addressed<Letter>>>(
     alloc: Global,
     rows: &mut S,
+    keys: &mut Keys,
     gain: Gain<'_>,
+    key: &[u8],
+    place: usize,
 ) -> Result<(), AllocError>
-    requires { HasRoomFor gain (S.rows rows.old) }
-    ensures ok { OnOk result (AddsGain gain.entry (S.rows rows.old) (S.rows rows.new)) }
-    ensures err { OnErr result (S.rows rows.new ≡ S.rows rows.old) }
+    requires next { HasRoomFor gain (S.rows rows.old) }
+    requires unknown { has_key gain ≡ true → place_of key.now keys.old.known ≡ None }
+    ensures row { OnOk result (AddsGain gain.entry (S.rows rows.old) (S.rows rows.new)) }
+    ensures key { OnOk result (has_key gain.entry ≡ true → keys.new.known ≡ keys.old.known ++ record { key = key.now; place = place } ∷ []) }
+    ensures no_key { OnOk result (has_key gain.entry ≡ false → keys.new.known ≡ keys.old.known) }
+    ensures no_row { OnErr result (S.rows rows.new ≡ S.rows rows.old) }
+    ensures known { OnErr result (keys.new.known ≡ keys.old.known) }
 {
     match gain {
         Gain::Message {
             number,
             control_id,
             deliveries,
-        } => add_row(alloc, rows, number, control_id, deliveries),
-        Gain::Key | Gain::Nothing => Ok(()),
-    }
-}
-
-/// A copy of the key, where one is added, with room for it among the keys.
-pub fn key_to_keep(
-    alloc: Global,
-    keys: &mut Keys,
-    key: &[u8],
-    gain: Gain<'_>,
-) -> Result<Option<Vec<u8>>, AllocError>
-    ensures known { keys.new.known ≡ keys.old.known }
-    ensures copy { IfOk result (λ copy. MatchOption copy (has_key gain.entry ≡ false)
-        (λ copy. (has_key gain.entry ≡ true) × (copy.items ≡ key.now) × (0 < keys.new.room))) }
-{
-    match gain {
-        Gain::Message { .. } | Gain::Key => {
-            keys.reserve(1)?;
-            Ok(Some(Vec::from_slice(alloc, key)?))
+        } => {
+            let key = key_to_add(alloc, keys, key)?;
+            add_row(alloc, rows, number, control_id, deliveries)?;
+            keys.add(key, place);
         }
-        Gain::Nothing => Ok(None),
+        Gain::Key => {
+            let key = key_to_add(alloc, keys, key)?;
+            keys.add(key, place);
+        }
+        Gain::Nothing => {}
     }
-}
-
-/// Adds the key, where one is added, at the place of the entry.
-pub fn keep_key(keys: &mut Keys, key: Option<Vec<u8>>, place: usize)
-    requires unknown { IfSome key (λ key. place_of key.items keys.old.known ≡ None) }
-    requires room { IfSome key (λ key. 0 < keys.old.room) }
-    ensures { MatchOption key
-        (keys.new.known ≡ keys.old.known)
-        (λ key. keys.new.known ≡ keys.old.known ++ record { key = key.items; place = place } ∷ []) }
-{
-    if let Some(key) = key {
-        keys.add(key, place);
-    }
+    Ok(())
 }

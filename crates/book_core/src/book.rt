@@ -2,18 +2,19 @@
 
 ghost use Rattle.std.specs.Prelude.{◌≡◌, ◌≢◌, ◌≤◌, ◌<◌, ◌==◌, ◌⊎◌, ◌↔◌, Ok, Err, IsOk, IfOk, IfErr, OnOk, OnErr, IsErrOf, IsTrue, None, Some, true, false, length, option_copied};
 ghost use Rattle.std.specs.Arc.{arc_value};
-ghost use Rattle.judge_core.specs.Judging.{is_bookable};
-ghost use Rattle.event_log.specs.History.{control_id, deliveries, entry_at, followed_by, message_count, names, next_place, opened_by, payload, plan_in_force, queue, slot};
+ghost use Rattle.judge_core.specs.Delivering.{destinations_of};
+ghost use Rattle.judge_core.specs.Judging.{is_bookable, verdict};
+ghost use Rattle.event_log.specs.History.{control_id, control_id_of, deliveries, entry_at, followed_by, message_count, names, next_place, opened_by, payload, plan_in_force, queue, slot};
 ghost use Rattle.event_log.specs.Answers.{answer, cancel_answer, settle_answer, take_answer};
 ghost use Rattle.event_log.specs.Deployment.{deploy_answer, first_lost, is_lost};
 ghost use Rattle.event_log.specs.Folding.{prune_answer, pruned};
 ghost use Rattle.event_log.specs.Legal.{IsSound, MayFollow};
-ghost use Rattle.event_log.specs.Room.{exceeds, is_full};
+ghost use Rattle.event_log.specs.Room.{exceeds, is_full, own_owed};
 ghost use Rattle.event_log.specs.Counting.{counted};
 ghost use Rattle.book_core.specs.Headline.{KeepsItsPromise};
-ghost use Rattle.book_core.specs.Sending.{awaits_ack};
+ghost use Rattle.book_core.specs.Sending.{IsGain, awaits_ack, goes_to, owed_waiting};
 
-use crate::arrival::{add_message, gain_of, keep_key, key_to_keep, own_of, told};
+use crate::arrival::{Gain, add_gain, gain_of, own_of, told};
 use crate::dispatch::{awaits_ack, owed_waiting, payload};
 use crate::event_counts::{count_arrival, count_cancelled, count_settled};
 use crate::letter::{Job, Letter};
@@ -26,8 +27,8 @@ use dest_queue::{
 use dup_index::Keys;
 use event_log::{
     CancelRefusal, DEPLOYMENTS_MAX, DeployRefusal, EVENTS_MAX, Entry, Log, PruneRefusal,
-    TakeRefusal, Ticket, attempts_max, front_answer, interval, keeps_destination, same_channels,
-    slot_owed,
+    TakeRefusal, Ticket, Told, attempts_max, front_answer, interval, keeps_destination,
+    same_channels, slot_owed,
 };
 use hl7_head::Moment;
 use judge_core::{Judged, Text};
@@ -221,15 +222,47 @@ impl<S: RowStore<Addressed<Letter>>> Book<S> {
         if !self.log.room(own) {
             return Err(NotBooked::Full);
         }
-        let entry = self.log.len();
+        Ok(self.add_arrival(conn, judged, told, gain, own)?)
+    }
+
+    /// Books an arrival for which there is room. What its sender is told is found, and so is what it adds and what its slots
+    /// will owe.
+    fn add_arrival(
+        &mut self,
+        conn: u32,
+        judged: &Judged,
+        told: Told,
+        gain: Gain<'_>,
+        own: u32,
+    ) -> Result<Receipt, AllocError>
+        requires same_plan { judged.now.plan ≡ plan_in_force self.old }
+        requires room { is_full self.old judged.now.channel judged.now.raw ≡ false }
+        requires told { answer self.old judged.now.channel judged.now.raw ≡ Some told }
+        requires gain { IsGain told (control_id_of judged.now.raw) (verdict judged.now.plan judged.now.channel judged.now.raw) gain }
+        requires own { own ≡ own_owed (plan_in_force self.old) (destinations_of (goes_to gain)) }
+        ensures entry { IfOk result (λ receipt. receipt.entry ≡ next_place self.old) }
+        ensures conn { IfOk result (λ receipt. receipt.conn ≡ conn) }
+        ensures channel { IfOk result (λ receipt. receipt.channel ≡ judged.now.channel) }
+        ensures raw { IfOk result (λ receipt. receipt.raw ≡ judged.now.raw) }
+        ensures told { IfOk result (λ receipt. receipt.told ≡ told) }
+        ensures booked { OnOk result (self.new ≡ followed_by self.old (Entry.Arrival conn judged.now.channel judged.now.raw told)) }
+        ensures follows { OnOk result (MayFollow self.old (Entry.Arrival conn judged.now.channel judged.now.raw told)) }
+        ensures err { OnErr result (self.new ≡ self.old) }
+    {
+        self.log.reserve(self.flights as usize + 1)?;
+        let place = self.log.len();
         let channel = judged.channel();
         let raw = judged.raw().share()?;
         let kept = judged.raw().share()?;
-        self.log.reserve(self.flights as usize + 1)?;
-        let key = key_to_keep(self.alloc, &mut self.keys, judged.key(), gain)?;
-        add_message(self.alloc, &mut self.rows, gain)?;
+        add_gain(
+            self.alloc,
+            &mut self.rows,
+            &mut self.keys,
+            gain,
+            judged.key(),
+            place,
+        )?;
         // All growths are made: nothing below is refused.
-        keep_key(&mut self.keys, key, entry);
         count_arrival(&mut self.counts, channel, told, gain.deliveries());
         let owed = self.log.owed() + own;
         self.log.push(
@@ -242,7 +275,7 @@ impl<S: RowStore<Addressed<Letter>>> Book<S> {
             owed,
         );
         Ok(Receipt {
-            entry,
+            entry: place,
             conn,
             channel,
             raw,
@@ -376,14 +409,7 @@ impl<S: RowStore<Addressed<Letter>>> Book<S> {
             ⊎ (e ≡ CancelRefusal.NoMemory) × IsOk (cancel_answer self.old number)) }
         ensures err { OnErr result (self.new ≡ self.old) }
     {
-        let Some(message) = self.rows.get(number) else {
-            return Err(CancelRefusal::NoSuchMessage);
-        };
-        // A slot that waits owes its cancellation at least.
-        let waiting = owed_waiting(self.log.plan(), &message.slots);
-        if waiting == 0 {
-            return Err(CancelRefusal::NothingWaiting);
-        }
+        let waiting = self.waiting_owed(number)?;
         self.log.reserve(self.flights as usize + 1)?;
         // All growths are made: nothing below is refused.
         let Some(mask) = cancel_waiting(&mut self.rows, number) else {
@@ -393,6 +419,23 @@ impl<S: RowStore<Addressed<Letter>>> Book<S> {
         let owed = self.log.owed() - waiting;
         self.log.push(Entry::Cancel { number, mask }, owed);
         Ok(mask)
+    }
+
+    /// What a message owes where it waits, or why it can't be cancelled.
+    fn waiting_owed(&self, number: u32) -> Result<u32, CancelRefusal>
+        ensures owed { IfOk result (λ owed. owed ≡ owed_waiting (plan_in_force self.now) (slot self.now number)) }
+        ensures waits { OnOk result (IsOk (cancel_answer self.now number)) }
+        ensures refused { IfErr result (λ e. cancel_answer self.now number ≡ Err e) }
+    {
+        let Some(message) = self.rows.get(number) else {
+            return Err(CancelRefusal::NoSuchMessage);
+        };
+        // A slot that waits owes its cancellation at least.
+        let owed = owed_waiting(self.log.plan(), &message.slots);
+        if owed == 0 {
+            return Err(CancelRefusal::NothingWaiting);
+        }
+        Ok(owed)
     }
 
     /// Puts another plan in force. Messages that came before go where the plan in force then sent them, and a plan that is

@@ -5,12 +5,25 @@ ghost use Rattle.std.specs.Option.{option_map_or};
 
 use event_log::Ticket;
 use judge_core::{Deliveries, Text};
+use std::alloc::AllocError;
 
 /// What is sent of an accepted message: its control id, and the text for each destination.
 #[derive(Debug, Drop)]
 pub struct Letter {
     pub control_id: Text,
     pub deliveries: Deliveries,
+}
+
+impl Letter {
+    /// A letter that shares what is sent with its arrival.
+    pub(crate) fn share(control_id: &Text, deliveries: &Deliveries) -> Result<Letter, AllocError>
+        ensures { IfOk result (λ letter. letter ≡ record { control_id = control_id.now; deliveries = deliveries.now }) }
+    {
+        Ok(Letter {
+            control_id: control_id.share()?,
+            deliveries: deliveries.share()?,
+        })
+    }
 }
 
 /// A message to be sent to a destination.

@@ -95,6 +95,44 @@ pub fn book_and_reply<B: Booking>(
     Booked { outcome, whole }
 }
 
+/// The text of a block, judged by the plan of where it is booked.
+fn judged_by<B: Booking>(line: &Line, book: &B, raw: Vec<u8>) -> Result<Judged, AllocError>
+    requires channel { line.now.channel < B.channels book.now }
+    requires data { IsBlockData raw.items }
+    ensures { IfOk result (λ judged. (judged.channel ≡ line.now.channel) × (judged.raw ≡ raw.items)) }
+{
+    let plan = book.plan()?;
+    judge(line.alloc, &plan, line.channel, raw)
+}
+
+/// Answers a block that was judged, as [`answer_block`] does.
+fn answer_judged<B: Booking>(
+    line: &Line,
+    book: &mut B,
+    judged: &Judged,
+    now: Moment,
+    replies: &mut Replies,
+) -> BlockOutcome
+    requires { replies.old.made + 2 ≤ u32.MAX }
+    ensures kind { IsOutcome line.now.conn judged.now.channel judged.now.raw result }
+    ensures booked { B.books book.old book.new (receipts_in result) }
+    ensures told { MayBecome (B.outcomes book.old) judged.now.channel judged.now.raw result }
+    ensures replies { IsTrue (is_whole result) → replies.new.bytes.items ≡ replies.old.bytes.items
+        ++ numbered line.now.conn (replies.old.made + 1) (dues_in judged.now.raw now result) }
+    ensures counted { IsTrue (is_whole result) → replies.new.made ≡ replies.old.made + length (dues_in judged.now.raw now result) }
+    ensures front { IsFalse (is_whole result) → AppendsFront replies.old.bytes.items replies.new.bytes.items
+        (numbered line.now.conn (replies.old.made + 1) (dues_in judged.now.raw now result)) }
+    ensures few { replies.new.made ≤ replies.old.made + 2 }
+{
+    let Some(_header) = judged.header() else {
+        return BlockOutcome::Unreadable;
+    };
+    if !judged.bookable() {
+        return BlockOutcome::Stray;
+    }
+    BlockOutcome::Message(book_and_reply(line, book, judged, now, replies))
+}
+
 /// Answers a block that came by a connection: what is no message, and what is an acknowledgment, is passed over; a
 /// message is booked and acknowledged as its header asks (HL7 v2.5.1, 2.9.2 and 2.9.3).
 ///
@@ -130,14 +168,6 @@ pub fn answer_block<B: Booking>(
     ensures unbooked { OnErr result (B.books book.old book.new []) }
     ensures unchanged { OnErr result (replies.new ≡ replies.old) }
 {
-    let plan = book.plan()?;
-    let judged = judge(line.alloc, &plan, line.channel, raw)?;
-    let Some(_header) = judged.header() else {
-        return Ok(BlockOutcome::Unreadable);
-    };
-    if !judged.bookable() {
-        return Ok(BlockOutcome::Stray);
-    }
-    let booked = book_and_reply(line, book, &judged, now, replies);
-    Ok(BlockOutcome::Message(booked))
+    let judged = judged_by(line, book, raw)?;
+    Ok(answer_judged(line, book, &judged, now, replies))
 }

@@ -1,11 +1,12 @@
 -- What a parse of the command line tells.
-use Rattle.std.proofs.Common.{◌≡◌, ◌≤◌, ℕ, List, [], ◌∷◌, Option, None, Some, true, length, map, refl, sym, ap, ◌∙◌, arith}
+use Rattle.std.proofs.Common.{◌≡◌, ◌≤◌, ℕ, List, [], ◌∷◌, Option, None, Some, true, length, map, refl, sym, subst, ap, ◌∙◌, arith}
 use Rattle.std.specs.Prelude.{option_map, unwrap_or, Result, Box}
 use Rattle.std.specs.Borrow.{Bor}
 use Rattle.std.specs.Box.{box_value}
 use Rattle.std.specs.Str.Parse.{ParsesUnsigned, ExplainsUnsignedError, HasUnsignedDigitsIfOk}
 use Rattle.std.specs.declared.num.ParseIntError.{ParseIntError}
-use Rattle.clap.specs.Words.{App, HasMatchesOf, ReadsOne, Row, Text, fault_of, found_of, is_simple, is_simple_and_free, rows_of, subcommand_of, subcommand_rows, subcommand_rows_of}
+use Rattle.clap.specs.Words.{App, FailsBy, HasMatchesOf, ReadsOne, Row, Text, fault_of, found_of, is_simple, is_simple_and_free, rows_of, subcommand_of, subcommand_rows, subcommand_rows_of}
+use Rattle.clap.specs.declared.error.Error.{Error}
 use Rattle.clap.specs.declared.parser.matches.ArgMatches.{ArgMatches}
 use Rattle.clap.specs.declared.parser.matches.SubCommand.{SubCommand}
 use Rattle.clap.specs.declared.parser.matches.ArgMatches.TheViews.{out-SubCommand}
@@ -74,6 +75,7 @@ no-fault text (word ∷ (next ∷ words)) few = absurd (omega arith)
 is-free-program : is_simple_and_free program ≡ true
 is-free-program = refl
 
--- what a parse of the program's words takes has no fault
-pub program-taken : (a : App) (words : List Text) → a ≡ program → (is_simple_and_free a ≡ true → fault_of a words ≡ []) → fault_of program words ≡ []
-program-taken a words is taken = sym (ap (λ b. fault_of b words) is) ∙ taken (ap is_simple_and_free is ∙ is-free-program)
+-- a parse of the program's words is refused by their faults
+pub program-refuses : {X : Type 0} (a : App) (words : List Text) (r : Result X Error) → a ≡ program → (is_simple_and_free a ≡ true → FailsBy (fault_of a words) r)
+    → FailsBy (fault_of program words) r
+program-refuses a words r is refuses = subst (λ (b : App). FailsBy (fault_of b words) r) is (refuses (ap is_simple_and_free is ∙ is-free-program))

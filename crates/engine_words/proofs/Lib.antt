@@ -1,2 +1,3 @@
 pub mod Asking
 mod AskingRows
+pub mod Commands

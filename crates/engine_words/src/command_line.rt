@@ -1,11 +1,11 @@
 //! The words of the command line.
 
-ghost use Rattle.std.specs.Prelude.{◌≡◌, ◌≤◌, ℕ, None, Some, Ok, IfOk, false, length, map, option_map, min, pos, string_bytes};
+ghost use Rattle.std.specs.Prelude.{◌≡◌, ◌≤◌, ℕ, None, Some, Ok, IfOk, false, true, length, map, option_map, min, pos, string_bytes};
 ghost use Rattle.clap.specs.declared.builder.command.Command.TheViews.{out-Command as fields_of};
 ghost use Rattle.clap.specs.declared.builder.value_parser.ValueParser.TheVariants as parser;
-ghost use Rattle.clap.specs.Words.{FailsBy, app_of, fault_of, found_of, rows_of, rule_of};
+ghost use Rattle.clap.specs.Words.{FailsBy, app_of, fault_of, found_of, new_rule, rows_of, rule_of, subcommand_of, subcommand_rows_of, with_rule};
 ghost use Rattle.engine_words.specs.Request.{without_words, IsWithinLimits};
-ghost use Rattle.engine_words.specs.Words.{accept_rule, answer_app, check_app, events_rule, now_rule, program, run_app, Asks, AsksAnswer, AsksRun, IsAccept, IsBound};
+ghost use Rattle.engine_words.specs.Words.{accept_rule, answer_app, check_app, events_rule, now_rule, plan_rule, program, run_app, Asks, AsksAnswer, AsksBy, AsksRun, IsAccept, IsBound};
 
 use clap::builder::ValueParser;
 use clap::{Arg, ArgMatches, Command, Error, value_parser};
@@ -73,6 +73,25 @@ pub enum Request<'a> {
     },
 }
 
+/// An option that takes a number.
+fn number_option<'a>(
+    alloc: Global,
+    name: &'a str,
+    value_name: &'a str,
+    numbers: ValueParser<'a>,
+    help: &'a str,
+) -> Arg<'a>
+    ensures rule { rule_of result
+        ≡ record (new_rule name.entry.now) { long = Some name.entry.now; value_names = 1; parser = Some numbers.entry } }
+    ensures local { result.global ≡ false }
+{
+    Arg::new(alloc, name)
+        .long(name)
+        .value_name(value_name)
+        .value_parser(numbers)
+        .help(help)
+}
+
 /// The numbers that `--now` takes.
 fn seconds<'a>() -> ValueParser<'a>
     ensures { result ≡ parser.Unsigned 0 253_370_764_799 }
@@ -84,11 +103,9 @@ fn now_option<'a>(alloc: Global) -> Arg<'a>
     ensures rule { rule_of result ≡ now_rule }
     ensures local { result.global ≡ false }
 {
-    Arg::new(alloc, "now")
-        .long("now")
-        .value_name("SECS")
-        .value_parser(seconds())
-        .help("The moment of every acknowledgment, in seconds since 1970; the clock where left out")
+    let help =
+        "The moment of every acknowledgment, in seconds since 1970; the clock where left out";
+    number_option(alloc, "now", "SECS", seconds(), help)
 }
 
 /// The numbers that `--events` takes.
@@ -102,37 +119,8 @@ fn events_option<'a>(alloc: Global) -> Arg<'a>
     ensures rule { rule_of result ≡ events_rule }
     ensures local { result.global ≡ false }
 {
-    Arg::new(alloc, "events")
-        .long("events")
-        .value_name("N")
-        .value_parser(entries())
-        .help("The most entries that the book may hold [default: 1000000]")
-}
-
-fn answer_command<'a>(alloc: Global) -> Result<Command<'a>, AllocError>
-    ensures app { IfOk result (λ c. app_of c ≡ answer_app) }
-    ensures local { IfOk result (λ c. (fields_of c).has_globals ≡ false) }
-{
-    let plan = Arg::new(alloc, "PLAN").help("A plan in TOML; the built-in plan where left out");
-    Command::new(alloc, "answer")
-        .about(
-            "Acknowledges the blocks on standard input, to standard output, as connection 0 of the plan's first channel",
-        )
-        .arg(plan)?
-        .arg(now_option(alloc))?
-        .arg(events_option(alloc))
-}
-
-fn check_command<'a>(alloc: Global) -> Result<Command<'a>, AllocError>
-    ensures app { IfOk result (λ c. app_of c ≡ check_app) }
-    ensures local { IfOk result (λ c. (fields_of c).has_globals ≡ false) }
-{
-    let plan = Arg::new(alloc, "PLAN")
-        .required(true)
-        .help("A plan in TOML");
-    Command::new(alloc, "check")
-        .about("Reads a plan and tells its size, or its first fault and where it stands")
-        .arg(plan)
+    let help = "The most entries that the book may hold [default: 1000000]";
+    number_option(alloc, "events", "N", entries(), help)
 }
 
 /// The numbers that `--accept` takes.
@@ -146,29 +134,67 @@ fn accept_option<'a>(alloc: Global) -> Arg<'a>
     ensures rule { rule_of result ≡ accept_rule }
     ensures local { result.global ≡ false }
 {
-    Arg::new(alloc, "accept")
-        .long("accept")
-        .value_name("N")
+    let help = "How many connections each channel takes before it stops listening, 1 to 9999";
+    number_option(alloc, "accept", "N", connections(), help).required(true)
+}
+
+/// The plan's file, which has to be given.
+fn plan_word<'a>(alloc: Global) -> Arg<'a>
+    ensures rule { rule_of result ≡ record plan_rule { required = true } }
+    ensures local { result.global ≡ false }
+{
+    Arg::new(alloc, "PLAN")
         .required(true)
-        .value_parser(connections())
-        .help("How many connections each channel takes before it stops listening, 1 to 9999")
+        .help("A plan in TOML")
+}
+
+/// The command with its plan, an option of its own, and `--events`.
+fn with_words<'a>(
+    alloc: Global,
+    command: Command<'a>,
+    plan: Arg<'a>,
+    option: Arg<'a>,
+) -> Result<Command<'a>, AllocError>
+    requires command { (fields_of command).has_globals ≡ false }
+    requires plan { plan.global ≡ false }
+    requires option { option.global ≡ false }
+    ensures app { IfOk result (λ c. app_of c
+        ≡ with_rule (with_rule (with_rule (app_of command.entry) (rule_of plan.entry)) (rule_of option.entry)) events_rule) }
+    ensures local { IfOk result (λ c. (fields_of c).has_globals ≡ false) }
+{
+    command.arg(plan)?.arg(option)?.arg(events_option(alloc))
+}
+
+fn answer_command<'a>(alloc: Global) -> Result<Command<'a>, AllocError>
+    ensures app { IfOk result (λ c. app_of c ≡ answer_app) }
+    ensures local { IfOk result (λ c. (fields_of c).has_globals ≡ false) }
+{
+    let command = Command::new(alloc, "answer").about(
+        "Acknowledges the blocks on standard input, to standard output, as connection 0 of the plan's first channel",
+    );
+    let plan = Arg::new(alloc, "PLAN").help("A plan in TOML; the built-in plan where left out");
+    with_words(alloc, command, plan, now_option(alloc))
+}
+
+fn check_command<'a>(alloc: Global) -> Result<Command<'a>, AllocError>
+    ensures app { IfOk result (λ c. app_of c ≡ check_app) }
+    ensures local { IfOk result (λ c. (fields_of c).has_globals ≡ false) }
+{
+    Command::new(alloc, "check")
+        .about("Reads a plan and tells its size, or its first fault and where it stands")
+        .arg(plan_word(alloc))
 }
 
 fn run_command<'a>(alloc: Global) -> Result<Command<'a>, AllocError>
     ensures app { IfOk result (λ c. app_of c ≡ run_app) }
     ensures local { IfOk result (λ c. (fields_of c).has_globals ≡ false) }
 {
-    let plan = Arg::new(alloc, "PLAN")
-        .required(true)
-        .help("A plan in TOML");
-    Command::new(alloc, "run")
+    let command = Command::new(alloc, "run")
         .about(
             "Listens for each channel of a plan, acknowledges what comes, and delivers it to the destinations",
         )
-        .after_help(RUNNING)
-        .arg(plan)?
-        .arg(accept_option(alloc))?
-        .arg(events_option(alloc))
+        .after_help(RUNNING);
+    with_words(alloc, command, plan_word(alloc), accept_option(alloc))
 }
 
 fn program_command<'a>(alloc: Global) -> Result<Command<'a>, AllocError>
@@ -255,6 +281,29 @@ fn run_request<'a>(matches: &ArgMatches<'a>) -> Request<'a>
     }
 }
 
+/// What the words of a command ask, by its name.
+fn request_of<'a>(matches: &ArgMatches<'a>) -> Request<'a>
+    ensures limits { IsWithinLimits result }
+    ensures written { AsksBy result (subcommand_rows_of matches.now) }
+{
+    match matches.subcommand() {
+        Some(("check", given)) => Request::Check {
+            plan: given.get_str("PLAN").unwrap_or(""),
+        },
+        Some(("run", given)) => run_request(given),
+        Some((_, given)) => answer_request(given),
+        None => without_words(),
+    }
+}
+
+/// The matches of the words, of which the first is the program's name.
+fn parse<'a>(alloc: Global, words: &'a [String]) -> Result<ArgMatches<'a>, Error>
+    ensures rows { IfOk result (λ m. subcommand_rows_of m ≡ subcommand_of program (map string_bytes words.entry.now)) }
+    ensures refused { FailsBy (fault_of program (map string_bytes words.entry.now)) result }
+{
+    program_command(alloc)?.try_get_matches_from(words)
+}
+
 /// What the words ask, of which the first is the program's name.
 ///
 /// The error has the text to be printed: the help, or what is wrong and what the program takes. Where memory isn't
@@ -268,13 +317,6 @@ pub fn ask<'a>(alloc: Global, words: &'a [String]) -> Result<Request<'a>, Error>
     if words.len() <= 1 {
         return Ok(without_words());
     }
-    let matches = program_command(alloc)?.try_get_matches_from(words)?;
-    match matches.subcommand() {
-        Some(("check", given)) => Ok(Request::Check {
-            plan: given.get_str("PLAN").unwrap_or(""),
-        }),
-        Some(("run", given)) => Ok(run_request(given)),
-        Some((_, given)) => Ok(answer_request(given)),
-        None => Ok(without_words()),
-    }
+    let matches = parse(alloc, words)?;
+    Ok(request_of(&matches))
 }

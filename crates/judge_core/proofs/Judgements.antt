@@ -1,5 +1,5 @@
 -- What is decided of a text, by what it says.
-use Rattle.std.proofs.Common.{◌≡◌, ℕ, true, false, not, cond, List, [], ◌∷◌, Option, None, Some, Result, Ok, Err, refl, ◌<◌, length, arith}
+use Rattle.std.proofs.Common.{◌≡◌, ℕ, true, false, not, cond, List, [], ◌∷◌, Option, None, Some, Result, Ok, Err, refl, ap, ◌<◌, length, arith}
 use Rattle.std.specs.Prelude.{slice_get, IfOk}
 use Rattle.std.specs.Result.{result_ok}
 use Rattle.std.specs.Option.{option_map_or}
@@ -8,7 +8,7 @@ use Rattle.er7_tree.specs.Tree.{Tree, tree}
 use Rattle.hl7_head.specs.declared.ack.Cause.TheVariants.{UnsupportedType, SourceTransform, RouteTransform}
 use Rattle.hl7_head.specs.Header.{Msh, header, header_of, header_where}
 use Rattle.hl7_transform.specs.declared.fault.StepFault.{StepFault}
-use Rattle.hl7_transform.specs.Step.{Edit, after}
+use Rattle.hl7_transform.specs.Step.{after}
 use Rattle.std.specs.List.{list_any}
 use Rattle.plan_text.specs.Entries.{PlanEntry, ChannelEntry, RouteEntry}
 use Rattle.judge_core.specs.declared.delivery.Delivery.{Delivery}
@@ -91,13 +91,19 @@ pub booked-verdict : (plan : PlanEntry) (channel : ℕ) (text : List ℕ) → is
 unfolding verdict
 booked-verdict plan channel text = booked-where (slice_get plan.channels channel) (tree text)
 
--- a message that its channel lets pass goes on by the routes
-pub verdict-routed : (channel : ChannelEntry) (h : Msh) (t u : Tree) → is_acknowledgment h ≡ false → header_fault channel h ≡ None → passes t channel.filter ≡ true → Some u ≡ result_ok (after channel.steps t) → verdict_of (Some channel) h t ≡ routed channel.routes u
-verdict-routed channel h t u new good lets made = rw (new, good, lets, taken (after channel.steps t) u made) refl
-  where
-    taken : (r : Result Tree StepFault) (u : Tree) → Some u ≡ result_ok r → r ≡ Ok u
-    taken (Ok v) u e = cc
-    taken (Err stop) u e = absurd cc
+-- a message that its channel lets pass goes on by the channel's steps
+pub verdict-stepped : (channel : ChannelEntry) (h : Msh) (t : Tree) → is_acknowledgment h ≡ false → header_fault channel h ≡ None → passes t channel.filter ≡ true → verdict_of (Some channel) h t ≡ stepped channel.routes (after channel.steps t)
+verdict-stepped channel h t new good lets = rw (new, good, lets) refl
+
+-- what the steps make of it goes on by the routes
+pub stepped-routed : (routes : List RouteEntry) (r : Result Tree StepFault) (t : Tree) → Some t ≡ result_ok r → stepped routes r ≡ routed routes t
+stepped-routed routes (Ok u) t made = let same : u ≡ t = cc in ap (routed routes) same
+stepped-routed routes (Err stop) t made = absurd cc
+
+-- a message that they can't change as they say
+pub stepped-stopped : (routes : List RouteEntry) (r : Result Tree StepFault) → None ≡ result_ok r → stepped routes r ≡ Refuse SourceTransform
+stepped-stopped routes (Ok t) made = absurd cc
+stepped-stopped routes (Err stop) made = refl
 
 -- the verdict of routes of which one stops
 pub routed-stopped : (routes : List RouteEntry) (t : Tree) → list_any (is_stopped t) (open_routes routes t) ≡ true → routed routes t ≡ Refuse RouteTransform
@@ -120,17 +126,6 @@ pub routed-nowhere : (routes : List RouteEntry) (t : Tree) (deliveries : List De
 routed-nowhere routes t deliveries goes is none = rw (goes, ← is) (sent-none deliveries none)
 
 -- what holds of the deliveries of what the channel's steps give holds of these
-pub delivered : (steps : List Edit) (m t : Tree) (routes : List RouteEntry) (deliveries : List Delivery) → IfOk (after steps m) (λ u. AreDeliveries (deliveries_by routes u)) → Some t ≡ result_ok (after steps m) → deliveries ≡ deliveries_by routes t → AreDeliveries deliveries
-delivered steps m t routes deliveries goes made is = rw is (by_after (after steps m) goes made)
-  where
-    by_after : (r : Result Tree StepFault) → IfOk r (λ u. AreDeliveries (deliveries_by routes u)) → Some t ≡ result_ok r → AreDeliveries (deliveries_by routes t)
-    by_after (Ok u) goes made = let same : t ≡ u = cc in rw same goes
-    by_after (Err stop) goes made = absurd cc
-
--- a message that its channel's steps can't change as they say
-pub verdict-stopped : (channel : ChannelEntry) (h : Msh) (t : Tree) → is_acknowledgment h ≡ false → header_fault channel h ≡ None → passes t channel.filter ≡ true → None ≡ result_ok (after channel.steps t) → verdict_of (Some channel) h t ≡ Refuse SourceTransform
-verdict-stopped channel h t new good lets made = rw (new, good, lets) (stops (after channel.steps t) made)
-  where
-    stops : (r : Result Tree StepFault) → None ≡ result_ok r → stepped channel.routes r ≡ Refuse SourceTransform
-    stops (Ok u) e = absurd cc
-    stops (Err stop) e = refl
+pub stepped-goes : (routes : List RouteEntry) (r : Result Tree StepFault) (t : Tree) → IfOk r (λ u. AreDeliveries (deliveries_by routes u)) → Some t ≡ result_ok r → AreDeliveries (deliveries_by routes t)
+stepped-goes routes (Ok u) t goes made = let same : t ≡ u = cc in rw same goes
+stepped-goes routes (Err stop) t goes made = absurd cc

@@ -9,13 +9,13 @@ ghost use Rattle.std.specs.Result.{result_ok};
 ghost use Rattle.er7_tree.specs.Tree.{tree, text_of};
 ghost use Rattle.hl7_head.specs.Header.{header_of};
 ghost use Rattle.judge_core.specs.Delivering.{AreDeliveries};
-ghost use Rattle.judge_core.specs.Judging.{header_fault, key_by, deliveries_by, verdict_of};
+ghost use Rattle.judge_core.specs.Judging.{header_fault, key_by, deliveries_by, routed, stepped, verdict_of};
 
 use crate::delivery::{Deliveries, by_routes, passes, transformed};
 use crate::text::Text;
 use er7_tree::{Message, Refusal, is_vacant};
 use hl7_head::{Cause, Header};
-use plan_text::{Channel, Plan};
+use plan_text::{Channel, Plan, Route};
 use std::alloc::{AllocError, Global};
 use std::marker::Model;
 use std::sync::Arc;
@@ -172,6 +172,51 @@ fn key_bytes(alloc: Global, channel: u8, header: &Header) -> Result<Vec<u8>, All
     Ok(key)
 }
 
+/// What becomes of a message by routes; `payload` is its text. Where the steps of one can't be taken, the whole message is
+/// refused, and where it goes nowhere it is filtered.
+fn routed(
+    alloc: Global,
+    routes: &[Route],
+    message: &Message,
+    payload: &Text,
+) -> Result<Verdict, AllocError>
+    requires stand { All (λ r. AllStand r.steps) routes.now }
+    requires payload { payload.now ≡ text_of message.now }
+    requires goes { AreDeliveries (deliveries_by routes.now message.now) }
+    ensures { IfOk result (λ verdict. verdict ≡ routed routes.now message.now) }
+{
+    let Some(deliveries) = by_routes(alloc, routes, message, payload)? else {
+        return Ok(Verdict::Refuse(Cause::RouteTransform));
+    };
+    if deliveries.is_empty() {
+        return Ok(Verdict::Filtered);
+    }
+    Ok(Verdict::Accept(Deliveries::new(alloc, deliveries)?))
+}
+
+/// What becomes of a message that passes the channel's filter; `printed` where it is known that the text that came is the
+/// message as it is printed.
+fn stepped(
+    alloc: Global,
+    channel: &Channel,
+    message: Message,
+    raw: &Text,
+    printed: bool,
+) -> Result<Verdict, AllocError>
+    requires printed { IsTrue printed → text_of message ≡ raw.now }
+    requires stand { AllStand channel.now.steps }
+    requires routes_stand { All (λ r. AllStand r.steps) channel.now.routes }
+    requires goes { IfOk (after channel.now.steps message) (λ t. AreDeliveries (deliveries_by channel.now.routes t)) }
+    ensures { IfOk result (λ verdict. verdict ≡ stepped channel.now.routes (after channel.now.steps message)) }
+{
+    let Some(message) = transformed(channel.steps(), message)? else {
+        return Ok(Verdict::Refuse(Cause::SourceTransform));
+    };
+    let same = printed && channel.steps().is_empty();
+    let payload = payload_of(alloc, &message, raw, same)?;
+    routed(alloc, channel.routes(), &message, &payload)
+}
+
 /// What a channel decides of a message; `printed` where it is known that the text that came is the message as it is printed.
 fn decide(
     alloc: Global,
@@ -196,18 +241,7 @@ fn decide(
     if !passes(channel.filter(), &message)? {
         return Ok(Verdict::Filtered);
     }
-    let Some(message) = transformed(channel.steps(), message)? else {
-        return Ok(Verdict::Refuse(Cause::SourceTransform));
-    };
-    let same = printed && channel.steps().is_empty();
-    let payload = payload_of(alloc, &message, raw, same)?;
-    let Some(deliveries) = by_routes(alloc, channel.routes(), &message, &payload)? else {
-        return Ok(Verdict::Refuse(Cause::RouteTransform));
-    };
-    if deliveries.is_empty() {
-        return Ok(Verdict::Filtered);
-    }
-    Ok(Verdict::Accept(Deliveries::new(alloc, deliveries)?))
+    stepped(alloc, channel, message, raw, printed)
 }
 
 /// Judges a text that arrived on a channel of the plan.

@@ -1,12 +1,15 @@
 //! Where messages come from, which of them are taken, and where each goes.
 
-ghost use Rattle.std.specs.Prelude.{◌≡◌, option_map, length, slice_get};
+ghost use Rattle.std.specs.Prelude.{◌≡◌, ◌&&◌, option_map, length, slice_get};
 ghost use Rattle.std.specs.Cmp.Lexicographic.{pointwise};
 ghost use Rattle.std.specs.List.{list_any};
+ghost use Rattle.std.specs.Option.{option_eq};
+ghost use Rattle.hl7_filter.specs.Same.{same_condition};
 ghost use Rattle.hl7_filter.specs.View.{view as condition_view};
 ghost use Rattle.hl7_transform.specs.Same.{same_edit};
 ghost use Rattle.hl7_transform.specs.View.{steps_view};
 ghost use Rattle.plan_text.specs.Entries.{matches_type, matches_processing, matches_version, takes_type, takes_processing, takes_version};
+ghost use Rattle.plan_text.specs.Same.{same_route};
 
 use crate::literal::Literal;
 use hl7_filter::Cond;
@@ -222,6 +225,16 @@ impl Channel {
     {
         self.versions.iter().any(|entry| entry.matches(version))
     }
+
+    /// Whether two channels do the same with the messages that they take.
+    fn same_work(&self, other: &Channel) -> bool
+        ensures { result ≡ (option_eq same_condition self.now.filter other.now.filter
+            && (pointwise same_edit self.now.steps other.now.steps && pointwise same_route self.now.routes other.now.routes)) }
+    {
+        self.filter == other.filter
+            && same_steps(self.steps.as_slice(), other.steps.as_slice())
+            && self.routes.as_slice() == other.routes.as_slice()
+    }
 }
 
 /// Whether two lists of steps do the same.
@@ -293,8 +306,6 @@ impl PartialEq for Channel {
             && self.types.as_slice() == other.types.as_slice()
             && self.processing.as_slice() == other.processing.as_slice()
             && self.versions.as_slice() == other.versions.as_slice()
-            && self.filter == other.filter
-            && same_steps(self.steps.as_slice(), other.steps.as_slice())
-            && self.routes.as_slice() == other.routes.as_slice()
+            && self.same_work(other)
     }
 }

@@ -3,6 +3,7 @@
 #![tactic(auto)]
 
 mod call;
+mod shown;
 mod stage;
 
 use anyhow::Result;

@@ -1,25 +1,23 @@
 //! The book of a script, and the answers to its calls.
 
 use crate::call::Call;
+use crate::shown::{bytes_of, entry_shown, job_shown, receipt_shown};
 use anyhow::{Result, bail};
 use book_core::{Book, EVENTS_MAX, Letter, NotBooked, Receipt};
 use dest_queue::{Addressed, Outcome};
-use event_log::{Entry, Ticket, Told};
+use event_log::{Ticket, Told};
 use hl7_head::Moment;
-use judge_core::{fits_block, judge};
+use judge_core::{Judged, fits_block, judge};
 use plan_text::Plan;
 use row_store::{PlainRows, RowStore};
 use stat_count::{CHANNELS, DESTINATIONS};
-use std::alloc::{AllocError, Global};
+use std::alloc::Global;
 use std::fs;
 use std::hash::RandomState;
 use std::sync::Arc;
 
 /// The number of the connection by which all messages come.
 const CONNECTION: u32 = 3;
-
-/// The bytes 0x0D of a message, as a script writes them.
-const RETURN: &str = "<CR>";
 
 /// The book, and the plan by which messages are judged.
 #[derive(Drop)]
@@ -40,45 +38,6 @@ fn plan_named(rt: &HostRuntime, name: &str) -> Result<Arc<Plan>> {
         Ok(plan) => Ok(Arc::new(alloc, plan)?),
         Err(fault) => bail!("{fault}"),
     }
-}
-
-/// Appends a text, with a number in place of `#`.
-fn push_numbered(bytes: &mut Vec<u8>, text: &str, number: &str) -> Result<(), AllocError> {
-    for (i, part) in text.split('#').enumerate() {
-        if i > 0 {
-            bytes.extend_from_slice(number.as_bytes())?;
-        }
-        bytes.extend_from_slice(part.as_bytes())?;
-    }
-    Ok(())
-}
-
-/// The bytes of a text, with 0x0D where it says so, and a number in place of `#`.
-fn bytes_of(alloc: Global, text: &str, number: u32) -> Result<Vec<u8>, AllocError> {
-    let number = format!(in alloc; "{number}")?;
-    let mut bytes = Vec::new(alloc);
-    for (i, line) in text.split(RETURN).enumerate() {
-        if i > 0 {
-            bytes.push(b'\r')?;
-        }
-        push_numbered(&mut bytes, line, number.as_str())?;
-    }
-    Ok(bytes)
-}
-
-/// A text as a script writes it.
-fn shown(alloc: Global, bytes: &[u8]) -> Result<String, AllocError> {
-    let mut text = String::new(alloc);
-    for (i, line) in String::from_utf8_lossy(alloc, bytes)?
-        .split('\r')
-        .enumerate()
-    {
-        if i > 0 {
-            text.push_str(RETURN)?;
-        }
-        text.push_str(line)?;
-    }
-    Ok(text)
 }
 
 impl Stage {
@@ -222,12 +181,17 @@ impl Stage {
         Ok(format!(in self.alloc; "ok")?)
     }
 
-    /// Judges bytes that come on a channel and books them.
-    fn booked(&mut self, channel: u32, bytes: Vec<u8>) -> Result<Result<Receipt, NotBooked>> {
+    /// What is made of bytes that come on a channel.
+    fn judged(&self, channel: u32, bytes: Vec<u8>) -> Result<Judged> {
         if channel >= self.plan.channels() || !fits_block(&bytes) {
             bail!("it can't be judged");
         }
-        let judged = judge(self.alloc, &self.plan, channel, bytes)?;
+        Ok(judge(self.alloc, &self.plan, channel, bytes)?)
+    }
+
+    /// Judges bytes that come on a channel and books them.
+    fn booked(&mut self, channel: u32, bytes: Vec<u8>) -> Result<Result<Receipt, NotBooked>> {
+        let judged = self.judged(channel, bytes)?;
         if !judged.bookable() {
             bail!("it isn't booked");
         }
@@ -238,49 +202,39 @@ impl Stage {
     fn arrive(&mut self, channel: u32, text: &str) -> Result<String> {
         let alloc = self.alloc;
         let bytes = bytes_of(alloc, text, 0)?;
-        Ok(match self.booked(channel, bytes)? {
-            Ok(receipt) => format!(in alloc;
-                "{:?}, entry {}, connection {}, channel {}, {} bytes",
-                receipt.told,
-                receipt.entry,
-                receipt.conn,
-                receipt.channel,
-                receipt.raw.as_slice().len()
-            )?,
-            Err(refusal) => format!(in alloc; "{refusal:?}, code {}", refusal.code())?,
-        })
+        match self.booked(channel, bytes)? {
+            Ok(receipt) => Ok(receipt_shown(alloc, &receipt)?),
+            Err(refusal) => Ok(format!(in alloc; "{refusal:?}, code {}", refusal.code())?),
+        }
     }
 
-    /// The answer to the last of many arrivals, of which each gets what the first one got.
+    /// Whether a text that comes on a channel, with a number in it, is accepted.
+    fn accepts(&mut self, channel: u32, text: &str, number: u32) -> Result<bool> {
+        let bytes = bytes_of(self.alloc, text, number)?;
+        match self.booked(channel, bytes)? {
+            Ok(receipt) => Ok(matches!(receipt.told, Told::Accepted(_))),
+            Err(_) => Ok(false),
+        }
+    }
+
+    /// How many of so many arrivals are accepted.
     fn many(&mut self, count: u32, channel: u32, text: &str) -> Result<String> {
-        let mut booked = 0_u32;
+        let mut accepted = 0_u32;
         for number in 0..count {
-            let bytes = bytes_of(self.alloc, text, number)?;
-            if let Ok(receipt) = self.booked(channel, bytes)? {
-                if let Told::Accepted(_) = receipt.told {
-                    booked = booked.saturating_add(1);
-                }
+            if self.accepts(channel, text, number)? {
+                accepted = accepted.saturating_add(1);
             }
         }
-        Ok(format!(in self.alloc; "{booked} accepted")?)
+        Ok(format!(in self.alloc; "{accepted} accepted")?)
     }
 
     /// The answer to a take: the job, or why there is none.
     fn take(&mut self, d: u32, now: u64) -> Result<String> {
         let alloc = self.alloc;
-        let now = moment_at(now)?;
-        Ok(match self.book.take(d, now) {
-            Ok(job) => {
-                let ticket = job.ticket;
-                let id = shown(alloc, job.control_id.as_slice())?;
-                let payload = shown(alloc, job.payload.as_slice())?;
-                format!(in alloc;
-                    "message {} to {}, attempt {}, control id {id}, answered {}, {payload}",
-                    ticket.number, ticket.destination, ticket.attempt, job.ack
-                )?
-            }
-            Err(refusal) => format!(in alloc; "{refusal:?}, code {}", refusal.code())?,
-        })
+        match self.book.take(d, moment_at(now)?) {
+            Ok(job) => Ok(job_shown(alloc, &job)?),
+            Err(refusal) => Ok(format!(in alloc; "{refusal:?}, code {}", refusal.code())?),
+        }
     }
 
     /// The answer to a settlement: the state of the slot, or why there is none.
@@ -293,13 +247,19 @@ impl Stage {
         })
     }
 
+    /// Takes the front of a queue and delivers it.
+    fn deliver(&mut self, d: u32, now: Moment) -> Result<()> {
+        let job = self.book.take(d, now)?;
+        self.book.settle(&job.ticket, Outcome::Delivered, now)?;
+        Ok(())
+    }
+
     /// How many messages of a queue are taken and delivered, one after another.
     fn drain(&mut self, d: u32, now: u64) -> Result<String> {
         let now = moment_at(now)?;
         let waiting = self.book.queue_len(d);
         for _ in 0..waiting {
-            let job = self.book.take(d, now)?;
-            self.book.settle(&job.ticket, Outcome::Delivered, now)?;
+            self.deliver(d, now)?;
         }
         Ok(format!(in self.alloc; "{waiting} delivered")?)
     }
@@ -337,51 +297,10 @@ impl Stage {
 
     /// The entry at a place.
     fn entry(&self, place: u32) -> Result<String> {
-        let alloc = self.alloc;
-        Ok(match self.book.entry(place as usize) {
-            None => format!(in alloc; "none")?,
-            Some(
-                Entry::Arrival {
-                    conn,
-                    channel,
-                    raw,
-                    told,
-                },
-            ) => {
-                let text = shown(alloc, raw.as_slice())?;
-                format!(in alloc; "arrival by {conn} on {channel}, {told:?}, {text}")?
-            }
-            Some(Entry::Take { ticket, now }) => {
-                format!(in alloc;
-                    "take {} {} {} at {}",
-                    ticket.number,
-                    ticket.destination,
-                    ticket.attempt,
-                    now.secs()
-                )?
-            }
-            Some(
-                Entry::Settle {
-                    ticket,
-                    outcome,
-                    now,
-                    state,
-                },
-            ) => format!(in alloc;
-                "settle {} {} {} {outcome:?} at {}: {state:?}",
-                ticket.number,
-                ticket.destination,
-                ticket.attempt,
-                now.secs()
-            )?,
-            Some(Entry::Cancel { number, mask }) => {
-                format!(in alloc; "cancel {number} where {mask} says")?
-            }
-            Some(Entry::Deploy { plan }) => {
-                let plan = plan.plan();
-                format!(in alloc; "deploy {} to {}", plan.channels(), plan.destinations())?
-            }
-        })
+        match self.book.entry(place as usize) {
+            Some(entry) => Ok(entry_shown(self.alloc, entry)?),
+            None => Ok(format!(in self.alloc; "none")?),
+        }
     }
 }
 

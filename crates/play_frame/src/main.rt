@@ -15,7 +15,7 @@ ghost use Rattle.mllp_frame.specs.Framing.{IsData};
 mod script;
 
 use anyhow::{Result, bail};
-use mllp_frame::{Break, END_BLOCK, FrameEvent, Framer, START_BLOCK, write_block};
+use mllp_frame::{Break, END_BLOCK, FrameEvent, FrameFault, Framer, START_BLOCK, write_block};
 use script::{bytes_of, push_all_shown};
 use std::alloc::{AllocError, Global};
 
@@ -129,55 +129,102 @@ fn is_data(text: &[u8]) -> bool
         .any(|byte| *byte == START_BLOCK || *byte == END_BLOCK)
 }
 
-/// The answer to a call.
-fn answer(alloc: Global, framer: &mut Framer, call: Call) -> Result<Vec<u8>> {
+/// Events as a script tells them.
+fn told(alloc: Global, events: &[FrameEvent]) -> Result<Vec<u8>, AllocError> {
     let mut text = Vec::new(alloc);
-    match call {
-        Call::New => *framer = Framer::new(alloc),
-        Call::Feed(piece) => {
-            let mut events = Vec::new(alloc);
-            let fed = framer.feed(&piece);
-            drain(framer, &mut events)?;
-            push_events(&mut text, &events)?;
-            if let Err(fault) = fed {
-                text.extend_from_slice(b", refused ")?;
-                text.push(b'0'.saturating_add(fault.code() as u8))?;
-            }
-        }
-        Call::By(len, stream) => push_events(&mut text, &events_by(alloc, &stream, len)?)?,
-        Call::Cuts(stream) => {
-            let events = events_of(alloc, &[&stream])?;
-            push_events(&mut text, &events)?;
-            if are_so_however_cut(alloc, &stream, &events)? {
-                text.extend_from_slice(b", however it is cut")?;
-            }
-        }
-        Call::Write(data) => {
-            if !is_data(&data) {
-                bail!("no block holds this text");
-            }
-            let mut block = Vec::new(alloc);
-            write_block(&data, &mut block)?;
-            push_all_shown(&mut text, &block)?;
-            text.extend_from_slice(b", ")?;
-            push_events(&mut text, &events_of(alloc, &[&block])?)?;
-        }
+    push_events(&mut text, events)?;
+    Ok(text)
+}
+
+/// All events to come.
+fn news(alloc: Global, framer: &mut Framer) -> Result<Vec<u8>, AllocError> {
+    let mut events = Vec::new(alloc);
+    drain(framer, &mut events)?;
+    told(alloc, &events)
+}
+
+/// Appends why a piece was refused.
+fn push_fault(text: &mut Vec<u8>, fault: FrameFault) -> Result<(), AllocError> {
+    text.extend_from_slice(b", refused ")?;
+    text.push(b'0'.saturating_add(fault.code() as u8))?;
+    Ok(())
+}
+
+/// The events that a piece of a stream brings, and why it was refused if it was.
+fn fed(alloc: Global, framer: &mut Framer, piece: &[u8]) -> Result<Vec<u8>, AllocError> {
+    let outcome = framer.feed(piece);
+    let mut text = news(alloc, framer)?;
+    if let Err(fault) = outcome {
+        push_fault(&mut text, fault)?;
     }
     Ok(text)
 }
 
-fn main(rt: HostRuntime) -> Result<()> {
-    let alloc = rt.alloc();
-    let mut framer = Framer::new(alloc);
-    for line in rt.lines(alloc) {
-        let line = line?;
-        if line.is_empty() || line.starts_with('#') {
-            println!(rt; "{line}")?;
-            continue;
+/// The events of a whole stream, and whether they are the same however it is cut.
+fn cut(alloc: Global, stream: &[u8]) -> Result<Vec<u8>> {
+    let events = events_of(alloc, &[stream])?;
+    let mut text = told(alloc, &events)?;
+    if are_so_however_cut(alloc, stream, &events)? {
+        text.extend_from_slice(b", however it is cut")?;
+    }
+    Ok(text)
+}
+
+/// The block of a text.
+fn block_of(alloc: Global, data: &[u8]) -> Result<Vec<u8>> {
+    if !is_data(data) {
+        bail!("no block holds this text");
+    }
+    let mut block = Vec::new(alloc);
+    write_block(data, &mut block)?;
+    Ok(block)
+}
+
+/// The block of a text, and its events.
+fn written(alloc: Global, data: &[u8]) -> Result<Vec<u8>> {
+    let block = block_of(alloc, data)?;
+    let mut text = Vec::new(alloc);
+    push_all_shown(&mut text, &block)?;
+    text.extend_from_slice(b", ")?;
+    push_events(&mut text, &events_of(alloc, &[&block])?)?;
+    Ok(text)
+}
+
+/// The answer to a call.
+fn answer(alloc: Global, framer: &mut Framer, call: Call) -> Result<Vec<u8>> {
+    match call {
+        Call::New => {
+            *framer = Framer::new(alloc);
+            Ok(Vec::new(alloc))
         }
-        let call = call_of(alloc, line.as_str())?;
-        let answer = answer(alloc, &mut framer, call)?;
-        println!(rt; "{line} => {}", String::from_utf8_lossy(alloc, &answer)?)?;
+        Call::Feed(piece) => Ok(fed(alloc, framer, &piece)?),
+        Call::By(len, stream) => Ok(told(alloc, &events_by(alloc, &stream, len)?)?),
+        Call::Cuts(stream) => cut(alloc, &stream),
+        Call::Write(data) => written(alloc, &data),
+    }
+}
+
+/// Writes a line, with the answer to its call.
+fn play_line(rt: &HostRuntime, framer: &mut Framer, line: &str) -> Result<()> {
+    if line.is_empty() || line.starts_with('#') {
+        println!(rt; "{line}")?;
+        return Ok(());
+    }
+    let alloc = rt.alloc();
+    let answer = answer(alloc, framer, call_of(alloc, line)?)?;
+    println!(rt; "{line} => {}", String::from_utf8_lossy(alloc, &answer)?)?;
+    Ok(())
+}
+
+/// Plays all lines of standard input.
+fn play_all(rt: &HostRuntime, framer: &mut Framer) -> Result<()> {
+    for line in rt.lines(rt.alloc()) {
+        play_line(rt, framer, line?.as_str())?;
     }
     Ok(())
+}
+
+fn main(rt: HostRuntime) -> Result<()> {
+    let mut framer = Framer::new(rt.alloc());
+    play_all(&rt, &mut framer)
 }

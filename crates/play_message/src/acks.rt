@@ -3,9 +3,9 @@
 use ack_rule::{AckMode, AckType, Verdictum, parts};
 use anyhow::{Result, anyhow};
 use er7_tree::Message;
-use hl7_head::{Cause, Header, Moment, Msa, ack_text, stamp};
+use hl7_head::{AckPart, Cause, Header, Moment, Msa, ack_text, stamp};
 use play_script::{first_word, shown};
-use std::alloc::Global;
+use std::alloc::{AllocError, Global};
 use std::fmt::Write;
 
 const CAUSES: [Cause; 11] = [
@@ -133,14 +133,20 @@ fn pieces(header: &Header) -> [(&str, &[u8]); 14] {
     ]
 }
 
+/// Appends a piece: its name, `=`, and its bytes.
+fn push_piece(told: &mut String, name: &str, piece: &[u8]) -> Result<(), AllocError> {
+    told.push_str(name)?;
+    told.push_str("=")?;
+    told.push_str(shown(*told.allocator(), piece)?.as_str())
+}
+
 /// The delimiters, fields and components of the header.
 pub fn fields(alloc: Global, message: &Message) -> Result<String> {
     let header = Header::read(message)?;
-    let mut told = format!(in alloc; "delimiters={}", shown(alloc, &delimiters(&header))?)?;
+    let mut told = String::new(alloc);
+    push_piece(&mut told, "delimiters", &delimiters(&header))?;
     for (name, piece) in pieces(&header) {
-        told.push_str(name)?;
-        told.push_str("=")?;
-        told.push_str(shown(alloc, piece)?.as_str())?;
+        push_piece(&mut told, name, piece)?;
     }
     Ok(told)
 }
@@ -151,7 +157,22 @@ pub fn mode(alloc: Global, message: &Message) -> Result<String> {
     Ok(format!(in alloc; "{mode:?}")?)
 }
 
-/// The acknowledgments of the message, from a number on, each in brackets.
+/// Appends an acknowledgment of the message in brackets.
+fn push_ack(
+    texts: &mut String,
+    header: &Header,
+    part: &AckPart,
+    moment: Moment,
+    connection: u32,
+    number: u32,
+) -> Result<()> {
+    let alloc = *texts.allocator();
+    let text = ack_text(alloc, header, part, moment, connection, number)?;
+    write!(texts, "[{}]", shown(alloc, &text)?)?;
+    Ok(())
+}
+
+/// The acknowledgments of the message, from a number on.
 fn acknowledged(
     alloc: Global,
     header: &Header,
@@ -164,10 +185,7 @@ fn acknowledged(
     let mut texts = String::new(alloc);
     for part in parts(AckMode::of(header), verdictum) {
         if let Some(part) = part {
-            let text = ack_text(alloc, header, &part, moment, connection, number)?;
-            texts.push_str("[")?;
-            texts.push_str(shown(alloc, &text)?.as_str())?;
-            texts.push_str("]")?;
+            push_ack(&mut texts, header, &part, moment, connection, number)?;
             number = number.saturating_add(1);
         }
     }
@@ -195,15 +213,19 @@ pub fn ack(alloc: Global, message: &Message, words: &str) -> Result<String> {
     )
 }
 
+/// The fields of an MSA, each with its number.
+fn msa_told(alloc: Global, msa: &Msa) -> Result<String, AllocError> {
+    let mut told = String::new(alloc);
+    push_piece(&mut told, "1", &msa.code)?;
+    push_piece(&mut told, " 2", &msa.control_id)?;
+    push_piece(&mut told, " 3", &msa.text)?;
+    Ok(told)
+}
+
 /// The fields of the message's first MSA.
 pub fn answered(alloc: Global, message: &Message) -> Result<String> {
     match Msa::read(alloc, message)? {
+        Some(msa) => Ok(msa_told(alloc, &msa)?),
         None => Ok(String::from_str(alloc, "none")?),
-        Some(msa) => {
-            let code = shown(alloc, &msa.code)?;
-            let control_id = shown(alloc, &msa.control_id)?;
-            let text = shown(alloc, &msa.text)?;
-            Ok(format!(in alloc; "1={code} 2={control_id} 3={text}")?)
-        }
     }
 }

@@ -10,17 +10,26 @@ mod text;
 use anyhow::Result;
 use rules::Rules;
 
-fn main(rt: HostRuntime) -> Result<()> {
-    let alloc = rt.alloc();
-    let mut rules = Rules::new(alloc)?;
-    for line in rt.lines(alloc) {
-        let line = line?;
-        if line.is_empty() || line.starts_with('#') {
-            println!(rt; "{line}")?;
-            continue;
-        }
-        let answer = rules.play(line.as_str())?;
-        println!(rt; "{line} => {answer}")?;
+/// Writes a line, with the answer to its call.
+fn play_line(rt: &HostRuntime, rules: &mut Rules, line: &str) -> Result<()> {
+    if line.is_empty() || line.starts_with('#') {
+        println!(rt; "{line}")?;
+        return Ok(());
+    }
+    let answer = rules.play(line)?;
+    println!(rt; "{line} => {answer}")?;
+    Ok(())
+}
+
+/// Plays all lines of standard input.
+fn play_all(rt: &HostRuntime, rules: &mut Rules) -> Result<()> {
+    for line in rt.lines(rt.alloc()) {
+        play_line(rt, rules, line?.as_str())?;
     }
     Ok(())
+}
+
+fn main(rt: HostRuntime) -> Result<()> {
+    let mut rules = Rules::new(rt.alloc())?;
+    play_all(&rt, &mut rules)
 }

@@ -239,9 +239,6 @@ impl Rules {
     /// The answer to a call.
     pub fn play(&mut self, line: &str) -> Result<String> {
         let (call, words) = first_word(line);
-        if let Some(answer) = self.text.answer(call, words)? {
-            return Ok(answer);
-        }
         let message = &self.text.message;
         match call {
             "fields" => acks::fields(self.alloc, message),
@@ -260,7 +257,7 @@ impl Rules {
             "step" => self.step(words),
             "apply" => self.applied(),
             "drop" => self.clear(),
-            _ => bail!("{call} is no call"),
+            _ => self.text.answer(call, words),
         }
     }
 }

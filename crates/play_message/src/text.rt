@@ -200,29 +200,28 @@ impl Text {
         Ok(shown(self.alloc, self.message.header())?)
     }
 
-    /// The answer to a call. None where it is no call on the text.
-    pub fn answer(&mut self, call: &str, words: &str) -> Result<Option<String>> {
-        let answer = match call {
-            "parse" => self.parse(words)?,
-            "many" => parse_many(self.alloc, words)?,
-            "print" => self.print()?,
-            "clone" => self.copy_all()?,
-            "header" => self.header()?,
-            "msh" => self.msh(words)?,
-            "segment" => self.segment(words)?,
-            "raw" => self.raw(words)?,
-            "get" => self.value(words)?,
-            "set" => self.set(words)?,
-            "copy" => self.copy(words)?,
-            "clear" => self.clear(words)?,
-            "remove" => self.remove(words)?,
-            "escape" => self.escaped(words)?,
-            "unescape" => self.unescaped(words)?,
-            "vacant" => vacant(self.alloc, words)?,
-            "path" => named(self.alloc, words)?,
-            "paths" => compared(self.alloc, words)?,
-            _ => return Ok(None),
-        };
-        Ok(Some(answer))
+    /// The answer to a call on the text.
+    pub fn answer(&mut self, call: &str, words: &str) -> Result<String> {
+        match call {
+            "parse" => self.parse(words),
+            "many" => parse_many(self.alloc, words),
+            "print" => self.print(),
+            "clone" => self.copy_all(),
+            "header" => self.header(),
+            "msh" => self.msh(words),
+            "segment" => self.segment(words),
+            "raw" => self.raw(words),
+            "get" => self.value(words),
+            "set" => self.set(words),
+            "copy" => self.copy(words),
+            "clear" => self.clear(words),
+            "remove" => self.remove(words),
+            "escape" => self.escaped(words),
+            "unescape" => self.unescaped(words),
+            "vacant" => vacant(self.alloc, words),
+            "path" => named(self.alloc, words),
+            "paths" => compared(self.alloc, words),
+            _ => bail!("{call} is no call"),
+        }
     }
 }

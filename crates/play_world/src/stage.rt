@@ -8,11 +8,13 @@ use anyhow::{Result, bail};
 use book_core::{EVENTS_MAX, Letter};
 use dest_queue::Addressed;
 use engine_model::{Step, World, steps_of};
+use hl7_head::Moment;
 use plan_text::Plan;
 use play_script::bytes_of;
 use row_store::PlainRows;
 use stat_count::{CHANNELS, DESTINATIONS};
 use std::alloc::{AllocError, Global};
+use std::fmt::Write;
 use std::fs;
 use std::hash::RandomState;
 use std::str::SplitWhitespace;
@@ -47,6 +49,46 @@ fn are_known(channels: &[u32], count: u32) -> bool
     channels.iter().all(|channel| *channel < count)
 }
 
+/// A world of a plan that may book so many entries, with a connection on each of these channels.
+fn world_of(
+    rt: &HostRuntime,
+    plan: Arc<Plan>,
+    events_max: u32,
+    channels: &[u32],
+) -> Result<World<PlainRows<Addressed<Letter>>>> {
+    if events_max == 0 || events_max > EVENTS_MAX || !are_known(channels, plan.channels()) {
+        bail!("there is no such world");
+    }
+    let hasher = RandomState::new(rt)?;
+    Ok(World::new(rt.alloc(), plan, channels, events_max, hasher)?)
+}
+
+/// The steps by which a stream comes on a connection in pieces of a length.
+fn chunks_of(
+    alloc: Global,
+    conn: u32,
+    stream: &[u8],
+    len: usize,
+    now: Moment,
+) -> Result<Vec<Step>, AllocError>
+    requires { 0 < len }
+{
+    let mut steps = Vec::new(alloc);
+    for piece in stream.chunks(len) {
+        let bytes = Vec::from_slice(alloc, piece)?;
+        steps.push(Step::Chunk { conn, bytes, now })?;
+    }
+    Ok(steps)
+}
+
+/// Appends steps, a line for each.
+fn push_steps(text: &mut String, steps: &[Step]) -> Result<(), AllocError> {
+    for step in steps {
+        writeln!(text, "  {}", step_shown(*text.allocator(), step)?)?;
+    }
+    Ok(())
+}
+
 impl Stage {
     /// A world of the built-in plan without connections.
     pub fn new(rt: &HostRuntime) -> Result<Stage> {
@@ -56,16 +98,22 @@ impl Stage {
     /// A world of the plan of this name that may book so many entries, with a connection on each of these channels.
     fn on(rt: &HostRuntime, name: &str, events_max: u32, channels: &[u32]) -> Result<Stage> {
         let alloc = rt.alloc();
+        let sent = vec![in alloc; 0; channels.len()]?;
         let plan = Arc::new(alloc, plan_named(rt, name)?)?;
-        if events_max == 0 || events_max > EVENTS_MAX || !are_known(channels, plan.channels()) {
-            bail!("there is no such world");
-        }
         Ok(Stage {
             alloc,
-            world: World::new(alloc, plan, channels, events_max, RandomState::new(rt)?)?,
+            world: world_of(rt, plan, events_max, channels)?,
             entries: 0,
-            sent: vec![in alloc; 0; channels.len()]?,
+            sent,
         })
+    }
+
+    /// A world that is named by words: its plan, how many entries it may book, and the channels of its connections.
+    fn named(rt: &HostRuntime, words: &mut SplitWhitespace<'_>) -> Result<Stage> {
+        let name = word(words)?;
+        let events_max = number(words)?;
+        let channels = numbers(rt.alloc(), words)?;
+        Stage::on(rt, name, events_max, &channels)
     }
 
     /// Makes the call that a line says, and gives what came of it as lines of text.
@@ -100,10 +148,7 @@ impl Stage {
 
     /// A new world.
     fn open(&mut self, rt: &HostRuntime, words: &mut SplitWhitespace<'_>) -> Result<String> {
-        let name = word(words)?;
-        let events_max = number(words)?;
-        let channels = numbers(self.alloc, words)?;
-        *self = Stage::on(rt, name, events_max, &channels)?;
+        *self = Stage::named(rt, words)?;
         Ok(String::new(self.alloc))
     }
 
@@ -125,16 +170,11 @@ impl Stage {
 
     /// Bytes come in pieces of a length.
     fn pieces(&mut self, words: &mut SplitWhitespace<'_>) -> Result<String> {
-        let alloc = self.alloc;
         let len = number(words)?.max(1) as usize;
         let conn = number(words)?;
         let now = moment(words)?;
-        let stream = bytes_of(alloc, word(words)?)?;
-        let mut steps = Vec::new(alloc);
-        for piece in stream.chunks(len) {
-            let bytes = Vec::from_slice(alloc, piece)?;
-            steps.push(Step::Chunk { conn, bytes, now })?;
-        }
+        let stream = bytes_of(self.alloc, word(words)?)?;
+        let steps = chunks_of(self.alloc, conn, &stream, len, now)?;
         self.world.run(&steps);
         self.news()
     }
@@ -178,29 +218,26 @@ impl Stage {
 
     /// The entries that weren't told yet, and what connections were sent since then.
     fn news(&mut self) -> Result<String> {
-        let entries = self.new_entries()?;
-        let sent = self.newly_sent()?;
-        Ok(format!(in self.alloc; "{entries}{sent}")?)
-    }
-
-    /// The entries that weren't told yet.
-    fn new_entries(&mut self) -> Result<String, AllocError> {
         let mut text = String::new(self.alloc);
-        let book = self.world.book();
-        for place in self.entries..book.len() {
-            if let Some(entry) = book.entry(place) {
-                let entry = entry_shown(self.alloc, entry)?;
-                let line = format!(in self.alloc; "  entry {place}: {entry}\n")?;
-                text.push_str(line.as_str())?;
-            }
-        }
-        self.entries = book.len();
+        self.push_entries(&mut text)?;
+        self.push_sent(&mut text)?;
         Ok(text)
     }
 
-    /// What connections were sent that wasn't told yet.
-    fn newly_sent(&mut self) -> Result<String, AllocError> {
-        let mut text = String::new(self.alloc);
+    /// Appends the entries that weren't told yet.
+    fn push_entries(&mut self, text: &mut String) -> Result<(), AllocError> {
+        let book = self.world.book();
+        for place in self.entries..book.len() {
+            if let Some(entry) = book.entry(place) {
+                writeln!(text, "  entry {place}: {}", entry_shown(self.alloc, entry)?)?;
+            }
+        }
+        self.entries = book.len();
+        Ok(())
+    }
+
+    /// Appends what connections were sent that wasn't told yet.
+    fn push_sent(&mut self, text: &mut String) -> Result<(), AllocError> {
         for (conn, told) in self.sent.iter_mut().enumerate() {
             let conn = u32::try_from(conn).unwrap_or(u32::MAX);
             let output = self.world.output(conn);
@@ -208,7 +245,7 @@ impl Stage {
             text.push_str(lines.as_str())?;
             *told = output.len();
         }
-        Ok(text)
+        Ok(())
     }
 
     /// All that a connection was sent.
@@ -266,13 +303,8 @@ impl Stage {
 
     /// The steps by which the history of the book comes.
     fn steps(&self) -> Result<String> {
-        let alloc = self.alloc;
-        let mut text = String::new(alloc);
-        for step in &steps_of(alloc, self.world.book())? {
-            let step = step_shown(alloc, step)?;
-            let line = format!(in alloc; "  {step}\n")?;
-            text.push_str(line.as_str())?;
-        }
+        let mut text = String::new(self.alloc);
+        push_steps(&mut text, &steps_of(self.alloc, self.world.book())?)?;
         Ok(text)
     }
 }

@@ -1,14 +1,15 @@
 //! The channels of a plan.
 
-ghost use Rattle.std.specs.Prelude.{◌≡◌, ◌≤◌, [], codes, length, option_map, refl};
+ghost use Rattle.std.specs.Prelude.{◌≡◌, ◌≤◌, [], codes, Ok, length, option_map, refl};
+ghost use Rattle.toml.specs.Data.{Data, get_member};
 ghost use Rattle.toml.specs.View.{view, array_view, table_view};
 ghost use Rattle.hl7_filter.specs.View.{view as condition_view};
 ghost use Rattle.hl7_transform.specs.View.{steps_view};
 ghost use Rattle.plan_text.specs.AtKey.{at_key, key_at, value_at};
-ghost use Rattle.plan_text.specs.Fault.{Gives};
+ghost use Rattle.plan_text.specs.Fault.{Gives, ◌>>=◌ as and_then};
 ghost use Rattle.plan_text.specs.Entries.{RouteEntry, ChannelEntry};
-ghost use Rattle.plan_text.specs.Keys.{required, each_after};
-ghost use Rattle.plan_text.specs.Channels.{place_of, leads_to, way_at, route_to, route, routes_at, entry_at, entries_at, taken_at, channel};
+ghost use Rattle.plan_text.specs.Keys.{required, table_at, only_keys, each_after, key_path};
+ghost use Rattle.plan_text.specs.Channels.{place_of, leads_to, way_at, route_to, route, routes_at, entry_at, entries_at, taken_at, channel_keys, channel};
 
 use crate::channel::{Channel, MessageType, ProcessingId, Route, VersionId};
 use crate::destination::Destination;
@@ -204,6 +205,78 @@ fn taken_of(keys: &Keys<'_>) -> Result<Taken, Stop>
     })
 }
 
+/// No key but those of a channel.
+fn only_channel_keys(keys: &Keys<'_>) -> Result<(), Stop>
+    ensures { Gives (λ _. tt) result (only_keys channel_keys keys.now.at.now (table_view keys.now.table.now)) }
+{
+    keys.only(&[
+        "name",
+        "listen",
+        "types",
+        "processing",
+        "versions",
+        "filter",
+        "steps",
+        "route",
+    ])
+}
+
+/// The channel of this name and this address, by its other keys.
+fn named_channel(
+    keys: &Keys<'_>,
+    name: Literal,
+    listen: Literal,
+    destinations: &[Destination],
+) -> Result<Channel, Stop>
+    requires { length destinations.now ≤ 32 }
+    ensures { let at = keys.now.at.now in let t = table_view keys.now.table.now in
+        Gives (λ c. c) result (and_then (taken_at at t) λ taken. and_then (way_at at t) λ way.
+        and_then (routes_at destinations.now (key_path at (codes "route")) (get_member (codes "route") t)) λ routes.
+        Ok (record {
+          name = name;
+          listen = listen;
+          types = taken.0;
+          processing = taken.1.0;
+          versions = taken.1.1;
+          filter = way.0;
+          steps = way.1;
+          routes = routes;
+        })) }
+{
+    let taken = taken_of(keys)?;
+    let way = way_of(keys)?;
+    let routes = routes_of(&keys.key("route"), destinations)?;
+    Ok(Channel {
+        name,
+        listen,
+        types: taken.types,
+        processing: taken.processing,
+        versions: taken.versions,
+        filter: way.filter,
+        steps: way.steps,
+        routes,
+    })
+}
+
+/// The channel of a table that has no key but those of a channel.
+#[tactic(auto, unfolding(crate::specs::Channels::channel))]
+fn channel_of(
+    keys: &Keys<'_>,
+    before: &[Channel],
+    destinations: &[Destination],
+) -> Result<Channel, Stop>
+    requires { length destinations.now ≤ 32 }
+    ensures { let at = keys.now.at.now in let t = table_view keys.now.table.now in
+        (d : Data) → table_at at d ≡ Ok t → only_keys channel_keys at t ≡ Ok tt →
+        Gives (λ c. c) result (channel destinations.now before.now at d) }
+{
+    let name = new_name(&keys.key("name"), before)?;
+    let listen = keys.key("listen").text(1, 255)?;
+    let name = Literal::new(keys.alloc, name)?;
+    let listen = Literal::new(keys.alloc, listen)?;
+    named_channel(keys, name, listen, destinations)
+}
+
 /// The reader of channels whose routes lead to one of these.
 #[derive(Drop)]
 struct Channels<'a> {
@@ -237,31 +310,8 @@ impl Reader for Channels<'_> {
         value: &Value,
     ) -> Result<Channel, Stop> {
         let keys = Keys::of(alloc, at, value)?;
-        keys.only(&[
-            "name",
-            "listen",
-            "types",
-            "processing",
-            "versions",
-            "filter",
-            "steps",
-            "route",
-        ])?;
-        let name = new_name(&keys.key("name"), before)?;
-        let listen = keys.key("listen").text(1, 255)?;
-        let taken = taken_of(&keys)?;
-        let way = way_of(&keys)?;
-        let routes = routes_of(&keys.key("route"), self.destinations)?;
-        Ok(Channel {
-            name: Literal::new(alloc, name)?,
-            listen: Literal::new(alloc, listen)?,
-            types: taken.types,
-            processing: taken.processing,
-            versions: taken.versions,
-            filter: way.filter,
-            steps: way.steps,
-            routes,
-        })
+        only_channel_keys(&keys)?;
+        channel_of(&keys, before, self.destinations)
     }
 }
 

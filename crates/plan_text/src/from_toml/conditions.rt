@@ -3,10 +3,11 @@
 ghost use Rattle.std.specs.Prelude.{◌≡◌, map, IfOk, Ok, option_map};
 ghost use Rattle.toml.specs.View.{view, table_view, array_view};
 ghost use Rattle.toml.specs.Data.{Members, get_member};
+ghost use Rattle.hl7_filter.specs.Condition.{negated};
 ghost use Rattle.hl7_filter.specs.View.{view as condition_view};
 ghost use Rattle.plan_text.specs.AtKey.{at_key, key_at, value_at};
-ghost use Rattle.plan_text.specs.Fault.{Gives, told};
-ghost use Rattle.plan_text.specs.Keys.{required, each};
+ghost use Rattle.plan_text.specs.Fault.{Gives, ◌>>=◌ as and_then, told};
+ghost use Rattle.plan_text.specs.Keys.{required, each, list_within};
 ghost use Rattle.plan_text.specs.Conditions.{pair_of, text_pair, text_and_list, all_texts, path_in, path, path_and_text, path_and_texts, condition_key, on_piece, condition, by_key, filter_at};
 
 use crate::fault::{FaultName, Stop};
@@ -140,7 +141,7 @@ fn condition_of(alloc: Global, levels: u32, at: &str, value: &Value) -> Result<C
     if levels == 0 {
         return Err(fault_at(alloc, FaultName::TooMany, at));
     }
-    by_key(alloc, levels - 1, &keys.key(name))
+    by_key(levels - 1, &keys.key(name))
 }
 
 /// The condition on one piece of a message, at its key.
@@ -170,31 +171,46 @@ fn on_piece(key: &Key<'_>) -> Result<Cond, Stop>
     }
 }
 
+/// The negation of a condition.
+fn negation(alloc: Global, inner: Cond) -> Result<Cond, AllocError>
+    ensures { IfOk result (λ c. condition_view c ≡ negated (condition_view inner)) }
+{
+    Ok(Cond::Not(Box::new(alloc, inner)?))
+}
+
 /// The condition at its one key, with conditions of at most `levels` levels inside.
 #[cycle(condition)]
 #[tactic(auto, unfolding(crate::specs::Conditions::by_key))]
-fn by_key(alloc: Global, levels: u32, key: &Key<'_>) -> Result<Cond, Stop>
+fn by_key(levels: u32, key: &Key<'_>) -> Result<Cond, Stop>
     ensures { (t : Members) → value_at key.now ≡ get_member key.now.name.now t →
         Gives condition_view result (by_key (condition levels) key.now.at.now t key.now.name.now) }
 {
     match key.name {
-        "all" => {
-            let at = key.path()?;
-            Ok(Cond::All(conditions_of(alloc, levels, at.as_str(), key.list(MEMBERS_MAX)?)?))
-        }
-        "any" => {
-            let at = key.path()?;
-            Ok(Cond::Any(conditions_of(alloc, levels, at.as_str(), key.list(MEMBERS_MAX)?)?))
-        }
-        "not" => {
-            let at = key.path()?;
-            Ok(Cond::Not(Box::new(
-                alloc,
-                condition_of(alloc, levels, at.as_str(), key.required()?)?,
-            )?))
-        }
+        "all" => Ok(Cond::All(conditions_at(levels, key)?)),
+        "any" => Ok(Cond::Any(conditions_at(levels, key)?)),
+        "not" => Ok(negation(key.alloc, condition_at(levels, key, key.required()?)?)?),
         _ => on_piece(key),
     }
+}
+
+/// The condition at a key.
+#[cycle(condition)]
+fn condition_at(levels: u32, key: &Key<'_>, value: &Value) -> Result<Cond, Stop>
+    ensures { Gives condition_view result (condition levels (key_at key.now) (view value.now)) }
+{
+    let at = key.path()?;
+    condition_of(key.alloc, levels, at.as_str(), value)
+}
+
+/// The conditions of the list at a key, at most 256.
+#[cycle(condition)]
+fn conditions_at(levels: u32, key: &Key<'_>) -> Result<Vec<Cond>, Stop>
+    ensures { Gives (λ v. map condition_view v.items) result
+        (and_then (at_key key.now (required (list_within 256))) (each (condition levels) (key_at key.now))) }
+{
+    let values = key.list(MEMBERS_MAX)?;
+    let at = key.path()?;
+    conditions_of(key.alloc, levels, at.as_str(), values)
 }
 
 /// The conditions of a list.
@@ -219,6 +235,5 @@ pub(crate) fn filter_of(key: &Key<'_>) -> Result<Option<Cond>, Stop>
     let Some(value) = key.value else {
         return Ok(None);
     };
-    let at = key.path()?;
-    Ok(Some(condition_of(key.alloc, LEVELS_MAX, at.as_str(), value)?))
+    Ok(Some(condition_at(LEVELS_MAX, key, value)?))
 }

@@ -1,13 +1,14 @@
 //! The destinations of a plan.
 
-ghost use Rattle.std.specs.Prelude.{◌≡◌, [], refl};
+ghost use Rattle.std.specs.Prelude.{◌≡◌, [], IfOk, Ok, refl};
+ghost use Rattle.toml.specs.Data.{Data};
 ghost use Rattle.toml.specs.View.{table_view};
 ghost use Rattle.plan_text.specs.AtKey.{at_key};
 ghost use Rattle.plan_text.specs.Fault.{Gives};
 ghost use Rattle.plan_text.specs.Entries.{DestinationEntry};
-ghost use Rattle.plan_text.specs.Keys.{or_else};
+ghost use Rattle.plan_text.specs.Keys.{or_else, table_at, only_keys};
 ghost use Rattle.plan_text.specs.Kinds.{text_as, await_word};
-ghost use Rattle.plan_text.specs.Destinations.{sending, destination, destinations};
+ghost use Rattle.plan_text.specs.Destinations.{sending, destination_keys, destination, destinations};
 ghost use Rattle.plan_text.specs.declared.destination.Await.TheVariants as await;
 
 use crate::destination::{Await, Destination};
@@ -18,7 +19,7 @@ use crate::from_toml::members::{Reader, each};
 use crate::from_toml::names::new_name;
 use crate::limits::DESTINATIONS_MAX;
 use crate::literal::Literal;
-use std::alloc::Global;
+use std::alloc::{AllocError, Global};
 use toml::Value;
 
 fn await_of(key: &Key<'_>) -> Result<Await, Stop>
@@ -61,6 +62,56 @@ fn sending_of(keys: &Keys<'_>) -> Result<Sending, Stop>
     })
 }
 
+/// No key but those of a destination.
+fn only_destination_keys(keys: &Keys<'_>) -> Result<(), Stop>
+    ensures { Gives (λ _. tt) result (only_keys destination_keys keys.now.at.now (table_view keys.now.table.now)) }
+{
+    keys.only(&[
+        "name", "address", "attempts", "interval", "timeout", "await",
+    ])
+}
+
+/// The destination of this name and address.
+fn named_destination(
+    alloc: Global,
+    name: &str,
+    address: &str,
+    sending: Sending,
+) -> Result<Destination, AllocError>
+    ensures { IfOk result (λ d. d ≡ record {
+      name = name.now;
+      address = address.now;
+      attempts = sending.attempts;
+      interval = sending.interval;
+      timeout = sending.timeout;
+      wait = sending.wait;
+    }) }
+{
+    let name = Literal::new(alloc, name)?;
+    let address = Literal::new(alloc, address)?;
+    Ok(Destination {
+        name,
+        address,
+        attempts: sending.attempts,
+        interval: sending.interval,
+        timeout: sending.timeout,
+        wait: sending.wait,
+    })
+}
+
+/// The destination of a table that has no key but those of a destination.
+#[tactic(auto, unfolding(crate::specs::Destinations::destination))]
+fn destination_of(keys: &Keys<'_>, before: &[Destination]) -> Result<Destination, Stop>
+    ensures { let at = keys.now.at.now in let t = table_view keys.now.table.now in
+        (d : Data) → table_at at d ≡ Ok t → only_keys destination_keys at t ≡ Ok tt →
+        Gives (λ d. d) result (destination before.now at d) }
+{
+    let name = new_name(&keys.key("name"), before)?;
+    let address = keys.key("address").text(1, 255)?;
+    let sending = sending_of(keys)?;
+    Ok(named_destination(keys.alloc, name, address, sending)?)
+}
+
 /// The reader of destinations.
 #[derive(Clone, Copy)]
 struct Destinations;
@@ -91,20 +142,8 @@ impl Reader for Destinations {
         value: &Value,
     ) -> Result<Destination, Stop> {
         let keys = Keys::of(alloc, at, value)?;
-        keys.only(&[
-            "name", "address", "attempts", "interval", "timeout", "await",
-        ])?;
-        let name = new_name(&keys.key("name"), before)?;
-        let address = keys.key("address").text(1, 255)?;
-        let sending = sending_of(&keys)?;
-        Ok(Destination {
-            name: Literal::new(alloc, name)?,
-            address: Literal::new(alloc, address)?,
-            attempts: sending.attempts,
-            interval: sending.interval,
-            timeout: sending.timeout,
-            wait: sending.wait,
-        })
+        only_destination_keys(&keys)?;
+        destination_of(&keys, before)
     }
 }
 

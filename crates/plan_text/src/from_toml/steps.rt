@@ -1,22 +1,24 @@
 //! The steps of a plan.
 
-ghost use Rattle.std.specs.Prelude.{◌≡◌, ◌∷◌, [], false, None, option_map, refl};
+ghost use Rattle.std.specs.Prelude.{◌≡◌, ◌∷◌, [], codes, false, None, Ok, option_map, refl};
 ghost use Rattle.std.proofs.lemmas.List.{map-append, length-map};
 ghost use Rattle.std.specs.Option.{option_map_or};
+ghost use Rattle.toml.specs.Data.{Members, get_member};
 ghost use Rattle.toml.specs.View.{view, table_view as members_of, items_view, array_view};
-ghost use Rattle.hl7_transform.specs.Step.{Edit};
+ghost use Rattle.hl7_transform.specs.Step.{Edit, lookup, remove};
 ghost use Rattle.hl7_transform.specs.View.{view as step_view, steps_view, table_view};
 ghost use Rattle.plan_text.specs.AtKey.{at_key, key_at, value_at};
-ghost use Rattle.plan_text.specs.Fault.{Gives};
+ghost use Rattle.plan_text.specs.Fault.{Gives, ◌>>=◌ as and_then};
 ghost use Rattle.plan_text.specs.Conditions.{text_pair};
-ghost use Rattle.plan_text.specs.Keys.{each, required, or_else, only_keys};
-ghost use Rattle.plan_text.specs.Steps.{stands_at, two_texts, looks_up, any_looks_up, has_double, pairs, pair_at, any_text, default_text, lookup_at, known_keys, step_key, step_by, step, steps_at};
+ghost use Rattle.plan_text.specs.Keys.{each, key as read_at, key_path, required, or_else, only_keys};
+ghost use Rattle.plan_text.specs.Steps.{stands_at, two_texts, looks_up, any_looks_up, has_double, pairs, pair_at, any_text, default_text, lookup_at, known_keys, step_key, copy_at, step_by, step, steps_at};
 
 use crate::fault::{FaultName, Stop};
 use crate::from_toml::conditions::{bytes_of, text_pair};
 use crate::from_toml::keys::{Key, Keys, fault_at};
 use crate::from_toml::members::{Reader, each};
 use crate::limits::{MEMBERS_MAX, PAIRS_MAX};
+use er7_tree::Path;
 use hl7_filter::Bytes;
 use hl7_transform::{Pair, Step, StepCheck, check_step};
 use std::alloc::Global;
@@ -161,10 +163,29 @@ impl Reader for Pairs {
     }
 }
 
-fn table_of(alloc: Global, at: &str, values: &Array) -> Result<Vec<Pair>, Stop>
-    ensures { Gives (λ v. table_view v.items) result (each pair_at at.now (array_view values.now)) }
+/// The table of a lookup from its list, which stands at this key.
+fn table_of(key: &Key<'_>, values: &Array) -> Result<Vec<Pair>, Stop>
+    ensures { Gives (λ v. table_view v.items) result (each pair_at (key_at key.now) (array_view values.now)) }
 {
-    each(alloc, &Pairs, at, values)
+    let at = key.path()?;
+    each(key.alloc, &Pairs, at.as_str(), values)
+}
+
+/// The lookup that writes this path, by its other keys.
+fn lookup_to(path: Path, keys: &Keys<'_>) -> Result<Step, Stop>
+    ensures { let at = keys.now.at.now in let t = members_of keys.now.table.now in
+        Gives step_view result (and_then (read_at at t (codes "table") (required pairs)) λ ds.
+        and_then (each pair_at (key_path at (codes "table")) ds) λ table.
+        and_then (read_at at t (codes "default") (or_else None default_text)) λ default. Ok (lookup path table default)) }
+{
+    let key = keys.key("table");
+    let table = table_of(&key, key.pairs()?)?;
+    let default = keys.key("default").default_text()?;
+    Ok(Step::Lookup {
+        path,
+        table,
+        default,
+    })
 }
 
 #[tactic(auto, unfolding(crate::specs::Steps::lookup_at))]
@@ -175,16 +196,7 @@ fn lookup_of(keys: &Keys<'_>) -> Result<Step, Stop>
     let path = key.piece()?;
     // What a lookup writes is told before its table is read; it may write what it may clear.
     key.stands(&Step::Clear(path))?;
-    let table_key = keys.key("table");
-    let values = table_key.pairs()?;
-    let at = table_key.path()?;
-    let table = table_of(keys.alloc, at.as_str(), values)?;
-    let default = keys.key("default").default_text()?;
-    Ok(Step::Lookup {
-        path,
-        table,
-        default,
-    })
+    lookup_to(path, keys)
 }
 
 /// No key but those of a step; `table` and `default` stand beside `lookup` alone.
@@ -209,6 +221,26 @@ fn step_key(keys: &Keys<'_>) -> Result<&'static str, Stop>
     keys.one_of(&["set", "copy", "clear", "lookup", "remove"])
 }
 
+/// The step that copies what the first of two paths names to the second.
+fn copy_of(key: &Key<'_>) -> Result<Step, Stop>
+    ensures { (t : Members) → value_at key.now ≡ get_member key.now.name.now t →
+        Gives step_view result (copy_at key.now.name.now key.now.at.now t) }
+{
+    let (from, to) = key.two_texts()?;
+    let from = key.path_in(from)?;
+    let to = key.path_in(to)?;
+    Ok(Step::Copy { from, to })
+}
+
+/// The step that removes the segments of a name.
+fn remove_of(key: &Key<'_>) -> Result<Step, Stop>
+    ensures { (t : Members) → value_at key.now ≡ get_member key.now.name.now t →
+        Gives step_view result (and_then (read_at key.now.at.now t key.now.name.now (required any_text)) λ name. Ok (remove name)) }
+{
+    let name = key.any_text()?;
+    Ok(Step::RemoveSegments(bytes_of(key.alloc, name)?))
+}
+
 /// A step by its first key.
 #[tactic(auto, unfolding(crate::specs::Steps::step_by))]
 fn step_by(name: &str, keys: &Keys<'_>) -> Result<Step, Stop>
@@ -220,15 +252,10 @@ fn step_by(name: &str, keys: &Keys<'_>) -> Result<Step, Stop>
             let (path, text) = key.path_and_text()?;
             Ok(Step::Set(path, text))
         }
-        "copy" => {
-            let (from, to) = key.two_texts()?;
-            let from = key.path_in(from)?;
-            let to = key.path_in(to)?;
-            Ok(Step::Copy { from, to })
-        }
+        "copy" => copy_of(&key),
         "clear" => Ok(Step::Clear(key.piece()?)),
         "lookup" => lookup_of(keys),
-        _ => Ok(Step::RemoveSegments(bytes_of(keys.alloc, key.any_text()?)?)),
+        _ => remove_of(&key),
     }
 }
 

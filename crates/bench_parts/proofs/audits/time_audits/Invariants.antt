@@ -3,14 +3,14 @@ use Rattle.event_log.specs.Counting.{counted}
 use Rattle.event_log.specs.History.{next_place, plan_in_force}
 use Rattle.bench_parts.proofs.audits.time_audits.Given as goal
 
-abbrev pub ghosts-time_both-A-Opening : goal.ghosts-time_both-A-Opening
-ghosts-time_both-A-Opening g a = record { counts = counted a.book; first = next_place a.book; channels = length (plan_in_force a.book).channels }
+abbrev pub ghosts-booked_and_closed-A-Opening : goal.ghosts-booked_and_closed-A-Opening
+ghosts-booked_and_closed-A-Opening g a = record { counts = counted a.book; first = next_place a.book; channels = length (plan_in_force a.book).channels }
 
-abbrev pub ghosts-time_both-A-Ledger : goal.ghosts-time_both-A-Ledger
-ghosts-time_both-A-Ledger g a = record { name = a.arrivals.name; parts = a.arrivals.parts }
+abbrev pub ghosts-booked_and_closed-A-Ledger : goal.ghosts-booked_and_closed-A-Ledger
+ghosts-booked_and_closed-A-Ledger g a = record { name = a.arrivals.name; parts = a.arrivals.parts }
 
-abbrev pub ghosts-time_both-T-Ledger : goal.ghosts-time_both-T-Ledger
-ghosts-time_both-T-Ledger g a = record { name = a.takes.name; parts = a.takes.parts }
+abbrev pub ghosts-booked_and_closed-T-Ledger : goal.ghosts-booked_and_closed-T-Ledger
+ghosts-booked_and_closed-T-Ledger g a = record { name = a.takes.name; parts = a.takes.parts }
 
-abbrev pub ghosts-time_both-U-Ledger : goal.ghosts-time_both-U-Ledger
-ghosts-time_both-U-Ledger g a = record { name = a.settlements.name; parts = a.settlements.parts }
+abbrev pub ghosts-booked_and_closed-U-Ledger : goal.ghosts-booked_and_closed-U-Ledger
+ghosts-booked_and_closed-U-Ledger g a = record { name = a.settlements.name; parts = a.settlements.parts }

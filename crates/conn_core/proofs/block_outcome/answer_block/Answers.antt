@@ -1,27 +1,38 @@
-use Rattle.std.proofs.Common.{rules, ◌≡◌, ap, subst}
-use Rattle.std.specs.Prelude.{IfOk, IsTrue}
-use Rattle.judge_core.specs.Judging.{Judgement, is_bookable}
-use Rattle.conn_core.proofs.Answering.{booked_in, told_either}
+use Rattle.std.proofs.Common.{◌≡◌, ◌+◌, ◌++◌, ℕ, List, length, subst}
+use Rattle.std.specs.Prelude.{IsFalse, IsTrue}
+use Rattle.conn_core.specs.Outcomes.{AppendsFront, IsOutcome, MayBecome, dues_in, is_whole}
+use Rattle.conn_core.specs.Replies.{numbered}
 use Rattle.conn_core.proofs.block_outcome.answer_block.Goals as goal
 
 pub returns-clause-kind : goal.returns-clause-kind
 returns-clause-kind g c =
-    let bookable : IsTrue (is_bookable c.in_ok-judged.judged.raw) = search rules in
-    subst (λ (j : Judgement). IsTrue (is_bookable j.raw) × IfOk c.book_and_reply-booked.result.outcome (λ r. (r.conn ≡ c.args.line.now.conn) × (r.channel ≡ j.channel) × (r.raw ≡ j.raw)))
-    c.in_ok-judged.ensures (bookable, c.book_and_reply-booked.ensures.receipt)
+    let of_text = subst (λ (raw : List ℕ). IsOutcome c.args.line.now.conn c.in_ok-judged.judged.channel raw c.answer_judged.result) c.in_ok-judged.ensures.1 c.answer_judged.ensures.kind in
+    subst (λ (channel : ℕ). IsOutcome c.args.line.now.conn channel c.args.raw.items c.answer_judged.result) c.in_ok-judged.ensures.0 of_text
 
 pub returns-clause-booked : goal.returns-clause-booked
-returns-clause-booked g c =
-    booked_in (g.B.Booking.books c.args.book.now c.book_and_reply-booked.new.book) c.book_and_reply-booked.result.outcome c.book_and_reply-booked.ensures.booked
-    c.book_and_reply-booked.ensures.unbooked
+returns-clause-booked g c = c.answer_judged.ensures.booked
 
 pub returns-clause-told : goal.returns-clause-told
 returns-clause-told g c =
-    record {
-      judged = c.in_ok-judged.judged;
-      for_channel = ap (λ (j : Judgement). j.channel) c.in_ok-judged.ensures;
-      of_text = ap (λ (j : Judgement). j.raw) c.in_ok-judged.ensures;
-      may =
-          told_either (g.B.Booking.outcomes c.args.book.now c.in_ok-judged.judged) c.book_and_reply-booked.result.outcome c.book_and_reply-booked.ensures.told
-          c.book_and_reply-booked.ensures.refused;
-    }
+    let of_text = subst (λ (raw : List ℕ). MayBecome (g.B.Booking.outcomes c.args.book.now) c.in_ok-judged.judged.channel raw c.answer_judged.result) c.in_ok-judged.ensures.1 c.answer_judged.ensures.told in
+    subst (λ (channel : ℕ). MayBecome (g.B.Booking.outcomes c.args.book.now) channel c.args.raw.items c.answer_judged.result) c.in_ok-judged.ensures.0 of_text
+
+pub returns-clause-replies : goal.returns-clause-replies
+returns-clause-replies g c =
+    subst (λ (raw : List ℕ). IsTrue (is_whole c.answer_judged.result) → c.answer_judged.new.replies.bytes.items ≡ c.args.replies.now.bytes.items
+    ++ numbered c.args.line.now.conn (c.args.replies.now.made + 1) (dues_in raw c.args.now c.answer_judged.result))
+    c.in_ok-judged.ensures.1 c.answer_judged.ensures.replies
+
+pub returns-clause-counted : goal.returns-clause-counted
+returns-clause-counted g c =
+    subst (λ (raw : List ℕ). IsTrue (is_whole c.answer_judged.result) → c.answer_judged.new.replies.made ≡ c.args.replies.now.made + length (dues_in raw c.args.now c.answer_judged.result))
+    c.in_ok-judged.ensures.1 c.answer_judged.ensures.counted
+
+pub returns-clause-front : goal.returns-clause-front
+returns-clause-front g c =
+    subst (λ (raw : List ℕ). IsFalse (is_whole c.answer_judged.result) → AppendsFront c.args.replies.now.bytes.items c.answer_judged.new.replies.bytes.items
+    (numbered c.args.line.now.conn (c.args.replies.now.made + 1) (dues_in raw c.args.now c.answer_judged.result)))
+    c.in_ok-judged.ensures.1 c.answer_judged.ensures.front
+
+pub returns-clause-few : goal.returns-clause-few
+returns-clause-few g c = c.answer_judged.ensures.few

@@ -1,68 +1,57 @@
-use Rattle.std.proofs.Common.{◌+◌, ◌≤◌, inl, inr, refl, sym, ◌∙◌, ap, arith}
-use Rattle.std.specs.Prelude.{option_copied}
+use Rattle.std.proofs.Common.{◌≡◌, ◌≤◌, true, inl, inr, refl, sym, ◌∙◌, ap, arith}
+use Rattle.std.specs.Prelude.{is_ok}
 use Rattle.std.proofs.lemmas.Result.{err_from_is_err_and}
-use Rattle.dest_queue.specs.Slots.{state_at}
 use Rattle.event_log.specs.Answers.{cancel_answer}
-use Rattle.book_core.proofs.KeepingCancels.{asked-bits, asked-cancel, asked-none, asked-nothing, cancelled-less, cancelled-owed, cancelled-waits, cancelled-within, kept-cancelled}
-use Rattle.book_core.proofs.Waiting.{owes-none, some-waits, waits-nowhere}
+use Rattle.event_log.specs.History.{plan_in_force, slot}
+use Rattle.book_core.specs.Sending.{owed_waiting}
+use Rattle.book_core.proofs.KeepingCancels.{asked-cancel, asked-row, cancelled-less, cancelled-owed, cancelled-waits, cancelled-within, kept-cancelled}
 use Rattle.book_core.proofs.book.Book.cancel.Goals as goal
 
-pub returns-in_default-clause-refused : goal.returns-in_default-clause-refused
-returns-in_default-clause-refused g c =
-    inl (ap (λ h. cancel_answer h c.args.number) (sym c.self.view_is) ∙ asked-none _ _ _ _ _ _ c.self.invariant c.args.number (sym c.get.ensures ∙ ap option_copied c.in_default.is))
-
-pub returns-then-waiting-eq0-clause-refused : goal.returns-then-waiting-eq0-clause-refused
-returns-then-waiting-eq0-clause-refused g c =
-    let found = sym c.get.ensures ∙ ap option_copied c.in-Some.is in
-    inl (ap (λ h. cancel_answer h c.args.number) (sym c.self.view_is)
-    ∙ asked-nothing _ _ _ _ _ _ c.self.invariant c.args.number c.in-Some.message.now found _ refl (waits-nowhere c.deref.result.now (λ d. state_at d c.in-Some.message.now.slots) (sym c.owed_waiting-waiting.ensures ∙ c.if-waiting-eq0.true)))
+pub returns-in_err-waiting-clause-refused : goal.returns-in_err-waiting-clause-refused
+returns-in_err-waiting-clause-refused g c =
+    let p = err_from_is_err_and c.from_residual.result c.from_residual.ensures.1 in
+    rw (p.1, p.2) (inl c.in_err-waiting.ensures.refused)
 
 pub returns-in_err-reserve-clause-refused : goal.returns-in_err-reserve-clause-refused
 returns-in_err-reserve-clause-refused g c =
-    let found = sym c.get.ensures ∙ ap option_copied c.in-Some.is in
-    let p = err_from_is_err_and c.from_residual.result c.from_residual.ensures.1 in
-    rw (p.1, ← c.self.view_is, asked-cancel _ _ _ _ _ _ c.self.invariant c.args.number c.in-Some.message.now found _ refl (λ none. c.if-waiting-eq0.false (c.owed_waiting-waiting.ensures ∙ owes-none c.deref.result.now (λ d. state_at d c.in-Some.message.now.slots) none))) (inr (p.2, refl))
+    let p = err_from_is_err_and c.from_residual-in_err-reserve.result c.from_residual-in_err-reserve.ensures.1 in
+    rw p.1 (inr (p.2, c.in_ok-waiting.ensures.waits))
+
+pub unreachable-requires : goal.unreachable-requires
+unreachable-requires g c =
+    let asked : is_ok (cancel_answer c.self.inside.log.history c.args.number) ≡ true = ap (λ h. is_ok (cancel_answer h c.args.number)) c.self.view_is ∙ c.in_ok-waiting.ensures.waits in
+    asked-row _ _ _ _ _ _ c.self.invariant c.args.number asked (c.in_default.ensures.missing.0 refl)
 
 pub count_cancelled-requires-clause-waits : goal.count_cancelled-requires-clause-waits
 count_cancelled-requires-clause-waits g c =
-    let found = sym c.get.ensures ∙ ap option_copied c.in-Some.is in
-    let is = asked-bits _ _ _ _ _ _ c.self.invariant c.args.number c.in-Some.message.now found c.in-Some-cancel_waiting.mask (omega arith) (rw c.in-Some-cancel_waiting.is at c.cancel_waiting.ensures.mask) in
-    let some = some-waits c.in-Some-cancel_waiting.mask c.deref.result.now (λ d. state_at d c.in-Some.message.now.slots) is (λ none. c.if-waiting-eq0.false (c.owed_waiting-waiting.ensures ∙ none)) in
-    cancelled-waits _ _ _ _ _ _ c.self.invariant c.args.number c.in-Some.message.now found c.in-Some-cancel_waiting.mask is some
+    let asked : is_ok (cancel_answer c.self.inside.log.history c.args.number) ≡ true = ap (λ h. is_ok (cancel_answer h c.args.number)) c.self.view_is ∙ c.in_ok-waiting.ensures.waits in
+    cancelled-waits _ _ _ _ _ _ c.self.invariant c.args.number asked c.in-Some.mask (omega arith) c.in-Some.ensures.mask
 
 pub overflow_sub-owed : goal.overflow_sub-owed
 overflow_sub-owed g c =
-    let found = sym c.get.ensures ∙ ap option_copied c.in-Some.is in
-    let is = asked-bits _ _ _ _ _ _ c.self.invariant c.args.number c.in-Some.message.now found c.in-Some-cancel_waiting.mask (omega arith) (rw c.in-Some-cancel_waiting.is at c.cancel_waiting.ensures.mask) in
-    let some = some-waits c.in-Some-cancel_waiting.mask c.deref.result.now (λ d. state_at d c.in-Some.message.now.slots) is (λ none. c.if-waiting-eq0.false (c.owed_waiting-waiting.ensures ∙ none)) in
-    rw (c.owed.ensures.value, c.reserve.ensures.history) (cancelled-less _ _ _ _ _ _ c.self.invariant c.args.number c.in-Some.message.now found c.in-Some-cancel_waiting.mask is some _ c.owed_waiting-waiting.result (c.deref.ensures ∙ c.plan.ensures) c.owed_waiting-waiting.ensures)
+    let asked : is_ok (cancel_answer c.self.inside.log.history c.args.number) ≡ true = ap (λ h. is_ok (cancel_answer h c.args.number)) c.self.view_is ∙ c.in_ok-waiting.ensures.waits in
+    let owes : c.in_ok-waiting.waiting ≡ owed_waiting (plan_in_force c.self.inside.log.history) (slot c.self.inside.log.history c.args.number) = c.in_ok-waiting.ensures.owed ∙ ap (λ h. owed_waiting (plan_in_force h) (slot h c.args.number)) (sym c.self.view_is) in
+    rw (c.owed.ensures.value, c.reserve.ensures.history) (cancelled-less _ _ _ _ _ _ c.self.invariant c.args.number asked c.in-Some.mask (omega arith) c.in-Some.ensures.mask c.in_ok-waiting.waiting owes)
 
 pub push-requires-clause-owed : goal.push-requires-clause-owed
 push-requires-clause-owed g c =
-    let found = sym c.get.ensures ∙ ap option_copied c.in-Some.is in
-    let is = asked-bits _ _ _ _ _ _ c.self.invariant c.args.number c.in-Some.message.now found c.in-Some-cancel_waiting.mask (omega arith) (rw c.in-Some-cancel_waiting.is at c.cancel_waiting.ensures.mask) in
-    let some = some-waits c.in-Some-cancel_waiting.mask c.deref.result.now (λ d. state_at d c.in-Some.message.now.slots) is (λ none. c.if-waiting-eq0.false (c.owed_waiting-waiting.ensures ∙ none)) in
-    rw (c.owed.ensures.value, c.reserve.ensures.history) (cancelled-owed _ _ _ _ _ _ c.self.invariant c.args.number c.in-Some.message.now found c.in-Some-cancel_waiting.mask is some _ c.owed_waiting-waiting.result (c.deref.ensures ∙ c.plan.ensures) c.owed_waiting-waiting.ensures)
+    let asked : is_ok (cancel_answer c.self.inside.log.history c.args.number) ≡ true = ap (λ h. is_ok (cancel_answer h c.args.number)) c.self.view_is ∙ c.in_ok-waiting.ensures.waits in
+    let owes : c.in_ok-waiting.waiting ≡ owed_waiting (plan_in_force c.self.inside.log.history) (slot c.self.inside.log.history c.args.number) = c.in_ok-waiting.ensures.owed ∙ ap (λ h. owed_waiting (plan_in_force h) (slot h c.args.number)) (sym c.self.view_is) in
+    rw (c.owed.ensures.value, c.reserve.ensures.history) (cancelled-owed _ _ _ _ _ _ c.self.invariant c.args.number asked c.in-Some.mask (omega arith) c.in-Some.ensures.mask c.in_ok-waiting.waiting owes)
 
 pub push-requires-clause-within : goal.push-requires-clause-within
 push-requires-clause-within g c =
-    let found = sym c.get.ensures ∙ ap option_copied c.in-Some.is in
-    let is = asked-bits _ _ _ _ _ _ c.self.invariant c.args.number c.in-Some.message.now found c.in-Some-cancel_waiting.mask (omega arith) (rw c.in-Some-cancel_waiting.is at c.cancel_waiting.ensures.mask) in
-    let some = some-waits c.in-Some-cancel_waiting.mask c.deref.result.now (λ d. state_at d c.in-Some.message.now.slots) is (λ none. c.if-waiting-eq0.false (c.owed_waiting-waiting.ensures ∙ none)) in
-    rw (c.owed.ensures.value, c.reserve.ensures.history) (cancelled-within _ _ _ _ _ _ c.self.invariant c.args.number c.in-Some.message.now found c.in-Some-cancel_waiting.mask is some _ c.owed_waiting-waiting.result (c.deref.ensures ∙ c.plan.ensures) c.owed_waiting-waiting.ensures)
+    let asked : is_ok (cancel_answer c.self.inside.log.history c.args.number) ≡ true = ap (λ h. is_ok (cancel_answer h c.args.number)) c.self.view_is ∙ c.in_ok-waiting.ensures.waits in
+    let owes : c.in_ok-waiting.waiting ≡ owed_waiting (plan_in_force c.self.inside.log.history) (slot c.self.inside.log.history c.args.number) = c.in_ok-waiting.ensures.owed ∙ ap (λ h. owed_waiting (plan_in_force h) (slot h c.args.number)) (sym c.self.view_is) in
+    rw (c.owed.ensures.value, c.reserve.ensures.history) (cancelled-within _ _ _ _ _ _ c.self.invariant c.args.number asked c.in-Some.mask (omega arith) c.in-Some.ensures.mask c.in_ok-waiting.waiting owes)
 
 pub invariant_of-self-2 : goal.invariant_of-self-2
 invariant_of-self-2 g c =
-    let found = sym c.get.ensures ∙ ap option_copied c.in-Some.is in
-    let is = asked-bits _ _ _ _ _ _ c.self.invariant c.args.number c.in-Some.message.now found c.in-Some-cancel_waiting.mask (omega arith) (rw c.in-Some-cancel_waiting.is at c.cancel_waiting.ensures.mask) in
-    let some = some-waits c.in-Some-cancel_waiting.mask c.deref.result.now (λ d. state_at d c.in-Some.message.now.slots) is (λ none. c.if-waiting-eq0.false (c.owed_waiting-waiting.ensures ∙ none)) in
-    let room : c.self.inside.flights + 1 ≤ c.reserve.new.self.room = c.in_ok-reserve.ensures.ok in
-    rw (c.push.ensures.history, c.reserve.ensures.history, c.cancel_waiting.ensures.cancelled)
-    (kept-cancelled _ _ _ _ _ _ c.self.invariant c.args.number c.in-Some.message.now found c.in-Some-cancel_waiting.mask is some _ _ c.count_cancelled.ensures (omega (arith, c.push.ensures.room)))
+    let asked : is_ok (cancel_answer c.self.inside.log.history c.args.number) ≡ true = ap (λ h. is_ok (cancel_answer h c.args.number)) c.self.view_is ∙ c.in_ok-waiting.ensures.waits in
+    let left : c.self.inside.flights ≤ c.push.new.self.room = omega (arith, c.in_ok-reserve.ensures.ok, c.push.ensures.room) in
+    rw (c.push.ensures.history, c.reserve.ensures.history, c.cancel_waiting.ensures.cancelled) (kept-cancelled _ _ _ _ _ _ c.self.invariant c.args.number asked c.in-Some.mask (omega arith) c.in-Some.ensures.mask c.count_cancelled.new.counts c.push.new.self.room c.count_cancelled.ensures left)
 
 pub returns-clause-answer : goal.returns-clause-answer
 returns-clause-answer g c =
-    let found = sym c.get.ensures ∙ ap option_copied c.in-Some.is in
-    let is = asked-bits _ _ _ _ _ _ c.self.invariant c.args.number c.in-Some.message.now found c.in-Some-cancel_waiting.mask (omega arith) (rw c.in-Some-cancel_waiting.is at c.cancel_waiting.ensures.mask) in
-    let some = some-waits c.in-Some-cancel_waiting.mask c.deref.result.now (λ d. state_at d c.in-Some.message.now.slots) is (λ none. c.if-waiting-eq0.false (c.owed_waiting-waiting.ensures ∙ none)) in
-    ap (λ h. cancel_answer h c.args.number) (sym c.self.view_is) ∙ asked-cancel _ _ _ _ _ _ c.self.invariant c.args.number c.in-Some.message.now found c.in-Some-cancel_waiting.mask is some
+    let asked : is_ok (cancel_answer c.self.inside.log.history c.args.number) ≡ true = ap (λ h. is_ok (cancel_answer h c.args.number)) c.self.view_is ∙ c.in_ok-waiting.ensures.waits in
+    ap (λ h. cancel_answer h c.args.number) (sym c.self.view_is) ∙ asked-cancel _ _ _ _ _ _ c.self.invariant c.args.number asked c.in-Some.mask (omega arith) c.in-Some.ensures.mask

@@ -1,5 +1,5 @@
 use Rattle.std.proofs.Common.{◌≡◌, length, get_or, None, arith}
-use Rattle.conn_core.proofs.Numbering.{due_part, dues_two, two_parts, second_appended, second_missing}
+use Rattle.conn_core.proofs.Numbering.{counted_two, due_part, dues_two, two_parts, second_appended, second_missing}
 use Rattle.conn_core.proofs.replies.Replies.append.Goals as goal
 
 pub returns-clause-ok : goal.returns-clause-ok
@@ -17,3 +17,10 @@ returns-clause-err c =
     second_missing c.append_part-2.result _ _ _ _ _ _ c.in_ok-append_part.ensures.ok
     (two_parts c.args.conn c.args.self.now.made (due_part c.args.header.now c.args.now) (get_or c.parts.result 0 None) (get_or c.parts.result 1 None) c.append_part.new.self.made _ c.in_ok-append_part.ensures.counted dues)
     c.append_part-2.ensures.err
+
+pub returns-clause-counted : goal.returns-clause-counted
+returns-clause-counted c =
+    let two : length c.parts.result ≡ 2 = omega arith in
+    let dues = dues_two c.args.header.now c.args.outcome c.args.now c.of.result c.told_of.result c.parts.result two c.parts.ensures c.of.ensures c.told_of.ensures in
+    counted_two c.append_part-2.result c.args.self.now.made _ _ (due_part c.args.header.now c.args.now) (get_or c.parts.result 0 None) (get_or c.parts.result 1 None) _ c.in_ok-append_part.ensures.counted dues
+    c.append_part-2.ensures.counted

@@ -6,13 +6,19 @@ use Rattle.plan_text.specs.Conditions.{condition}
 use Rattle.plan_text.proofs.from_toml.conditions.+condition.Given as goal
 
 abbrev pub decreases-condition_of : goal.decreases-condition_of
-decreases-condition_of l = 3 * l.levels
+decreases-condition_of l = 5 * l.levels
 
 abbrev pub decreases-by_key : goal.decreases-by_key
-decreases-by_key l = 3 * l.levels + 2
+decreases-by_key l = 5 * l.levels + 4
+
+abbrev pub decreases-condition_at : goal.decreases-condition_at
+decreases-condition_at l = 5 * l.levels + 1
+
+abbrev pub decreases-conditions_at : goal.decreases-conditions_at
+decreases-conditions_at l = 5 * l.levels + 3
 
 abbrev pub decreases-conditions_of : goal.decreases-conditions_of
-decreases-conditions_of l = 3 * l.levels + 1
+decreases-conditions_of l = 5 * l.levels + 2
 
 abbrev pub invariant-conditions_of-loop-value : goal.invariant-conditions_of-loop-value
 invariant-conditions_of-loop-value l = each_after (λ before. condition l.levels) l.at (map condition_view l.conds.items) (items_view (drop l.value-index l.value-items)) ≡ each (condition l.levels) l.at (array_view l.values)

@@ -1,0 +1,91 @@
+//! How messages, receipts, jobs and entries are written.
+
+use book_core::{Job, Receipt};
+use event_log::{Entry, Told};
+use std::alloc::{AllocError, Global};
+
+/// The bytes 0x0D of a message, as a script writes them.
+const RETURN: &str = "<CR>";
+
+/// The bytes of a text, with 0x0D where it says so, and a number in place of `#`.
+pub fn bytes_of(alloc: Global, text: &str, number: u32) -> Result<Vec<u8>, AllocError> {
+    let number = format!(in alloc; "{number}")?;
+    let text = text.replace(alloc, RETURN, "\r")?;
+    Ok(text.replace(alloc, "#", number.as_str())?.into_bytes())
+}
+
+/// A text as a script writes it.
+fn shown(alloc: Global, bytes: &[u8]) -> Result<String, AllocError> {
+    String::from_utf8_lossy(alloc, bytes)?.replace(alloc, "\r", RETURN)
+}
+
+/// What a receipt says.
+pub fn receipt_shown(alloc: Global, receipt: &Receipt) -> Result<String, AllocError> {
+    format!(in alloc;
+        "{:?}, entry {}, connection {}, channel {}, {} bytes",
+        receipt.told,
+        receipt.entry,
+        receipt.conn,
+        receipt.channel,
+        receipt.raw.as_slice().len()
+    )
+}
+
+/// A job.
+pub fn job_shown(alloc: Global, job: &Job) -> Result<String, AllocError> {
+    let ticket = job.ticket;
+    let id = shown(alloc, job.control_id.as_slice())?;
+    let payload = shown(alloc, job.payload.as_slice())?;
+    format!(in alloc;
+        "message {} to {}, attempt {}, control id {id}, answered {}, {payload}",
+        ticket.number, ticket.destination, ticket.attempt, job.ack
+    )
+}
+
+/// The arrival of bytes.
+fn arrival_shown(
+    alloc: Global,
+    conn: u32,
+    channel: u32,
+    raw: &[u8],
+    told: Told,
+) -> Result<String, AllocError> {
+    let text = shown(alloc, raw)?;
+    format!(in alloc; "arrival by {conn} on {channel}, {told:?}, {text}")
+}
+
+/// An entry.
+pub fn entry_shown(alloc: Global, entry: &Entry) -> Result<String, AllocError> {
+    match entry {
+        Entry::Arrival {
+            conn,
+            channel,
+            raw,
+            told,
+        } => arrival_shown(alloc, *conn, *channel, raw.as_slice(), *told),
+        Entry::Take { ticket, now } => format!(in alloc;
+            "take {} {} {} at {}",
+            ticket.number,
+            ticket.destination,
+            ticket.attempt,
+            now.secs()
+        ),
+        Entry::Settle {
+            ticket,
+            outcome,
+            now,
+            state,
+        } => format!(in alloc;
+            "settle {} {} {} {outcome:?} at {}: {state:?}",
+            ticket.number,
+            ticket.destination,
+            ticket.attempt,
+            now.secs()
+        ),
+        Entry::Cancel { number, mask } => format!(in alloc; "cancel {number} where {mask} says"),
+        Entry::Deploy { plan } => {
+            let plan = plan.plan();
+            format!(in alloc; "deploy {} to {}", plan.channels(), plan.destinations())
+        }
+    }
+}
