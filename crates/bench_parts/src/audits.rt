@@ -85,7 +85,11 @@ fn booked_and_closed<A: Opening, T: Ledger, U: Ledger, H: Wait>(
 }
 
 /// Audits receipts in their order and in the other one.
-fn time_both<H: Clock>(rt: &H, closed: &Closed<Rows>, receipts: &mut Vec<Receipt>) -> Option<Audits> {
+fn time_both<H: Clock>(
+    rt: &H,
+    closed: &Closed<Rows>,
+    receipts: &mut Vec<Receipt>,
+) -> Option<Audits> {
     let rising = time_audit(rt, closed, receipts)?;
     receipts.reverse();
     let falling = time_audit(rt, closed, receipts)?;
