@@ -1,14 +1,15 @@
 //! What is handed in at a close, and the audit of receipts after it.
 
-ghost use Rattle.std.specs.Prelude.{◌≡◌, ◌+◌, length};
+ghost use Rattle.std.specs.Prelude.{◌≡◌, ◌+◌, IfOk, IsTrue, length};
+ghost use Rattle.judge_core.specs.Judging.{is_bookable};
 ghost use Rattle.event_log.specs.History.{next_place, plan_in_force};
 ghost use Rattle.event_log.specs.Counting.{counted};
 
-use crate::stage::{M1, M2, Rows, judged, open, waiting};
+use crate::stage::{M1, M2, Rows, close, judged, open, waiting};
 use book_core::{Book, EVENTS_MAX, Receipt, Told};
 use book_lock::{AuditFault, Closed, Desk, NotClosed, Opening, Shared, Station, audit, rising};
 use conn_worker::nearest;
-use judge_core::Text;
+use judge_core::{Judged, Text};
 use std::alloc::Global;
 use std::marker::Brand;
 use std::sync::ledger::{Blank, Ledger};
@@ -172,10 +173,24 @@ struct Day {
     closed: Closed<Rows>,
 }
 
-/// Puts a share with those that are handed in, or with those that are kept.
-fn put<X: Drop>(share: X, given: bool, handed: &mut Vec<X>, kept: &mut Vec<X>) -> Result<(), Fail> {
-    let pile = if given { handed } else { kept };
-    pile.push(share)?;
+/// Keeps a share back from those that are handed in, unless it is given.
+fn keep_back<X: Drop>(
+    handed: &mut Vec<X>,
+    place: usize,
+    given: bool,
+    kept: &mut Vec<X>,
+) -> Result<(), Fail> {
+    if !given && place < handed.len() {
+        kept.push(handed.remove(place))?;
+    }
+    Ok(())
+}
+
+/// Puts further shares to those that are handed in.
+fn add<X: Drop>(handed: &mut Vec<X>, further: Vec<X>) -> Result<(), Fail> {
+    for share in further {
+        handed.push(share)?;
+    }
     Ok(())
 }
 
@@ -191,15 +206,9 @@ fn close_at_last<A: Opening, T: Ledger, U: Ledger>(
         mut stations,
     } = missing;
     let back = Some((desks.len(), stations.len()));
-    for desk in kept_desks {
-        desks.push(desk)?;
-    }
-    for station in kept_stations {
-        stations.push(station)?;
-    }
-    let Ok(closed) = shared.close(desks, stations) else {
-        return Err("shares".into());
-    };
+    add(&mut desks, kept_desks)?;
+    add(&mut stations, kept_stations)?;
+    let closed = close(shared, desks, stations)?;
     Ok(Day { back, closed })
 }
 
@@ -218,6 +227,45 @@ fn close_twice<A: Opening, T: Ledger, U: Ledger>(
     }
 }
 
+/// Keeps back the shares that are not given.
+fn keep<A: Opening, T: Ledger, U: Ledger>(
+    alloc: Global,
+    given: &Given,
+    handed: &mut Shares<A, T, U>,
+) -> Result<Shares<A, T, U>, Fail> {
+    let (mut desks, mut stations) = (Vec::new(alloc), Vec::new(alloc));
+    keep_back(&mut handed.0, 1, given.idle, &mut desks)?;
+    keep_back(&mut handed.0, 0, given.busy, &mut desks)?;
+    keep_back(&mut handed.1, 0, given.station, &mut stations)?;
+    Ok((desks, stations))
+}
+
+/// A message judged by the plan in force.
+fn judged_now<A: Opening, T: Ledger, U: Ledger, H: Wait>(
+    rt: &H,
+    alloc: Global,
+    shared: &Shared<A, T, U, Rows>,
+    text: &str,
+) -> Result<Judged, Fail>
+    ensures { IfOk result (λ judged. IsTrue (is_bookable judged.raw)) }
+{
+    let plan = shared.plan(rt)?;
+    judged(alloc, &plan, text)
+}
+
+/// Books a judged message by connection 5.
+fn arrive<A: Opening, T: Ledger, U: Ledger, H: Wait>(
+    rt: &H,
+    shared: &Shared<A, T, U, Rows>,
+    desk: &mut Desk<A>,
+    judged: &Judged,
+) -> Result<(), Fail>
+    requires { IsTrue (is_bookable judged.now.raw) }
+{
+    shared.arrive(rt, desk, 5, judged)?;
+    Ok(())
+}
+
 /// Books a message by connection 5.
 fn book_message<A: Opening, T: Ledger, U: Ledger, H: Wait>(
     rt: &H,
@@ -226,14 +274,12 @@ fn book_message<A: Opening, T: Ledger, U: Ledger, H: Wait>(
     desk: &mut Desk<A>,
     text: &str,
 ) -> Result<(), Fail> {
-    let plan = shared.plan(rt)?;
-    let judged = judged(alloc, &plan, text)?;
-    shared.arrive(rt, desk, 5, &judged)?;
-    Ok(())
+    let judged = judged_now(rt, alloc, shared, text)?;
+    arrive(rt, shared, desk, &judged)
 }
 
 /// Books a message, takes it, and books another.
-fn work<A: Opening, T: Ledger, U: Ledger, H: Wait>(
+fn work_at<A: Opening, T: Ledger, U: Ledger, H: Wait>(
     rt: &H,
     alloc: Global,
     shared: &Shared<A, T, U, Rows>,
@@ -243,6 +289,22 @@ fn work<A: Opening, T: Ledger, U: Ledger, H: Wait>(
     book_message(rt, alloc, shared, desk, M1)?;
     shared.take(rt, station, 0, nearest(0))?;
     book_message(rt, alloc, shared, desk, M2)
+}
+
+/// Works at the first desk and the first station.
+fn work<A: Opening, T: Ledger, U: Ledger, H: Wait>(
+    rt: &H,
+    alloc: Global,
+    shared: &Shared<A, T, U, Rows>,
+    shares: &mut Shares<A, T, U>,
+) -> Result<(), Fail> {
+    let Some(desk) = shares.0.first_mut() else {
+        return Err("no desk".into());
+    };
+    let Some(station) = shares.1.first_mut() else {
+        return Err("no station".into());
+    };
+    work_at(rt, alloc, shared, desk, station)
 }
 
 /// Works at one of two desks and at a station, and closes the book, a second time with all shares where the first close
@@ -263,7 +325,7 @@ fn end_day<A: Opening, T: Ledger, U: Ledger, H: Wait>(
     requires takes { (takes.name ≡ T.name) × (takes.parts ≡ T.parts) × (T.parts ≡ 2) }
     requires settlements { (settlements.name ≡ U.name) × (settlements.parts ≡ U.parts) × (U.parts ≡ 2) }
 {
-    let (shared, mut desks, mut stations) = open::<A, T, U>(
+    let (shared, desks, stations) = open::<A, T, U>(
         alloc,
         book,
         2,
@@ -272,16 +334,10 @@ fn end_day<A: Opening, T: Ledger, U: Ledger, H: Wait>(
         takes,
         settlements,
     )?;
-    let (Some(idle), Some(mut busy), Some(mut station)) = (desks.pop(), desks.pop(), stations.pop())
-    else {
-        return Err("no share".into());
-    };
-    work(rt, alloc, &shared, &mut busy, &mut station)?;
-    let mut kept = (Vec::new(alloc), Vec::new(alloc));
-    put(idle, given.idle, &mut desks, &mut kept.0)?;
-    put(busy, given.busy, &mut desks, &mut kept.0)?;
-    put(station, given.station, &mut stations, &mut kept.1)?;
-    close_twice(shared, (desks, stations), kept)
+    let mut handed = (desks, stations);
+    work(rt, alloc, &shared, &mut handed)?;
+    let kept = keep(alloc, given, &mut handed)?;
+    close_twice(shared, handed, kept)
 }
 
 /// The receipts of these slips.
@@ -325,14 +381,29 @@ fn day_at<H: Wait>(rt: &H, alloc: Global, book: Book<Rows>, given: &Given) -> Re
     )
 }
 
+/// Whether as many shares came back as are due, and each audit comes out as it is to.
+fn is_right(alloc: Global, given: &Given, day: &Day) -> Result<bool, Fail> {
+    Ok(day.back == given.back && unmet(alloc, &day.closed)?.is_none())
+}
+
+/// Whether a day at a book, of which these shares are handed in, comes out as it is to.
+fn comes_out<H: Wait>(
+    rt: &H,
+    alloc: Global,
+    book: Book<Rows>,
+    given: &Given,
+) -> Result<bool, Fail> {
+    let day = day_at(rt, alloc, book, given)?;
+    is_right(alloc, given, &day)
+}
+
 /// A close is refused where a share is missing at which something was made. Where it is refused, all comes back, and the
 /// next close with all shares is done. Each audit comes out as it is to.
 #[test]
 fn cases(rt: HostRuntime) -> Result<(), Fail> {
     for (place, given) in GIVEN.iter().enumerate() {
         let book = waiting(&rt, false, EVENTS_MAX, &[])?;
-        let day = day_at(&rt, rt.alloc(), book, given)?;
-        let right = day.back == given.back && unmet(rt.alloc(), &day.closed)?.is_none();
+        let right = comes_out(&rt, rt.alloc(), book, given)?;
         assert!(rt; right, "case {place}");
     }
     Ok(())

@@ -6,7 +6,7 @@ ghost use Rattle.event_log.specs.Counting.{counted};
 
 use crate::stage::{M1, M2, Rows, UPDATE, close, open, waiting};
 use book_core::{Book, CancelRefusal, EVENTS_MAX, TakeRefusal, Ticket};
-use book_lock::{Closed, Opening, Shared, Station};
+use book_lock::{Closed, Desk, Opening, Shared, Station};
 use conn_worker::nearest;
 use dest_queue::{FailCause, Outcome, SettleRefusal, SlotState};
 use plan_text::Plan;
@@ -245,17 +245,44 @@ fn first_unmet<A: Opening, T: Ledger, U: Ledger, H: Wait>(
     None
 }
 
-/// What came of a case.
+/// What the calls of a case answered, and what was shown after them.
 #[derive(Drop)]
-struct Played {
+struct Answers {
     /// The first call that was answered otherwise.
     unmet: Option<usize>,
     shown: Counts,
     plan: Arc<Plan>,
+}
+
+/// The answers, and the book after them.
+#[derive(Drop)]
+struct Played {
+    answers: Answers,
     closed: Closed<Rows>,
 }
 
-/// Makes calls of a book that is shared, one after another, and closes it.
+/// Makes calls of a shared book, one after another.
+fn make<A: Opening, T: Ledger, U: Ledger, H: Wait>(
+    rt: &H,
+    shared: &Shared<A, T, U, Rows>,
+    desks: &mut [Desk<A>],
+    stations: &mut [Station<T, U>],
+    calls: &[Call],
+) -> Result<Answers, Fail> {
+    let Some(desk) = desks.first_mut() else {
+        return Err("no desk".into());
+    };
+    let Some(station) = stations.first_mut() else {
+        return Err("no station".into());
+    };
+    Ok(Answers {
+        unmet: first_unmet(rt, shared, station, calls),
+        shown: shared.counts(rt, desk),
+        plan: shared.plan(rt)?,
+    })
+}
+
+/// Shares a book, makes calls of it, and closes it.
 fn play<A: Opening, T: Ledger, U: Ledger, H: Wait>(
     rt: &H,
     alloc: Global,
@@ -281,30 +308,18 @@ fn play<A: Opening, T: Ledger, U: Ledger, H: Wait>(
         takes,
         settlements,
     )?;
-    let (Some(mut desk), Some(mut station)) = (desks.pop(), stations.pop()) else {
-        return Err("no share".into());
-    };
-    let unmet = first_unmet(rt, &shared, &mut station, calls);
-    let shown = shared.counts(rt, &mut desk);
-    let plan = shared.plan(rt)?;
-    desks.push(desk)?;
-    stations.push(station)?;
+    let answers = make(rt, &shared, &mut desks, &mut stations, calls)?;
     let closed = close(shared, desks, stations)?;
-    Ok(Played {
-        unmet,
-        shown,
-        plan,
-        closed,
-    })
+    Ok(Played { answers, closed })
 }
 
 /// Whether each call was answered as is due, the slots are as they are to be, the statistics shown before the close are
 /// those of the closed book, and the plan shown is its plan.
 fn is_right(slots: [Option<SlotState>; 4], played: &Played) -> bool {
-    let book = played.closed.book();
-    played.unmet.is_none()
-        && played.shown == *book.counts()
-        && played.plan.same(book.plan())
+    let (answers, book) = (&played.answers, played.closed.book());
+    answers.unmet.is_none()
+        && answers.shown == *book.counts()
+        && answers.plan.same(book.plan())
         && book.status(0, 0) == slots[0]
         && book.status(0, 1) == slots[1]
         && book.status(0, 2) == slots[2]
@@ -329,13 +344,18 @@ fn play_at<H: Wait>(
     )
 }
 
+/// Whether these calls of a book come out as they are to.
+fn comes_out<H: Wait>(rt: &H, alloc: Global, book: Book<Rows>, case: &Case) -> Result<bool, Fail> {
+    let played = play_at(rt, alloc, book, case.calls)?;
+    Ok(is_right(case.slots, &played))
+}
+
 /// Each case comes out as it is to.
 #[test]
 fn cases(rt: HostRuntime) -> Result<(), Fail> {
     for (place, case) in CASES.iter().enumerate() {
         let book = waiting(&rt, case.four, EVENTS_MAX, case.messages)?;
-        let played = play_at(&rt, rt.alloc(), book, case.calls)?;
-        let right = is_right(case.slots, &played);
+        let right = comes_out(&rt, rt.alloc(), book, case)?;
         assert!(rt; right, "case {place}");
     }
     Ok(())

@@ -20,15 +20,35 @@ const SLOWER: &str =
 
 /// What came of two deployments: why the first was refused, whether the second was, and which plan is in force.
 #[derive(Drop)]
-struct Deployed {
+struct Answers {
     first: Option<DeployRefusal>,
     second: Option<DeployRefusal>,
     told: Arc<Plan>,
+}
+
+/// The answers, and the book after them.
+#[derive(Drop)]
+struct Deployed {
+    answers: Answers,
     closed: Closed<Rows>,
 }
 
-/// Deploys two plans in a book that is shared, and closes it.
+/// Deploys two plans in a shared book.
 fn deploy_both<A: Opening, T: Ledger, U: Ledger, H: Wait>(
+    rt: &H,
+    shared: &Shared<A, T, U, Rows>,
+    first: Arc<Plan>,
+    second: Arc<Plan>,
+) -> Result<Answers, Fail> {
+    Ok(Answers {
+        first: shared.deploy(rt, first).err(),
+        second: shared.deploy(rt, second).err(),
+        told: shared.plan(rt)?,
+    })
+}
+
+/// Shares a book, deploys two plans in it, and closes it.
+fn deploy_shared<A: Opening, T: Ledger, U: Ledger, H: Wait>(
     rt: &H,
     alloc: Global,
     book: Book<Rows>,
@@ -54,16 +74,31 @@ fn deploy_both<A: Opening, T: Ledger, U: Ledger, H: Wait>(
         takes,
         settlements,
     )?;
-    let first = shared.deploy(rt, first).err();
-    let second = shared.deploy(rt, second).err();
-    let told = shared.plan(rt)?;
+    let answers = deploy_both(rt, &shared, first, second)?;
     let closed = close(shared, desks, stations)?;
-    Ok(Deployed {
+    Ok(Deployed { answers, closed })
+}
+
+/// Whether two plans that are deployed in a book, of which the second is the slower one, come out as they are to.
+fn deploy_at<H: Wait>(
+    rt: &H,
+    alloc: Global,
+    book: Book<Rows>,
+    first: Arc<Plan>,
+    second: Arc<Plan>,
+    slower: &Plan,
+) -> Result<bool, Fail> {
+    let deployed = deploy_shared::<Brand, Brand, Brand, H>(
+        rt,
+        alloc,
+        book,
+        Blank::new(1),
+        Blank::new(1),
+        Blank::new(1),
         first,
         second,
-        told,
-        closed,
-    })
+    )?;
+    Ok(is_right(&deployed, slower))
 }
 
 /// The slower plan.
@@ -76,32 +111,32 @@ fn slower_plan(alloc: Global) -> Result<Arc<Plan>, Fail> {
 
 /// Whether the first plan was refused for a destination in use, and the slower one is in force and stands in the history.
 fn is_right(deployed: &Deployed, slower: &Plan) -> bool {
-    let book = deployed.closed.book();
-    deployed.first == Some(DeployRefusal::DestinationInUse(0))
-        && deployed.second.is_none()
-        && *deployed.told == *slower
+    let (answers, book) = (&deployed.answers, deployed.closed.book());
+    answers.first == Some(DeployRefusal::DestinationInUse(0))
+        && answers.second.is_none()
+        && *answers.told == *slower
         && **book.plan() == *slower
         && book.len() == 2
+}
+
+/// Whether the plan of four destinations and then the slower one, deployed in this book, come out as they are to.
+fn comes_out<H: Wait>(
+    rt: &H,
+    alloc: Global,
+    book: Book<Rows>,
+    slower: &Arc<Plan>,
+) -> Result<bool, Fail> {
+    let (four, same) = (plan(alloc, true)?, Arc::try_clone(slower)?);
+    deploy_at(rt, alloc, book, four, same, slower)
 }
 
 /// A plan that lacks a destination to which a message waits is refused. One that only waits longer between two attempts is
 /// in force from then on, and stands in the history.
 #[test]
 fn plans_are_deployed(rt: HostRuntime) -> Result<(), Fail> {
-    let alloc = rt.alloc();
-    let slower = slower_plan(alloc)?;
-    let (four, same) = (plan(alloc, true)?, Arc::try_clone(&slower)?);
+    let slower = slower_plan(rt.alloc())?;
     let book = waiting(&rt, false, EVENTS_MAX, &[M1])?;
-    let deployed = deploy_both::<Brand, Brand, Brand, HostRuntime>(
-        &rt,
-        alloc,
-        book,
-        Blank::new(1),
-        Blank::new(1),
-        Blank::new(1),
-        four,
-        same,
-    )?;
-    assert!(rt; is_right(&deployed, &slower));
+    let right = comes_out(&rt, rt.alloc(), book, &slower)?;
+    assert!(rt; right);
     Ok(())
 }

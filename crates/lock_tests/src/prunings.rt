@@ -7,7 +7,7 @@ ghost use Rattle.event_log.specs.Counting.{counted};
 
 use crate::stage::{M1, M2, Rows, close, judged, open, waiting};
 use book_core::{Book, CancelRefusal, EVENTS_MAX, PruneRefusal, Receipt, Told};
-use book_lock::{Closed, Opening, Shared, audit};
+use book_lock::{Closed, Desk, Opening, Shared, audit};
 use conn_worker::nearest;
 use dest_queue::Outcome;
 use judge_core::Judged;
@@ -18,18 +18,44 @@ use std::sync::Wait;
 use std::sync::ledger::{Blank, Ledger};
 use std::test::Fail;
 
-/// What came of two prunings, of a cancellation afterwards, and of the forgotten message when it came again.
+/// What two prunings answered, a cancellation afterwards, and the forgotten message when it came again.
 #[derive(Drop)]
-struct Pruned {
+struct Answers {
     first: Result<(), PruneRefusal>,
     second: Result<(), PruneRefusal>,
     cancelled: Result<u32, CancelRefusal>,
     receipt: Receipt,
+}
+
+/// The answers, and the book after them.
+#[derive(Drop)]
+struct Pruned {
+    answers: Answers,
     closed: Closed<Rows>,
 }
 
-/// Forgets the messages of a book that is shared, at first one too many, and closes it.
+/// Forgets the messages of a shared book, at first one too many, cancels the first, and brings it again.
 fn prune_both<A: Opening, T: Ledger, U: Ledger, H: Wait>(
+    rt: &H,
+    shared: &Shared<A, T, U, Rows>,
+    desks: &mut [Desk<A>],
+    message: &Judged,
+) -> Result<Answers, Fail>
+    requires bookable { IsTrue (is_bookable message.now.raw) }
+{
+    let Some(desk) = desks.first_mut() else {
+        return Err("no desk".into());
+    };
+    Ok(Answers {
+        first: shared.prune(rt, 2),
+        second: shared.prune(rt, 1),
+        cancelled: shared.cancel(rt, 0),
+        receipt: shared.arrive(rt, desk, 0, message)?,
+    })
+}
+
+/// Shares a book, forgets its messages, and closes it.
+fn prune_shared<A: Opening, T: Ledger, U: Ledger, H: Wait>(
     rt: &H,
     alloc: Global,
     book: Book<Rows>,
@@ -55,22 +81,9 @@ fn prune_both<A: Opening, T: Ledger, U: Ledger, H: Wait>(
         takes,
         settlements,
     )?;
-    let Some(mut desk) = desks.pop() else {
-        return Err("no desk".into());
-    };
-    let first = shared.prune(rt, 2);
-    let second = shared.prune(rt, 1);
-    let cancelled = shared.cancel(rt, 0);
-    let receipt = shared.arrive(rt, &mut desk, 0, message)?;
-    desks.push(desk)?;
+    let answers = prune_both(rt, &shared, &mut desks, message)?;
     let closed = close(shared, desks, stations)?;
-    Ok(Pruned {
-        first,
-        second,
-        cancelled,
-        receipt,
-        closed,
-    })
+    Ok(Pruned { answers, closed })
 }
 
 /// A book of two messages, of which the first was delivered.
@@ -82,30 +95,47 @@ fn half_delivered(rt: &HostRuntime) -> Result<Book<Rows>, Fail> {
 }
 
 /// Whether the second message was not forgotten, and the first was and came again as a new one.
-fn is_right(pruned: &Pruned) -> bool {
-    pruned.first == Err(PruneRefusal::StillLive(1))
-        && pruned.second == Ok(())
-        && pruned.cancelled == Err(CancelRefusal::NoSuchMessage)
-        && pruned.receipt.told == Told::Accepted(2)
-        && pruned.receipt.entry == 4
-        && audit(&pruned.closed, slice::from_ref(&pruned.receipt)).is_ok()
+fn is_right(answers: &Answers, closed: &Closed<Rows>) -> bool {
+    answers.first == Err(PruneRefusal::StillLive(1))
+        && answers.second == Ok(())
+        && answers.cancelled == Err(CancelRefusal::NoSuchMessage)
+        && answers.receipt.told == Told::Accepted(2)
+        && answers.receipt.entry == 4
+        && audit(closed, slice::from_ref(&answers.receipt)).is_ok()
 }
 
-/// Of two messages the first was delivered: the second is not forgotten, the first is, and comes again as a new message.
-#[test]
-fn delivered_messages_are_forgotten(rt: HostRuntime) -> Result<(), Fail> {
-    let alloc = rt.alloc();
-    let book = half_delivered(&rt)?;
-    let message = judged(alloc, book.plan(), M1)?;
-    let pruned = prune_both::<Brand, Brand, Brand, HostRuntime>(
-        &rt,
+/// Whether prunings of that book, and this message afterwards, come out as they are to.
+fn prune_at<H: Wait>(
+    rt: &H,
+    alloc: Global,
+    book: Book<Rows>,
+    message: &Judged,
+) -> Result<bool, Fail>
+    requires bookable { IsTrue (is_bookable message.now.raw) }
+{
+    let pruned = prune_shared::<Brand, Brand, Brand, H>(
+        rt,
         alloc,
         book,
         Blank::new(2),
         Blank::new(1),
         Blank::new(1),
-        &message,
+        message,
     )?;
-    assert!(rt; is_right(&pruned));
+    Ok(is_right(&pruned.answers, &pruned.closed))
+}
+
+/// Whether prunings of that book, and its first message afterwards, come out as they are to.
+fn comes_out<H: Wait>(rt: &H, alloc: Global, book: Book<Rows>) -> Result<bool, Fail> {
+    let message = judged(alloc, book.plan(), M1)?;
+    prune_at(rt, alloc, book, &message)
+}
+
+/// Of two messages the first was delivered: the second is not forgotten, the first is, and comes again as a new message.
+#[test]
+fn delivered_messages_are_forgotten(rt: HostRuntime) -> Result<(), Fail> {
+    let book = half_delivered(&rt)?;
+    let right = comes_out(&rt, rt.alloc(), book)?;
+    assert!(rt; right);
     Ok(())
 }

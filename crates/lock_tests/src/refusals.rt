@@ -1,6 +1,6 @@
 //! Arrivals that are refused at a desk.
 
-ghost use Rattle.std.specs.Prelude.{◌≡◌, ◌+◌, IsTrue, length};
+ghost use Rattle.std.specs.Prelude.{◌≡◌, ◌+◌, IfOk, IsTrue, length};
 ghost use Rattle.event_log.specs.History.{next_place, plan_in_force};
 ghost use Rattle.event_log.specs.Counting.{counted};
 ghost use Rattle.judge_core.specs.Judging.{is_bookable};
@@ -40,7 +40,7 @@ const CASES: [Case; 2] = [
 
 /// What came of a message that was refused twice: by the shared book, and by it with an acknowledgment.
 #[derive(Drop)]
-struct Refused {
+struct Answers {
     bare: Option<NotBooked>,
     answered: Option<NotBooked>,
     whole: bool,
@@ -50,6 +50,12 @@ struct Refused {
     /// The statistics before and after.
     before: Counts,
     after: Counts,
+}
+
+/// The answers, and the book after them.
+#[derive(Drop)]
+struct Refused {
+    answers: Answers,
     closed: Closed<Rows>,
 }
 
@@ -74,7 +80,35 @@ fn answer<A: Opening, T: Ledger, U: Ledger, H: Wait>(
     book_and_reply(&line, &mut place, judged, nearest(1_700_000_000), replies)
 }
 
-/// Brings a message to a desk of a book that is shared, twice, and closes it.
+/// Brings a message to a desk of a shared book, twice.
+fn bring_twice<A: Opening, T: Ledger, U: Ledger, H: Wait>(
+    rt: &H,
+    alloc: Global,
+    shared: &Shared<A, T, U, Rows>,
+    desks: &mut [Desk<A>],
+    judged: &Judged,
+) -> Result<Answers, Fail>
+    requires bookable { IsTrue (is_bookable judged.now.raw) }
+{
+    let Some(desk) = desks.first_mut() else {
+        return Err("no desk".into());
+    };
+    let before = shared.counts(rt, desk);
+    let bare = shared.arrive(rt, desk, 0, judged).err();
+    let mut replies = Replies::new(alloc);
+    let booked = answer(rt, alloc, shared, desk, judged, &mut replies);
+    Ok(Answers {
+        bare,
+        answered: booked.outcome.err(),
+        whole: booked.whole,
+        bytes: replies.bytes,
+        made: desk.made(),
+        before,
+        after: shared.counts(rt, desk),
+    })
+}
+
+/// Shares a book, brings a message to it, and closes it.
 fn refuse<A: Opening, T: Ledger, U: Ledger, H: Wait>(
     rt: &H,
     alloc: Global,
@@ -101,61 +135,59 @@ fn refuse<A: Opening, T: Ledger, U: Ledger, H: Wait>(
         takes,
         settlements,
     )?;
-    let Some(mut desk) = desks.pop() else {
-        return Err("no desk".into());
-    };
-    let before = shared.counts(rt, &mut desk);
-    let bare = shared.arrive(rt, &mut desk, 0, judged).err();
-    let mut replies = Replies::new(alloc);
-    let booked = answer(rt, alloc, &shared, &mut desk, judged, &mut replies);
-    let after = shared.counts(rt, &mut desk);
-    let made = desk.made();
-    desks.push(desk)?;
+    let answers = bring_twice(rt, alloc, &shared, &mut desks, judged)?;
     let closed = close(shared, desks, stations)?;
-    Ok(Refused {
-        bare,
-        answered: booked.outcome.err(),
-        whole: booked.whole,
-        bytes: replies.bytes,
-        made,
-        before,
-        after,
-        closed,
-    })
+    Ok(Refused { answers, closed })
 }
 
 /// Whether a message was refused as is due, and nothing else was changed.
 fn is_right(case: &Case, refused: &Refused) -> bool {
-    let book = refused.closed.book();
-    refused.bare == Some(case.refusal)
-        && refused.answered == Some(case.refusal)
-        && refused.whole
-        && refused.bytes.as_slice() == case.reply.as_bytes()
-        && refused.made == 0
-        && refused.before == refused.after
-        && refused.before == *book.counts()
+    let (answers, book) = (&refused.answers, refused.closed.book());
+    answers.bare == Some(case.refusal)
+        && answers.answered == Some(case.refusal)
+        && answers.whole
+        && answers.bytes.as_slice() == case.reply.as_bytes()
+        && answers.made == 0
+        && answers.before == answers.after
+        && answers.before == *book.counts()
         && book.len() == 1
         && book.queue_len(0) == 1
 }
 
-/// What comes of a case, where this book is full.
+/// Whether a message is refused as is due in a case, where this book is full.
 fn refused_in<H: Wait>(
     rt: &H,
     alloc: Global,
     book: Book<Rows>,
+    judged: &Judged,
     case: &Case,
-) -> Result<Refused, Fail> {
-    let plan = plan(alloc, case.four)?;
-    let judged = judged(alloc, &plan, M1)?;
-    refuse::<Brand, Brand, Brand, H>(
+) -> Result<bool, Fail>
+    requires bookable { IsTrue (is_bookable judged.now.raw) }
+{
+    let refused = refuse::<Brand, Brand, Brand, H>(
         rt,
         alloc,
         book,
         Blank::new(2),
         Blank::new(1),
         Blank::new(1),
-        &judged,
-    )
+        judged,
+    )?;
+    Ok(is_right(case, &refused))
+}
+
+/// The message M1, judged by the plan of a case.
+fn judged_in(alloc: Global, case: &Case) -> Result<Judged, Fail>
+    ensures { IfOk result (λ judged. IsTrue (is_bookable judged.raw)) }
+{
+    let plan = plan(alloc, case.four)?;
+    judged(alloc, &plan, M1)
+}
+
+/// Whether a case comes out as it is to, where this book is full.
+fn comes_out<H: Wait>(rt: &H, alloc: Global, book: Book<Rows>, case: &Case) -> Result<bool, Fail> {
+    let judged = judged_in(alloc, case)?;
+    refused_in(rt, alloc, book, &judged, case)
 }
 
 /// A message that was judged by another plan is refused for that, though the book is full, and one judged by the book's plan
@@ -164,8 +196,7 @@ fn refused_in<H: Wait>(
 fn cases(rt: HostRuntime) -> Result<(), Fail> {
     for (place, case) in CASES.iter().enumerate() {
         let book = waiting(&rt, false, 10, &[M2])?;
-        let refused = refused_in(&rt, rt.alloc(), book, case)?;
-        let right = is_right(case, &refused);
+        let right = comes_out(&rt, rt.alloc(), book, case)?;
         assert!(rt; right, "case {place}");
     }
     Ok(())

@@ -1,14 +1,14 @@
 //! Serving at a desk of a shared book where one request for memory may be refused, as `rt try --test --fail-alloc N` refuses
 //! the Nth.
 
-ghost use Rattle.std.specs.Prelude.{◌≡◌, ◌+◌, length};
+ghost use Rattle.std.specs.Prelude.{◌≡◌, ◌+◌, ◌<◌, length};
 ghost use Rattle.event_log.specs.History.{next_place, plan_in_force};
 ghost use Rattle.event_log.specs.Counting.{counted};
 
 use crate::devices::{Cut, Devices, SMOOTH, Sink, Source};
 use crate::stage::Rows;
 use book_core::{Book, EVENTS_MAX};
-use book_lock::{Closed, Opening, Shared, audit, rising};
+use book_lock::{Closed, Desk, Opened, Opening, Shared, audit, rising};
 use conn_worker::{Counted, ServeEnd, ServeReport, Still, nearest, serve};
 use plan_text::Plan;
 use stat_count::Counts;
@@ -40,15 +40,21 @@ const SECOND_REFUSED: &str =
 const SECOND_FRONT: &str =
     "\x0bMSH|^~\\&|ENG|HUB|REG|HOSP|20231114221320+0000||ACK^A01^ACK|0.2|P|2.5.1|||NE|NE\rMSA|CA|M3\r\x1c\r";
 
-/// What came of serving: the report, what was written, the arrivals that the desk counted, the statistics that were shown
-/// before and after, and the book.
+/// What came of serving: the report, what was written, the arrivals that the desk counted, and the statistics that were
+/// shown before and after.
 #[derive(Drop)]
-struct Served {
+struct Course {
     report: ServeReport,
     written: Vec<u8>,
     made: u64,
     before: Counts,
     after: Counts,
+}
+
+/// What came of serving, and the book after it.
+#[derive(Drop)]
+struct Served {
+    course: Course,
     closed: Closed<Rows>,
 }
 
@@ -62,8 +68,81 @@ fn empty_book(rt: &HostRuntime) -> Option<Book<Rows>> {
     Some(Book::new(alloc, plan, EVENTS_MAX, hasher))
 }
 
-/// Serves the two messages at a desk, from a stream that is cut so, with a writer that needs no further memory. None where
-/// memory was refused before.
+/// A writer that needs no further memory. None where memory was refused for it.
+fn roomy_sink(alloc: Global, devices: Devices) -> Option<Sink> {
+    let mut sink = Sink::new(alloc, devices);
+    sink.bytes.reserve(4_096).ok()?;
+    Some(sink)
+}
+
+/// Serves the two messages at a desk, over these devices.
+fn serve_at<A: Opening, T: Ledger, U: Ledger, H: Wait>(
+    rt: &H,
+    alloc: Global,
+    shared: &Shared<A, T, U, Rows>,
+    desk: &mut Desk<A>,
+    devices: Devices,
+    sink: Sink,
+) -> Course
+    requires channel { 0 < A.channels }
+{
+    let mut reader = Counted::new(Source::new(MESSAGES.as_bytes(), devices));
+    let mut writer = Counted::new(sink);
+    let mut clock = Still(nearest(1_700_000_000));
+    let before = shared.counts(rt, desk);
+    let report = serve(
+        rt,
+        alloc,
+        shared,
+        desk,
+        0,
+        0,
+        &mut reader,
+        &mut writer,
+        &mut clock,
+    );
+    let sink = writer.into_inner();
+    Course {
+        report,
+        written: sink.bytes,
+        made: desk.made(),
+        before,
+        after: shared.counts(rt, desk),
+    }
+}
+
+/// Serves the two messages at the first desk, over these devices. None where memory was refused before.
+fn serve_first<A: Opening, T: Ledger, U: Ledger, H: Wait>(
+    rt: &H,
+    alloc: Global,
+    shared: &Shared<A, T, U, Rows>,
+    desks: &mut [Desk<A>],
+    devices: Devices,
+) -> Option<Course> {
+    if shared.plan(rt).ok()?.channels() == 0 {
+        return None;
+    }
+    let desk = desks.first_mut()?;
+    let sink = roomy_sink(alloc, devices)?;
+    Some(serve_at(rt, alloc, shared, desk, devices, sink))
+}
+
+/// Serves the two messages at a desk of a shared book, and closes it. None where memory was refused before.
+fn serve_and_close<A: Opening, T: Ledger, U: Ledger, H: Wait>(
+    rt: &H,
+    alloc: Global,
+    opened: Opened<A, T, U, Rows>,
+    cut: Cut,
+) -> Option<Served> {
+    let (shared, mut desks, stations) = opened;
+    let devices = Devices { cut, ..SMOOTH };
+    let course = serve_first(rt, alloc, &shared, &mut desks, devices)?;
+    let closed = shared.close(desks, stations).ok()?;
+    Some(Served { course, closed })
+}
+
+/// Shares a book, serves the two messages at a desk, from a stream that is cut so, and closes it. None where memory was
+/// refused before.
 fn serve_two<A: Opening, T: Ledger, U: Ledger, H: Wait>(
     rt: &H,
     alloc: Global,
@@ -81,42 +160,7 @@ fn serve_two<A: Opening, T: Ledger, U: Ledger, H: Wait>(
     requires settlements { (settlements.name ≡ U.name) × (settlements.parts ≡ U.parts) × (U.parts ≡ 1) }
 {
     let opened = Shared::<A, T, U, Rows>::new(alloc, book, 1, 0, arrivals, takes, settlements);
-    let (shared, mut desks, stations) = opened.ok()?;
-    let mut desk = desks.pop()?;
-    if shared.plan(rt).ok()?.channels() == 0 {
-        return None;
-    }
-    let devices = Devices { cut, ..SMOOTH };
-    let mut sink = Sink::new(alloc, devices);
-    sink.bytes.reserve(4_096).ok()?;
-    let mut reader = Counted::new(Source::new(MESSAGES.as_bytes(), devices));
-    let mut writer = Counted::new(sink);
-    let mut clock = Still(nearest(1_700_000_000));
-    let before = shared.counts(rt, &mut desk);
-    let report = serve(
-        rt,
-        alloc,
-        &shared,
-        &mut desk,
-        0,
-        0,
-        &mut reader,
-        &mut writer,
-        &mut clock,
-    );
-    let after = shared.counts(rt, &mut desk);
-    let made = desk.made();
-    desks.push(desk).ok()?;
-    let closed = shared.close(desks, stations).ok()?;
-    let sink = writer.into_inner();
-    Some(Served {
-        report,
-        written: sink.bytes,
-        made,
-        before,
-        after,
-        closed,
-    })
+    serve_and_close(rt, alloc, opened.ok()?, cut)
 }
 
 /// Serves the two messages by a book. None where memory was refused before.
@@ -164,15 +208,16 @@ fn may_be(end: ServeEnd, booked: usize, written: &[u8]) -> bool {
 
 /// Whether the book has the messages of the receipts, in order, waiting to be delivered, and nothing else.
 fn has_the_booked(served: &Served) -> bool {
-    let receipts = served.report.receipts.as_slice();
-    let (book, booked) = (served.closed.book(), receipts.len());
+    let (course, book) = (&served.course, served.closed.book());
+    let receipts = course.report.receipts.as_slice();
+    let booked = receipts.len();
     book.len() == booked
         && book.queue_len(0) == booked as u64
-        && served.made == booked as u64
+        && course.made == booked as u64
         && rising(receipts)
         && audit(&served.closed, receipts).is_ok()
-        && served.after == *book.counts()
-        && (booked > 0 || served.before == served.after)
+        && course.after == *book.counts()
+        && (booked > 0 || course.before == course.after)
 }
 
 /// Whichever request is refused: what was told is what was booked, and the book has nothing else.
@@ -181,8 +226,8 @@ fn holds_where_memory_is_refused(rt: HostRuntime) -> Result<(), Fail> {
     let Some(served) = serve_messages(&rt, rt.alloc(), empty_book(&rt), Cut::BehindEachEnd) else {
         return Ok(());
     };
-    let report = &served.report;
-    let may_be = may_be(report.end, report.receipts.len(), &served.written);
+    let report = &served.course.report;
+    let may_be = may_be(report.end, report.receipts.len(), &served.course.written);
     assert!(rt;
         may_be,
         "{:?}, {} booked",
@@ -199,8 +244,9 @@ fn all_is_done_with_memory_to_spare(rt: HostRuntime) -> Result<(), Fail> {
     let Some(served) = serve_messages(&rt, rt.alloc(), empty_book(&rt), Cut::BehindEachEnd) else {
         return Err("memory".into());
     };
-    assert!(rt; served.report.end == ServeEnd::End && served.report.receipts.len() == 2);
-    assert!(rt; are_both(&served.written, FIRST, SECOND) && has_the_booked(&served));
+    let course = &served.course;
+    assert!(rt; course.report.end == ServeEnd::End && course.report.receipts.len() == 2);
+    assert!(rt; are_both(&course.written, FIRST, SECOND) && has_the_booked(&served));
     Ok(())
 }
 
@@ -210,7 +256,7 @@ fn messages_of_a_piece_are_booked_in_order(rt: HostRuntime) -> Result<(), Fail> 
     let Some(served) = serve_messages(&rt, rt.alloc(), empty_book(&rt), Cut::Nowhere) else {
         return Err("memory".into());
     };
-    assert!(rt; served.report.receipts.len() == 2 && has_the_booked(&served));
-    assert!(rt; are_both(&served.written, FIRST, SECOND));
+    assert!(rt; served.course.report.receipts.len() == 2 && has_the_booked(&served));
+    assert!(rt; are_both(&served.course.written, FIRST, SECOND));
     Ok(())
 }

@@ -66,6 +66,20 @@ fn beside<
     station
 }
 
+/// Cancels message 0 of a shared book, while the last of the stations delivers what waits.
+fn work_beside<
+    A: Opening + Send + Sync,
+    T: Ledger + Send + Sync,
+    U: Ledger + Send + Sync,
+    H: Threads + Wait + Sync,
+>(rt: &H, shared: &Shared<A, T, U, Rows>, stations: &mut Vec<Station<T, U>>) -> Result<(), Fail> {
+    let Some(station) = stations.pop() else {
+        return Err("no station".into());
+    };
+    stations.push(beside(rt, shared, station))?;
+    Ok(())
+}
+
 /// Shares a book, has its message 0 cancelled beside its deliveries, and closes it.
 fn cancel_and_deliver<
     A: Opening + Send + Sync,
@@ -96,11 +110,7 @@ fn cancel_and_deliver<
         takes,
         settlements,
     )?;
-    let Some(station) = stations.pop() else {
-        return Err("no station".into());
-    };
-    let station = beside(rt, &shared, station);
-    stations.push(station)?;
+    work_beside(rt, &shared, &mut stations)?;
     close(shared, desks, stations)
 }
 
