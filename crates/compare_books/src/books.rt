@@ -7,10 +7,11 @@ use crate::dice::{Dice, NO_TICKET};
 use crate::known::{Key, Keys};
 use crate::plan::{Said, judged_by, plan_of};
 use anyhow::{Result, bail};
-use book_core::{Book, CancelRefusal, DeployRefusal, Letter, NotBooked, PruneRefusal};
+use book_core::{Book, CancelRefusal, DeployRefusal, EVENTS_MAX, Letter, NotBooked, PruneRefusal};
 use dest_queue::{Addressed, SettleRefusal, SlotState};
 use event_log::{Ticket, Told};
 use judge_core::Judged;
+use plan_text::Plan;
 use row_store::{PlainRows, QUEUES};
 use sequential_book::{NotBooked as OtherRefusal, NotSettled, SequentialBook};
 use std::alloc::Global;
@@ -26,17 +27,34 @@ const MANY_ENTRIES: u32 = 1000;
 /// The number of the connection by which all messages come.
 const CONNECTION: u32 = 7;
 
+type Engine = Book<PlainRows<Addressed<Letter>>>;
+
 /// A book and the sequential engine, if it is asked, and a book of which the messages below a number are forgotten, all
 /// of one plan. The first of the control ids of messages, and the ticket that was taken last.
 #[derive(Drop)]
 pub struct Books {
-    book: Book<PlainRows<Addressed<Letter>>>,
-    other: Option<SequentialBook>,
-    pruned: Book<PlainRows<Addressed<Letter>>>,
+    book: Box<Engine>,
+    other: Option<Box<SequentialBook>>,
+    pruned: Box<Engine>,
     forgotten: u32,
     keys: Keys,
     first_id: u32,
     last: Ticket,
+}
+
+/// A book of a plan in which nothing is booked.
+fn empty_book(rt: &HostRuntime, plan: &Arc<Plan>, room: u32) -> Result<Box<Engine>> {
+    let alloc = rt.alloc();
+    let hasher = RandomState::new(rt)?;
+    let plan = Arc::try_clone(plan)?;
+    let room = room.clamp(1, EVENTS_MAX);
+    Ok(Box::new(alloc, Book::new(alloc, plan, room, hasher))?)
+}
+
+/// The sequential engine of a plan, in which nothing is booked.
+fn other_engine(alloc: Global, plan: &Arc<Plan>) -> Result<Box<SequentialBook>> {
+    let plan = Arc::try_clone(plan)?;
+    Ok(Box::new(alloc, SequentialBook::new(alloc, plan, ENTRIES))?)
 }
 
 impl Books {
@@ -44,13 +62,15 @@ impl Books {
     pub fn new(rt: &HostRuntime, asked: bool) -> Result<Books> {
         let alloc = rt.alloc();
         let plan = plan_of(alloc, Said::FIRST)?;
-        let (shared, third) = (Arc::try_clone(&plan)?, Arc::try_clone(&plan)?);
         let room = if asked { ENTRIES } else { MANY_ENTRIES };
-        let other = asked.then(|| SequentialBook::new(alloc, shared, ENTRIES));
+        let other = match asked {
+            true => Some(other_engine(alloc, &plan)?),
+            false => None,
+        };
         Ok(Books {
-            book: Book::new(alloc, plan, room, RandomState::new(rt)?),
+            book: empty_book(rt, &plan, room)?,
             other,
-            pruned: Book::new(alloc, third, room, RandomState::new(rt)?),
+            pruned: empty_book(rt, &plan, room)?,
             forgotten: 0,
             keys: Keys::new(alloc),
             first_id: 0,

@@ -27,22 +27,29 @@ const CHANNELS: [u32; 4] = [0, 1, 0, 0];
 #[derive(Drop)]
 pub struct Worlds {
     alloc: Global,
-    whole: Engine,
-    bytewise: Engine,
-    other: SequentialBook,
+    whole: Box<Engine>,
+    bytewise: Box<Engine>,
+    other: Box<SequentialBook>,
     lines: Vec<Line>,
     last: Ticket,
 }
 
 /// A world in which nothing came.
-fn silent(rt: &HostRuntime) -> Result<Engine> {
+fn silent(rt: &HostRuntime) -> Result<Box<Engine>> {
     let alloc = rt.alloc();
     let plan = plan_of(alloc, Said::FIRST)?;
     if plan.channels() != 2 {
         bail!("the plan has two channels");
     }
     let hasher = RandomState::new(rt)?;
-    Ok(World::new(alloc, plan, &CHANNELS, ENTRIES, hasher)?)
+    let world = World::new(alloc, plan, &CHANNELS, ENTRIES, hasher)?;
+    Ok(Box::new(alloc, world)?)
+}
+
+/// The sequential engine in which nothing came.
+fn sequential(alloc: Global) -> Result<Box<SequentialBook>> {
+    let plan = plan_of(alloc, Said::FIRST)?;
+    Ok(Box::new(alloc, SequentialBook::new(alloc, plan, ENTRIES))?)
 }
 
 /// Bytes that come on a connection one by one.
@@ -80,7 +87,7 @@ impl Worlds {
             alloc,
             whole: silent(rt)?,
             bytewise: silent(rt)?,
-            other: SequentialBook::new(alloc, plan_of(alloc, Said::FIRST)?, ENTRIES),
+            other: sequential(alloc)?,
             lines: lines(alloc)?,
             last: NO_TICKET,
         })
@@ -209,7 +216,7 @@ impl Worlds {
     }
 
     /// A world that takes the steps of the history.
-    fn again(&self, rt: &HostRuntime) -> Result<Engine> {
+    fn again(&self, rt: &HostRuntime) -> Result<Box<Engine>> {
         let steps = steps_of(self.alloc, self.whole.book())?;
         let mut again = silent(rt)?;
         again.run(&steps);

@@ -93,17 +93,48 @@ fn was_told(world: &Engine, conn: u32, due: Due) -> bool {
     }
 }
 
+/// The first connection that wasn't told what became of its message.
+fn first_untold(world: &Engine) -> Option<u32> {
+    for (conn, due) in (0..2_u32).zip(DUES) {
+        if !was_told(world, conn, due) {
+            return Some(conn);
+        }
+    }
+    None
+}
+
+/// The world after all pieces came. None where memory was refused before.
+fn played(rt: &HostRuntime, now: Moment) -> Option<Engine> {
+    let mut world = silent(rt)?;
+    let steps = pieces(rt.alloc(), now)?;
+    world.run(&steps);
+    Some(world)
+}
+
+/// What came of a run.
+#[derive(Clone, Copy)]
+struct Outcome {
+    untold: Option<u32>,
+    both_ended: bool,
+}
+
+/// What came of the pieces. None where memory was refused before.
+fn outcome_of(rt: &HostRuntime, now: Moment) -> Option<Outcome> {
+    let world = played(rt, now)?;
+    Some(Outcome {
+        untold: first_untold(&world),
+        both_ended: world.ended(0) && world.ended(1),
+    })
+}
+
 /// One refused request for memory ends at most one connection, or leaves one message out of the book.
 #[test]
 fn each_connection_is_told_what_was_booked(rt: HostRuntime) -> Result<(), Fail> {
     let now = Moment::of_unix(1_700_000_000)?;
-    let (Some(mut world), Some(steps)) = (silent(&rt), pieces(rt.alloc(), now)) else {
+    let Some(outcome) = outcome_of(&rt, now) else {
         return Ok(());
     };
-    world.run(&steps);
-    for (conn, due) in (0..2_u32).zip(DUES) {
-        assert!(rt; was_told(&world, conn, due), "connection {conn}");
-    }
-    assert!(rt; !world.ended(0) || !world.ended(1));
+    assert_eq!(rt; outcome.untold, None);
+    assert!(rt; !outcome.both_ended);
     Ok(())
 }
