@@ -1,9 +1,10 @@
 #!/usr/bin/env python3
 """Where the time of the gate goes: runs a command, by default `rt ci`, and prints what it took, crate by crate.
 
-Processor time is read from /proc every second, so up to a second of each check is missed. Of each check that is no edit
-it further tells the functions whose proof took longest, by when the prover wrote each checked part: seconds on the
-clock, not of a processor, and only roughly right where a check has several processes.
+Processor time is read from /proc every second, so up to a second of each check is missed; checks of another session of
+the system (setsid) aren't counted, so two gates may be measured side by side. Of each check that is no edit it further
+tells the functions whose proof took longest, by when the prover wrote each checked part: seconds on the clock, not of a
+processor, and only roughly right where a check has several processes.
 
 Usage: bench/gate.py [COMMAND WORD..]
 """
@@ -33,6 +34,8 @@ def check_of(pid):
             fields = it.read().rsplit(')', 1)[1].split()
         is_edit = '/rt-edit-' in os.readlink(f'/proc/{pid}/cwd')
     except OSError:
+        return None
+    if int(fields[3]) != os.getsid(0):
         return None
     kind = 'edits' if is_edit else 'tests' if '--test' in words else 'proof'
     crate = words[words.index('--crate-name') + 1]

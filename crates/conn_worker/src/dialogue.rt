@@ -7,8 +7,8 @@ ghost use Rattle.conn_worker.specs.Handling.{BooksMore, Fits, Handles, HandlesAl
 
 use crate::clock::Clock;
 use crate::report::{ServeEnd, ServeReport};
-use crate::session::TURNS_MAX;
 use conn_core::{Booking, Line, Replies, answer_block};
+use fixed_numbers::TURNS_MAX;
 use hl7_head::Moment;
 use mllp_frame::{FrameEvent, Framer};
 use std::alloc::{AllocError, Global};

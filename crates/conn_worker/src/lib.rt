@@ -2,8 +2,6 @@
 //! of a shared one.
 #![tactic(auto)]
 
-ghost use Rattle.std.specs.Prelude.{◌≡◌};
-
 mod at_desk;
 mod clock;
 mod counted;
@@ -15,10 +13,6 @@ mod stream;
 pub use at_desk::{AtDesk, serve};
 pub use clock::{Clock, Running, Still, nearest};
 pub use counted::Counted;
+pub use fixed_numbers::TURNS_MAX;
 pub use report::{ServeEnd, ServeReport};
-pub use session::{TURNS_MAX, serve_within};
-
-/// The limit of serving: the reads of one connection, and likewise its events.
-pub fn serving_limits()
-    ensures turns { TURNS_MAX ≡ 1_000_000_000 }
-{}
+pub use session::serve_within;

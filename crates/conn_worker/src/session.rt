@@ -12,13 +12,10 @@ use crate::dialogue::Dialogue;
 use crate::report::{ServeEnd, ServeReport};
 use crate::stream::{read_piece, write_out};
 use conn_core::{Booking, Line};
+use fixed_numbers::TURNS_MAX;
 use mllp_frame::{Framer, longer_streams};
 use std::alloc::{AllocError, Global};
 use std::io::{Read, Write};
-
-/// The most events that are handled for one connection, and the most reads that are made, interrupted ones and
-/// interrupted writes among them.
-pub const TURNS_MAX: u64 = 1_000_000_000;
 
 /// The most bytes that one read asks for. Each connection that is served keeps room for as many, so that 9,999 of them that
 /// are idle take 160 MB.

@@ -4,10 +4,8 @@ ghost use Rattle.std.specs.Option.{option_copied, option_to_list};
 ghost use Rattle.delivery_worker.specs.Answers.{answers_to, code_outcome, outcome_of};
 
 use dest_queue::Outcome;
+use fixed_numbers::MAX_ANSWERS;
 use hl7_head::Msa;
-
-/// How many answers are read after a message was sent.
-pub const MAX_ANSWERS: usize = 9;
 
 /// What an acknowledgment code, MSA-1, comes to (table 0008).
 fn code_outcome(code: &[u8]) -> Outcome
@@ -46,8 +44,3 @@ pub fn outcome_of(control_id: &[u8], answers: &[Option<Msa>]) -> Outcome
         None => Outcome::Again,
     }
 }
-
-/// The law of answers: how many are read.
-pub fn answer_rules()
-    ensures { MAX_ANSWERS ≡ 9 }
-{}

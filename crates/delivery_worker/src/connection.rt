@@ -10,17 +10,15 @@ ghost use Rattle.delivery_worker.specs.Answers.{answer_in, answers_to};
 ghost use Rattle.delivery_worker.specs.Stream.{Opens, ReadsFront, ReadsOn, Receives};
 ghost use Rattle.delivery_worker.specs.Delivering.{Tries};
 
-use crate::answers::{MAX_ANSWERS, outcome_of};
+use crate::answers::outcome_of;
 use crate::link::{Link, LinkFault};
 use book_core::Job;
 use dest_queue::Outcome;
 use er7_tree::{Message, Refusal};
+use fixed_numbers::{MAX_ANSWERS, RECEIVES_MAX};
 use hl7_head::Msa;
 use mllp_frame::{END_BLOCK, FrameEvent, Framer, START_BLOCK, longer_streams, write_block};
 use std::alloc::{AllocError, Global};
-
-/// How many times bytes are received for the answers to one message.
-pub const RECEIVES_MAX: u32 = 1_000_000;
 
 /// The most bytes that one receive asks for.
 const PIECE: usize = 4_096;
@@ -223,8 +221,3 @@ impl Connection {
         outcome_of(control_id, &answers)
     }
 }
-
-/// The limit of waiting for answers: the receives for one message.
-pub fn delivery_limits()
-    ensures receives { RECEIVES_MAX ≡ 1_000_000 }
-{}

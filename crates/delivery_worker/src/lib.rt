@@ -8,8 +8,7 @@ mod report;
 mod tcp_link;
 mod worker;
 
-pub use answers::{MAX_ANSWERS, answer_rules, outcome_of};
-pub use connection::{RECEIVES_MAX, delivery_limits};
+pub use answers::outcome_of;
 pub use link::{Link, LinkFault};
 pub use report::{DeliverEnd, DeliverReport};
 pub use tcp_link::TcpLink;

@@ -10,11 +10,9 @@ use thiserror::Error;
 mod queues;
 mod slots;
 
+pub use fixed_numbers::ATTEMPTS_MAX;
 pub use queues::{begin_attempt, cancel_waiting, front_state, settle_slot, slot_of, take_front};
 pub use slots::{Addressed, Slot, Slots, slot_rules};
-
-/// The most attempts that a message may have at a destination.
-pub const ATTEMPTS_MAX: u32 = 100;
 
 /// Why a message failed at a destination.
 #[derive(Clone, Copy, Debug, PartialEq, Eq)]

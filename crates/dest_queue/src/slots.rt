@@ -221,10 +221,8 @@ pub struct Addressed<T> {
     pub slots: Slots,
 }
 
-/// The laws of slots: the most attempts, and slots told by a function from a message's destinations to states.
+/// The laws of slots: slots told by a function from a message's destinations to states.
 pub fn slot_rules()
-    ensures attempts_max { ATTEMPTS_MAX ≡ 100 }
-
     ensures state_at { (state : ℕ → SlotState) (ds : List ℕ) (d : ℕ) →
         state_at d (slots_by state ds) ≡ (if is_among d ds then Some (state d) else None) }
     ensures waits_at { (state : ℕ → SlotState) (ds : List ℕ) (d : ℕ) →

@@ -15,14 +15,12 @@ use book_core::{Book, Letter, NotBooked, Receipt};
 use conn_core::{Line, Replies, book_and_reply};
 use dest_queue::Addressed;
 use event_log::Told;
+use fixed_numbers::FRAME_EVENTS_MAX;
 use hl7_head::Moment;
 use judge_core::{Judged, Text, judge};
 use mllp_frame::{FrameEvent, Framer, longer_streams};
 use row_store::RowStore;
 use std::alloc::{AllocError, Global};
-
-/// The most frame events of a connection, whole and broken blocks: having had so many it ends.
-pub const FRAME_EVENTS_MAX: u64 = 1_000_000_000;
 
 /// A message that was answered.
 #[derive(Drop)]

@@ -9,8 +9,8 @@ mod laws;
 mod step;
 mod world;
 
-pub use connection::FRAME_EVENTS_MAX;
 pub use converse::steps_of;
+pub use fixed_numbers::FRAME_EVENTS_MAX;
 pub use laws::run_rules;
 pub use step::Step;
 pub use world::World;

@@ -3,10 +3,8 @@
 ghost use Rattle.std.specs.Prelude.{◌≡◌, ◌*◌, Err, Ok, length, if◌then◌else◌, nat_lt};
 
 use crate::fault::Fault;
+use fixed_numbers::CONNECTIONS_MAX;
 use plan_text::Plan;
-
-/// The most connections that the engine can number.
-const CONNECTIONS_MAX: u32 = 9_999;
 
 /// How many connections come in all, where each channel of the plan takes `accept`.
 ///

@@ -9,17 +9,12 @@ ghost use Rattle.engine_words.specs.Words.{accept_rule, answer_app, check_app, e
 
 use clap::builder::ValueParser;
 use clap::{Arg, ArgMatches, Command, Error, value_parser};
+use fixed_numbers::{CONNECTIONS_MAX, EVENTS_MAX};
 use hl7_head::{LAST_MOMENT, Moment};
 use std::alloc::{AllocError, Global};
 
 /// The moment of every acknowledgment where the program is called without words: 14 November 2023, 22:13:20 UTC.
 const MOMENT_WITHOUT_WORDS: u64 = 1_700_000_000;
-
-/// The most connections that one channel takes.
-const ACCEPT_MAX: u32 = 9_999;
-
-/// The most entries that a book may hold.
-const EVENTS_MAX: u32 = 1_000_000;
 
 /// The version that `--version` tells.
 const VERSION: &str = "0.1.0";
@@ -127,7 +122,7 @@ fn events_option<'a>(alloc: Global) -> Arg<'a>
 fn connections<'a>() -> ValueParser<'a>
     ensures { result ≡ parser.Signed (pos 1) (pos 9_999) }
 {
-    value_parser!(u32).range(1..=ACCEPT_MAX as i64)
+    value_parser!(u32).range(1..=CONNECTIONS_MAX as i64)
 }
 
 fn accept_option<'a>(alloc: Global) -> Arg<'a>
@@ -266,7 +261,7 @@ fn accept_of(given: Option<u32>) -> u32
     ensures least { 1 ≤ result }
     ensures most { result ≤ 9_999 }
 {
-    given.unwrap_or(1).clamp(1, ACCEPT_MAX)
+    given.unwrap_or(1).clamp(1, CONNECTIONS_MAX)
 }
 
 /// What the words of `run` ask.

@@ -7,10 +7,8 @@ ghost use Rattle.er7_tree.specs.Escape.{plain, meaning, letters, meant_by, lette
 
 use crate::delims::{Delims, lacks};
 use crate::pieces::cut;
+use fixed_numbers::HEXADECIMAL;
 use std::alloc::{AllocError, Global};
-
-/// The letter of a sequence that gives bytes in hexadecimal digits.
-pub(crate) const HEXADECIMAL: u8 = b'X';
 
 /// The value of a hexadecimal digit.
 fn hex_value(digit: u8) -> Option<u8>

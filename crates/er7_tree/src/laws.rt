@@ -7,11 +7,7 @@ ghost use Rattle.er7_tree.specs.Delims.{lacks};
 ghost use Rattle.er7_tree.specs.Path.{Place, raw};
 ghost use Rattle.er7_tree.specs.Tree.{Tree, IsMessage, carriage_return, segments_of, text_of, tree, written};
 
-use crate::escapes::HEXADECIMAL;
-use crate::path::NUMBER_MAX;
-use crate::pieces::QUOTATION_MARK;
-use crate::segments::{CARRIAGE_RETURN, LINE_FEED, MSH};
-use crate::text_walk::MAX_SEGMENTS;
+use crate::segments::MSH;
 
 /// Reading and printing undo each other (HL7 v2.5.1, 2.5.2 and 2.5.4).
 pub fn printing_rules()
@@ -38,13 +34,7 @@ pub fn lacking_rules()
         b ≢ carriage_return → list_all (lacks b) t.segments ≡ true → lacks b (text_of t) ≡ true }
 {}
 
-/// The numbers of the standard, and the limits of this engine, are those of the program.
-pub fn constant_rules()
-    ensures header { MSH ≡ codes "MSH" }
-    ensures carriage_return { CARRIAGE_RETURN ≡ 13 }
-    ensures line_feed { LINE_FEED ≡ 10 }
-    ensures quotation_mark { QUOTATION_MARK ≡ 34 }
-    ensures hexadecimal { HEXADECIMAL ≡ 88 }
-    ensures segments { MAX_SEGMENTS ≡ 4096 }
-    ensures path_number { NUMBER_MAX ≡ 999 }
+/// The name of the header segment is that of the definitions.
+pub fn header_name_rule()
+    ensures { MSH ≡ codes "MSH" }
 {}

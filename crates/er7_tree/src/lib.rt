@@ -18,10 +18,10 @@ pub use edit_laws::{
     edits_add_no_byte, edits_keep_messages, edits_leave_the_rest, edits_read_back,
 };
 pub use escapes::{escape, unescape};
-pub use laws::{constant_rules, lacking_rules, printing_rules};
+pub use fixed_numbers::{CARRIAGE_RETURN, LINE_FEED, MAX_SEGMENTS};
+pub use laws::{header_name_rule, lacking_rules, printing_rules};
 pub use message::Message;
 pub use path::{Part, Path};
 pub use pieces::is_vacant;
 pub use refusal::Refusal;
-pub use segments::{CARRIAGE_RETURN, LINE_FEED, MSH, Span, is_header, is_name};
-pub use text_walk::MAX_SEGMENTS;
+pub use segments::{MSH, Span, is_header, is_name};

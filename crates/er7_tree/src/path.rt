@@ -10,10 +10,8 @@ ghost use Rattle.er7_tree.specs.Pieces.{split, pieces_left};
 use crate::pieces::cut;
 use crate::refusal::Refusal;
 use crate::segments::{is_header, is_name};
+use fixed_numbers::PATH_NUMBER_MAX;
 use std::marker::Model;
-
-/// The greatest number that a path may name.
-pub(crate) const NUMBER_MAX: u32 = 999;
 
 /// A field with all its repetitions, or a part of a field. Numbers count from 1 to 999.
 #[derive(Clone, Copy, Debug, PartialEq, Eq)]
@@ -68,7 +66,7 @@ fn number(digits: &[u8]) -> Option<u32>
             return None;
         }
         value = 10 * value + u32::from(*digit - b'0');
-        if value > NUMBER_MAX {
+        if value > PATH_NUMBER_MAX {
             return None;
         }
     }

@@ -8,6 +8,7 @@ ghost use Rattle.er7_tree.specs.Pieces.{split, piece_at, put, is_vacant};
 
 use crate::delims::Delims;
 use crate::path::Part;
+use fixed_numbers::QUOTATION_MARK;
 use memchr::memchr;
 use std::alloc::{AllocError, Global};
 
@@ -159,9 +160,6 @@ pub fn put_part(
         }
     }
 }
-
-/// The quotation mark, of which two are the null value.
-pub const QUOTATION_MARK: u8 = b'"';
 
 /// Whether a raw piece is empty or the null value, two quotation marks (HL7 v2.5.1, 2.5.3).
 pub fn is_vacant(raw: &[u8]) -> bool

@@ -7,16 +7,11 @@ ghost use Rattle.er7_tree.specs.Path.{field_place};
 ghost use Rattle.er7_tree.specs.Tree.{carriage_return, is_body, is_header, is_name, segments_of};
 
 use crate::delims::Delims;
+use fixed_numbers::{CARRIAGE_RETURN, LINE_FEED};
 use memchr::memchr;
 
 /// The name of the message header segment (HL7 v2.5.1, 2.15.9).
 pub const MSH: [u8; 3] = *b"MSH";
-
-/// The carriage return, which ends a segment (HL7 v2.5.1, 2.5.4).
-pub const CARRIAGE_RETURN: u8 = b'\r';
-
-/// The line feed, of which one is dropped behind a carriage return.
-pub const LINE_FEED: u8 = b'\n';
 
 /// A range of a text that covers a segment or a piece of one: from `start` up to `end`, without the byte there.
 #[derive(Clone, Copy, Debug)]

@@ -7,10 +7,8 @@ ghost use Rattle.er7_tree.specs.Tree.{Gives, checked, segments_of, tree};
 use crate::delims::Delims;
 use crate::refusal::Refusal;
 use crate::segments::{Span, is_body, is_header, next_span};
+use fixed_numbers::MAX_SEGMENTS;
 use std::alloc::Global;
-
-/// The most segments that a message may have.
-pub const MAX_SEGMENTS: usize = 4096;
 
 /// Room for the spans of a usual message, made at once.
 const USUAL_SEGMENTS: usize = 16;

@@ -5,9 +5,6 @@ ghost use Rattle.event_log.specs.Deployment.{same_at, same_channels, stays};
 
 use plan_text::Plan;
 
-/// The most plans that may be deployed.
-pub const DEPLOYMENTS_MAX: u32 = 1_000;
-
 /// Whether two plans have channels of the same name at this place.
 fn same_name(old: &Plan, new: &Plan, place: u32) -> bool
     ensures { result ≡ same_at (slice_get old.now.channels place) (slice_get new.now.channels place) }

@@ -13,7 +13,7 @@ ghost use Rattle.event_log.specs.Legal.{IsGoodOpening, IsMemory, IsSound};
 ghost use Rattle.event_log.specs.Replay.{Request, next, run};
 ghost use Rattle.event_log.specs.Room.{owed};
 
-use crate::log::EVENTS_MAX;
+use fixed_numbers::EVENTS_MAX;
 
 /// The laws of pruning, for every history and every number of messages that are forgotten of it.
 pub fn folding_rules()

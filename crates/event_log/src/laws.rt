@@ -14,12 +14,8 @@ ghost use Rattle.event_log.specs.Legal.{IsGoodOpening, IsLegal, IsSound, MayFoll
 ghost use Rattle.event_log.specs.Replay.{replay};
 ghost use Rattle.event_log.specs.Room.{owed};
 
-use crate::log::EVENTS_MAX;
-
-/// The laws of histories, for every plan, bound, entry and key, and the most entries that one may hold.
+/// The laws of histories, for every plan, bound, entry and key.
 pub fn history_rules()
-    ensures events_max { EVENTS_MAX ≡ 1000000 }
-
     // A legal history is what the sequential engine gives of its events alone, reply for reply.
     ensures replayed { (h : History) → IsLegal h → replay h ≡ h }
 

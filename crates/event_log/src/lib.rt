@@ -11,10 +11,11 @@ mod opening;
 mod refusal;
 
 pub use answers::{attempts_max, front_answer, interval, own_owed, told_first};
-pub use deployment::{DEPLOYMENTS_MAX, keeps_destination, same_channels};
+pub use deployment::{keeps_destination, same_channels};
 pub use entry::{DeployedPlan, Entry, Ticket, Told};
+pub use fixed_numbers::{DEPLOYMENTS_MAX, EVENTS_MAX, PLACES_MAX, PRUNINGS_MAX};
 pub use folding::folding_rules;
 pub use laws::history_rules;
-pub use log::{EVENTS_MAX, Log, PLACES_MAX, PRUNINGS_MAX, slot_owed};
+pub use log::{Log, slot_owed};
 pub use opening::{Opening, Remembered};
 pub use refusal::{CancelRefusal, DeployRefusal, PruneRefusal, TakeRefusal};

@@ -9,24 +9,15 @@ ghost use Rattle.event_log.specs.Folding.{arrival_place, closing};
 ghost use Rattle.event_log.specs.History.{begun, deployed_by, entry_at, followed_by, message_count, next_place, opened_by, plan_in_force};
 ghost use Rattle.event_log.specs.Room.{exceeds, owed, slot_owed};
 
-use crate::deployment::DEPLOYMENTS_MAX;
 use crate::entry::{DeployedPlan, Entry, index_of_arrival};
 use crate::opening::{Opening, Remembered};
 use dest_queue::{ATTEMPTS_MAX, SlotState};
+use fixed_numbers::{DEPLOYMENTS_MAX, EVENTS_MAX, PRUNINGS_MAX};
 use plan_text::Plan;
 use stat_count::Counts;
 use std::alloc::{AllocError, Global};
 use std::marker::Model;
 use std::sync::Arc;
-
-/// The most entries that any history may hold.
-pub const EVENTS_MAX: u32 = 1_000_000;
-
-/// The most prunings that a book may have.
-pub const PRUNINGS_MAX: u32 = 1_000;
-
-/// The most places that entries may ever have: 1,000 prunings fold 1,000,000 entries each, and 1,000,000 are held.
-pub const PLACES_MAX: u32 = 1_001_000_000;
 
 /// The history: its opening, the plan in force where another was deployed since, how many were deployed and how many messages
 /// accepted in all; the entries since the opening in their order, how many more are owed to the slots of its messages, and the

@@ -5,9 +5,8 @@ ghost use Rattle.hl7_head.specs.Header.{Msh, header, header_of};
 ghost use Rattle.hl7_head.specs.Laws.{AreControl, answer_back, header_back, msa_of};
 
 use crate::ack::AckPart;
-use crate::moment::{LAST_MOMENT, Moment};
+use crate::moment::Moment;
 use crate::time_stamp::{SECONDS_PER_DAY, SECONDS_PER_HOUR, SECONDS_PER_MINUTE, ZERO};
-use er7_tree::CARRIAGE_RETURN;
 
 /// A control byte other than the carriage return that the header segment of a message lacks, its acknowledgment lacks too;
 /// and what the whole text lacks, the header segment lacks. So what can frame the message can frame the acknowledgment.
@@ -27,13 +26,11 @@ pub fn ack_reads_back(part: AckPart, moment: Moment, connection: u32, number: u3
         → msa_of (ack header part moment connection number) ≡ Some (answer_back header part) }
 {}
 
-/// The numbers that the definitions write out are those of the code: moments reach to the last second of the year 9998,
-/// a day has 86,400 seconds, an hour 3,600 and a minute 60, the digit 0 is the character 48, and segments end with 13.
+/// The numbers that the definitions write out are those of the code: a day has 86,400 seconds, an hour 3,600 and a minute 60,
+/// and the digit 0 is the character 48.
 pub fn constant_rules()
-    ensures last_moment { LAST_MOMENT ≡ 253370764799 }
     ensures day { SECONDS_PER_DAY ≡ 86400 }
     ensures hour { SECONDS_PER_HOUR ≡ 3600 }
     ensures minute { SECONDS_PER_MINUTE ≡ 60 }
     ensures zero { ZERO ≡ 48 }
-    ensures carriage_return { CARRIAGE_RETURN ≡ 13 }
 {}

@@ -12,9 +12,10 @@ mod reply;
 mod time_stamp;
 
 pub use ack::{AckCode, AckPart, Cause};
+pub use fixed_numbers::LAST_MOMENT;
 pub use header::Header;
 pub use laws::{ack_adds_no_control, ack_reads_back, constant_rules};
-pub use moment::{LAST_MOMENT, Moment, MomentRange};
+pub use moment::{Moment, MomentRange};
 pub use msa::Msa;
 pub use reply::{ack_text, append_ack};
 pub use time_stamp::stamp;

@@ -1,10 +1,8 @@
 ghost use Rattle.std.specs.Prelude.{◌≡◌, ◌↔◌, ◌≤◌, pos, ◌≤ℤ◌, IsOk, IfOk};
 
+use fixed_numbers::LAST_MOMENT;
 use std::marker::Model;
 use thiserror::Error;
-
-/// The last moment, the last second of the year 9998, in seconds since 1970 began.
-pub const LAST_MOMENT: u64 = 253_370_764_799;
 
 /// A moment: whole seconds since the year 1970 began, in UTC and without leap seconds, up to [`LAST_MOMENT`].
 #[derive(Clone, Copy, Debug, PartialEq, Eq)]

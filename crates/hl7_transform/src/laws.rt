@@ -8,8 +8,6 @@ ghost use Rattle.hl7_transform.specs.Rules.{names_paths, KeepsProtected, LacksSe
 ghost use Rattle.hl7_transform.specs.Step.{Edit, change, after};
 ghost use Rattle.hl7_transform.specs.declared.fault.StopCause.TheVariants.{NoSuchSegment};
 
-use crate::step_check::CONTROL_ID;
-
 /// What steps leave as it is, and what stops them.
 pub fn step_rules()
     // Steps bring in none of the control characters that end segments and lines or frame a message, so a message that
@@ -27,9 +25,4 @@ pub fn step_rules()
     // A step that may stand is refused only where the segment that it writes to isn't there.
     ensures refused { (step : Edit) (t : Tree) →
         may_stand step ≡ true → change step t ≡ Err NoSuchSegment → LacksSegment step t }
-{}
-
-/// The number of the standard that the definitions write out is that of the program.
-pub fn constant_rules()
-    ensures { CONTROL_ID ≡ 10 }
 {}

@@ -10,6 +10,6 @@ mod stop;
 
 pub use application::apply;
 pub use fault::{StepFault, StopCause};
-pub use laws::{constant_rules, step_rules};
+pub use laws::step_rules;
 pub use step::{Pair, Step};
 pub use step_check::{StepCheck, all_may_stand, check_step};

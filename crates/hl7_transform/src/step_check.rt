@@ -5,10 +5,8 @@ ghost use Rattle.hl7_transform.specs.View.{view, steps_view};
 
 use crate::step::Step;
 use er7_tree::{Path, is_header, is_name};
+use fixed_numbers::CONTROL_ID_FIELD;
 use thiserror::Error;
-
-/// The field of MSH that holds the message control id (HL7 v2.5.1, 2.15.9.10).
-pub const CONTROL_ID: u32 = 10;
 
 /// Why a step may not stand in a transformer.
 #[derive(Clone, Copy, Debug, PartialEq, Eq, Error)]
@@ -37,7 +35,7 @@ impl StepCheck {
 fn is_protected(path: &Path) -> bool
     ensures { result ≡ is_protected path.now }
 {
-    path.is_fixed() || (is_header(path.segment()) && path.field() == CONTROL_ID)
+    path.is_fixed() || (is_header(path.segment()) && path.field() == CONTROL_ID_FIELD)
 }
 
 /// A write to a place.

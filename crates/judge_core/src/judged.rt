@@ -14,14 +14,12 @@ ghost use Rattle.judge_core.specs.Judging.{header_fault, key_by, deliveries_by, 
 use crate::delivery::{Deliveries, by_routes, passes, transformed};
 use crate::text::Text;
 use er7_tree::{Message, Refusal, is_vacant};
+use fixed_numbers::CONTROL_ID_MAX;
 use hl7_head::{Cause, Header};
 use plan_text::{Channel, Plan, Route};
 use std::alloc::{AllocError, Global};
 use std::marker::Model;
 use std::sync::Arc;
-
-/// The most bytes that a control id (MSH-10) may have.
-pub const CONTROL_ID_MAX: usize = 199;
 
 /// What a key holds beside the three fields of the header: the channel and two separators.
 const KEY_MARKS: usize = 3;

@@ -4,17 +4,10 @@ ghost use Rattle.std.specs.Prelude.{◌≡◌, ◌<◌, ◌↔◌, ℕ, List, []
 ghost use Rattle.mllp_frame.specs.Framing.{IsData};
 ghost use Rattle.hl7_head.specs.Header.{Msh, header_of};
 ghost use Rattle.plan_text.specs.Entries.{PlanEntry, IsPlan};
-ghost use Rattle.judge_core.specs.declared.judged.TheConstants.{CONTROL_ID_MAX};
 ghost use Rattle.judge_core.specs.Delivering.{AreDeliveries};
 ghost use Rattle.judge_core.specs.Judging.{deliveries_of, is_booked, is_bookable, is_stray, is_unreadable, key_of, named, verdict};
 
 use crate::judged::Verdict;
-
-/// The limit of a control id is the number that the definitions write out.
-pub fn constants_are()
-    // MSH-10 has at most 199 bytes, a limit of this engine.
-    ensures { CONTROL_ID_MAX ≡ 199 }
-{}
 
 /// The laws of verdicts, for every plan, channel and text.
 pub fn verdict_rules()

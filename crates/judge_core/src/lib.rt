@@ -7,6 +7,6 @@ mod laws;
 mod text;
 
 pub use delivery::{Deliveries, Delivery};
-pub use judged::{CONTROL_ID_MAX, Judged, Verdict, judge};
-pub use laws::{constants_are, key_rules, verdict_rules};
+pub use judged::{Judged, Verdict, judge};
+pub use laws::{key_rules, verdict_rules};
 pub use text::{Text, fits_block};

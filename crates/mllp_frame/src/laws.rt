@@ -8,15 +8,7 @@ ghost use Rattle.mllp_frame.specs.Framing.{start_block, end_block, carriage_retu
 ghost use Rattle.mllp_frame.specs.Framed.{Framed, AddsFront, IsFront, blank};
 ghost use Rattle.mllp_frame.specs.Calls.{Call, bytes_of, handed_out, after_calls};
 
-use crate::{Break, CARRIAGE_RETURN, DATA_MAX, END_BLOCK, START_BLOCK};
-
-/// The numbers of the standard, and the limit of this engine, are those of the program.
-pub fn constant_rules()
-    ensures start { START_BLOCK ≡ 11 }
-    ensures end { END_BLOCK ≡ 28 }
-    ensures carriage_return { CARRIAGE_RETURN ≡ 13 }
-    ensures data_max { DATA_MAX ≡ 1048576 }
-{}
+use crate::Break;
 
 /// The events of a byte string, from its front on: bytes that open no block are skipped, and what follows the data of a
 /// block decides what becomes of it (MLLP Release 1, block format).

@@ -13,27 +13,16 @@ ghost use Rattle.mllp_frame.specs.Framing.{blocks, data_max, open_end, block_byt
 mod laws;
 mod stage;
 
+pub use fixed_numbers::{CARRIAGE_RETURN, DATA_MAX, END_BLOCK, START_BLOCK};
 pub use laws::{
-    any_pieces, blocks_hold_data, constant_rules, cutting_rules, longer_streams, open_end_is_short,
-    reading_back, single_bytes,
+    any_pieces, blocks_hold_data, cutting_rules, longer_streams, open_end_is_short, reading_back,
+    single_bytes,
 };
 use stage::{Stage, read};
 use std::alloc::{AllocError, Global};
 use std::collections::VecDeque;
 use std::marker::Model;
 use thiserror::Error;
-
-/// The start block character, which opens a block (MLLP Release 1, block format: `<SB>`).
-pub const START_BLOCK: u8 = 0x0B;
-
-/// The end block character, which ends a block's data (MLLP Release 1, block format: `<EB>`).
-pub const END_BLOCK: u8 = 0x1C;
-
-/// The carriage return that has to follow the end block character (MLLP Release 1, block format: `<CR>`).
-pub const CARRIAGE_RETURN: u8 = 0x0D;
-
-/// The most data bytes that a block may have: 1 MiB. The standard has no such limit.
-pub const DATA_MAX: usize = 1_048_576;
 
 /// How a block was broken.
 #[derive(Clone, Copy, Debug, PartialEq, Eq)]

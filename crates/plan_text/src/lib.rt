@@ -6,15 +6,11 @@ mod channel;
 mod destination;
 mod fault;
 mod from_toml;
-mod limits;
 mod literal;
 mod plan;
 
 pub use channel::{Channel, MessageType, ProcessingId, Route, VersionId};
 pub use destination::{Await, Destination};
 pub use fault::{FaultName, PlanFault};
-pub use limits::{
-    CHANNELS_MAX, DESTINATIONS_MAX, LEVELS_MAX, MEMBERS_MAX, PAIRS_MAX, constants_are,
-};
 pub use literal::Literal;
 pub use plan::Plan;

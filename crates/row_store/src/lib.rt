@@ -11,10 +11,8 @@ use std::alloc::{AllocFailed, Global};
 
 mod plain_rows;
 
+pub use fixed_numbers::QUEUES;
 pub use plain_rows::PlainRows;
-
-/// How many queues there are: a queue's place is below this.
-pub const QUEUES: u32 = 32;
 
 /// A row: bit d of the mask is set where the row stands in queue d.
 #[derive(Drop)]
@@ -105,10 +103,8 @@ pub trait RowStore<T> {
     }
 }
 
-/// The laws of queues: how many there are, and what a change to a row does to those that it stands in.
+/// The laws of queues: what a change to a row does to those that it stands in.
 pub fn queue_rules<T>()
-    ensures queues { QUEUES ≡ 32 }
-
     // The front is the first of the queue.
     ensures front { (rows : List (Row T)) (d : ℕ) → front_of d rows ≡ slice_get (queue_of d rows) 0 }
 

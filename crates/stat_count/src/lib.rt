@@ -11,13 +11,8 @@ ghost use Rattle.stat_count.specs.Statistics.{filtered_one, accepted_one, refuse
 ghost use Rattle.stat_count.specs.Statistics.{waits_one, taken_one, delivered_one, failed_one, again_one, cancelled_one};
 ghost use Rattle.stat_count.specs.Statistics.{one_less_waiting, one_less_inflight, one_less_delivered, one_less_failed};
 
+pub use fixed_numbers::{CHANNELS, DESTINATIONS};
 use std::marker::Model;
-
-/// How many channels are counted: a channel's place is below this.
-pub const CHANNELS: u32 = 64;
-
-/// How many destinations are counted: a destination's place is below this.
-pub const DESTINATIONS: u32 = 32;
 
 /// What became of the messages of a channel.
 #[derive(Clone, Copy, Debug, PartialEq, Eq)]
@@ -265,11 +260,8 @@ impl Counts {
     }
 }
 
-/// The laws of the statistics: how many places are counted, and that a change to one channel or destination changes its
-/// counters and no others.
+/// The laws of the statistics: a change to one channel or destination changes its counters and no others.
 pub fn statistics_rules()
-    ensures counted_channels { CHANNELS ≡ 64 }
-    ensures counted_destinations { DESTINATIONS ≡ 32 }
     ensures channel { (statistics : Statistics) (channel : ℕ) (change : ChannelCounts → ChannelCounts) → channel < length statistics.channels →
         channel_at channel (on_channel channel change statistics) ≡ change (channel_at channel statistics) }
     ensures other_channels { (statistics : Statistics) (channel other : ℕ) (change : ChannelCounts → ChannelCounts) → other ≢ channel →

@@ -12,8 +12,8 @@ ghost use Rattle.plan_text.specs.Conditions.{pair_of, text_pair, text_and_list, 
 
 use crate::fault::{FaultName, Stop};
 use crate::from_toml::keys::{Key, Keys, fault_at, member_path};
-use crate::limits::{LEVELS_MAX, MEMBERS_MAX};
 use er7_tree::Path;
+use fixed_numbers::{LEVELS_MAX, MEMBERS_MAX};
 use hl7_filter::{Bytes, Cond};
 use std::alloc::{AllocError, Global};
 use toml::Value;

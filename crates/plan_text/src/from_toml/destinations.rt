@@ -17,8 +17,8 @@ use crate::from_toml::keys::{Key, Keys};
 use crate::from_toml::kinds::await_word;
 use crate::from_toml::members::{Reader, each};
 use crate::from_toml::names::new_name;
-use crate::limits::DESTINATIONS_MAX;
 use crate::literal::Literal;
+use fixed_numbers::DESTINATIONS_MAX;
 use std::alloc::{AllocError, Global};
 use toml::Value;
 

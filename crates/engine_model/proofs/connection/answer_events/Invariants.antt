@@ -2,7 +2,7 @@ use Rattle.std.proofs.Common.{◌≡◌, ◌+◌, ◌*◌, ◌≤◌, [], ◌++�
 use Rattle.event_log.specs.History.{plan_in_force}
 use Rattle.mllp_frame.specs.Event.{Event}
 use Rattle.mllp_frame.specs.Framed.{Framed}
-use Rattle.engine_model.specs.declared.connection.TheConstants.{FRAME_EVENTS_MAX}
+use Rattle.fixed_numbers.specs.declared.serving.TheConstants.{FRAME_EVENTS_MAX}
 use Rattle.engine_model.specs.Handling.{Handles, IsCounted}
 use Rattle.engine_model.proofs.connection.answer_events.Given as goal
 

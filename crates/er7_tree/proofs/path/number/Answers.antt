@@ -8,11 +8,11 @@ use Rattle.er7_tree.proofs.path.number.Goals as goal
 pub returns-then-not-is_ascii_digit-clause-value : goal.returns-then-not-is_ascii_digit-clause-value
 returns-then-not-is_ascii_digit-clause-value c = sym (number_bad c.args.digits.now c.loop-digit.digit-index c.loop-digit-test.true (sym c.is_ascii_digit.ensures.value ∙ c.if-not-is_ascii_digit.true))
 
-pub returns-then-value-gt-NUMBER_MAX-clause-value : goal.returns-then-value-gt-NUMBER_MAX-clause-value
-returns-then-value-gt-NUMBER_MAX-clause-value c =
+pub returns-then-value-gt-PATH_NUMBER_MAX-clause-value : goal.returns-then-value-gt-PATH_NUMBER_MAX-clause-value
+returns-then-value-gt-PATH_NUMBER_MAX-clause-value c =
     let digit = sym c.is_ascii_digit.ensures.value ∙ c.if-not-is_ascii_digit.false in
     let more = number_more c.args.digits.now c.loop-digit.digit-index c.loop-digit.value c.loop-digit-test.true digit c.loop-digit.invariant.value in
-    sym (number_large c.args.digits.now (c.loop-digit.digit-index + 1) (10 * c.loop-digit.value + c.from.result) (rw c.from.ensures more) c.if-value-gt-NUMBER_MAX.true)
+    sym (number_large c.args.digits.now (c.loop-digit.digit-index + 1) (10 * c.loop-digit.value + c.from.result) (rw c.from.ensures more) c.if-value-gt-PATH_NUMBER_MAX.true)
 
 pub loop-digit-preserved : goal.loop-digit-preserved
 loop-digit-preserved c =
