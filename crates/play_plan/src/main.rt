@@ -137,37 +137,81 @@ fn judged<W: Write>(
     tell_verdict(out, &judged)
 }
 
-fn main(rt: HostRuntime) -> Result<()> {
-    let alloc = rt.alloc();
-    let mut script = BufReader::new(alloc, rt.reader())?;
-    let mut out = BufWriter::new(alloc, io::writer(&rt))?;
+/// What the lines so far came to.
+#[derive(Drop)]
+struct Player {
+    alloc: Global,
+    /// The name and the text of the plan that began last.
+    name: String,
+    text: Vec<u8>,
+    /// The plan that was read last, where it had no fault.
+    plan: Option<Arc<Plan>>,
+}
+
+impl Player {
+    fn new(alloc: Global) -> Player {
+        Player {
+            alloc,
+            name: String::new(alloc),
+            text: Vec::new(alloc),
+            plan: None,
+        }
+    }
+
+    /// Begins the text of a plan.
+    fn begin(&mut self, name: &str) -> Result<()> {
+        self.name = String::from_str(self.alloc, name)?;
+        self.text.clear();
+        Ok(())
+    }
+
+    /// Reads the plan whose text has ended, and tells what it says.
+    fn end<W: Write>(&mut self, out: &mut W) -> Result<()> {
+        self.plan = None;
+        if let Some(plan) = told_plan(self.alloc, out, self.name.as_str(), &self.text)? {
+            self.plan = Some(Arc::new(self.alloc, plan)?);
+        }
+        Ok(())
+    }
+
+    /// Judges a message by the plan that was read last.
+    fn judge<W: Write>(&self, out: &mut W, channel: u32, text: &str) -> Result<()> {
+        let Some(plan) = &self.plan else {
+            bail!("no plan was read");
+        };
+        judged(self.alloc, out, plan, channel, meant(self.alloc, text)?)
+    }
+
+    /// Plays a line.
+    fn play<W: Write>(&mut self, out: &mut W, line: &[u8]) -> Result<()> {
+        match line_of(line.strip_suffix(b"\n").unwrap_or(line)) {
+            Line::Begin(name) => self.begin(name),
+            Line::Text => Ok(self.text.extend_from_slice(line)?),
+            Line::End => self.end(out),
+            Line::Judge(channel, text) => self.judge(out, channel, text),
+        }
+    }
+}
+
+/// Plays each line of a script.
+fn play_all<R: BufRead, W: Write>(alloc: Global, script: &mut R, out: &mut W) -> Result<()> {
+    let mut player = Player::new(alloc);
     let mut line = Vec::new(alloc);
-    let mut name = String::new(alloc);
-    let mut text = Vec::new(alloc);
-    let mut plan = None;
     for _ in 0..u64::MAX {
         line.clear();
         if script.read_until(b'\n', &mut line)? == 0 {
             break;
         }
-        match line_of(line.strip_suffix(b"\n").unwrap_or(&line)) {
-            Line::Begin(new) => {
-                name = String::from_str(alloc, new)?;
-                text.clear();
-            }
-            Line::Text => text.extend_from_slice(&line)?,
-            Line::End => {
-                plan = match told_plan(alloc, &mut out, name.as_str(), &text)? {
-                    Some(plan) => Some(Arc::new(alloc, plan)?),
-                    None => None,
-                };
-            }
-            Line::Judge(channel, text) => match &plan {
-                Some(plan) => judged(alloc, &mut out, plan, channel, meant(alloc, text)?)?,
-                None => bail!("no plan was read"),
-            },
-        }
+        player.play(out, &line)?;
     }
+    Ok(())
+}
+
+fn main(rt: HostRuntime) -> Result<()> {
+    let alloc = rt.alloc();
+    let mut script = BufReader::new(alloc, rt.reader())?;
+    let mut out = BufWriter::new(alloc, io::writer(&rt))?;
+    play_all(alloc, &mut script, &mut out)?;
     out.flush()?;
     Ok(())
 }
