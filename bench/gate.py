@@ -4,7 +4,8 @@
 Processor time is read from /proc every second, so up to a second of each check is missed; checks of another session of
 the system (setsid) aren't counted, so two gates may be measured side by side. Of each check that is no edit it further
 tells the functions whose proof took longest, by when the prover wrote each checked part: seconds on the clock, not of a
-processor, and only roughly right where a check has several processes.
+processor, and only roughly right where a check has several processes. The same is told of each file of a crate, the longest
+first. An interruption (SIGINT, SIGTERM) ends the command, and what was seen until then is told.
 
 Usage: bench/gate.py [COMMAND WORD..]
 """
@@ -12,12 +13,14 @@ Usage: bench/gate.py [COMMAND WORD..]
 import collections
 import os
 import re
+import signal
 import subprocess
 import sys
 import time
 
 ROUND = 1.0  # seconds between two looks
 SLOWEST = 40  # how many functions are told
+FILES = 6  # how many files of a crate are told
 TICKS = os.sysconf('SC_CLK_TCK')
 KINDS = ('proof', 'tests', 'edits')
 PARTS = re.compile(r'rattle-logic-built-locked-(\d+)-')  # the folder in which a check keeps its parts while it runs
@@ -76,23 +79,37 @@ def functions(parts):
     return found
 
 
-def main():
-    """Runs the command and measures it."""
-    taken, checks, parts = {}, {}, collections.defaultdict(dict)
-    begun = time.monotonic()
-    command = subprocess.Popen(sys.argv[1:] or ['rt', 'ci'], stdin=subprocess.DEVNULL)
-    while command.poll() is None:
-        look(taken, checks, parts)
-        time.sleep(ROUND)
+def tell(taken, parts, minutes):
+    """Prints what each crate took, its files and the slowest functions."""
     crates = collections.defaultdict(collections.Counter)
     for (crate, kind), seconds in taken.values():
         crates[crate][kind] += seconds
     for crate, by_kind in sorted(crates.items(), key=lambda it: -it[1].total()):
         print(f'{crate:18}', *(f'{by_kind[kind] / 60:6.1f} {kind}' for kind in KINDS))
     total = sum(it.total() for it in crates.values())
-    print(f'{total / 60:.0f} processor minutes in {(time.monotonic() - begun) / 60:.0f} minutes')
-    for (crate, function), seconds in functions(parts).most_common(SLOWEST):
+    print(f'{total / 60:.0f} processor minutes in {minutes:.0f} minutes')
+    slowest = functions(parts)
+    files = collections.defaultdict(collections.Counter)
+    for (crate, function), seconds in slowest.items():
+        files[crate][function.split('.')[0]] += seconds
+    for crate, by_file in sorted(files.items(), key=lambda it: -it[1].total()):
+        told = ', '.join(f'{file or "(crate)"} {seconds:.0f}' for file, seconds in by_file.most_common(FILES))
+        print(f'{by_file.total():7.1f} s {crate}: {told}')
+    for (crate, function), seconds in slowest.most_common(SLOWEST):
         print(f'{seconds:7.1f} s {crate} {function}')
+
+
+def main():
+    """Runs the command and measures it."""
+    taken, checks, parts = {}, {}, collections.defaultdict(dict)
+    begun = time.monotonic()
+    command = subprocess.Popen(sys.argv[1:] or ['rt', 'ci'], stdin=subprocess.DEVNULL)
+    for stop in (signal.SIGINT, signal.SIGTERM):
+        signal.signal(stop, lambda *_: command.terminate())
+    while command.poll() is None:
+        look(taken, checks, parts)
+        time.sleep(ROUND)
+    tell(taken, parts, (time.monotonic() - begun) / 60)
     return command.returncode
 
 

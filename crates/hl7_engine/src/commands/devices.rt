@@ -11,10 +11,19 @@ use plan_text::Plan;
 use std::alloc::{AllocError, Global};
 use std::net::{Net, TcpListener, TcpStream};
 
+/// What an engine meets the world by.
+#[derive(Drop)]
+pub struct Devices<'a, H> {
+    /// In the order of the plan's channels.
+    pub doors: Vec<TcpDoor<'a, H>>,
+    /// In the order of the plan's destinations.
+    pub links: Vec<TcpLink<'a, H>>,
+}
+
 /// The doors of all channels, each with room for so many connections.
 ///
 /// The fault names the first channel of the plan that can't listen.
-pub fn open_doors<'a, 'f, H: Net<Listener = TcpListener, Stream = TcpStream> + Log>(
+fn open_doors<'a, 'f, H: Net<Listener = TcpListener, Stream = TcpStream> + Log>(
     rt: &'a H,
     alloc: Global,
     plan: &'a Plan,
@@ -38,7 +47,7 @@ pub fn open_doors<'a, 'f, H: Net<Listener = TcpListener, Stream = TcpStream> + L
 }
 
 /// The links of all destinations, none of which is connected yet.
-pub fn make_links<'a, H: Net<Listener = TcpListener, Stream = TcpStream> + Log>(
+fn make_links<'a, H: Net<Listener = TcpListener, Stream = TcpStream> + Log>(
     rt: &'a H,
     alloc: Global,
     plan: &'a Plan,
@@ -56,7 +65,7 @@ pub fn make_links<'a, H: Net<Listener = TcpListener, Stream = TcpStream> + Log>(
 }
 
 /// Tells where each channel listens.
-pub fn tell_doors<H: Net<Listener = TcpListener, Stream = TcpStream> + Log>(
+fn tell_doors<H: Net<Listener = TcpListener, Stream = TcpStream> + Log>(
     rt: &HostRuntime,
     plan: &Plan,
     doors: &[TcpDoor<'_, H>],
@@ -67,6 +76,26 @@ pub fn tell_doors<H: Net<Listener = TcpListener, Stream = TcpStream> + Log>(
             let _ = eprintln!(rt; "listening on {address} for channel {name}");
         }
     }
+}
+
+/// Opens the doors of all channels, tells where they listen, and makes the links of all destinations.
+///
+/// The fault names the first channel of the plan that can't listen.
+pub fn open_devices<'a, 'f, H: Net<Listener = TcpListener, Stream = TcpStream> + Log>(
+    rt: &HostRuntime,
+    handle: &'a H,
+    alloc: Global,
+    plan: &'a Plan,
+    accept: u32,
+) -> Result<Devices<'a, H>, Fault<'f>>
+    ensures doors { IfOk result (λ devices. vec_len devices.doors ≡ length plan.now.channels) }
+    ensures links { IfOk result (λ devices. vec_len devices.links ≡ length plan.now.destinations) }
+    ensures fault { IfErr result (λ fault. (fault ≡ Fault.Memory) ⊎ NamesChannel plan.now.channels fault) }
+{
+    let links = make_links(handle, alloc, plan)?;
+    let doors = open_doors(handle, alloc, plan, accept)?;
+    tell_doors(rt, plan, &doors);
+    Ok(Devices { doors, links })
 }
 
 /// A fault for each channel whose door failed, in the order of the plan.

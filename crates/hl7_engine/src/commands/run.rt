@@ -7,12 +7,13 @@ ghost use Rattle.event_log.specs.Counting.{counted};
 ghost use Rattle.engine_report.specs.Findings.{Concludes, last_told};
 ghost use Rattle.engine_report.specs.Lines.{lines_of_closed};
 
-use crate::commands::devices::{listen_faults, make_links, open_doors, tell_doors};
+use crate::commands::devices::{Devices, listen_faults, open_devices};
 use crate::commands::{EngineBook, EngineRows, read_plan};
 use crate::handle::Handle;
 use book_core::EVENTS_MAX;
 use book_lock::{Closed, Opening, Shared};
 use conn_worker::{Running, ServeReport};
+use delivery_worker::TcpLink;
 use engine_report::{Fault, add_finding, connections_of, find, hasher, statistics_text};
 use engine_workers::{Door, Staff, TcpDoor, Worked, run_workers};
 use plan_text::Plan;
@@ -55,13 +56,30 @@ fn close<'f, A: Opening, T: Ledger, U: Ledger, D: Door + Drop, L: Drop>(
     })
 }
 
+/// Runs all workers over a shared book, and closes it.
+fn work_at<'a, 'f, A: Opening + Sync, T: Ledger + Sync, U: Ledger + Sync, H: Handle>(
+    rt: &'a H,
+    alloc: Global,
+    plan: &'a Plan,
+    shared: Shared<A, T, U, EngineRows>,
+    staff: Staff<A, T, U, TcpDoor<'a, H>, TcpLink<'a, H>>,
+    accept: u32,
+) -> Result<Ended<'f>, AllocError>
+    ensures opening { IfOk result (λ ended. IfSome ended.closed (λ closed. (closed.opening ≡ A.counts) × (closed.first ≡ A.first))) }
+{
+    match run_workers(rt, alloc, &shared, staff, accept, Running(rt)) {
+        Ok(worked) => close(alloc, plan, shared, worked),
+        Err(_) => Err(AllocError),
+    }
+}
+
 /// Shares the book, runs all workers over it, and closes it.
 fn work<'a, 'f, A: Opening + Sync, T: Ledger + Sync, U: Ledger + Sync, H: Handle>(
     rt: &'a H,
     alloc: Global,
     plan: &'a Plan,
     book: EngineBook,
-    doors: Vec<TcpDoor<'a, H>>,
+    devices: Devices<'a, H>,
     accept: u32,
     connections: u32,
     arrivals: Blank,
@@ -76,6 +94,7 @@ fn work<'a, 'f, A: Opening + Sync, T: Ledger + Sync, U: Ledger + Sync, H: Handle
     requires settlements { (settlements.name ≡ U.name) × (settlements.parts ≡ U.parts) × (U.parts ≡ length plan.now.destinations + 1) }
     ensures opening { IfOk result (λ ended. IfSome ended.closed (λ closed. (closed.opening ≡ A.counts) × (closed.first ≡ A.first))) }
 {
+    let Devices { doors, links } = devices;
     let opened = Shared::<A, T, U, EngineRows>::new(
         alloc,
         book,
@@ -85,17 +104,16 @@ fn work<'a, 'f, A: Opening + Sync, T: Ledger + Sync, U: Ledger + Sync, H: Handle
         takes,
         settlements,
     );
-    let Ok((shared, desks, stations)) = opened else {
-        return Err(AllocError);
-    };
-    let staff = Staff {
-        desks,
-        doors,
-        stations,
-        links: make_links(rt, alloc, plan)?,
-    };
-    match run_workers(rt, alloc, &shared, staff, accept, Running(rt)) {
-        Ok(worked) => close(alloc, plan, shared, worked),
+    match opened {
+        Ok((shared, desks, stations)) => {
+            let staff = Staff {
+                desks,
+                doors,
+                stations,
+                links,
+            };
+            work_at(rt, alloc, plan, shared, staff, accept)
+        }
         Err(_) => Err(AllocError),
     }
 }
@@ -142,9 +160,27 @@ fn print_text<'f>(rt: &HostRuntime, text: &str) -> Result<(), Fault<'f>>
     print!(rt; "{text}").map_err(|_| Fault::Write)
 }
 
-/// Tells what came of the run: the statistics, then each fault. The last one is given.
+/// Tells what came of a run whose book was closed so: the statistics, then each fault. The last one is given.
 ///
 /// Where memory is refused, nothing is told.
+fn tell<'f>(
+    rt: &HostRuntime,
+    alloc: Global,
+    plan: &Plan,
+    closed: Option<&Closed<EngineRows>>,
+    served: Vec<ServeReport>,
+    mut faults: Vec<Fault<'f>>,
+) -> Result<(), Fault<'f>>
+    ensures { (result ≡ Err Fault.Memory) ⊎ Concludes (option_copied closed.entry) served.items faults.entry.items result }
+{
+    let found = find(alloc, closed, served)?;
+    add_finding(&mut faults, found)?;
+    let text = statistics_of(alloc, plan, closed)?;
+    let written = print_text(rt, &text);
+    tell_all(rt, written, faults)
+}
+
+/// Tells what came of the run, as [`tell`] does.
 fn conclude<'f>(
     rt: &HostRuntime,
     alloc: Global,
@@ -156,13 +192,44 @@ fn conclude<'f>(
     let Ended {
         closed,
         served,
-        mut failed,
+        failed,
     } = ended;
-    let found = find(alloc, closed.as_ref(), served)?;
-    add_finding(&mut failed, found)?;
-    let text = statistics_of(alloc, plan, closed.as_ref())?;
-    let written = print_text(rt, &text);
-    tell_all(rt, written, failed)
+    tell(rt, alloc, plan, closed.as_ref(), served, failed)
+}
+
+/// Listens for all channels of a plan, takes `accept` connections on each, serves them, and delivers what they bring, in a
+/// book of at most so many entries.
+fn run_by<'a, 'f, H: Handle>(
+    rt: &HostRuntime,
+    handle: &'a H,
+    plan: &'a Arc<Plan>,
+    accept: u32,
+    events: u32,
+) -> Result<Ended<'f>, Fault<'f>>
+    requires least { 1 ≤ accept }
+    requires most { accept ≤ 9_999 }
+    requires some { 1 ≤ events }
+    requires few { events ≤ EVENTS_MAX }
+{
+    let alloc = rt.alloc();
+    let connections = connections_of(plan, accept)?;
+    let hasher = hasher(rt)?;
+    let shared_plan = Arc::try_clone(plan)?;
+    let devices = open_devices(rt, handle, alloc, plan, accept)?;
+    let book = EngineBook::new(alloc, shared_plan, events, hasher);
+    let stations = u64::from(plan.destinations()) + 1;
+    Ok(work::<Brand, Brand, Brand, _>(
+        handle,
+        alloc,
+        plan,
+        book,
+        devices,
+        accept,
+        connections,
+        Blank::new(u64::from(connections) + 1),
+        Blank::new(stations),
+        Blank::new(stations),
+    )?)
 }
 
 /// Listens for all channels of the plan in a file, takes `accept` connections on each, serves them, and delivers what they
@@ -181,26 +248,7 @@ pub fn run<'a, H: Handle>(
     requires few { events ≤ EVENTS_MAX }
 {
     let alloc = rt.alloc();
-    let plan = read_plan(rt, path)?;
-    let connections = connections_of(&plan, accept)?;
-    let hasher = hasher(rt)?;
-    let plan = Arc::new(alloc, plan).map_err(AllocError::from)?;
-    let doors = open_doors(handle, alloc, &plan, accept)?;
-    tell_doors(rt, &plan, &doors);
-    let shared_plan = Arc::try_clone(&plan)?;
-    let book = EngineBook::new(alloc, shared_plan, events, hasher);
-    let stations = u64::from(plan.destinations()) + 1;
-    let ended = work::<Brand, Brand, Brand, _>(
-        handle,
-        alloc,
-        &plan,
-        book,
-        doors,
-        accept,
-        connections,
-        Blank::new(u64::from(connections) + 1),
-        Blank::new(stations),
-        Blank::new(stations),
-    )?;
+    let plan = Arc::new(alloc, read_plan(rt, path)?).map_err(AllocError::from)?;
+    let ended = run_by(rt, handle, &plan, accept, events)?;
     conclude(rt, alloc, &plan, ended)
 }

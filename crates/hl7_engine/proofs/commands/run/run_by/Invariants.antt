@@ -1,7 +1,7 @@
 use Rattle.std.proofs.Common.{length}
 use Rattle.event_log.specs.Counting.{counted}
 use Rattle.event_log.specs.History.{next_place, plan_in_force}
-use Rattle.hl7_engine.proofs.commands.run.run.Given as goal
+use Rattle.hl7_engine.proofs.commands.run.run_by.Given as goal
 
 abbrev pub ghosts-work-A-Opening : goal.ghosts-work-A-Opening
 ghosts-work-A-Opening g a = record { counts = counted a.book; first = next_place a.book; channels = length (plan_in_force a.book).channels }
