@@ -87,7 +87,7 @@ def failed_accept(program, folder):
     lab.close()
     channels, due = [counts.get(('channel', name)) for name in 'AB'], [channel_counts(n, accepted=n) for n in (2, 6)]
     if (status, engine.told[-1], channels, len(lab.came), b'' in replies) != (3, 'device: listen A', due, 8, False):
-        return [f'a failed accept: status {status}, {engine.told}, {channels}, {len(lab.came)} messages came, {replies}']
+        return [f'a failed accept: status {status}, {engine.told}, {counts}, {len(lab.came)} messages came, {replies}']
     return []
 
 

@@ -59,7 +59,7 @@ class Destination:
         self.told, self.slice_size = told, slice_size
         self.came, self.closed = [], False
         self._seen, self._lock = {}, threading.Lock()
-        self._listener = socket.socket()
+        self._listener, self._thread = socket.socket(), None
         self._listener.setsockopt(socket.SOL_SOCKET, socket.SO_REUSEADDR, 1)
         self._listener.bind(('127.0.0.1', port or free_ports(1)[0]))
         self.port = self._listener.getsockname()[1]
@@ -68,7 +68,8 @@ class Destination:
 
     def open(self):
         self._listener.listen(16)
-        threading.Thread(target=self._listen, daemon=True).start()
+        self._thread = threading.Thread(target=self._listen, daemon=True)
+        self._thread.start()
 
     def _listen(self):
         while not self.closed:
@@ -111,7 +112,12 @@ class Destination:
         return True
 
     def close(self):
+        """Ends the wait for connections before the listener is closed: where the system resumes a wait whose descriptor is
+        closed, it waits at whatever has that number by then, which may be the next destination's listener."""
         self.closed = True
+        if self._thread:
+            self._listener.shutdown(socket.SHUT_RDWR)
+            self._thread.join(10)
         self._listener.close()
 
 
