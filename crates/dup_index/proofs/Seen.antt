@@ -5,22 +5,21 @@ use Rattle.std.specs.Option.{option_map}
 use Rattle.std.specs.Str.{bytes_eq}
 use Rattle.std.specs.Map.{lookup}
 use Rattle.std.proofs.lemmas.Slice.Eq.{bytes_eq-Decides}
-use Rattle.dup_index.specs.declared.key.Key.{Key}
 use Rattle.dup_index.specs.Known.{Known, is_key, place_of, from_place, EachOnce}
 
 -- the entries as a clause sees them
-abbrev pub seen : List (Key × ℕ) → List Known
-seen entries = map (λ e. record { key = e.0.bytes.items; place = e.1 }) entries
+abbrev pub seen : List (List ℕ × ℕ) → List Known
+seen entries = map (λ e. record { key = e.0; place = e.1 }) entries
 
-pub lookup-seen : (key : List ℕ) (entries : List (Key × ℕ)) → lookup (λ k. bytes_eq key k.bytes.items) entries ≡ place_of key (seen entries)
+pub lookup-seen : (key : List ℕ) (entries : List (List ℕ × ℕ)) → lookup (λ k. bytes_eq key k) entries ≡ place_of key (seen entries)
 lookup-seen key [] = refl
-lookup-seen key (e ∷ entries) = elim (bytes_eq key e.0.bytes.items) as (λ b. cond b (Some e.1) (lookup (λ k. bytes_eq key k.bytes.items) entries) ≡ option_map (λ (entry : Known). entry.place) (cond b (Some (record { key = e.0.bytes.items; place = e.1 })) (find (is_key key) (seen entries))))
+lookup-seen key (e ∷ entries) = elim (bytes_eq key e.0) as (λ b. cond b (Some e.1) (lookup (λ k. bytes_eq key k) entries) ≡ option_map (λ (entry : Known). entry.place) (cond b (Some (record { key = e.0; place = e.1 })) (find (is_key key) (seen entries))))
     [ true ↦ refl | false ↦ lookup-seen key entries ]
 
-pub from_place-seen : (place : ℕ) (entries : List (Key × ℕ)) → seen (filter (λ e. nat_le place e.1) entries) ≡ from_place place (seen entries)
+pub from_place-seen : (place : ℕ) (entries : List (List ℕ × ℕ)) → seen (filter (λ e. nat_le place e.1) entries) ≡ from_place place (seen entries)
 from_place-seen place [] = refl
-from_place-seen place (e ∷ entries) = elim (nat_le place e.1) as (λ b. seen (cond b (e ∷ filter (λ e. nat_le place e.1) entries) (filter (λ e. nat_le place e.1) entries)) ≡ cond b (record { key = e.0.bytes.items; place = e.1 } ∷ from_place place (seen entries)) (from_place place (seen entries)))
-    [ true ↦ ap (λ rest. record { key = e.0.bytes.items; place = e.1 } ∷ rest) (from_place-seen place entries) | false ↦ from_place-seen place entries ]
+from_place-seen place (e ∷ entries) = elim (nat_le place e.1) as (λ b. seen (cond b (e ∷ filter (λ e. nat_le place e.1) entries) (filter (λ e. nat_le place e.1) entries)) ≡ cond b (record { key = e.0; place = e.1 } ∷ from_place place (seen entries)) (from_place place (seen entries)))
+    [ true ↦ ap (λ rest. record { key = e.0; place = e.1 } ∷ rest) (from_place-seen place entries) | false ↦ from_place-seen place entries ]
 
 not_true : (b : Bool) → (b ≡ true → ⊥) → b ≡ false
 not_true true never = absurd (never refl)

@@ -1,7 +1,8 @@
-//! Keys as they are kept and as they are sought, for speed alone: a list of bytes is hashed by a write of each byte by itself,
-//! and these by one write of them all.
+//! Keys as they are kept and as they are sought. For speed they are hashed by one write of all their bytes, where a list of
+//! bytes is hashed by a write of each; and for memory a short key stands in the index itself: 32 bytes, where a list of
+//! bytes takes 24 and a block of its own, of 32 bytes or more.
 
-ghost use Rattle.std.specs.Prelude.{[], ◌∷◌};
+ghost use Rattle.std.specs.Prelude.{◌≡◌, [], ◌∷◌};
 ghost use Rattle.std.proofs.Common.{ap};
 ghost use Rattle.std.specs.Cmp.{on_equiv, on_per, partial_equiv_from_equiv};
 ghost use Rattle.std.specs.Cmp.Lexicographic.{bytes_decides, nat_list_eq_equiv};
@@ -9,34 +10,90 @@ ghost use Rattle.std.specs.Str.{bytes_eq};
 
 use indexmap::Equivalent;
 use std::hash::{Hash, Hasher};
+use std::marker::Model;
+
+/// The most bytes of a key that stands in the index itself.
+const SHORT_MAX: usize = 30;
+
+/// The bytes of a key that is kept.
+#[derive(Drop)]
+enum Bytes {
+    /// The first of these bytes, so many.
+    Short(u8, [u8; SHORT_MAX]),
+    /// More than [`SHORT_MAX`] bytes.
+    Long(Vec<u8>),
+}
 
 /// A key that is kept.
 #[derive(Drop)]
 pub struct Key {
-    pub bytes: Vec<u8>,
+    bytes: Bytes,
+}
+
+/// A key takes 32 bytes in the index.
+const _: () = prove!(size_of::<Key>() == 32);
+
+impl Model for Key {
+    ghost use Rattle.std.specs.Prelude.{List, ℕ};
+    ghost use Rattle.dup_index.specs.Kept.{bytes_of, IsKept};
+
+    ghost Value = { List ℕ };
+
+    ghost view = { λ k. bytes_of k.bytes };
+
+    ghost invariant = { λ k. IsKept k.bytes };
+}
+
+impl Key {
+    /// A key of these bytes.
+    pub fn new(bytes: Vec<u8>) -> Key
+        ensures { result ≡ bytes.items }
+    {
+        let len = bytes.len();
+        if len > SHORT_MAX {
+            return Key {
+                bytes: Bytes::Long(bytes),
+            };
+        }
+        let mut short = [0; SHORT_MAX];
+        short[..len].copy_from_slice(&bytes);
+        Key {
+            bytes: Bytes::Short(len as u8, short),
+        }
+    }
+
+    /// Its bytes.
+    fn as_slice(&self) -> &[u8]
+        ensures { result.now ≡ self.now }
+    {
+        match &self.bytes {
+            Bytes::Short(len, bytes) => &bytes[..*len as usize],
+            Bytes::Long(bytes) => bytes.as_slice(),
+        }
+    }
 }
 
 impl PartialEq for Key {
-    ghost eq = { λ x y. bytes_eq x.bytes.items y.bytes.items };
+    ghost eq = { bytes_eq };
 
-    ghost laws = { on_per (λ k. k.bytes.items) (partial_equiv_from_equiv nat_list_eq_equiv) };
+    ghost laws = { partial_equiv_from_equiv nat_list_eq_equiv };
 
     fn eq(&self, other: &Key) -> bool {
-        self.bytes.as_slice() == other.bytes.as_slice()
+        self.as_slice() == other.as_slice()
     }
 }
 
 impl Eq for Key {
-    ghost laws = { on_equiv (λ k. k.bytes.items) nat_list_eq_equiv };
+    ghost laws = { nat_list_eq_equiv };
 }
 
 impl Hash for Key {
-    ghost hash_input = { λ k. k.bytes.items ∷ [] };
+    ghost hash_input = { λ k. k ∷ [] };
 
-    ghost respects_eq = { λ x y same. ap (λ bytes. bytes ∷ []) ((bytes_decides x.bytes.items y.bytes.items).0 same) };
+    ghost respects_eq = { λ x y same. ap (λ bytes. bytes ∷ []) ((bytes_decides x y).0 same) };
 
     fn hash<H: Hasher>(&self, state: &mut H) {
-        state.write(self.bytes.as_slice());
+        state.write(self.as_slice());
     }
 }
 
@@ -71,13 +128,13 @@ impl<'k> Hash for Sought<'k> {
 }
 
 impl<'k> Equivalent<Key> for Sought<'k> {
-    ghost equivalent = { λ sought key. bytes_eq sought.bytes.now key.bytes.items };
+    ghost equivalent = { λ sought key. bytes_eq sought.bytes.now key };
 
-    ghost respects_hash = { λ sought key same. ap (λ bytes. bytes ∷ []) ((bytes_decides sought.bytes.now key.bytes.items).0 same) };
+    ghost respects_hash = { λ sought key same. ap (λ bytes. bytes ∷ []) ((bytes_decides sought.bytes.now key).0 same) };
 
-    ghost respects_eq = { λ sought x y. nat_list_eq_equiv.congr sought.bytes.now x.bytes.items y.bytes.items };
+    ghost respects_eq = { λ sought x y. nat_list_eq_equiv.congr sought.bytes.now x y };
 
     fn equivalent(&self, key: &Key) -> bool {
-        self.bytes == key.bytes.as_slice()
+        self.bytes == key.as_slice()
     }
 }

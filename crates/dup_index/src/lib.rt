@@ -26,9 +26,9 @@ impl Model for Keys {
 
     ghost Value = { Index };
 
-    ghost view = { λ s. record { known = map (λ e. record { key = e.0.bytes.items; place = e.1 }) s.places.entries; room = spare s.places } };
+    ghost view = { λ s. record { known = map (λ e. record { key = e.0; place = e.1 }) s.places.entries; room = spare s.places } };
 
-    ghost invariant = { λ s. EachOnce (map (λ e. record { key = e.0.bytes.items; place = e.1 }) s.places.entries) };
+    ghost invariant = { λ s. EachOnce (map (λ e. record { key = e.0; place = e.1 }) s.places.entries) };
 }
 
 impl Keys {
@@ -65,7 +65,7 @@ impl Keys {
         ensures known { self.new.known ≡ self.old.known ++ record { key = key.items; place = place } ∷ [] }
         ensures room { self.old.room ≤ self.new.room + 1 }
     {
-        let _first = self.places.insert(Key { bytes: key }, place).unwrap();
+        let _first = self.places.insert(Key::new(key), place).unwrap();
     }
 
     /// Forgets the keys whose place is before that one, and gives back the memory that those that stay don't need. Where it is

@@ -15,7 +15,8 @@ added c =
     let absent = lookup-seen c.args.key.items c.self.inside.places.entries ∙ unknown in
     let room = rw (← c.self.view_is) at c.requires.room in
     let inserted = of_ok c.insert.result _ (c.insert.ensures.succeeds room) c.insert.ensures.entries in
-    ap seen (inserted ∙ insert_entry-new _ c.self.inside.places (record { bytes = c.args.key }) c.args.place absent) ∙ map-append _ c.self.inside.places.entries _
+    let last = insert_entry-new _ c.self.inside.places c.new.result c.args.place (rw c.new.ensures absent) in
+    ap seen (inserted ∙ last) ∙ map-append _ c.self.inside.places.entries _ ∙ ap (λ key. seen c.self.inside.places.entries ++ record { key = key; place = c.args.place } ∷ []) c.new.ensures
 
 pub invariant_of-self : goal.invariant_of-self
 invariant_of-self c =
