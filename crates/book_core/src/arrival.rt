@@ -19,7 +19,7 @@ use dest_queue::{Addressed, Slots};
 use dup_index::Keys;
 use event_log::{Log, Told, own_owed, told_first};
 use hl7_head::Cause;
-use judge_core::{Deliveries, Delivery, Judged, Text, Verdict};
+use judge_core::{Deliveries, Delivery, Judged, TextPiece, Verdict};
 use row_store::RowStore;
 use std::alloc::{AllocError, Global};
 
@@ -43,7 +43,7 @@ pub enum Gain<'a> {
     /// The row and the key of a message that is accepted.
     Message {
         number: u32,
-        control_id: &'a Text,
+        control_id: &'a TextPiece,
         deliveries: &'a Deliveries,
     },
     /// The key of a message that is filtered.
@@ -119,7 +119,7 @@ fn first_slots(alloc: Global, deliveries: &[Delivery]) -> Result<Slots, AllocErr
 /// What is kept of a message that waits for its first attempt wherever it goes.
 fn first_item(
     alloc: Global,
-    control_id: &Text,
+    control_id: &TextPiece,
     deliveries: &Deliveries,
 ) -> Result<Addressed<Letter>, AllocError>
     ensures content { IfOk result (λ item. item.content ≡ record { control_id = control_id.now; deliveries = deliveries.now }) }
@@ -135,7 +135,7 @@ fn add_row<S: RowStore<Addressed<Letter>>>(
     alloc: Global,
     rows: &mut S,
     number: u32,
-    control_id: &Text,
+    control_id: &TextPiece,
     deliveries: &Deliveries,
 ) -> Result<(), AllocError>
     requires { All (λ row. row.number < number) (S.rows rows.old) }

@@ -31,7 +31,7 @@ use event_log::{
     same_channels, slot_owed,
 };
 use hl7_head::Moment;
-use judge_core::{Judged, Text};
+use judge_core::{Judged, Text, TextPiece};
 use plan_text::Plan;
 use row_store::{QUEUES, RowStore};
 use stat_count::Counts;
@@ -333,7 +333,7 @@ impl<S: RowStore<Addressed<Letter>>> Book<S> {
     }
 
     /// The control id of message `number`, and the text that it has for `d`, which it names.
-    fn letter(&self, number: u32, d: u32) -> Result<(Text, Text), AllocError>
+    fn letter(&self, number: u32, d: u32) -> Result<(TextPiece, Text), AllocError>
         requires { names d (deliveries self.now number) ≡ true }
         ensures { IfOk result (λ letter. letter ≡ (control_id self.now number, payload self.now number d)) }
     {

@@ -12,7 +12,7 @@ ghost use Rattle.judge_core.specs.Delivering.{AreDeliveries};
 ghost use Rattle.judge_core.specs.Judging.{header_fault, key_by, deliveries_by, routed, stepped, verdict_of};
 
 use crate::delivery::{Deliveries, by_routes, passes, transformed};
-use crate::text::Text;
+use crate::text::{Text, TextPiece};
 use er7_tree::{Message, Refusal, is_vacant};
 use fixed_numbers::CONTROL_ID_MAX;
 use hl7_head::{Cause, Header};
@@ -60,7 +60,7 @@ pub struct Judged {
     channel: u32,
     raw: Text,
     header: Option<Header>,
-    control_id: Option<Text>,
+    control_id: Option<TextPiece>,
     key: Vec<u8>,
     verdict: Verdict,
 }
@@ -141,11 +141,11 @@ fn payload_of(alloc: Global, message: &Message, raw: &Text, same: bool) -> Resul
 }
 
 /// The control id of a message, as a span of the message's text.
-fn control_id_of(header: &Header) -> Result<Text, AllocError>
+fn control_id_of(header: &Header) -> Result<TextPiece, AllocError>
     ensures { IfOk result (λ control_id. control_id ≡ header.now.control_id) }
 {
     let (text, place) = header.shared_control_id();
-    Text::part(text, place)
+    TextPiece::of(text, place)
 }
 
 /// The key of a message, by which its repeats are known.
@@ -259,7 +259,7 @@ pub fn judge(
     let shared = Arc::new(alloc, raw)?;
     let plan = Arc::try_clone(plan)?;
     let read = read(alloc, &shared)?;
-    let raw = Text::whole(shared)?;
+    let raw = Text::of(shared);
     let Some((message, printed)) = read else {
         return Ok(Judged {
             plan,
@@ -321,7 +321,7 @@ impl Judged {
     }
 
     /// The control id, MSH-10, if the text is a message. It shares the bytes of the text, and who keeps it may share it again.
-    pub fn control_id(&self) -> Option<&Text>
+    pub fn control_id(&self) -> Option<&TextPiece>
         ensures { option_copied result ≡ option_map (λ h. h.control_id) (header_of self.now.raw) }
     {
         self.control_id.as_ref()

@@ -9,4 +9,4 @@ mod text;
 pub use delivery::{Deliveries, Delivery};
 pub use judged::{Judged, Verdict, judge};
 pub use laws::{key_rules, verdict_rules};
-pub use text::{Text, fits_block};
+pub use text::{Text, TextPiece, fits_block};

@@ -11,19 +11,68 @@ use std::alloc::{AllocError, Global};
 use std::marker::Model;
 use std::sync::Arc;
 
-/// The bytes of a text, held once for all its owners. They are all that is shared, or a span of it: so a piece of a text that is
-/// kept takes no memory of its own.
+/// The bytes of a text, held once for all its owners.
 #[derive(Debug, Drop)]
 pub struct Text {
+    shared: Arc<Vec<u8>>,
+}
+
+/// A text takes 8 bytes beside the bytes that it shares.
+const _: () = prove!(size_of::<Text>() == 8);
+
+impl Model for Text {
+    ghost use Rattle.std.specs.Prelude.{List, ℕ};
+    ghost use Rattle.std.specs.Arc.{arc_value};
+
+    ghost Value = { List ℕ };
+
+    ghost view = { λ t. (arc_value t.shared).items };
+}
+
+impl Text {
+    /// The text of these bytes.
+    pub fn new(alloc: Global, bytes: Vec<u8>) -> Result<Text, AllocError>
+        ensures { IfOk result (λ text. text ≡ bytes.items) }
+    {
+        Ok(Text::of(Arc::new(alloc, bytes)?))
+    }
+
+    /// The text of bytes that are shared, as one more of their owners.
+    pub(crate) fn of(shared: Arc<Vec<u8>>) -> Text
+        ensures { result ≡ (arc_value shared).items }
+    {
+        Text { shared }
+    }
+
+    /// The same bytes for one more owner.
+    pub fn share(&self) -> Result<Text, AllocError>
+        ensures { IfOk result (λ text. text ≡ self.now) }
+    {
+        Ok(Text {
+            shared: Arc::try_clone(&self.shared)?,
+        })
+    }
+
+    /// The bytes.
+    pub fn as_slice(&self) -> &[u8]
+        ensures { result.now ≡ self.now }
+    {
+        self.shared.as_slice()
+    }
+}
+
+/// A piece of a text, as a span of the bytes that its owners share: so it takes no memory of its own where it is kept.
+#[derive(Debug, Drop)]
+pub struct TextPiece {
     shared: Arc<Vec<u8>>,
     start: u32,
     end: u32,
 }
 
-/// A text takes 16 bytes beside the bytes that it shares.
-const _: () = prove!(size_of::<Text>() == 16);
+/// A piece takes 16 bytes beside the bytes that it shares.
+const _: () = prove!(size_of::<TextPiece>() == 16);
 
-impl Model for Text {
+impl Model for TextPiece {
     ghost use Rattle.std.specs.Prelude.{List, ℕ, length};
     ghost use Rattle.std.specs.Arc.{arc_value};
     ghost use Rattle.er7_tree.specs.Spans.{covered, IsBetween};
@@ -42,46 +91,27 @@ fn place(offset: usize) -> Result<u32, AllocError>
     u32::try_from(offset).map_err(|_| AllocError)
 }
 
-impl Text {
-    /// The text of these bytes. 4 GiB or more are answered as want of memory.
-    pub fn new(alloc: Global, bytes: Vec<u8>) -> Result<Text, AllocError>
-        ensures { IfOk result (λ text. text ≡ bytes.items) }
-    {
-        Text::whole(Arc::new(alloc, bytes)?)
-    }
-
-    /// The text of all bytes that are shared. 4 GiB or more are answered as want of memory.
-    pub(crate) fn whole(shared: Arc<Vec<u8>>) -> Result<Text, AllocError>
-        ensures { IfOk result (λ text. text ≡ (arc_value shared).items) }
-    {
-        let end = place(shared.len())?;
-        Ok(Text {
-            shared,
-            start: 0,
-            end,
-        })
-    }
-
-    /// The text of a span of bytes that are shared, as one more of their owners. A span that ends at 4 GiB or behind it is
-    /// answered as want of memory.
-    pub fn part(shared: &Arc<Vec<u8>>, span: Span) -> Result<Text, AllocError>
+impl TextPiece {
+    /// The piece of bytes that are shared, as one more of their owners. A span that ends at 4 GiB or behind it, where no
+    /// block reaches, is answered as want of memory.
+    pub(crate) fn of(shared: &Arc<Vec<u8>>, span: Span) -> Result<TextPiece, AllocError>
         requires { IsBetween 0 (length (arc_value shared.now).items) span }
-        ensures { IfOk result (λ text. text ≡ covered (arc_value shared.now).items span) }
+        ensures { IfOk result (λ piece. piece ≡ covered (arc_value shared.now).items span) }
     {
         let start = place(span.start)?;
         let end = place(span.end)?;
-        Ok(Text {
+        Ok(TextPiece {
             shared: Arc::try_clone(shared)?,
             start,
             end,
         })
     }
 
-    /// The same bytes for one more owner.
-    pub fn share(&self) -> Result<Text, AllocError>
-        ensures { IfOk result (λ text. text ≡ self.now) }
+    /// The same piece for one more owner.
+    pub fn share(&self) -> Result<TextPiece, AllocError>
+        ensures { IfOk result (λ piece. piece ≡ self.now) }
     {
-        Ok(Text {
+        Ok(TextPiece {
             shared: Arc::try_clone(&self.shared)?,
             start: self.start,
             end: self.end,

@@ -12,9 +12,9 @@ use Rattle.judge_core.proofs.judged.judge.Goals as goal
 
 pub invariant_of-result : goal.invariant_of-result
 invariant_of-result c =
-    let came = c.in_ok-raw.ensures ∙ ap (λ (v : Vec ℕ Global). v.items) c.in_ok-shared.ensures.ok in
-    let read = ap (option_map (λ (r : Tree × Bool). r.0)) (sym c.in_default.is) ∙ c.in_ok-read.ensures.message ∙ ap (λ (text : List ℕ). result_ok (tree text)) (sym c.in_ok-raw.ensures) in
-    let nothing = says-nothing (arc_value c.in_ok-plan.plan) c.args.channel c.in_ok-raw.raw read in
+    let came = c.of-raw.ensures ∙ ap (λ (v : Vec ℕ Global). v.items) c.in_ok-shared.ensures.ok in
+    let read = ap (option_map (λ (r : Tree × Bool). r.0)) (sym c.in_default.is) ∙ c.in_ok-read.ensures.message ∙ ap (λ (text : List ℕ). result_ok (tree text)) (sym c.of-raw.ensures) in
+    let nothing = says-nothing (arc_value c.in_ok-plan.plan) c.args.channel c.of-raw.result read in
     record {
       known = rw c.in_ok-plan.ensures c.requires.known;
       fits = rw came c.requires.fits;
@@ -36,10 +36,10 @@ unwrap-rules-requires c =
     (rw (c.deref-2.ensures, c.in_ok-plan.ensures) at c.channel.ensures) c.requires.known
 
 -- the plan's rules, and the channel that was found
-rules-of : (c : goal.After-raw-2-1) → IsPlan (arc_value c.args.plan.now)
+rules-of : (c : goal.After-raw-1) → IsPlan (arc_value c.args.plan.now)
 rules-of c = rw c.deref.ensures at c.rules.ensures
 
-found-of : (c : goal.After-raw-2-1) → slice_get (arc_value c.args.plan.now).channels c.args.channel ≡ Some c.unwrap-rules.result.now
+found-of : (c : goal.After-raw-1) → slice_get (arc_value c.args.plan.now).channels c.args.channel ≡ Some c.unwrap-rules.result.now
 found-of c = sym (rw (c.deref-2.ensures, c.in_ok-plan.ensures) at c.channel.ensures) ∙ ap option_copied c.unwrap-rules.ensures
 
 pub decide-requires-clause-stand : goal.decide-requires-clause-stand
@@ -52,17 +52,17 @@ decide-requires-clause-routes_stand c =
 
 pub decide-requires-clause-goes : goal.decide-requires-clause-goes
 decide-requires-clause-goes c =
-    let came = c.in_ok-raw.ensures ∙ ap (λ (v : Vec ℕ Global). v.items) c.in_ok-shared.ensures.ok in
-    let read = ap (option_map (λ (r : Tree × Bool). r.0)) (sym c.in-Some.is) ∙ c.in_ok-read.ensures.message ∙ ap (λ (text : List ℕ). result_ok (tree text)) (sym c.in_ok-raw.ensures) in
-    let message = says (arc_value c.in_ok-plan.plan) c.args.channel c.in_ok-raw.raw c.in-Some.message read in
-    goes-after (arc_value c.args.plan.now) c.args.channel c.unwrap-rules.result.now c.in_ok-raw.raw c.in-Some.message (rules-of c) (found-of c) message.read
+    let came = c.of-raw.ensures ∙ ap (λ (v : Vec ℕ Global). v.items) c.in_ok-shared.ensures.ok in
+    let read = ap (option_map (λ (r : Tree × Bool). r.0)) (sym c.in-Some.is) ∙ c.in_ok-read.ensures.message ∙ ap (λ (text : List ℕ). result_ok (tree text)) (sym c.of-raw.ensures) in
+    let message = says (arc_value c.in_ok-plan.plan) c.args.channel c.of-raw.result c.in-Some.message read in
+    goes-after (arc_value c.args.plan.now) c.args.channel c.unwrap-rules.result.now c.of-raw.result c.in-Some.message (rules-of c) (found-of c) message.read
     (rw came c.requires.fits.plain)
 
 pub invariant_of-result-2 : goal.invariant_of-result-2
 invariant_of-result-2 c =
-    let came = c.in_ok-raw.ensures ∙ ap (λ (v : Vec ℕ Global). v.items) c.in_ok-shared.ensures.ok in
-    let read = ap (option_map (λ (r : Tree × Bool). r.0)) (sym c.in-Some.is) ∙ c.in_ok-read.ensures.message ∙ ap (λ (text : List ℕ). result_ok (tree text)) (sym c.in_ok-raw.ensures) in
-    let message = says (arc_value c.in_ok-plan.plan) c.args.channel c.in_ok-raw.raw c.in-Some.message read in
+    let came = c.of-raw.ensures ∙ ap (λ (v : Vec ℕ Global). v.items) c.in_ok-shared.ensures.ok in
+    let read = ap (option_map (λ (r : Tree × Bool). r.0)) (sym c.in-Some.is) ∙ c.in_ok-read.ensures.message ∙ ap (λ (text : List ℕ). result_ok (tree text)) (sym c.of-raw.ensures) in
+    let message = says (arc_value c.in_ok-plan.plan) c.args.channel c.of-raw.result c.in-Some.message read in
     let found : slice_get (arc_value c.in_ok-plan.plan).channels c.args.channel ≡ Some c.unwrap-rules.result.now =
     sym (rw c.deref-2.ensures at c.channel.ensures) ∙ ap option_copied c.unwrap-rules.ensures in
     record {
