@@ -125,7 +125,7 @@ told-sum c (Arrival conn channel raw reply) = by (channel == c) reply
     by true (told.Repeat place) = refl
     by false reply = refl
 told-sum c (Take ticket now) = refl
-told-sum c (Settle ticket outcome now state) = refl
+told-sum c (Settle outcome ticket now state) = refl
 told-sum c (Cancel number mask) = refl
 told-sum c (Deploy plan) = refl
 

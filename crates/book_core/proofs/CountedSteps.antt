@@ -103,25 +103,25 @@ take-waits h now ticket tally step good inside counts =
 
 -- a settlement, counted at its destination
 settled-counts : (h : History) (ticket : Ticket) (outcome : Outcome) (now : ℕ) (after : SlotState) → SettleStep h ticket outcome now after
-    → (destination_counts (followed_by h (Settle ticket outcome now after)) ticket.destination ≡ settled_one after (destination_counts h ticket.destination)) × (0 < (destination_counts h ticket.destination).inflight)
+    → (destination_counts (followed_by h (Settle outcome ticket now after)) ticket.destination ≡ settled_one after (destination_counts h ticket.destination)) × (0 < (destination_counts h ticket.destination).inflight)
 settled-counts h ticket outcome now after step =
-    moves-back ticket.attempt after (destination_counts h ticket.destination) (destination_counts (followed_by h (Settle ticket outcome now after)) ticket.destination) step.landed
-    (slot-moves h (followed_by h (Settle ticket outcome now after)) refl ticket after step.nothing.accepted step.exists step.state (InFlight ticket.attempt) step.flew)
-    (attempts-kept h (Settle ticket outcome now after) ticket.destination refl)
+    moves-back ticket.attempt after (destination_counts h ticket.destination) (destination_counts (followed_by h (Settle outcome ticket now after)) ticket.destination) step.landed
+    (slot-moves h (followed_by h (Settle outcome ticket now after)) refl ticket after step.nothing.accepted step.exists step.state (InFlight ticket.attempt) step.flew)
+    (attempts-kept h (Settle outcome ticket now after) ticket.destination refl)
 
 -- what is settled was sent to one of the 32 destinations
 pub settle-inside : (h : History) (ticket : Ticket) (outcome : Outcome) (now : ℕ) (after : SlotState) → SettleStep h ticket outcome now after → ticket.destination < 32
 settle-inside h ticket outcome now after step =
-    slot-inside (followed_by h (Settle ticket outcome now after)) step.sound ticket.number ticket.destination after
-    (slot-left h (followed_by h (Settle ticket outcome now after)) refl ticket after step.nothing.accepted step.exists step.state (InFlight ticket.attempt) step.flew)
+    slot-inside (followed_by h (Settle outcome ticket now after)) step.sound ticket.number ticket.destination after
+    (slot-left h (followed_by h (Settle outcome ticket now after)) refl ticket after step.nothing.accepted step.exists step.state (InFlight ticket.attempt) step.flew)
 
 -- the statistics after a settlement
 pub counted-settle : (h : History) (ticket : Ticket) (outcome : Outcome) (now : ℕ) (after : SlotState) (tally : Statistics) → SettleStep h ticket outcome now after → AreCounted h tally
-    → AreCounted (followed_by h (Settle ticket outcome now after)) (on_destination ticket.destination (settled_one after) tally)
+    → AreCounted (followed_by h (Settle outcome ticket now after)) (on_destination ticket.destination (settled_one after) tally)
 counted-settle h ticket outcome now after tally step counts =
-    counted-at h (followed_by h (Settle ticket outcome now after)) tally ticket.destination (settled_one after) (settle-inside h ticket outcome now after step) counts
-    (channels-kept h (Settle ticket outcome now after) (λ c so. refl)) (settled-counts h ticket outcome now after step).0
-    (λ d apart. others-stay h (followed_by h (Settle ticket outcome now after)) refl ticket after step.nothing.accepted step.exists step.state d apart (attempts-kept h (Settle ticket outcome now after) d refl))
+    counted-at h (followed_by h (Settle outcome ticket now after)) tally ticket.destination (settled_one after) (settle-inside h ticket outcome now after step) counts
+    (channels-kept h (Settle outcome ticket now after) (λ c so. refl)) (settled-counts h ticket outcome now after step).0
+    (λ d apart. others-stay h (followed_by h (Settle outcome ticket now after)) refl ticket after step.nothing.accepted step.exists step.state d apart (attempts-kept h (Settle outcome ticket now after) d refl))
 
 -- before a settlement a slot is in flight
 pub settle-flies : (h : History) (ticket : Ticket) (outcome : Outcome) (now : ℕ) (after : SlotState) (tally : Statistics) → SettleStep h ticket outcome now after → AreCounted h tally → 0 < (destination_at ticket.destination tally).inflight

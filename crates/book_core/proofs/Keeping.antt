@@ -82,14 +82,14 @@ module _ (h : History) (rows : List (Row (Addressed Letter))) (index : List Know
     pub settled-less : slot_owed (attempts_max (plan_in_force h) ticket.destination) (InFlight ticket.attempt) ≤ owed h + slot_owed (attempts_max (plan_in_force h) ticket.destination) after
     settled-less = omega (arith, settled.owed)
 
-    pub settled-owed : owed h + slot_owed (attempts_max (plan_in_force h) ticket.destination) after - slot_owed (attempts_max (plan_in_force h) ticket.destination) (InFlight ticket.attempt) ≡ owed (followed_by h (Settle ticket outcome now after))
+    pub settled-owed : owed h + slot_owed (attempts_max (plan_in_force h) ticket.destination) after - slot_owed (attempts_max (plan_in_force h) ticket.destination) (InFlight ticket.attempt) ≡ owed (followed_by h (Settle outcome ticket now after))
     settled-owed = omega (arith, settled.owed)
 
-    pub settled-within : length h.entries + 1 + owed (followed_by h (Settle ticket outcome now after)) ≤ h.opening.events_max
-    settled-within = omega (arith, settled.sound.room, length-append h.entries (Settle ticket outcome now after ∷ []))
+    pub settled-within : length h.entries + 1 + owed (followed_by h (Settle outcome ticket now after)) ≤ h.opening.events_max
+    settled-within = omega (arith, settled.sound.room, length-append h.entries (Settle outcome ticket now after ∷ []))
 
     pub kept-settled : (room' : ℕ) → room ≤ room' + 1
-        → IsKept (followed_by h (Settle ticket outcome now after)) (changed_at ticket.number (settle ticket.destination after) rows) index (on_destination ticket.destination (settled_one after) tally) (flights - 1) room'
+        → IsKept (followed_by h (Settle outcome ticket now after)) (changed_at ticket.number (settle ticket.destination after) rows) index (on_destination ticket.destination (settled_one after) tally) (flights - 1) room'
     kept-settled room' left = let named = slot-state h ticket.number ticket.destination (InFlight ticket.attempt) settled.flew in record {
       sound = settled.sound;
       rows_agree = rows-settled h _ refl ticket.number ticket.destination after settled.nothing.accepted settled.state named.0 (ap is_live named.1) rows kept.rows_agree;

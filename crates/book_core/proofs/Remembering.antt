@@ -103,7 +103,7 @@ kept-place h place (Arrival conn channel raw reply) r is = by (is_kept reply) is
     by true e = ap (λ x. x.place) (sym (same_Some {A = Remembered} (recalled h place channel raw reply) r e))
     by false e = absurd cc
 kept-place h place (Take ticket now) r is = absurd cc
-kept-place h place (Settle ticket outcome now state) r is = absurd cc
+kept-place h place (Settle outcome ticket now state) r is = absurd cc
 kept-place h place (Cancel number mask) r is = absurd cc
 kept-place h place (Deploy plan) r is = absurd cc
 

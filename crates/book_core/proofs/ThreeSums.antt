@@ -97,7 +97,7 @@ taken-after h (Take ticket now) sound may were d below =
     (changed-at AreTaken taken_one (counted h) ticket.destination d (destination-inside h ticket.destination inside)
     (take-taken (destination_at ticket.destination (counted h)) (subst AreTaken (sym (are.destination ticket.destination inside)) (were ticket.destination inside)))
     (subst AreTaken (sym (are.destination d below)) (were d below)))
-taken-after h (Settle ticket outcome now after) sound may were d below =
+taken-after h (Settle outcome ticket now after) sound may were d below =
     let step = settle-step h sound ticket outcome now after may in
     let inside = settle-inside h ticket outcome now after step in
     let are = counted-are h in
@@ -157,7 +157,7 @@ settled-less Delivered counts landed some within = (omega arith, omega arith)
 settled-less (Failed cause) counts landed some within = (omega arith, omega arith)
 
 -- a settlement
-pub settle-sums : (h : History) (ticket : Ticket) (outcome : Outcome) (now : ℕ) (after : SlotState) → IsSound h → settle_answer h ticket outcome now ≡ Ok after → SumsRise 0 0 1 (counted h) (counted (followed_by h (Settle ticket outcome now after)))
+pub settle-sums : (h : History) (ticket : Ticket) (outcome : Outcome) (now : ℕ) (after : SlotState) → IsSound h → settle_answer h ticket outcome now ≡ Ok after → SumsRise 0 0 1 (counted h) (counted (followed_by h (Settle outcome ticket now after)))
 settle-sums h ticket outcome now after sound is =
     let step = settle-step h sound ticket outcome now after is in
     let inside = settle-inside h ticket outcome now after step in
@@ -165,7 +165,7 @@ settle-sums h ticket outcome now after sound is =
     let were : AreTaken (destination_at ticket.destination (counted h)) = subst AreTaken (sym (are.destination ticket.destination inside)) (were-taken h sound ticket.destination inside) in
     let changes = settled-less after (destination_at ticket.destination (counted h)) step.landed (settle-flies h ticket outcome now after (counted h) step are) were in
     subst (SumsRise 0 0 1 (counted h))
-    (counted-is (followed_by h (Settle ticket outcome now after)) (on_destination ticket.destination (settled_one after) (counted h)) (counted-settle h ticket outcome now after (counted h) step are))
+    (counted-is (followed_by h (Settle outcome ticket now after)) (on_destination ticket.destination (settled_one after) (counted h)) (counted-settle h ticket outcome now after (counted h) step are))
     (record {
       arrivals = sym (add-zero (arrivals (counted h)));
       takes = takes-more (counted h) ticket.destination 0 (settled_one after) (destination-inside h ticket.destination inside) changes.0;

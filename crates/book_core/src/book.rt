@@ -360,7 +360,7 @@ impl<S: RowStore<Addressed<Letter>>> Book<S> {
         now: Moment,
     ) -> Result<SlotState, SettleRefusal>
         ensures answer { result ≡ settle_answer self.old ticket.now outcome now }
-        ensures booked { IfOk result (λ state. self.new ≡ followed_by self.old (Entry.Settle ticket.now outcome now state)) }
+        ensures booked { IfOk result (λ state. self.new ≡ followed_by self.old (Entry.Settle outcome ticket.now now state)) }
         ensures err { OnErr result (self.new ≡ self.old) }
     {
         let ticket = *ticket;

@@ -24,7 +24,7 @@ pub fn three_sums()
         SumsRise 0 1 0 (counted h) (counted (followed_by h (Take ticket now))) }
     ensures settlement { (h : History) (ticket : Ticket) (outcome : Outcome) (now : ℕ) (state : SlotState) →
         IsSound h → settle_answer h ticket outcome now ≡ Ok state →
-        SumsRise 0 0 1 (counted h) (counted (followed_by h (Settle ticket outcome now state))) }
+        SumsRise 0 0 1 (counted h) (counted (followed_by h (Settle outcome ticket now state))) }
     ensures cancellation { (h : History) (number mask : ℕ) → IsSound h → cancel_answer h number ≡ Ok mask →
         SumsRise 0 0 0 (counted h) (counted (followed_by h (Cancel number mask))) }
     ensures deployment { (h : History) (plan : PlanEntry) → IsSound h → MayFollow h (Deploy plan) →

@@ -60,7 +60,7 @@ given_here g own (suc k) p a (suc n) at inside =
 receipt_names : (p : ℕ) (e : Entry) (r : Receipt) → receipt_at p e ≡ Some r → r.entry ≡ p
 receipt_names p (Arrival conn channel raw told) r is = cc
 receipt_names p (Take ticket now) r is = cc
-receipt_names p (Settle ticket outcome now state) r is = cc
+receipt_names p (Settle outcome ticket now state) r is = cc
 receipt_names p (Cancel number mask) r is = cc
 receipt_names p (Deploy plan) r is = cc
 

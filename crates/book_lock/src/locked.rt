@@ -290,7 +290,7 @@ impl<A: Opening, T: Ledger, U: Ledger, S: RowStore<Addressed<Letter>>> Locked<A,
     ) -> Result<SlotState, SettleRefusal>
         ensures answer { result ≡ settle_answer self.old.book ticket.now outcome now }
         ensures booked { IfOk result (λ state.
-            self.new ≡ with_book self.old (followed_by self.old.book (Entry.Settle ticket.now outcome now state))) }
+            self.new ≡ with_book self.old (followed_by self.old.book (Entry.Settle outcome ticket.now now state))) }
         ensures counted { OnOk result (station.new ≡ with_settlement station.old) }
         ensures err { OnErr result ((self.new ≡ self.old) × (station.new ≡ station.old)) }
     {

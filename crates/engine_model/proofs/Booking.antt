@@ -123,8 +123,8 @@ taking-keeps h d now legal = by (take_answer h d now) refl
 pub settling-keeps : (h : History) (ticket : Ticket) (outcome : Outcome) (now : ℕ) → IsLegal h → BringsNone h (next h (ended ticket outcome now))
 settling-keeps h ticket outcome now legal = by (settle_answer h ticket outcome now) refl
   where
-    by : (o : Result SlotState SettleRefusal) → settle_answer h ticket outcome now ≡ o → BringsNone h (option_map_or (λ e. followed_by h e) (option_map (λ state. Settle ticket outcome now state) (result_ok o)) h)
-    by (Ok state) is = brings_none h (Settle ticket outcome now state) legal is (λ conn. refl)
+    by : (o : Result SlotState SettleRefusal) → settle_answer h ticket outcome now ≡ o → BringsNone h (option_map_or (λ e. followed_by h e) (option_map (λ state. Settle outcome ticket now state) (result_ok o)) h)
+    by (Ok state) is = brings_none h (Settle outcome ticket now state) legal is (λ conn. refl)
     by (Err refusal) is = record { legal = legal; arrivals = λ conn. refl }
 
 pub deploying-keeps : (h : History) (plan : PlanEntry) → IsPlan plan → IsLegal h → BringsNone h (next h (planned plan))

@@ -116,6 +116,6 @@ pub have-channels : (es : List Entry) → KeepToOne es → HaveChannels es
 have-channels [] one = record { channels = []; keep = record { keeps = λ place conn channel raw told at. absurd cc } }
 have-channels (Arrival conn channel raw told ∷ es) one = arrived conn channel raw told es one (have-channels es (others-one (Arrival conn channel raw told) es one))
 have-channels (Take ticket now ∷ es) one = passed (Take ticket now) es (λ conn channel raw told is. absurd cc) (have-channels es (others-one (Take ticket now) es one))
-have-channels (Settle ticket outcome now state ∷ es) one = passed (Settle ticket outcome now state) es (λ conn channel raw told is. absurd cc) (have-channels es (others-one (Settle ticket outcome now state) es one))
+have-channels (Settle outcome ticket now state ∷ es) one = passed (Settle outcome ticket now state) es (λ conn channel raw told is. absurd cc) (have-channels es (others-one (Settle outcome ticket now state) es one))
 have-channels (Cancel number mask ∷ es) one = passed (Cancel number mask) es (λ conn channel raw told is. absurd cc) (have-channels es (others-one (Cancel number mask) es one))
 have-channels (Deploy plan ∷ es) one = passed (Deploy plan) es (λ conn channel raw told is. absurd cc) (have-channels es (others-one (Deploy plan) es one))

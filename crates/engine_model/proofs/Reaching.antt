@@ -139,12 +139,12 @@ module _ (channels : List ℕ) (n : ℕ) (r : Run) (ready : AllReady channels n 
         history = refl;
         ready = still (followed_by r.history (Take ticket now));
       }
-  step (Settle ticket outcome now state) may keeps few =
+  step (Settle outcome ticket now state) may keeps few =
       record {
-        to = with_history r (followed_by r.history (Settle ticket outcome now state));
-        steps = ap (λ o. with_history r (option_map_or (λ e. followed_by r.history e) (option_map (λ s. Settle ticket outcome now s) (result_ok o)) r.history)) (sym may);
+        to = with_history r (followed_by r.history (Settle outcome ticket now state));
+        steps = ap (λ o. with_history r (option_map_or (λ e. followed_by r.history e) (option_map (λ s. Settle outcome ticket now s) (result_ok o)) r.history)) (sym may);
         history = refl;
-        ready = still (followed_by r.history (Settle ticket outcome now state));
+        ready = still (followed_by r.history (Settle outcome ticket now state));
       }
   step (Cancel number mask) may keeps few =
       record {

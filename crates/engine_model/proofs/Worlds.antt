@@ -50,11 +50,11 @@ took h h' cs d now (Err e) answered booked left = inr (ap (λ g. run_of g cs) le
 
 -- of a settlement
 pub settled : (h h' : History) (cs : List Connected) (ticket : Ticket) (outcome : Outcome) (now : ℕ) (o : Result SlotState SettleRefusal) → o ≡ settle_answer h ticket outcome now
-    → IfOk o (λ state. h' ≡ followed_by h (Settle ticket outcome now state)) → OnErr o (h' ≡ h) → Steps (settling ticket outcome now) (run_of h cs) (run_of h' cs)
+    → IfOk o (λ state. h' ≡ followed_by h (Settle outcome ticket now state)) → OnErr o (h' ≡ h) → Steps (settling ticket outcome now) (run_of h cs) (run_of h' cs)
 settled h h' cs ticket outcome now (Ok state) answered booked left =
-    ap (λ g. run_of g cs) (booked ∙ ap (λ o. option_map_or (λ e. followed_by h e) (option_map (λ s. Settle ticket outcome now s) (result_ok o)) h) answered)
+    ap (λ g. run_of g cs) (booked ∙ ap (λ o. option_map_or (λ e. followed_by h e) (option_map (λ s. Settle outcome ticket now s) (result_ok o)) h) answered)
 settled h h' cs ticket outcome now (Err e) answered booked left =
-    ap (λ g. run_of g cs) (left ∙ ap (λ o. option_map_or (λ e. followed_by h e) (option_map (λ s. Settle ticket outcome now s) (result_ok o)) h) answered)
+    ap (λ g. run_of g cs) (left ∙ ap (λ o. option_map_or (λ e. followed_by h e) (option_map (λ s. Settle outcome ticket now s) (result_ok o)) h) answered)
 
 -- of a cancellation
 pub cancelled : (h h' : History) (cs : List Connected) (number : ℕ) (o : Result ℕ CancelRefusal) → IfOk o (λ mask. cancel_answer h number ≡ Ok mask) → IfOk o (λ mask. h' ≡ followed_by h (Cancel number mask)) → OnErr o (h' ≡ h)

@@ -13,7 +13,7 @@ use Rattle.engine_model.specs.Steps.{Runs}
 abbrev pub step_of : Entry → Turn
 step_of (Arrival conn channel raw told) = chunk conn (block_bytes raw) 0
 step_of (Take ticket now) = taking ticket.destination now
-step_of (Settle ticket outcome now state) = settling ticket outcome now
+step_of (Settle outcome ticket now state) = settling ticket outcome now
 step_of (Cancel number mask) = cancelling number
 step_of (Deploy plan) = deploying plan
 

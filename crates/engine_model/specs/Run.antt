@@ -42,7 +42,7 @@ abbrev pub arrival_on : ℕ → Entry → Option BookedMessage
 arrival_on conn (Arrival came channel raw told) =
     if came == conn then Some (record { conn = came; channel = channel; raw = raw; told = told }) else None
 arrival_on conn (Take ticket now) = None
-arrival_on conn (Settle ticket outcome now state) = None
+arrival_on conn (Settle outcome ticket now state) = None
 arrival_on conn (Cancel number mask) = None
 arrival_on conn (Deploy plan) = None
 

@@ -49,8 +49,8 @@ find-number h n a (Arrival conn channel raw reply ∷ es) =
     by (told.Refused cause) c is rest = rest
     by (told.Repeat place) c is rest = rest
 find-number h n a (Take ticket now ∷ es) = find-number-past h n a (Take ticket now) es refl (find-number h n (a + 1) es)
-find-number h n a (Settle ticket outcome now state ∷ es) =
-    find-number-past h n a (Settle ticket outcome now state) es refl (find-number h n (a + 1) es)
+find-number h n a (Settle outcome ticket now state ∷ es) =
+    find-number-past h n a (Settle outcome ticket now state) es refl (find-number h n (a + 1) es)
 find-number h n a (Cancel number mask ∷ es) = find-number-past h n a (Cancel number mask) es refl (find-number h n (a + 1) es)
 find-number h n a (Deploy plan ∷ es) = find-number-past h n a (Deploy plan) es refl (find-number h n (a + 1) es)
 

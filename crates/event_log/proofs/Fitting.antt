@@ -23,7 +23,7 @@ use Rattle.event_log.proofs.Taking.{take-step}
 pub sound-followed_by : (h : History) (e : Entry) → IsSound h → MayFollow h e → IsSound (followed_by h e)
 sound-followed_by h (Arrival conn channel raw reply) sound may = (arrival-step h sound conn channel raw reply may).sound
 sound-followed_by h (Take ticket now) sound may = (take-step h sound ticket.destination now ticket may).1.sound
-sound-followed_by h (Settle ticket outcome now state) sound may = (settle-step h sound ticket outcome now state may).sound
+sound-followed_by h (Settle outcome ticket now state) sound may = (settle-step h sound ticket outcome now state may).sound
 sound-followed_by h (Cancel number mask) sound may = (cancel-step h sound number mask may).sound
 sound-followed_by h (Deploy plan) sound may = (deploy-step h sound plan may).sound
 
@@ -68,12 +68,12 @@ take-fits h d now ticket sound is =
 
 -- so does a settlement
 pub settle-fits : (h : History) (ticket : Ticket) (outcome : Outcome) (now : ℕ) (state : SlotState) → IsSound h → settle_answer h ticket outcome now ≡ Ok state
-    → next_place (followed_by h (Settle ticket outcome now state)) + owed (followed_by h (Settle ticket outcome now state)) ≤ next_place h + owed h
+    → next_place (followed_by h (Settle outcome ticket now state)) + owed (followed_by h (Settle outcome ticket now state)) ≤ next_place h + owed h
 settle-fits h ticket outcome now state sound is =
     let step = settle-step h sound ticket outcome now state is in
     let less = settle-less h ticket outcome now state sound is in
-    fits (next_place h) (next_place (followed_by h (Settle ticket outcome now state))) (owed h) (owed (followed_by h (Settle ticket outcome now state)))
-    (next-more h (Settle ticket outcome now state)) (omega (arith, step.owed, less))
+    fits (next_place h) (next_place (followed_by h (Settle outcome ticket now state))) (owed h) (owed (followed_by h (Settle outcome ticket now state)))
+    (next-more h (Settle outcome ticket now state)) (omega (arith, step.owed, less))
 
 -- and a cancellation
 pub cancel-fits : (h : History) (number mask : ℕ) → IsSound h → cancel_answer h number ≡ Ok mask → next_place (followed_by h (Cancel number mask)) + owed (followed_by h (Cancel number mask)) ≤ next_place h + owed h

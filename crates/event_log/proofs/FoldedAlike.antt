@@ -103,7 +103,7 @@ renewed-entries h a (Arrival conn channel raw reply ∷ es) = by (is_kept reply)
     by true rest = (refl, rest)
     by false rest = rest
 renewed-entries h a (Take ticket now ∷ es) = renewed-entries h (a + 1) es
-renewed-entries h a (Settle ticket outcome now state ∷ es) = renewed-entries h (a + 1) es
+renewed-entries h a (Settle outcome ticket now state ∷ es) = renewed-entries h (a + 1) es
 renewed-entries h a (Cancel number mask ∷ es) = renewed-entries h (a + 1) es
 renewed-entries h a (Deploy plan ∷ es) = renewed-entries h (a + 1) es
 

@@ -33,7 +33,7 @@ told-once c (Arrival conn channel raw reply) = by (channel == c) (is_repeat repl
     by true false = omega arith
     by false r = omega arith
 told-once c (Take ticket now) = omega arith
-told-once c (Settle ticket outcome now state) = omega arith
+told-once c (Settle outcome ticket now state) = omega arith
 told-once c (Cancel number mask) = omega arith
 told-once c (Deploy plan) = omega arith
 
@@ -48,7 +48,7 @@ told-sum c (Arrival conn channel raw reply) = by (channel == c) reply
     by true (told.Repeat place) = omega arith
     by false t = omega arith
 told-sum c (Take ticket now) = omega arith
-told-sum c (Settle ticket outcome now state) = omega arith
+told-sum c (Settle outcome ticket now state) = omega arith
 told-sum c (Cancel number mask) = omega arith
 told-sum c (Deploy plan) = omega arith
 

@@ -37,14 +37,14 @@ use Rattle.event_log.proofs.Totals.{sum-alike}
 abbrev FitsBlock : Entry → Type 0
 FitsBlock (Arrival conn channel raw reply) = IsBlockData raw
 FitsBlock (Take ticket now) = Unit {0}
-FitsBlock (Settle ticket outcome now state) = Unit {0}
+FitsBlock (Settle outcome ticket now state) = Unit {0}
 FitsBlock (Cancel number mask) = Unit {0}
 FitsBlock (Deploy plan) = Unit {0}
 
 fits-of : (h : History) (e : Entry) → MayFollow h e → FitsBlock e
 fits-of h (Arrival conn channel raw reply) may = may.fits
 fits-of h (Take ticket now) may = tt
-fits-of h (Settle ticket outcome now state) may = tt
+fits-of h (Settle outcome ticket now state) may = tt
 fits-of h (Cancel number mask) may = tt
 fits-of h (Deploy plan) may = tt
 
@@ -127,7 +127,7 @@ module _ (h : History) (sound : IsSound h) where
       by true is rest = (memory-of a channel raw reply all.0 is, rest)
       by false is rest = rest
   memories-since a (Take ticket now ∷ es) all = memories-since (a + 1) es all.1
-  memories-since a (Settle ticket outcome now state ∷ es) all = memories-since (a + 1) es all.1
+  memories-since a (Settle outcome ticket now state ∷ es) all = memories-since (a + 1) es all.1
   memories-since a (Cancel number mask ∷ es) all = memories-since (a + 1) es all.1
   memories-since a (Deploy plan ∷ es) all = memories-since (a + 1) es all.1
 

@@ -32,7 +32,7 @@ own_key r = key_of r.channel r.raw
 abbrev key_in : Entry → Option (List ℕ)
 key_in (Arrival conn channel raw reply) = cond (is_kept reply) (Some (key_of channel raw)) None
 key_in (Take ticket now) = None
-key_in (Settle ticket outcome now state) = None
+key_in (Settle outcome ticket now state) = None
 key_in (Cancel number mask) = None
 key_in (Deploy plan) = None
 
@@ -57,7 +57,7 @@ keys-entries h a (Arrival conn channel raw reply ∷ es) = by (is_kept reply) (k
     by true rest = ap (λ ks. key_of channel raw ∷ ks) rest
     by false rest = rest
 keys-entries h a (Take ticket now ∷ es) = keys-entries h (a + 1) es
-keys-entries h a (Settle ticket outcome now state ∷ es) = keys-entries h (a + 1) es
+keys-entries h a (Settle outcome ticket now state ∷ es) = keys-entries h (a + 1) es
 keys-entries h a (Cancel number mask ∷ es) = keys-entries h (a + 1) es
 keys-entries h a (Deploy plan ∷ es) = keys-entries h (a + 1) es
 
@@ -125,7 +125,7 @@ apart-with h (Arrival conn channel raw reply) may apart = by (is_kept reply) ref
         (λ k d inside. fresh-key h channel raw (new-key h channel raw reply may.answered kept) k d inside)
     by false kept = subst AreApart (sym (append-nil (seen h))) apart
 apart-with h (Take ticket now) may apart = subst AreApart (sym (append-nil (seen h))) apart
-apart-with h (Settle ticket outcome now state) may apart = subst AreApart (sym (append-nil (seen h))) apart
+apart-with h (Settle outcome ticket now state) may apart = subst AreApart (sym (append-nil (seen h))) apart
 apart-with h (Cancel number mask) may apart = subst AreApart (sym (append-nil (seen h))) apart
 apart-with h (Deploy plan) may apart = subst AreApart (sym (append-nil (seen h))) apart
 

@@ -85,7 +85,7 @@ find-dropped p keep dropped (r ∷ rs) = by (keep r) (p r) refl (dropped r) (fin
 abbrev number_in : Entry → Option ℕ
 number_in (Arrival conn channel raw reply) = number_told reply
 number_in (Take ticket now) = None
-number_in (Settle ticket outcome now state) = None
+number_in (Settle outcome ticket now state) = None
 number_in (Cancel number mask) = None
 number_in (Deploy plan) = None
 
@@ -120,7 +120,7 @@ follows-number h (Arrival conn channel raw told.Filtered) may j is = absurd cc
 follows-number h (Arrival conn channel raw (told.Refused cause)) may j is = absurd cc
 follows-number h (Arrival conn channel raw (told.Repeat place)) may j is = absurd cc
 follows-number h (Take ticket now) may j is = absurd cc
-follows-number h (Settle ticket outcome now state) may j is = absurd cc
+follows-number h (Settle outcome ticket now state) may j is = absurd cc
 follows-number h (Cancel number mask) may j is = absurd cc
 follows-number h (Deploy plan) may j is = absurd cc
 
@@ -180,7 +180,7 @@ find-numbered h n count p plan (Arrival conn channel raw told.Filtered ∷ es) n
 find-numbered h n count p plan (Arrival conn channel raw (told.Refused cause) ∷ es) numbered from = find-numbered h n count (p + 1) plan es (subst (λ c. Numbered c plan es) (less-zero count) numbered.1) from
 find-numbered h n count p plan (Arrival conn channel raw (told.Repeat place) ∷ es) numbered from = find-numbered h n count (p + 1) plan es (subst (λ c. Numbered c plan es) (less-zero count) numbered.1) from
 find-numbered h n count p plan (Take ticket now ∷ es) numbered from = find-numbered h n count (p + 1) plan es (subst (λ c. Numbered c plan es) (less-zero count) numbered.1) from
-find-numbered h n count p plan (Settle ticket outcome now state ∷ es) numbered from = find-numbered h n count (p + 1) plan es (subst (λ c. Numbered c plan es) (less-zero count) numbered.1) from
+find-numbered h n count p plan (Settle outcome ticket now state ∷ es) numbered from = find-numbered h n count (p + 1) plan es (subst (λ c. Numbered c plan es) (less-zero count) numbered.1) from
 find-numbered h n count p plan (Cancel number mask ∷ es) numbered from = find-numbered h n count (p + 1) plan es (subst (λ c. Numbered c plan es) (less-zero count) numbered.1) from
 find-numbered h n count p plan (Deploy next ∷ es) numbered from = find-numbered h n count (p + 1) next es (subst (λ c. Numbered c next es) (less-zero count) numbered.1) from
 
@@ -195,7 +195,7 @@ find-below h n count p plan (Arrival conn channel raw told.Filtered ∷ es) numb
 find-below h n count p plan (Arrival conn channel raw (told.Refused cause) ∷ es) numbered below = find-below h n count (p + 1) plan es (subst (λ c. Numbered c plan es) (less-zero count) numbered.1) below
 find-below h n count p plan (Arrival conn channel raw (told.Repeat place) ∷ es) numbered below = find-below h n count (p + 1) plan es (subst (λ c. Numbered c plan es) (less-zero count) numbered.1) below
 find-below h n count p plan (Take ticket now ∷ es) numbered below = find-below h n count (p + 1) plan es (subst (λ c. Numbered c plan es) (less-zero count) numbered.1) below
-find-below h n count p plan (Settle ticket outcome now state ∷ es) numbered below = find-below h n count (p + 1) plan es (subst (λ c. Numbered c plan es) (less-zero count) numbered.1) below
+find-below h n count p plan (Settle outcome ticket now state ∷ es) numbered below = find-below h n count (p + 1) plan es (subst (λ c. Numbered c plan es) (less-zero count) numbered.1) below
 find-below h n count p plan (Cancel number mask ∷ es) numbered below = find-below h n count (p + 1) plan es (subst (λ c. Numbered c plan es) (less-zero count) numbered.1) below
 find-below h n count p plan (Deploy next ∷ es) numbered below = find-below h n count (p + 1) next es (subst (λ c. Numbered c next es) (less-zero count) numbered.1) below
 

@@ -27,7 +27,7 @@ pub answered-again : (h : History) (e : Entry) → MayFollow h e → answered_by
 answered-again h (Arrival conn channel raw told) may =
     ap (λ b. cond b None (option_map (λ t. Arrival conn channel raw t) (answer h channel raw))) may.room ∙ ap (λ o. option_map (λ t. Arrival conn channel raw t) o) may.answered
 answered-again h (Take ticket now) may = ap (λ r. option_map (λ t. Take t now) (result_ok r)) may
-answered-again h (Settle ticket outcome now state) may = ap (λ r. option_map (λ s. Settle ticket outcome now s) (result_ok r)) may
+answered-again h (Settle outcome ticket now state) may = ap (λ r. option_map (λ s. Settle outcome ticket now s) (result_ok r)) may
 answered-again h (Cancel number mask) may = ap (λ r. option_map (λ m. Cancel number m) (result_ok r)) may
 answered-again h (Deploy plan) may =
     ap (λ b. cond b None (cond (is_none (deploy_answer h plan)) (Some (Deploy plan)) None)) may.room ∙ ap (λ o. cond (is_none o) (Some (Deploy plan)) None) may.allowed

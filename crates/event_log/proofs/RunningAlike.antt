@@ -125,7 +125,7 @@ take-moves aside h k alike d now ticket is =
     }
 
 settle-moves : (aside : Aside) (h : History) (ticket : Ticket) (outcome : Outcome) (now : ℕ) (after : SlotState) → aside.messages ticket.number ≡ false → settle_answer h ticket outcome now ≡ Ok after
-    → Moves aside h (Settle ticket outcome now after) ticket.number
+    → Moves aside h (Settle outcome ticket now after) ticket.number
 settle-moves aside h ticket outcome now after apart is =
     let flew = settled-flew (slot h ticket.number ticket.destination) outcome ticket.attempt now (attempts_max (plan_in_force h) ticket.destination) (interval (plan_in_force h) ticket.destination) after is in
     record {
@@ -224,7 +224,7 @@ module _ (aside : Aside) (h k : History) (now_both : Both aside h k) where
       moved-both (λ ticket. Take ticket now) (λ ticket. ticket.number) (take_answer h d now) (take_answer k d now)
       (answers-alike aside h k now_both.alike (asked d now) met.apart) (λ ticket is. take-moves aside h k now_both.alike d now ticket is)
   next-both (ended ticket outcome now) met =
-      moved-both (λ s. Settle ticket outcome now s) (λ s. ticket.number) (settle_answer h ticket outcome now) (settle_answer k ticket outcome now)
+      moved-both (λ s. Settle outcome ticket now s) (λ s. ticket.number) (settle_answer h ticket outcome now) (settle_answer k ticket outcome now)
       (answers-alike aside h k now_both.alike (ended ticket outcome now) met.apart) (λ s is. settle-moves aside h ticket outcome now s met.apart is)
   next-both (revoked n) met =
       moved-both (λ mask. Cancel n mask) (λ mask. n) (cancel_answer h n) (cancel_answer k n)

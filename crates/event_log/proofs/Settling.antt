@@ -56,7 +56,7 @@ outcome-lands outcomes.Again attempt now max interval allowed = elim (eqb_tells 
 
 module _ (h : History) (sound : IsSound h) (ticket : Ticket) (outcome : Outcome) (now : ℕ) (after : SlotState) (flew : slot h ticket.number ticket.destination ≡ Some (InFlight ticket.attempt)) where
   -- the settlement touches its slot alone
-  touches : Touches h (Settle ticket outcome now after) ticket.number ticket.destination (InFlight ticket.attempt) after
+  touches : Touches h (Settle outcome ticket now after) ticket.number ticket.destination (InFlight ticket.attempt) after
   touches = record {
     deploys_none = refl;
     brings = refl;
@@ -83,12 +83,12 @@ module _ (h : History) (sound : IsSound h) (ticket : Ticket) (outcome : Outcome)
         landed = landing.landed;
         allowed = allowed;
         exists = slot-exists h ticket.number ticket.destination (InFlight ticket.attempt) flew;
-        sound = touched-sound h (Settle ticket outcome now after) ticket.number ticket.destination (InFlight ticket.attempt) after touches sound may landing.within landing.less;
-        nothing = touched-nothing h (Settle ticket outcome now after) ticket.number ticket.destination (InFlight ticket.attempt) after touches;
-        state = λ n d. state-followed_by h (Settle ticket outcome now after) n d ∙ state-picked (is_for n d ticket) after (state h n d);
-        owed = touched-owed h (Settle ticket outcome now after) ticket.number ticket.destination (InFlight ticket.attempt) after touches sound;
-        in_flight = one-less (in_flight h) (in_flight (followed_by h (Settle ticket outcome now after))) (is_in_flight after) landing.landed
-            (touched-total h (Settle ticket outcome now after) ticket.number ticket.destination (InFlight ticket.attempt) after touches sound (λ d s. cond (is_in_flight s) 1 0));
+        sound = touched-sound h (Settle outcome ticket now after) ticket.number ticket.destination (InFlight ticket.attempt) after touches sound may landing.within landing.less;
+        nothing = touched-nothing h (Settle outcome ticket now after) ticket.number ticket.destination (InFlight ticket.attempt) after touches;
+        state = λ n d. state-followed_by h (Settle outcome ticket now after) n d ∙ state-picked (is_for n d ticket) after (state h n d);
+        owed = touched-owed h (Settle outcome ticket now after) ticket.number ticket.destination (InFlight ticket.attempt) after touches sound;
+        in_flight = one-less (in_flight h) (in_flight (followed_by h (Settle outcome ticket now after))) (is_in_flight after) landing.landed
+            (touched-total h (Settle outcome ticket now after) ticket.number ticket.destination (InFlight ticket.attempt) after touches sound (λ d s. cond (is_in_flight s) 1 0));
       }
     where
       from_zero : (a : ℕ) → a + 0 ≡ a

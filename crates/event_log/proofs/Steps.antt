@@ -46,12 +46,12 @@ pub record SettleStep (h : History) (ticket : Ticket) (outcome : Outcome) (now :
   pub landed : is_in_flight after ≡ false
   pub allowed : ticket.attempt ≤ attempts_max (plan_in_force h) ticket.destination
   pub exists : ticket.number < message_count h
-  pub sound : IsSound (followed_by h (Settle ticket outcome now after))
-  pub nothing : BringsNothing h (Settle ticket outcome now after)
-  pub state : (n d : ℕ) → state (followed_by h (Settle ticket outcome now after)) n d ≡ cond (is_for n d ticket) after (state h n d)
-  pub owed : owed (followed_by h (Settle ticket outcome now after)) + slot_owed (attempts_max (plan_in_force h) ticket.destination) (InFlight ticket.attempt)
+  pub sound : IsSound (followed_by h (Settle outcome ticket now after))
+  pub nothing : BringsNothing h (Settle outcome ticket now after)
+  pub state : (n d : ℕ) → state (followed_by h (Settle outcome ticket now after)) n d ≡ cond (is_for n d ticket) after (state h n d)
+  pub owed : owed (followed_by h (Settle outcome ticket now after)) + slot_owed (attempts_max (plan_in_force h) ticket.destination) (InFlight ticket.attempt)
       ≡ owed h + slot_owed (attempts_max (plan_in_force h) ticket.destination) after
-  pub in_flight : in_flight (followed_by h (Settle ticket outcome now after)) + 1 ≡ in_flight h
+  pub in_flight : in_flight (followed_by h (Settle outcome ticket now after)) + 1 ≡ in_flight h
 
 -- what the slots of a message that wait owe
 abbrev pub waiting_owed : History → ℕ → ℕ

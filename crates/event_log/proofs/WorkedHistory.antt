@@ -38,7 +38,7 @@ legal-taken : IsLegal (history_of built_in 20 taken)
 legal-taken = legal-followed_by (history_of built_in 20 came) (Take (attempt 1) 0) legal-came first_attempt
 
 legal-waits : IsLegal (history_of built_in 20 waits)
-legal-waits = legal-followed_by (history_of built_in 20 taken) (Settle (attempt 1) Again 100 (Waiting 1 110)) legal-taken first_retry
+legal-waits = legal-followed_by (history_of built_in 20 taken) (Settle Again (attempt 1) 100 (Waiting 1 110)) legal-taken first_retry
 
 -- the second attempt has to be made again too
 retry-2 : settle_answer (history_of built_in 20 (waits ++ Take (attempt 2) 110 ∷ [])) (attempt 2) Again 111 ≡ Ok (Waiting 2 121)
@@ -52,9 +52,9 @@ third = refl
 legal-last_taken : IsLegal (history_of built_in 20 last_taken)
 legal-last_taken =
     legal-followed_by (history_of built_in 20 (waits ++ tried 2 110 111)) (Take (attempt 3) 121)
-    (legal-followed_by (history_of built_in 20 (waits ++ Take (attempt 2) 110 ∷ [])) (Settle (attempt 2) Again 111 (Waiting 2 121))
+    (legal-followed_by (history_of built_in 20 (waits ++ Take (attempt 2) 110 ∷ [])) (Settle Again (attempt 2) 111 (Waiting 2 121))
     (legal-followed_by (history_of built_in 20 waits) (Take (attempt 2) 110) legal-waits second_attempt) retry-2) third
 
 -- the whole of it: three attempts, and none after them
 pub legal-exhausted : IsLegal (history_of built_in 20 exhausted)
-legal-exhausted = legal-followed_by (history_of built_in 20 last_taken) (Settle (attempt 3) Again 121 (Failed Exhausted)) legal-last_taken third_failed
+legal-exhausted = legal-followed_by (history_of built_in 20 last_taken) (Settle Again (attempt 3) 121 (Failed Exhausted)) legal-last_taken third_failed

@@ -37,7 +37,7 @@ is_kept (told.Repeat place) = false
 abbrev pub keeps : List ℕ → Entry → Bool
 keeps key (Arrival conn channel raw told) = is_kept told && bytes_eq key (key_of channel raw)
 keeps key (Take ticket now) = false
-keeps key (Settle ticket outcome now state) = false
+keeps key (Settle outcome ticket now state) = false
 keeps key (Cancel number mask) = false
 keeps key (Deploy plan) = false
 
@@ -59,7 +59,7 @@ known h key =
 abbrev pub brings : List ℕ → Entry → Bool
 brings raw (Arrival conn channel came told) = bytes_eq raw came
 brings raw (Take ticket now) = false
-brings raw (Settle ticket outcome now state) = false
+brings raw (Settle outcome ticket now state) = false
 brings raw (Cancel number mask) = false
 brings raw (Deploy plan) = false
 

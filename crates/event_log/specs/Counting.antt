@@ -43,7 +43,7 @@ is_repeat (told.Repeat place) = true
 abbrev pub is_acceptance : Entry → Bool
 is_acceptance (Arrival conn channel raw told) = is_accepted told
 is_acceptance (Take ticket now) = false
-is_acceptance (Settle ticket outcome now state) = false
+is_acceptance (Settle outcome ticket now state) = false
 is_acceptance (Cancel number mask) = false
 is_acceptance (Deploy plan) = false
 
@@ -51,7 +51,7 @@ is_acceptance (Deploy plan) = false
 abbrev pub is_told : ℕ → (Told → Bool) → Entry → Bool
 is_told c so (Arrival conn channel raw told) = (channel == c) && so told
 is_told c so (Take ticket now) = false
-is_told c so (Settle ticket outcome now state) = false
+is_told c so (Settle outcome ticket now state) = false
 is_told c so (Cancel number mask) = false
 is_told c so (Deploy plan) = false
 
@@ -93,7 +93,7 @@ slot_count h d so = count_by (λ n. option_map_or so (slot h n d) false) (number
 abbrev pub is_take_at : ℕ → Entry → Bool
 is_take_at d (Arrival conn channel raw told) = false
 is_take_at d (Take ticket now) = ticket.destination == d
-is_take_at d (Settle ticket outcome now state) = false
+is_take_at d (Settle outcome ticket now state) = false
 is_take_at d (Cancel number mask) = false
 is_take_at d (Deploy plan) = false
 

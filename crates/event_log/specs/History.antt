@@ -95,7 +95,7 @@ last_from x (y ∷ ys) = last_from y ys
 abbrev pub deployed_by : Entry → Option PlanEntry
 deployed_by (Arrival conn channel raw told) = None
 deployed_by (Take ticket now) = None
-deployed_by (Settle ticket outcome now state) = None
+deployed_by (Settle outcome ticket now state) = None
 deployed_by (Cancel number mask) = None
 deployed_by (Deploy plan) = Some plan
 
@@ -136,7 +136,7 @@ accepted_by plan (Arrival conn channel raw told.Filtered) = None
 accepted_by plan (Arrival conn channel raw (told.Refused cause)) = None
 accepted_by plan (Arrival conn channel raw (told.Repeat place)) = None
 accepted_by plan (Take ticket now) = None
-accepted_by plan (Settle ticket outcome now state) = None
+accepted_by plan (Settle outcome ticket now state) = None
 accepted_by plan (Cancel number mask) = None
 accepted_by plan (Deploy next) = None
 
@@ -171,7 +171,7 @@ is_numbered n (told.Repeat place) = false
 abbrev pub is_arrival_of : ℕ → Entry → Bool
 is_arrival_of n (Arrival conn channel raw told) = is_numbered n told
 is_arrival_of n (Take ticket now) = false
-is_arrival_of n (Settle ticket outcome now state) = false
+is_arrival_of n (Settle outcome ticket now state) = false
 is_arrival_of n (Cancel number mask) = false
 is_arrival_of n (Deploy plan) = false
 
@@ -237,7 +237,7 @@ is_for n d ticket = (ticket.number == n) && (ticket.destination == d)
 abbrev pub state_by : ℕ → ℕ → Entry → Option SlotState
 state_by n d (Arrival conn channel raw told) = None
 state_by n d (Take ticket now) = if is_for n d ticket then Some (InFlight ticket.attempt) else None
-state_by n d (Settle ticket outcome now state) = if is_for n d ticket then Some state else None
+state_by n d (Settle outcome ticket now state) = if is_for n d ticket then Some state else None
 state_by n d (Cancel number mask) = if (number == n) && (bit_at mask d == 1) then Some (Failed Cancelled) else None
 state_by n d (Deploy plan) = None
 

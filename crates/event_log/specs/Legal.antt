@@ -35,7 +35,7 @@ pub record MayDeploy (h : History) (plan : PlanEntry) : Type 0 where
 abbrev pub MayFollow : History → Entry → Type 0
 MayFollow h (Arrival conn channel raw told) = MayArrive h channel raw told
 MayFollow h (Take ticket now) = take_answer h ticket.destination now ≡ Ok ticket
-MayFollow h (Settle ticket outcome now state) = settle_answer h ticket outcome now ≡ Ok state
+MayFollow h (Settle outcome ticket now state) = settle_answer h ticket outcome now ≡ Ok state
 MayFollow h (Cancel number mask) = cancel_answer h number ≡ Ok mask
 MayFollow h (Deploy plan) = MayDeploy h plan
 

@@ -26,7 +26,7 @@ settled =
     (Arrival 0 0 first (Accepted 0)
     ∷ (Arrival 0 0 second (Accepted 1)
     ∷ (Take (attempt 1) 0
-    ∷ (Settle (attempt 1) outcome.Delivered 0 Delivered ∷ []))))
+    ∷ (Settle outcome.Delivered (attempt 1) 0 Delivered ∷ []))))
 
 -- ---- what may be forgotten
 
@@ -105,7 +105,7 @@ one_waits = refl
 
 -- the first was delivered and is forgotten, and then the second came, under a plan that filtered it
 abbrev pub delivered : History
-delivered = history_of built_in 100 (Arrival 0 0 first (Accepted 0) ∷ (Take (attempt 1) 0 ∷ (Settle (attempt 1) outcome.Delivered 0 Delivered ∷ [])))
+delivered = history_of built_in 100 (Arrival 0 0 first (Accepted 0) ∷ (Take (attempt 1) 0 ∷ (Settle outcome.Delivered (attempt 1) 0 Delivered ∷ [])))
 
 abbrev pub filtered_later : History
 filtered_later = continued (folded 1 delivered) (Arrival 0 0 second Filtered ∷ [])

@@ -25,7 +25,7 @@ pub data Request : Type 0 where
 abbrev pub request_of : Entry → Request
 request_of (entry.Arrival conn channel raw told) = came conn channel raw
 request_of (entry.Take ticket now) = asked ticket.destination now
-request_of (entry.Settle ticket outcome now state) = ended ticket outcome now
+request_of (entry.Settle outcome ticket now state) = ended ticket outcome now
 request_of (entry.Cancel number mask) = revoked number
 request_of (entry.Deploy plan) = planned plan
 
@@ -35,7 +35,7 @@ answered_by h (came conn channel raw) =
     if is_full h channel raw then None else option_map (λ told. entry.Arrival conn channel raw told) (answer h channel raw)
 answered_by h (asked d now) = option_map (λ ticket. entry.Take ticket now) (result_ok (take_answer h d now))
 answered_by h (ended ticket outcome now) =
-    option_map (λ state. entry.Settle ticket outcome now state) (result_ok (settle_answer h ticket outcome now))
+    option_map (λ state. entry.Settle outcome ticket now state) (result_ok (settle_answer h ticket outcome now))
 answered_by h (revoked number) = option_map (λ mask. entry.Cancel number mask) (result_ok (cancel_answer h number))
 answered_by h (planned plan) = if exceeds h 0 then None else (if is_none (deploy_answer h plan) then Some (entry.Deploy plan) else None)
 

@@ -29,7 +29,7 @@ attempt n = record { number = 0; destination = 0; attempt = n }
 
 -- what is booked of an attempt that has to be made again
 abbrev pub tried : ℕ → ℕ → ℕ → List Entry
-tried n taken settled = Take (attempt n) taken ∷ (Settle (attempt n) Again settled (Waiting n (settled + 10)) ∷ [])
+tried n taken settled = Take (attempt n) taken ∷ (Settle Again (attempt n) settled (Waiting n (settled + 10)) ∷ [])
 
 -- the message was accepted; it was taken; it waits for its second attempt
 abbrev pub came : List Entry
@@ -46,7 +46,7 @@ abbrev pub last_taken : List Entry
 last_taken = waits ++ tried 2 110 111 ++ Take (attempt 3) 121 ∷ []
 
 abbrev pub exhausted : List Entry
-exhausted = last_taken ++ Settle (attempt 3) Again 121 (Failed Exhausted) ∷ []
+exhausted = last_taken ++ Settle Again (attempt 3) 121 (Failed Exhausted) ∷ []
 
 -- ---- arrivals
 

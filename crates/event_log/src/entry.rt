@@ -100,8 +100,9 @@ pub enum Entry {
     },
     /// An attempt was settled, which left its slot in this state.
     Settle {
-        ticket: Ticket,
+        /// First, since it has room beside the mark of the variant.
         outcome: Outcome,
+        ticket: Ticket,
         now: Moment,
         state: SlotState,
     },
@@ -115,6 +116,9 @@ pub enum Entry {
         plan: DeployedPlan,
     },
 }
+
+/// An entry takes 40 bytes beside the text that it shares.
+const _: () = prove!(size_of::<Entry>() == 40);
 
 impl Entry {
     /// Whether it is the arrival of these bytes.

@@ -29,7 +29,7 @@ pub fn history_rules()
         let after = followed_by h (Take ticket now) in next_place after + owed after ≤ next_place h + owed h }
     ensures settle_fits { (h : History) (ticket : Ticket) (outcome : Outcome) (now : ℕ) (state : SlotState) →
         IsSound h → settle_answer h ticket outcome now ≡ Ok state →
-        let after = followed_by h (Settle ticket outcome now state) in next_place after + owed after ≤ next_place h + owed h }
+        let after = followed_by h (Settle outcome ticket now state) in next_place after + owed after ≤ next_place h + owed h }
     ensures cancel_fits { (h : History) (number mask : ℕ) → IsSound h → cancel_answer h number ≡ Ok mask →
         let after = followed_by h (Cancel number mask) in next_place after + owed after ≤ next_place h + owed h }
 

@@ -22,7 +22,7 @@ use Rattle.sequential_book.specs.Reading.{IsJudgeable, IsPlain}
 sound-followed_by : (h : History) → IsSound h → (e : Entry) → MayFollow h e → IsSound (followed_by h e)
 sound-followed_by h sound (Arrival conn channel raw told) may = (arrival-step h sound conn channel raw told may).sound
 sound-followed_by h sound (Take ticket now) may = (take-step h sound ticket.destination now ticket may).1.sound
-sound-followed_by h sound (Settle ticket outcome now state) may = (settle-step h sound ticket outcome now state may).sound
+sound-followed_by h sound (Settle outcome ticket now state) may = (settle-step h sound ticket outcome now state may).sound
 sound-followed_by h sound (Cancel number mask) may = (cancel-step h sound number mask may).sound
 sound-followed_by h sound (Deploy plan) may = (deploy-step h sound plan may).sound
 
@@ -42,7 +42,7 @@ plain-opened plan events_max good few = record { sound = opened-sound plan event
 after-channels : (plan : PlanEntry) (e : Entry) → IsJudgeable (length plan.channels) e → length (plan_after plan e).channels ≡ length plan.channels
 after-channels plan (Arrival conn channel raw told) judgeable = refl
 after-channels plan (Take ticket now) judgeable = refl
-after-channels plan (Settle ticket outcome now state) judgeable = refl
+after-channels plan (Settle outcome ticket now state) judgeable = refl
 after-channels plan (Cancel number mask) judgeable = refl
 after-channels plan (Deploy next) judgeable = judgeable
 

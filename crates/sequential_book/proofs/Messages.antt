@@ -20,7 +20,7 @@ brings-one plan (Arrival conn channel raw told.Filtered) = inr (refl, refl)
 brings-one plan (Arrival conn channel raw (told.Refused cause)) = inr (refl, refl)
 brings-one plan (Arrival conn channel raw (told.Repeat place)) = inr (refl, refl)
 brings-one plan (Take ticket now) = inr (refl, refl)
-brings-one plan (Settle ticket outcome now state) = inr (refl, refl)
+brings-one plan (Settle outcome ticket now state) = inr (refl, refl)
 brings-one plan (Cancel number mask) = inr (refl, refl)
 brings-one plan (Deploy next) = inr (refl, refl)
 
@@ -74,7 +74,7 @@ deployments-counted es = sym (length-filter is_deployment es) ∙ by es
     by [] = refl
     by (Arrival conn channel raw told ∷ es) = by es
     by (Take ticket now ∷ es) = by es
-    by (Settle ticket outcome now state ∷ es) = by es
+    by (Settle outcome ticket now state ∷ es) = by es
     by (Cancel number mask ∷ es) = by es
     by (Deploy plan ∷ es) = ap (λ n. suc n) (by es)
 

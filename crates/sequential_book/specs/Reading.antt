@@ -19,7 +19,7 @@ is_accepted (told.Repeat place) = false
 abbrev pub is_acceptance : Entry → Bool
 is_acceptance (Arrival conn channel raw told) = is_accepted told
 is_acceptance (Take ticket now) = false
-is_acceptance (Settle ticket outcome now state) = false
+is_acceptance (Settle outcome ticket now state) = false
 is_acceptance (Cancel number mask) = false
 is_acceptance (Deploy plan) = false
 
@@ -27,7 +27,7 @@ is_acceptance (Deploy plan) = false
 abbrev pub is_deployment : Entry → Bool
 is_deployment (Arrival conn channel raw told) = false
 is_deployment (Take ticket now) = false
-is_deployment (Settle ticket outcome now state) = false
+is_deployment (Settle outcome ticket now state) = false
 is_deployment (Cancel number mask) = false
 is_deployment (Deploy plan) = true
 
@@ -36,7 +36,7 @@ is_deployment (Deploy plan) = true
 abbrev pub IsJudgeable : ℕ → Entry → Type 0
 IsJudgeable channels (Arrival conn channel raw told) = (channel < channels) × IsBlockData raw
 IsJudgeable channels (Take ticket now) = Unit {0}
-IsJudgeable channels (Settle ticket outcome now state) = Unit {0}
+IsJudgeable channels (Settle outcome ticket now state) = Unit {0}
 IsJudgeable channels (Cancel number mask) = Unit {0}
 IsJudgeable channels (Deploy plan) = length plan.channels ≡ channels
 

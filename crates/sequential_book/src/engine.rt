@@ -153,7 +153,7 @@ impl SequentialBook {
         now: Moment,
     ) -> Result<SlotState, NotSettled>
         ensures answer { IfOk result (λ state. settle_answer self.old ticket.now outcome now ≡ Ok state) }
-        ensures booked { IfOk result (λ state. self.new ≡ followed_by self.old (Entry.Settle ticket.now outcome now state)) }
+        ensures booked { IfOk result (λ state. self.new ≡ followed_by self.old (Entry.Settle outcome ticket.now now state)) }
         ensures refused { (refusal : SettleRefusal) → result ≡ Err (NotSettled.Refused refusal) →
             settle_answer self.old ticket.now outcome now ≡ Err refusal }
         ensures err { OnErr result (self.new ≡ self.old) }

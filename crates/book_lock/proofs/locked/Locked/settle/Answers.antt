@@ -19,9 +19,9 @@ invariant_of-self-2 g c =
     let ticket = c.args.ticket.now in
     let state = c.in_ok-state.state in
     let rise = c.three_sums.ensures.settlement h.book ticket c.args.outcome c.args.now state c.rules.ensures.sound (sym c.in_ok-state.ensures.answer) in
-    let n = next h (Settle ticket c.args.outcome c.args.now state) c.settle.new.self g.A.Opening.counts g.A.Opening.first g.A.Opening.channels
+    let n = next h (Settle c.args.outcome ticket c.args.now state) c.settle.new.self g.A.Opening.counts g.A.Opening.first g.A.Opening.channels
     c.self.inside.arrivals.total c.self.inside.takes.total c.self.inside.settlements.total 0 0 1 c.self.inside.arrivals.total c.self.inside.takes.total c.count_settlement.new.book.total
-    c.in_ok-state.ensures.booked (still h (Settle ticket c.args.outcome c.args.now state) refl) c.self.invariant.0 c.self.invariant.1 rise (omega arith) (omega arith) c.count_settlement.ensures.total in
+    c.in_ok-state.ensures.booked (still h (Settle c.args.outcome ticket c.args.now state) refl) c.self.invariant.0 c.self.invariant.1 rise (omega arith) (omega arith) c.count_settlement.ensures.total in
     (n.0, n.1, c.self.invariant.2, c.self.invariant.3, c.self.invariant.4)
 
 pub returns-in_err-state-clause-answer : goal.returns-in_err-state-clause-answer

@@ -9,4 +9,4 @@ pub invariant_of-self : goal.invariant_of-self
 invariant_of-self g c =
     world-on (settling c.args.ticket.now c.args.outcome c.args.now) c.self.inside.book c.settle.new.self c.self.inside.connections.items c.self.invariant
     (settled c.self.inside.book c.settle.new.self c.self.inside.connections.items c.args.ticket.now c.args.outcome c.args.now c.settle.result c.settle.ensures.answer c.settle.ensures.booked c.settle.ensures.err)
-    (same-plan c.self.inside.book c.settle.new.self (λ (state : SlotState). Settle c.args.ticket.now c.args.outcome c.args.now state) c.settle.result (λ x. refl) c.settle.ensures.booked c.settle.ensures.err)
+    (same-plan c.self.inside.book c.settle.new.self (λ (state : SlotState). Settle c.args.outcome c.args.ticket.now c.args.now state) c.settle.result (λ x. refl) c.settle.ensures.booked c.settle.ensures.err)
