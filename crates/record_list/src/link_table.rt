@@ -48,7 +48,7 @@ struct Ends {
 
 /// The links in each queue but one, in 17 bytes each.
 #[derive(Drop)]
-pub struct OtherLinks {
+struct OtherLinks {
     seats: [Seat; 31],
     ends: [Ends; 31],
 }
@@ -116,51 +116,81 @@ struct Seats {
     queue_seat: Seat,
 }
 
-/// The seats of a node, and the links in queues other than its first.
+/// Where a node's neighbours in its row's first queue lie, and its links in the others.
+#[derive(Drop)]
+pub struct QueueLinks {
+    first: Ends,
+    others: OtherLinks,
+}
+
+/// The block of the links in several queues takes 544 bytes.
+const _: () = prove!(size_of::<QueueLinks>() == 544);
+
+/// The seats of a node, and where its neighbours in queues lie.
 #[derive(Drop)]
 enum Seating {
-    /// The row was pushed into one queue, or none.
-    OneQueue(Seats),
-    /// The row was pushed into several queues.
-    Several(Seats, Box<OtherLinks>),
+    /// The row was pushed into one queue, or none: its ends there.
+    OneQueue(Seats, Ends),
+    /// The row was pushed into several queues: its links there, in a block of their own.
+    Several(Seats, Box<QueueLinks>),
 }
 
 impl Seating {
-    ghost use Rattle.record_list.specs.Seating.{seats_of, others_of};
+    ghost use Rattle.record_list.specs.Seating.{seats_of, queue_ends_of, others_of};
 
     /// The seats, whichever links there are beside them.
     fn seats(&self) -> Seats
         ensures { result ≡ seats_of self.now }
     {
         match self {
-            Seating::OneQueue(seats) => *seats,
+            Seating::OneQueue(seats, _) => *seats,
             Seating::Several(seats, _) => *seats,
         }
     }
 
-    /// Writes the seats, and no link in another queue.
+    /// Writes the seats alone.
     fn set_seats(&mut self, seats: Seats)
         ensures seats { seats_of self.new ≡ seats }
-        ensures others { others_of self.new ≡ others_of self.old }
+        ensures rest { (queue_ends_of self.new ≡ queue_ends_of self.old) × (others_of self.new ≡ others_of self.old) }
     {
         match self {
-            Seating::OneQueue(kept) => *kept = seats,
+            Seating::OneQueue(kept, _) => *kept = seats,
             Seating::Several(kept, _) => *kept = seats,
+        }
+    }
+
+    /// The ends in the row's first queue.
+    fn queue_ends(&self) -> Ends
+        ensures { result ≡ queue_ends_of self.now }
+    {
+        match self {
+            Seating::OneQueue(_, ends) => *ends,
+            Seating::Several(_, links) => links.first,
+        }
+    }
+
+    /// Writes the ends in the row's first queue alone.
+    fn set_queue_ends(&mut self, ends: Ends)
+        ensures ends { queue_ends_of self.new ≡ ends }
+        ensures rest { (seats_of self.new ≡ seats_of self.old) × (others_of self.new ≡ others_of self.old) }
+    {
+        match self {
+            Seating::OneQueue(_, kept) => *kept = ends,
+            Seating::Several(_, links) => links.first = ends,
         }
     }
 }
 
-/// A link for each of 33 chains, or none. Those in the last chain and in the first queue of the row stand here, and those
-/// in other queues in a block of their own, which a row that was pushed into one queue goes without.
+/// A link for each of 33 chains, or none. Those in the last chain and in a row's only queue stand here, and those in several
+/// queues in a block of their own, which a row that was pushed into one queue goes without.
 #[derive(Drop)]
 pub struct LinkTable {
     row_ends: Ends,
-    queue_ends: Ends,
     seating: Seating,
 }
 
-/// The block of the links in other queues takes 528 bytes.
-const _: () = prove!(size_of::<OtherLinks>() == 528);
+/// What stands in place takes 40 bytes.
+const _: () = prove!(size_of::<LinkTable>() == 40);
 
 impl Model for LinkTable {
     ghost use Rattle.std.specs.Prelude.{List, ◌<◌};
@@ -170,7 +200,7 @@ impl Model for LinkTable {
 
     ghost Value = { List (Option Link) };
 
-    ghost view = { λ s. table_by s.row_ends s.queue_ends s.seating };
+    ghost view = { λ s. table_by s.row_ends s.seating };
 
     ghost invariant = { λ s. (seats_of s.seating).queue < 32 };
 }
@@ -189,18 +219,21 @@ impl LinkTable {
             row_seat: Seat::Alone,
             queue_seat: Seat::alone(in_queue),
         };
-        let seating = if rest == 0 {
-            Seating::OneQueue(seats)
-        } else {
-            Seating::Several(seats, Box::new(alloc, OtherLinks::alone(mask, queue))?)
-        };
         let nowhere = Ends {
             prev: Place::nowhere(),
             next: Place::nowhere(),
         };
+        let seating = if rest == 0 {
+            Seating::OneQueue(seats, nowhere)
+        } else {
+            let links = QueueLinks {
+                first: nowhere,
+                others: OtherLinks::alone(mask, queue),
+            };
+            Seating::Several(seats, Box::new(alloc, links)?)
+        };
         Ok(LinkTable {
             row_ends: nowhere,
-            queue_ends: nowhere,
             seating,
         })
     }
@@ -216,11 +249,11 @@ impl LinkTable {
             return unpacked(seats.row_seat, self.row_ends);
         }
         if d == queue {
-            return unpacked(seats.queue_seat, self.queue_ends);
+            return unpacked(seats.queue_seat, self.seating.queue_ends());
         }
         match &self.seating {
-            Seating::OneQueue(_) => None,
-            Seating::Several(_, others) => others.get(slot_of(queue, d)),
+            Seating::OneQueue(..) => None,
+            Seating::Several(_, links) => links.others.get(slot_of(queue, d)),
         }
     }
 
@@ -240,9 +273,9 @@ impl LinkTable {
         } else if d == queue {
             seats.queue_seat = seat;
             self.seating.set_seats(seats);
-            self.queue_ends = ends;
-        } else if let Seating::Several(_, others) = &mut self.seating {
-            others.set(slot_of(queue, d), link);
+            self.seating.set_queue_ends(ends);
+        } else if let Seating::Several(_, links) = &mut self.seating {
+            links.others.set(slot_of(queue, d), link);
         }
     }
 }

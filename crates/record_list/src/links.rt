@@ -6,7 +6,7 @@ ghost use Rattle.std.specs.Borrow.{sem, Lends};
 ghost use Rattle.std.specs.declared.option.Option.TheVariants.{None, Some};
 ghost use Rattle.node_heap.specs.Held.{IsHeld, find_node, drop_node, held_at};
 
-use crate::link_table::{Link, LinkTable, OtherLinks, stands};
+use crate::link_table::{Link, LinkTable, QueueLinks, stands};
 use node_heap::{Nodes, Place};
 use row_store::Row;
 use std::alloc::{AllocError, Global};
@@ -18,10 +18,10 @@ pub struct Node<T> {
     pub(crate) links: LinkTable,
 }
 
-/// A row of a word takes 56 bytes beside its item, and one of several queues 584 with the block of its other links.
-const _: () = prove!(size_of::<Node<u64>>() == size_of::<u64>() + 56);
+/// A row of a word takes 48 bytes beside its item, and one of several queues 592 with the block of its links there.
+const _: () = prove!(size_of::<Node<u64>>() == size_of::<u64>() + 48);
 
-const _: () = prove!(size_of::<Node<u64>>() + size_of::<OtherLinks>() == size_of::<u64>() + 584);
+const _: () = prove!(size_of::<Node<u64>>() + size_of::<QueueLinks>() == size_of::<u64>() + 592);
 
 /// The ends of the chains, and the memory of the nodes.
 pub struct Links<T> {

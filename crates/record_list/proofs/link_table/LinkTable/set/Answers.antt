@@ -1,8 +1,8 @@
-use Rattle.std.proofs.Common.{◌≡◌, true, false, [], sym, ap, ◌∙◌, slice_index_or, slice_set}
+use Rattle.std.proofs.Common.{◌≡◌, true, false, sym, ap, ◌∙◌, slice_index_or, slice_set}
 use Rattle.std.specs.Option.{is_some}
 use Rattle.std.specs.declared.option.Option.TheVariants.{None}
 use Rattle.record_list.specs.Packing.{link_of, slot_of, table_of}
-use Rattle.record_list.specs.Seating.{seats_of, others_of, table_by}
+use Rattle.record_list.specs.Seating.{seats_of, queue_ends_of, others_of, table_by}
 use Rattle.record_list.proofs.Table.{read_other, write_first, write_other}
 use Rattle.record_list.proofs.link_table.LinkTable.set.Goals as goal
 
@@ -11,28 +11,33 @@ returns-then-d-queue c =
     let k = c.self.inside in
     let s = seats_of k.seating in
     let x = link_of c.packed-seat.result.0 c.packed-seat.result.1 in
-    (λ i. let t = c.set_seats-then-d-queue.ensures.seats i in table_of t.queue (link_of t.queue_seat c.packed-seat.result.1) (c.set_seats-then-d-queue.ensures.others i) (link_of t.row_seat k.row_ends))
+    let seats = c.set_queue_ends.ensures.rest.0 ∙ c.set_seats-then-d-queue.ensures.seats in
+    let others = c.set_queue_ends.ensures.rest.1 ∙ c.set_seats-then-d-queue.ensures.rest.1 in
+    (λ i. let t = seats i in table_of t.queue (link_of t.queue_seat (c.set_queue_ends.ensures.ends i)) (others i) (link_of t.row_seat k.row_ends))
     ∙ ap (λ t. table_of t.queue x (others_of k.seating) (link_of t.row_seat k.row_ends)) c.seats-seats.ensures
-    ∙ write_first s.queue (link_of s.queue_seat k.queue_ends) (link_of s.row_seat k.row_ends) x (others_of k.seating) c.args.d c.requires.chain c.if-d-eq32.false (c.if-d-queue.true ∙ ap (λ t. t.queue) c.seats-seats.ensures)
+    ∙ write_first s.queue (link_of s.queue_seat (queue_ends_of k.seating)) _ _ _ c.args.d c.requires.chain c.if-d-eq32.false (c.if-d-queue.true ∙ ap (λ t. t.queue) c.seats-seats.ensures)
     ∙ (λ i. slice_set (c.self.view_is i) c.args.d (c.packed-seat.ensures i))
 
 pub returns-in-Several : goal.returns-in-Several
 returns-in-Several c =
     let k = c.self.inside in
     let s = c.in-Several.field-0 in
-    let same = c.seats-seats.ensures ∙ ap seats_of c.in-Several.is in
-    let slot = c.slot_of.ensures.slot ∙ ap (λ t. slot_of t.queue c.args.d) same in
-    write_other s.queue (link_of s.queue_seat k.queue_ends) (link_of s.row_seat k.row_ends) c.args.link c.in-Several.others.value c.set.new.self c.args.d c.requires.chain c.if-d-eq32.false (λ p. c.if-d-queue.false (p ∙ sym (ap (λ t. t.queue) same)))
-    (c.set.ensures.written ∙ (λ i. slice_set (c.deref_mut.ensures.value i) (slot i) c.args.link))
-    (ap (λ k. slice_index_or c.set.new.self k None) (sym slot) ∙ c.set.ensures.stands)
-    ∙ ap (λ l. slice_set l c.args.d c.args.link) (sym (ap (table_by k.row_ends k.queue_ends) c.in-Several.is) ∙ c.self.view_is)
+    let block = c.deref_mut.result.now in
+    let queue = ap (λ t. t.queue) (c.seats-seats.ensures ∙ ap seats_of c.in-Several.is) in
+    let slot = c.slot_of.ensures.slot ∙ ap (λ q. slot_of q c.args.d) queue in
+    write_other s.queue _ _ c.args.link block.others _ c.args.d c.requires.chain c.if-d-eq32.false (λ p. c.if-d-queue.false (p ∙ sym queue))
+    (c.set.ensures.written ∙ ap (λ n. slice_set block.others n c.args.link) slot)
+    (ap (λ n. slice_index_or c.set.new.self n None) (sym slot) ∙ c.set.ensures.stands)
+    ∙ ap (λ b. slice_set (table_of s.queue (link_of s.queue_seat b.first) b.others (link_of s.row_seat k.row_ends)) c.args.d c.args.link) c.deref_mut.ensures.value
+    ∙ ap (λ l. slice_set l c.args.d c.args.link) (sym (ap (table_by k.row_ends) c.in-Several.is) ∙ c.self.view_is)
 
 pub returns-in_default : goal.returns-in_default
 returns-in_default c =
     let k = c.self.inside in
-    let s = c.in_default.field-0 in
-    let same = c.seats-seats.ensures ∙ ap seats_of c.in_default.is in
+    let s = seats_of k.seating in
+    let queue = ap (λ t. t.queue) c.seats-seats.ensures in
     let none : is_some (slice_index_or c.args.self.now c.args.d None) ≡ false =
-    ap is_some (ap (λ l. slice_index_or l c.args.d None) (sym c.self.view_is ∙ ap (table_by k.row_ends k.queue_ends) c.in_default.is)
-    ∙ read_other s.queue (link_of s.queue_seat k.queue_ends) (link_of s.row_seat k.row_ends) [] c.args.d c.requires.chain c.if-d-eq32.false (λ p. c.if-d-queue.false (p ∙ sym (ap (λ t. t.queue) same)))) in
+    ap is_some (ap (λ l. slice_index_or l c.args.d None) (sym c.self.view_is)
+    ∙ read_other s.queue _ _ (others_of k.seating) c.args.d c.requires.chain c.if-d-eq32.false (λ p. c.if-d-queue.false (p ∙ sym queue))
+    ∙ ap (λ t. slice_index_or (others_of t) (slot_of s.queue c.args.d) None) c.in_default.is) in
     let wrong : true ≡ false = sym c.requires.stands ∙ none in cc
