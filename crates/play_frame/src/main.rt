@@ -12,39 +12,36 @@
 ghost use Rattle.std.specs.Prelude.{IsTrue};
 ghost use Rattle.mllp_frame.specs.Framing.{IsData};
 
-mod script;
-
 use anyhow::{Result, bail};
-use mllp_frame::{Break, END_BLOCK, FrameEvent, FrameFault, Framer, START_BLOCK, write_block};
-use script::{bytes_of, push_all_shown};
+use mllp_frame::{END_BLOCK, FrameEvent, FrameFault, Framer, START_BLOCK, write_block};
+use play_script::{bytes_of, first_word, shown};
 use std::alloc::{AllocError, Global};
+use std::fmt::Write;
 
 /// A block with more data is told by its length.
 const SHOWN_MAX: usize = 200;
 
-/// A call of a script.
-enum Call {
-    New,
-    Feed(Vec<u8>),
-    By(usize, Vec<u8>),
-    Cuts(Vec<u8>),
-    Write(Vec<u8>),
+/// A byte and how often it stands, where the word is of the form `a*1000`.
+fn run_of(word: &str) -> Option<(u8, usize)> {
+    let (byte, count) = word.split_once('*')?;
+    byte.bytes().next().zip(count.parse().ok())
 }
 
-/// The call that a line writes.
-fn call_of(alloc: Global, line: &str) -> Result<Call> {
-    let (name, words) = line.split_once(' ').unwrap_or((line, "<>"));
-    Ok(match name {
-        "new" => Call::New,
-        "feed" => Call::Feed(bytes_of(alloc, words)?),
-        "by" => {
-            let (len, words) = words.split_once(' ').unwrap_or((words, "<>"));
-            Call::By(len.parse()?, bytes_of(alloc, words)?)
-        }
-        "cuts" => Call::Cuts(bytes_of(alloc, words)?),
-        "write" => Call::Write(bytes_of(alloc, words)?),
-        _ => bail!("{line} is no call"),
-    })
+/// Appends the bytes that a word stands for.
+fn push_word(bytes: &mut Vec<u8>, word: &str) -> Result<(), AllocError> {
+    match run_of(word) {
+        Some((byte, count)) => bytes.resize(bytes.len().saturating_add(count), byte),
+        None => bytes.extend_from_slice(&bytes_of(*bytes.allocator(), word)?),
+    }
+}
+
+/// The bytes that words stand for, one behind the other; `<>` stands for none.
+fn stream_of(alloc: Global, words: &str) -> Result<Vec<u8>, AllocError> {
+    let mut bytes = Vec::new(alloc);
+    for word in words.split(' ') {
+        push_word(&mut bytes, word)?;
+    }
+    Ok(bytes)
 }
 
 /// Takes all events to come.
@@ -55,15 +52,23 @@ fn drain(framer: &mut Framer, events: &mut Vec<FrameEvent>) -> Result<(), AllocE
     Ok(())
 }
 
-/// The events of a stream that comes in these pieces, each taken as it comes.
-fn events_of(alloc: Global, pieces: &[&[u8]]) -> Result<Vec<FrameEvent>> {
-    let mut framer = Framer::new(alloc);
+/// The events that these pieces of a stream bring, each taken as it comes.
+fn feed_all(
+    alloc: Global,
+    framer: &mut Framer,
+    pieces: &[&[u8]],
+) -> Result<Vec<FrameEvent>, FrameFault> {
     let mut events = Vec::new(alloc);
     for piece in pieces {
         framer.feed(piece)?;
-        drain(&mut framer, &mut events)?;
+        drain(framer, &mut events)?;
     }
     Ok(events)
+}
+
+/// The events of a stream that comes in these pieces.
+fn events_of(alloc: Global, pieces: &[&[u8]]) -> Result<Vec<FrameEvent>, FrameFault> {
+    feed_all(alloc, &mut Framer::new(alloc), pieces)
 }
 
 /// The events of a stream in pieces of a length.
@@ -72,52 +77,67 @@ fn events_by(alloc: Global, stream: &[u8], len: usize) -> Result<Vec<FrameEvent>
     for piece in stream.chunks(len.max(1)) {
         pieces.push(piece)?;
     }
-    events_of(alloc, &pieces)
+    Ok(events_of(alloc, &pieces)?)
+}
+
+/// Whether these are the events of a stream that is cut at the end of its front and at any place before it.
+fn are_so_cut_before(
+    alloc: Global,
+    front: &[u8],
+    last: &[u8],
+    events: &[FrameEvent],
+) -> Result<bool, FrameFault> {
+    for first in 0..=front.len() {
+        let pieces = [&front[..first], &front[first..], last];
+        if events_of(alloc, &pieces)?.as_slice() != events {
+            return Ok(false);
+        }
+    }
+    Ok(true)
 }
 
 /// Whether these are the events of a stream, at whichever two places it is cut.
-fn are_so_however_cut(alloc: Global, stream: &[u8], events: &[FrameEvent]) -> Result<bool> {
+fn are_so_however_cut(
+    alloc: Global,
+    stream: &[u8],
+    events: &[FrameEvent],
+) -> Result<bool, FrameFault> {
     for second in 0..=stream.len() {
         let (front, last) = stream.split_at(second);
-        for first in 0..=second {
-            let pieces = [&front[..first], &front[first..], last];
-            if events_of(alloc, &pieces)?.as_slice() != events {
-                return Ok(false);
-            }
+        if !are_so_cut_before(alloc, front, last, events)? {
+            return Ok(false);
         }
     }
     Ok(true)
 }
 
 /// Appends an event as a script tells it.
-fn push_event(text: &mut Vec<u8>, event: &FrameEvent) -> Result<(), AllocError> {
+fn push_event(text: &mut String, event: &FrameEvent) -> Result<(), AllocError> {
     match event {
-        FrameEvent::Broken(Break::NewStart) => text.extend_from_slice(b"NewStart"),
-        FrameEvent::Broken(Break::BadEnd) => text.extend_from_slice(b"BadEnd"),
-        FrameEvent::Broken(Break::TooLong) => text.extend_from_slice(b"TooLong"),
+        FrameEvent::Broken(broken) => write!(text, "{broken:?}"),
         FrameEvent::Block(data) if data.len() > SHOWN_MAX => {
-            let length = format!(in *text.allocator(); "Block of {} bytes", data.len())?;
-            text.extend_from_slice(length.as_bytes())
+            write!(text, "Block of {} bytes", data.len())
         }
         FrameEvent::Block(data) => {
-            text.extend_from_slice(b"Block ")?;
-            push_all_shown(text, data)
+            let data = shown(*text.allocator(), data)?;
+            write!(text, "Block {data}")
         }
     }
 }
 
-/// Appends events as a script tells them.
-fn push_events(text: &mut Vec<u8>, events: &[FrameEvent]) -> Result<(), AllocError> {
+/// Events as a script tells them.
+fn told(alloc: Global, events: &[FrameEvent]) -> Result<String, AllocError> {
     if events.is_empty() {
-        return text.extend_from_slice(b"nothing");
+        return String::from_str(alloc, "nothing");
     }
+    let mut text = String::new(alloc);
     for (place, event) in events.iter().enumerate() {
         if place > 0 {
-            text.extend_from_slice(b", ")?;
+            text.push_str(", ")?;
         }
-        push_event(text, event)?;
+        push_event(&mut text, event)?;
     }
-    Ok(())
+    Ok(text)
 }
 
 /// Whether a block can hold this text: it has neither of the two framing characters.
@@ -129,43 +149,37 @@ fn is_data(text: &[u8]) -> bool
         .any(|byte| *byte == START_BLOCK || *byte == END_BLOCK)
 }
 
-/// Events as a script tells them.
-fn told(alloc: Global, events: &[FrameEvent]) -> Result<Vec<u8>, AllocError> {
-    let mut text = Vec::new(alloc);
-    push_events(&mut text, events)?;
-    Ok(text)
-}
-
 /// All events to come.
-fn news(alloc: Global, framer: &mut Framer) -> Result<Vec<u8>, AllocError> {
+fn news(alloc: Global, framer: &mut Framer) -> Result<String, AllocError> {
     let mut events = Vec::new(alloc);
     drain(framer, &mut events)?;
     told(alloc, &events)
 }
 
-/// Appends why a piece was refused.
-fn push_fault(text: &mut Vec<u8>, fault: FrameFault) -> Result<(), AllocError> {
-    text.extend_from_slice(b", refused ")?;
-    text.push(b'0'.saturating_add(fault.code() as u8))?;
-    Ok(())
-}
-
 /// The events that a piece of a stream brings, and why it was refused if it was.
-fn fed(alloc: Global, framer: &mut Framer, piece: &[u8]) -> Result<Vec<u8>, AllocError> {
+fn fed(alloc: Global, framer: &mut Framer, piece: &[u8]) -> Result<String, AllocError> {
     let outcome = framer.feed(piece);
     let mut text = news(alloc, framer)?;
     if let Err(fault) = outcome {
-        push_fault(&mut text, fault)?;
+        write!(text, ", refused {}", fault.code())?;
     }
     Ok(text)
 }
 
+/// The events of a whole stream, in pieces of a length.
+fn by(alloc: Global, words: &str) -> Result<String> {
+    let (len, words) = first_word(words);
+    let len = len.parse()?;
+    let events = events_by(alloc, &stream_of(alloc, words)?, len)?;
+    Ok(told(alloc, &events)?)
+}
+
 /// The events of a whole stream, and whether they are the same however it is cut.
-fn cut(alloc: Global, stream: &[u8]) -> Result<Vec<u8>> {
+fn cut(alloc: Global, stream: &[u8]) -> Result<String> {
     let events = events_of(alloc, &[stream])?;
     let mut text = told(alloc, &events)?;
     if are_so_however_cut(alloc, stream, &events)? {
-        text.extend_from_slice(b", however it is cut")?;
+        text.push_str(", however it is cut")?;
     }
     Ok(text)
 }
@@ -180,27 +194,37 @@ fn block_of(alloc: Global, data: &[u8]) -> Result<Vec<u8>> {
     Ok(block)
 }
 
-/// The block of a text, and its events.
-fn written(alloc: Global, data: &[u8]) -> Result<Vec<u8>> {
-    let block = block_of(alloc, data)?;
-    let mut text = Vec::new(alloc);
-    push_all_shown(&mut text, &block)?;
-    text.extend_from_slice(b", ")?;
-    push_events(&mut text, &events_of(alloc, &[&block])?)?;
+/// A block, and its events.
+fn written(alloc: Global, block: &[u8]) -> Result<String> {
+    let events = events_of(alloc, &[block])?;
+    let mut text = shown(alloc, block)?;
+    write!(text, ", {}", told(alloc, &events)?)?;
     Ok(text)
 }
 
-/// The answer to a call.
-fn answer(alloc: Global, framer: &mut Framer, call: Call) -> Result<Vec<u8>> {
+/// Puts a framer at the start of a stream.
+fn renewed(alloc: Global, framer: &mut Framer) -> String {
+    *framer = Framer::new(alloc);
+    String::new(alloc)
+}
+
+/// The answer to a call with bytes.
+fn answer(alloc: Global, framer: &mut Framer, call: &str, bytes: &[u8]) -> Result<String> {
     match call {
-        Call::New => {
-            *framer = Framer::new(alloc);
-            Ok(Vec::new(alloc))
-        }
-        Call::Feed(piece) => Ok(fed(alloc, framer, &piece)?),
-        Call::By(len, stream) => Ok(told(alloc, &events_by(alloc, &stream, len)?)?),
-        Call::Cuts(stream) => cut(alloc, &stream),
-        Call::Write(data) => written(alloc, &data),
+        "new" => Ok(renewed(alloc, framer)),
+        "feed" => Ok(fed(alloc, framer, bytes)?),
+        "cuts" => cut(alloc, bytes),
+        "write" => written(alloc, &block_of(alloc, bytes)?),
+        _ => bail!("{call} is no call"),
+    }
+}
+
+/// The answer to the call that a line writes.
+fn played(alloc: Global, framer: &mut Framer, line: &str) -> Result<String> {
+    let (call, words) = first_word(line);
+    match call {
+        "by" => by(alloc, words),
+        _ => answer(alloc, framer, call, &stream_of(alloc, words)?),
     }
 }
 
@@ -208,11 +232,9 @@ fn answer(alloc: Global, framer: &mut Framer, call: Call) -> Result<Vec<u8>> {
 fn play_line(rt: &HostRuntime, framer: &mut Framer, line: &str) -> Result<()> {
     if line.is_empty() || line.starts_with('#') {
         println!(rt; "{line}")?;
-        return Ok(());
+    } else {
+        println!(rt; "{line} => {}", played(rt.alloc(), framer, line)?)?;
     }
-    let alloc = rt.alloc();
-    let answer = answer(alloc, framer, call_of(alloc, line)?)?;
-    println!(rt; "{line} => {}", String::from_utf8_lossy(alloc, &answer)?)?;
     Ok(())
 }
 

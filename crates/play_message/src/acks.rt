@@ -1,7 +1,7 @@
 //! The answers to calls on the header of the message and on acknowledgments.
 
 use ack_rule::{AckMode, AckType, Verdictum, parts};
-use anyhow::{Result, anyhow};
+use anyhow::{Result, anyhow, bail};
 use er7_tree::Message;
 use hl7_head::{AckPart, Cause, Header, Moment, Msa, ack_text, stamp};
 use play_script::{first_word, shown};
@@ -51,53 +51,60 @@ fn verdictum_named(name: &str) -> Result<Verdictum> {
     Ok(Verdictum::of_cause(cause_named(name)?))
 }
 
-/// The codes that are told, each after a space.
-fn codes_told(alloc: Global, mode: AckMode, verdictum: Verdictum) -> Result<String> {
-    let mut told = String::new(alloc);
+/// Appends the codes that are told, each after a space.
+fn push_codes(told: &mut String, mode: AckMode, verdictum: Verdictum) -> Result<(), AllocError> {
+    let before = told.len();
     for part in parts(mode, verdictum) {
         if let Some(part) = part {
             write!(told, " {:?}", part.code)?;
         }
     }
-    if told.is_empty() {
+    if told.len() == before {
         told.push_str(" none")?;
     }
-    Ok(told)
+    Ok(())
+}
+
+/// The enhanced mode of two types of acknowledgment.
+fn mode_named(words: &str) -> Result<AckMode> {
+    let (accept, application) = first_word(words);
+    Ok(AckMode::Enhanced {
+        accept: type_named(accept)?,
+        application: type_named(application)?,
+    })
 }
 
 /// What is told in enhanced mode: on success, on a rejection and on an error.
-pub fn pair_told(alloc: Global, words: &str) -> Result<String> {
-    let (accept, application) = first_word(words);
-    let mode = AckMode::Enhanced {
-        accept: type_named(accept)?,
-        application: type_named(application)?,
-    };
-    let success = codes_told(alloc, mode, Verdictum::Success)?;
-    let rejected = codes_told(alloc, mode, Verdictum::of_cause(Cause::UnsupportedType))?;
-    let erroneous = codes_told(alloc, mode, Verdictum::of_cause(Cause::IdReused))?;
-    Ok(format!(in alloc; "success{success}, rejected{rejected}, erroneous{erroneous}")?)
+fn pair_told(alloc: Global, mode: AckMode) -> Result<String, AllocError> {
+    let mut told = String::from_str(alloc, "success")?;
+    push_codes(&mut told, mode, Verdictum::Success)?;
+    told.push_str(", rejected")?;
+    push_codes(&mut told, mode, Verdictum::of_cause(Cause::UnsupportedType))?;
+    told.push_str(", erroneous")?;
+    push_codes(&mut told, mode, Verdictum::of_cause(Cause::IdReused))?;
+    Ok(told)
 }
 
 /// The number of a cause, and by which codes it is told.
-pub fn cause_told(alloc: Global, name: &str) -> Result<String> {
-    let cause = cause_named(name)?;
+fn cause_told(alloc: Global, cause: Cause) -> Result<String, AllocError> {
     let always = AckMode::Enhanced {
         accept: AckType::AL,
         application: AckType::AL,
     };
-    let commit = codes_told(alloc, always, Verdictum::of_cause(cause))?;
-    let answer = codes_told(alloc, AckMode::Original, Verdictum::of_cause(cause))?;
-    Ok(format!(in alloc; "{}{commit}{answer}", cause.code())?)
+    let mut told = format!(in alloc; "{}", cause.code())?;
+    push_codes(&mut told, always, Verdictum::of_cause(cause))?;
+    push_codes(&mut told, AckMode::Original, Verdictum::of_cause(cause))?;
+    Ok(told)
 }
 
 /// The stamp of a moment.
-pub fn stamped(alloc: Global, seconds: &str) -> Result<String> {
-    match Moment::of_unix(seconds.parse()?) {
+fn stamped(alloc: Global, seconds: i64) -> Result<String, AllocError> {
+    match Moment::of_unix(seconds) {
         Ok(moment) => {
             let stamp = shown(alloc, &stamp(moment))?;
-            Ok(format!(in alloc; "{stamp} at {}", moment.secs())?)
+            format!(in alloc; "{stamp} at {}", moment.secs())
         }
-        Err(range) => Ok(format!(in alloc; "{range:?}")?),
+        Err(range) => format!(in alloc; "{range:?}"),
     }
 }
 
@@ -141,7 +148,7 @@ fn push_piece(told: &mut String, name: &str, piece: &[u8]) -> Result<(), AllocEr
 }
 
 /// The delimiters, fields and components of the header.
-pub fn fields(alloc: Global, message: &Message) -> Result<String> {
+fn fields(alloc: Global, message: &Message) -> Result<String> {
     let header = Header::read(message)?;
     let mut told = String::new(alloc);
     push_piece(&mut told, "delimiters", &delimiters(&header))?;
@@ -152,7 +159,7 @@ pub fn fields(alloc: Global, message: &Message) -> Result<String> {
 }
 
 /// The mode of acknowledgment that the header asks for.
-pub fn mode(alloc: Global, message: &Message) -> Result<String> {
+fn mode(alloc: Global, message: &Message) -> Result<String> {
     let mode = AckMode::of(&Header::read(message)?);
     Ok(format!(in alloc; "{mode:?}")?)
 }
@@ -196,21 +203,15 @@ fn acknowledged(
 }
 
 /// What is told of the message, where the words say what became of it, the moment, the connection and the first number.
-pub fn ack(alloc: Global, message: &Message, words: &str) -> Result<String> {
+fn ack(alloc: Global, message: &Message, words: &str) -> Result<String> {
     let (told, words) = first_word(words);
     let (seconds, words) = first_word(words);
     let (connection, first) = first_word(words);
-    let header = Header::read(message)?;
     let verdictum = verdictum_named(told)?;
     let moment = Moment::of_unix(seconds.parse()?)?;
-    acknowledged(
-        alloc,
-        &header,
-        verdictum,
-        moment,
-        connection.parse()?,
-        first.parse()?,
-    )
+    let (connection, first) = (connection.parse()?, first.parse()?);
+    let header = Header::read(message)?;
+    acknowledged(alloc, &header, verdictum, moment, connection, first)
 }
 
 /// The fields of an MSA, each with its number.
@@ -223,9 +224,23 @@ fn msa_told(alloc: Global, msa: &Msa) -> Result<String, AllocError> {
 }
 
 /// The fields of the message's first MSA.
-pub fn answered(alloc: Global, message: &Message) -> Result<String> {
+fn answered(alloc: Global, message: &Message) -> Result<String> {
     match Msa::read(alloc, message)? {
         Some(msa) => Ok(msa_told(alloc, &msa)?),
         None => Ok(String::from_str(alloc, "none")?),
+    }
+}
+
+/// The answer to a call on the header or on acknowledgments.
+pub fn answer(alloc: Global, message: &Message, call: &str, words: &str) -> Result<String> {
+    match call {
+        "fields" => fields(alloc, message),
+        "mode" => mode(alloc, message),
+        "msa" => answered(alloc, message),
+        "ack" => ack(alloc, message, words),
+        "stamp" => Ok(stamped(alloc, words.parse()?)?),
+        "cause" => Ok(cause_told(alloc, cause_named(words)?)?),
+        "pair" => Ok(pair_told(alloc, mode_named(words)?)?),
+        _ => bail!("{call} is no call"),
     }
 }

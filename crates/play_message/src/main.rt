@@ -14,10 +14,9 @@ use rules::Rules;
 fn play_line(rt: &HostRuntime, rules: &mut Rules, line: &str) -> Result<()> {
     if line.is_empty() || line.starts_with('#') {
         println!(rt; "{line}")?;
-        return Ok(());
+    } else {
+        println!(rt; "{line} => {}", rules.play(line)?)?;
     }
-    let answer = rules.play(line)?;
-    println!(rt; "{line} => {answer}")?;
     Ok(())
 }
 

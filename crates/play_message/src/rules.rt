@@ -1,11 +1,10 @@
 //! The message, conditions and steps of a script, and the answers to calls on them.
 
-use crate::acks;
 use crate::text::Text;
 use anyhow::{Result, bail};
 use er7_tree::{Message, Path};
 use hl7_filter::{Bytes, Cond};
-use hl7_transform::{Pair, Step, StepFault, all_may_stand, apply, check_step};
+use hl7_transform::{Pair, Step, StepCheck, StepFault, all_may_stand, apply, check_step};
 use play_script::{bytes_of, first_word, shown, words_of};
 use std::alloc::{AllocError, Global};
 use std::mem;
@@ -52,14 +51,19 @@ fn cond_of(alloc: Global, words: &str) -> Result<Cond> {
     cond_on(alloc, kind, Path::parse(path)?, words)
 }
 
+/// The pair of two words.
+fn pair_of(alloc: Global, from: &str, to: &str) -> Result<Pair, AllocError> {
+    let from = text_of(alloc, from)?;
+    let to = text_of(alloc, to)?;
+    Ok(Pair { from, to })
+}
+
 /// The table of words that come in pairs.
-fn table_of(alloc: Global, words: &str) -> Result<Vec<Pair>, AllocError> {
+fn table_of(alloc: Global, words: &[&str]) -> Result<Vec<Pair>, AllocError> {
     let mut table = Vec::new(alloc);
-    for pair in words_of(alloc, words)?.chunks_exact(2) {
+    for pair in words.chunks_exact(2) {
         if let [from, to] = pair {
-            let from = text_of(alloc, from)?;
-            let to = text_of(alloc, to)?;
-            table.push(Pair { from, to })?;
+            table.push(pair_of(alloc, from, to)?)?;
         }
     }
     Ok(table)
@@ -70,7 +74,7 @@ fn lookup_of(alloc: Global, words: &str) -> Result<Step> {
     let (path, words) = first_word(words);
     let (default, table) = first_word(words);
     let path = Path::parse(path)?;
-    let table = table_of(alloc, table)?;
+    let table = table_of(alloc, &words_of(alloc, table)?)?;
     let default = match default {
         "-" => None,
         text => Some(text_of(alloc, text)?),
@@ -111,25 +115,28 @@ fn step_of(alloc: Global, words: &str) -> Result<Step> {
 }
 
 /// Whether a step may stand among others.
-fn may_stand(alloc: Global, step: &Step) -> Result<String, AllocError> {
-    match check_step(step) {
+fn may_stand(alloc: Global, check: Result<(), StepCheck>) -> Result<String, AllocError> {
+    match check {
         Ok(()) => String::from_str(alloc, "ok"),
         Err(check) => format!(in alloc; "refused {} {check:?}", check.code()),
     }
 }
 
+/// What steps came to.
+fn told(alloc: Global, changed: &Result<Message, StepFault>) -> Result<String, AllocError> {
+    match changed {
+        Ok(changed) => shown(alloc, &changed.print()?),
+        Err(StepFault::Stopped { place, cause }) => format!(in alloc; "stopped {place} {cause:?}"),
+        Err(StepFault::NoMemory) => Err(AllocError),
+    }
+}
+
 /// The message after steps.
-fn after(alloc: Global, steps: &[Step], message: &Message) -> Result<String> {
+fn after(alloc: Global, steps: &[Step], message: &Message) -> Result<String, AllocError> {
     if !all_may_stand(steps) {
-        return Ok(String::from_str(alloc, "they may not stand")?);
+        return String::from_str(alloc, "they may not stand");
     }
-    match apply(steps, message.clone()?) {
-        Ok(changed) => Ok(shown(alloc, &changed.print()?)?),
-        Err(StepFault::Stopped { place, cause }) => Ok(format!(in alloc;
-            "stopped {place} {cause:?}"
-        )?),
-        Err(StepFault::NoMemory) => bail!("out of memory"),
-    }
+    told(alloc, &apply(steps, message.clone()?))
 }
 
 /// Whether the last two of a list are the same.
@@ -153,64 +160,57 @@ impl Rules {
 
     /// So many of the last conditions, which are then gone.
     fn members(&mut self, count: &str) -> Result<Vec<Cond>> {
-        let mut members = Vec::new(self.alloc);
-        for _ in 0..count.parse::<u32>()? {
-            if let Some(cond) = self.conds.pop() {
-                members.push(cond)?;
-            }
-        }
-        Ok(members)
+        let first = self.conds.len().saturating_sub(count.parse()?);
+        Ok(self.conds.split_off(first)?)
     }
 
-    /// Whether the condition that words say is true of the message. It is kept.
+    /// Whether a condition is true of the message. It is kept.
+    fn keep(&mut self, cond: Cond) -> Result<String> {
+        let truth = cond.holds(&self.text.message);
+        self.conds.push(cond)?;
+        Ok(format!(in self.alloc; "{}", truth?)?)
+    }
+
+    /// Whether the condition that words say is true of the message.
     fn cond(&mut self, words: &str) -> Result<String> {
         let cond = cond_of(self.alloc, words)?;
-        self.holds(cond)
+        self.keep(cond)
     }
 
     /// Whether so many of the last conditions are all true.
     fn all(&mut self, count: &str) -> Result<String> {
-        let cond = Cond::All(self.members(count)?);
-        self.holds(cond)
+        let members = self.members(count)?;
+        self.keep(Cond::All(members))
     }
 
     /// Whether any of so many of the last conditions is true.
     fn any(&mut self, count: &str) -> Result<String> {
-        let cond = Cond::Any(self.members(count)?);
-        self.holds(cond)
-    }
-
-    /// Whether a condition is true of the message. It is kept.
-    fn holds(&mut self, cond: Cond) -> Result<String> {
-        let truth = cond.holds(&self.text.message)?;
-        self.conds.push(cond)?;
-        Ok(format!(in self.alloc; "{truth}")?)
+        let members = self.members(count)?;
+        self.keep(Cond::Any(members))
     }
 
     /// Whether the last condition is false.
     fn negated(&mut self) -> Result<String> {
-        match self.conds.pop() {
-            Some(cond) => {
-                let cond = Cond::Not(Box::new(self.alloc, cond)?);
-                self.holds(cond)
-            }
-            None => bail!("no condition to negate"),
-        }
+        let Some(cond) = self.conds.pop() else {
+            bail!("no condition to negate");
+        };
+        let cond = Box::new(self.alloc, cond)?;
+        self.keep(Cond::Not(cond))
     }
 
     /// Whether the step that words say may stand among others. It is kept.
     fn step(&mut self, words: &str) -> Result<String> {
         let step = step_of(self.alloc, words)?;
-        let answer = may_stand(self.alloc, &step)?;
+        let check = check_step(&step);
         self.steps.push(step)?;
-        Ok(answer)
+        Ok(may_stand(self.alloc, check)?)
     }
 
     /// The message after the steps, which are then gone.
     fn applied(&mut self) -> Result<String> {
         let alloc = self.alloc;
         let steps = mem::replace(&mut self.steps, Vec::new(alloc));
-        after(alloc, &steps, &self.text.message)
+        Ok(after(alloc, &steps, &self.text.message)?)
     }
 
     /// Whether the last two conditions say the same, and the last two steps.
@@ -222,11 +222,11 @@ impl Rules {
 
     /// Whether the last condition has at most so many levels.
     fn within(&self, levels: &str) -> Result<String> {
-        let levels = levels.parse()?;
-        match self.conds.last() {
-            Some(cond) => Ok(format!(in self.alloc; "{}", cond.is_within(levels))?),
-            None => bail!("no condition"),
-        }
+        let Some(cond) = self.conds.last() else {
+            bail!("no condition");
+        };
+        let within = cond.is_within(levels.parse()?);
+        Ok(format!(in self.alloc; "{within}")?)
     }
 
     /// Lets the conditions and steps go.
@@ -239,24 +239,16 @@ impl Rules {
     /// The answer to a call.
     pub fn play(&mut self, line: &str) -> Result<String> {
         let (call, words) = first_word(line);
-        let message = &self.text.message;
         match call {
-            "fields" => acks::fields(self.alloc, message),
-            "mode" => acks::mode(self.alloc, message),
-            "msa" => acks::answered(self.alloc, message),
-            "stamp" => acks::stamped(self.alloc, words),
-            "cause" => acks::cause_told(self.alloc, words),
-            "pair" => acks::pair_told(self.alloc, words),
-            "ack" => acks::ack(self.alloc, message, words),
             "cond" => self.cond(words),
             "all" => self.all(words),
             "any" => self.any(words),
             "not" => self.negated(),
-            "within" => self.within(words),
-            "alike" => self.alike(),
             "step" => self.step(words),
             "apply" => self.applied(),
             "drop" => self.clear(),
+            "within" => self.within(words),
+            "alike" => self.alike(),
             _ => self.text.answer(call, words),
         }
     }

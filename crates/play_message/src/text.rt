@@ -1,5 +1,6 @@
 //! The message of a script, and the answers to calls on its text.
 
+use crate::acks;
 use anyhow::{Result, bail};
 use er7_tree::{Message, Path, Refusal, escape, is_vacant, unescape};
 use play_script::{bytes_of, first_word, shown};
@@ -65,30 +66,33 @@ fn compared(alloc: Global, paths: &str) -> Result<String> {
     Ok(format!(in alloc; "same {same}, level {level}")?)
 }
 
+/// Appends a text so many times.
+fn push_repeated(text: &mut Vec<u8>, count: u32, word: &str) -> Result<(), AllocError> {
+    let bytes = bytes_of(*text.allocator(), word)?;
+    for _ in 0..count {
+        text.extend_from_slice(&bytes)?;
+    }
+    Ok(())
+}
+
 /// A first text, so many times another one, and a last one.
 fn repeated(alloc: Global, words: &str) -> Result<Vec<u8>> {
     let (count, words) = first_word(words);
     let (first, words) = first_word(words);
     let (other, last) = first_word(words);
     let mut text = bytes_of(alloc, first)?;
-    let other = bytes_of(alloc, other)?;
-    for _ in 0..count.parse::<u32>()? {
-        text.extend_from_slice(&other)?;
-    }
-    text.extend_from_slice(&bytes_of(alloc, last)?)?;
+    push_repeated(&mut text, count.parse()?, other)?;
+    push_repeated(&mut text, 1, last)?;
     Ok(text)
 }
 
-/// Reads a message of repeated text. It is told how many bytes it prints as.
-fn parse_many(alloc: Global, words: &str) -> Result<String> {
-    let text = repeated(alloc, words)?;
-    match Message::parse(alloc, &text) {
-        Ok(message) => {
-            let printed = message.print()?;
-            Ok(format!(in alloc; "{} of {} bytes", printed.len(), text.len())?)
-        }
-        Err(refusal) => Ok(refused(alloc, &refusal)?),
-    }
+/// Reads a message. It is told how many bytes it prints as.
+fn parse_many(alloc: Global, text: &[u8]) -> Result<String> {
+    let printed = match Message::parse(alloc, text) {
+        Ok(message) => message.print()?,
+        Err(refusal) => return Ok(refused(alloc, &refusal)?),
+    };
+    Ok(format!(in alloc; "{} of {} bytes", printed.len(), text.len())?)
 }
 
 impl Text {
@@ -200,28 +204,35 @@ impl Text {
         Ok(shown(self.alloc, self.message.header())?)
     }
 
-    /// The answer to a call on the text.
-    pub fn answer(&mut self, call: &str, words: &str) -> Result<String> {
+    /// The answer to a call that leaves the message as it is.
+    fn read(&self, call: &str, words: &str) -> Result<String> {
         match call {
-            "parse" => self.parse(words),
-            "many" => parse_many(self.alloc, words),
             "print" => self.print(),
-            "clone" => self.copy_all(),
             "header" => self.header(),
             "msh" => self.msh(words),
             "segment" => self.segment(words),
             "raw" => self.raw(words),
             "get" => self.value(words),
-            "set" => self.set(words),
-            "copy" => self.copy(words),
-            "clear" => self.clear(words),
-            "remove" => self.remove(words),
             "escape" => self.escaped(words),
             "unescape" => self.unescaped(words),
             "vacant" => vacant(self.alloc, words),
             "path" => named(self.alloc, words),
             "paths" => compared(self.alloc, words),
-            _ => bail!("{call} is no call"),
+            "many" => parse_many(self.alloc, &repeated(self.alloc, words)?),
+            _ => acks::answer(self.alloc, &self.message, call, words),
+        }
+    }
+
+    /// The answer to a call.
+    pub fn answer(&mut self, call: &str, words: &str) -> Result<String> {
+        match call {
+            "parse" => self.parse(words),
+            "clone" => self.copy_all(),
+            "set" => self.set(words),
+            "copy" => self.copy(words),
+            "clear" => self.clear(words),
+            "remove" => self.remove(words),
+            _ => self.read(call, words),
         }
     }
 }

@@ -6,135 +6,77 @@
 #![tactic(auto)]
 
 use anyhow::{Result, bail};
-use judge_core::{Judged, Verdict, fits_block, judge};
+use hl7_head::Cause;
+use judge_core::{Delivery, Judged, Verdict, fits_block, judge};
 use plan_text::Plan;
-use std::alloc::Global;
-use std::io::{self, BufRead, BufReader, BufWriter, Write};
+use std::alloc::{AllocError, Global};
+use std::io::{self, BufRead, Write};
 use std::str;
 use std::sync::Arc;
 
-/// A line of the script.
-enum Line<'a> {
-    /// The text of a plan of this name begins.
-    Begin(&'a str),
-    /// The text of the plan ends.
-    End,
-    /// A message arrives on a channel.
-    Judge(u32, &'a str),
-    /// Anything else: a line of a plan's text.
-    Text,
+/// The channel and the text of a message, where a line has both.
+fn arrival_of(line: &str) -> Option<(u32, &str)> {
+    let (channel, text) = line.strip_prefix("judge ")?.split_once(' ')?;
+    Some((channel.parse().ok()?, text))
 }
 
-fn line_of(line: &[u8]) -> Line<'_> {
-    let Ok(line) = str::from_utf8(line) else {
-        return Line::Text;
-    };
-    if line == "---" {
-        return Line::End;
-    }
-    if let Some(name) = line.strip_prefix("--- ") {
-        return Line::Begin(name);
-    }
-    let Some(rest) = line.strip_prefix("judge ") else {
-        return Line::Text;
-    };
-    let Some((channel, text)) = rest.split_once(' ') else {
-        return Line::Text;
-    };
-    match channel.parse() {
-        Ok(channel) => Line::Judge(channel, text),
-        Err(_) => Line::Text,
-    }
-}
-
-/// The bytes that a text of the script stands for.
-fn meant(alloc: Global, text: &str) -> Result<Vec<u8>> {
-    let mut bytes = Vec::new(alloc);
-    for byte in text.as_bytes() {
-        if *byte == b'r' && bytes.last() == Some(&b'\\') {
-            bytes.pop();
-            bytes.push(b'\r')?;
-        } else {
-            bytes.push(*byte)?;
-        }
-    }
-    Ok(bytes)
-}
-
-/// Writes bytes as the script writes them.
-fn write_shown<W: Write>(out: &mut W, bytes: &[u8]) -> io::Result<()> {
+/// Appends bytes as the script writes them.
+fn push_shown(told: &mut Vec<u8>, bytes: &[u8]) -> Result<(), AllocError> {
     for byte in bytes {
         if *byte == b'\r' {
-            out.write_all(b"\\r")?;
+            told.extend_from_slice(b"\\r")?;
         } else {
-            out.write_all(&[*byte])?;
+            told.push(*byte)?;
         }
     }
     Ok(())
 }
 
-/// Tells what a plan's text says, and gives the plan.
-fn told_plan<W: Write>(
-    alloc: Global,
-    out: &mut W,
-    name: &str,
-    text: &[u8],
-) -> Result<Option<Plan>> {
-    match Plan::read(alloc, text) {
-        Ok(plan) => {
-            writeln!(
-                out,
-                "{name}: plan ok: {} channels, {} destinations",
-                plan.channels(),
-                plan.destinations()
-            )?;
-            Ok(Some(plan))
-        }
-        Err(fault) => {
-            writeln!(out, "{name}: {} {fault}", fault.name.code())?;
-            Ok(None)
-        }
-    }
+/// Appends why a message is refused.
+fn push_refusal(told: &mut Vec<u8>, cause: Cause) -> io::Result<()> {
+    write!(told, "Refuse {} ", cause.code())?;
+    told.write_all(cause.text())
 }
 
-/// Tells what was decided of a message, and in a line each what goes where.
-fn tell_verdict<W: Write>(out: &mut W, judged: &Judged) -> Result<()> {
+/// Appends, in a line, what goes to a destination.
+fn push_delivery(told: &mut Vec<u8>, plan: &Plan, delivery: &Delivery) -> Result<()> {
+    let Some(destination) = plan.destination(delivery.destination) else {
+        bail!("no such destination");
+    };
+    write!(told, "\n  {}: ", destination.name())?;
+    Ok(push_shown(told, delivery.payload.as_slice())?)
+}
+
+/// Appends that a message is taken and, in a line each, what goes where.
+fn push_deliveries(told: &mut Vec<u8>, plan: &Plan, deliveries: &[Delivery]) -> Result<()> {
+    told.write_all(b"Accept")?;
+    for delivery in deliveries {
+        push_delivery(told, plan, delivery)?;
+    }
+    Ok(())
+}
+
+/// Appends what was decided of a message.
+fn push_verdict(told: &mut Vec<u8>, judged: &Judged) -> Result<()> {
     match judged.verdict() {
-        Verdict::Unreadable => out.write_all(b"Unreadable")?,
-        Verdict::Stray => out.write_all(b"Stray")?,
-        Verdict::Refuse(cause) => {
-            write!(out, "Refuse {} ", cause.code())?;
-            out.write_all(cause.text())?;
-        }
-        Verdict::Filtered => out.write_all(b"Filtered")?,
+        Verdict::Unreadable => told.write_all(b"Unreadable")?,
+        Verdict::Stray => told.write_all(b"Stray")?,
+        Verdict::Refuse(cause) => push_refusal(told, *cause)?,
+        Verdict::Filtered => told.write_all(b"Filtered")?,
         Verdict::Accept(deliveries) => {
-            out.write_all(b"Accept")?;
-            for delivery in deliveries.as_slice() {
-                match judged.plan().destination(delivery.destination) {
-                    Some(destination) => write!(out, "\n  {}: ", destination.name())?,
-                    None => bail!("no such destination"),
-                }
-                write_shown(out, delivery.payload.as_slice())?;
-            }
+            push_deliveries(told, judged.plan(), deliveries.as_slice())?;
         }
     }
-    out.write_all(b"\n")?;
-    Ok(())
+    Ok(told.push(b'\n')?)
 }
 
-/// Judges a message by a plan and tells what is decided.
-fn judged<W: Write>(
-    alloc: Global,
-    out: &mut W,
-    plan: &Arc<Plan>,
-    channel: u32,
-    raw: Vec<u8>,
-) -> Result<()> {
+/// What is decided by a plan of a message that is written so.
+fn judged(alloc: Global, plan: &Arc<Plan>, channel: u32, text: &str) -> Result<Judged> {
+    let raw = text.replace(alloc, "\\r", "\r")?.into_bytes();
     if plan.channels() <= channel || !fits_block(&raw) {
         bail!("it can't be judged");
     }
-    let judged = judge(alloc, plan, channel, raw)?;
-    tell_verdict(out, &judged)
+    Ok(judge(alloc, plan, channel, raw)?)
 }
 
 /// What the lines so far came to.
@@ -160,58 +102,78 @@ impl Player {
 
     /// Begins the text of a plan.
     fn begin(&mut self, name: &str) -> Result<()> {
-        self.name = String::from_str(self.alloc, name)?;
+        self.name.clear();
         self.text.clear();
+        Ok(self.name.push_str(name)?)
+    }
+
+    /// Adds a line to the text of the plan.
+    fn add(&mut self, line: &[u8]) -> Result<()> {
+        self.text.extend_from_slice(line)?;
+        Ok(self.text.push(b'\n')?)
+    }
+
+    /// Keeps a plan, and tells what it says.
+    fn keep(&mut self, told: &mut Vec<u8>, plan: Plan) -> Result<()> {
+        let plan = self.plan.insert(Arc::new(self.alloc, plan)?);
+        let (channels, destinations) = (plan.channels(), plan.destinations());
+        writeln!(
+            told,
+            "{}: plan ok: {channels} channels, {destinations} destinations",
+            self.name
+        )?;
         Ok(())
     }
 
-    /// Reads the plan whose text has ended, and tells what it says.
-    fn end<W: Write>(&mut self, out: &mut W) -> Result<()> {
+    /// Reads the plan whose text has ended, and tells what it says or its first fault.
+    fn end(&mut self, told: &mut Vec<u8>) -> Result<()> {
         self.plan = None;
-        if let Some(plan) = told_plan(self.alloc, out, self.name.as_str(), &self.text)? {
-            self.plan = Some(Arc::new(self.alloc, plan)?);
+        match Plan::read(self.alloc, &self.text) {
+            Ok(plan) => self.keep(told, plan),
+            Err(fault) => Ok(writeln!(told, "{}: {} {fault}", self.name, fault.name.code())?),
         }
-        Ok(())
     }
 
-    /// Judges a message by the plan that was read last.
-    fn judge<W: Write>(&self, out: &mut W, channel: u32, text: &str) -> Result<()> {
+    /// Judges a message by the plan that was read last, and tells what is decided.
+    fn judge(&self, told: &mut Vec<u8>, channel: u32, text: &str) -> Result<()> {
         let Some(plan) = &self.plan else {
             bail!("no plan was read");
         };
-        judged(self.alloc, out, plan, channel, meant(self.alloc, text)?)
+        push_verdict(told, &judged(self.alloc, plan, channel, text)?)
     }
 
-    /// Plays a line.
-    fn play<W: Write>(&mut self, out: &mut W, line: &[u8]) -> Result<()> {
-        match line_of(line.strip_suffix(b"\n").unwrap_or(line)) {
-            Line::Begin(name) => self.begin(name),
-            Line::Text => Ok(self.text.extend_from_slice(line)?),
-            Line::End => self.end(out),
-            Line::Judge(channel, text) => self.judge(out, channel, text),
+    /// Plays a line, and appends what it tells.
+    fn play(&mut self, told: &mut Vec<u8>, line: &[u8]) -> Result<()> {
+        let text = str::from_utf8(line).unwrap_or("");
+        if let Some((channel, message)) = arrival_of(text) {
+            self.judge(told, channel, message)
+        } else if let Some(name) = text.strip_prefix("--- ") {
+            self.begin(name)
+        } else if text == "---" {
+            self.end(told)
+        } else {
+            self.add(line)
         }
     }
 }
 
-/// Plays each line of a script.
-fn play_all<R: BufRead, W: Write>(alloc: Global, script: &mut R, out: &mut W) -> Result<()> {
-    let mut player = Player::new(alloc);
-    let mut line = Vec::new(alloc);
-    for _ in 0..u64::MAX {
-        line.clear();
-        if script.read_until(b'\n', &mut line)? == 0 {
-            break;
-        }
-        player.play(out, &line)?;
+/// Plays a line, and writes what it tells.
+fn play_line(rt: &HostRuntime, player: &mut Player, line: &[u8]) -> Result<()> {
+    let mut told = Vec::new(rt.alloc());
+    player.play(&mut told, line)?;
+    io::writer(rt).write_all(&told)?;
+    Ok(())
+}
+
+/// Plays all lines of standard input.
+fn play_all(rt: &HostRuntime, player: &mut Player) -> Result<()> {
+    for line in rt.reader().split(rt.alloc(), b'\n') {
+        play_line(rt, player, &line?)?;
     }
     Ok(())
 }
 
 fn main(rt: HostRuntime) -> Result<()> {
-    let alloc = rt.alloc();
-    let mut script = BufReader::new(alloc, rt.reader())?;
-    let mut out = BufWriter::new(alloc, io::writer(&rt))?;
-    play_all(alloc, &mut script, &mut out)?;
-    out.flush()?;
-    Ok(())
+    let mut player = Player::new(rt.alloc());
+    play_all(&rt, &mut player)
 }
