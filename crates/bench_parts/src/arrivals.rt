@@ -5,7 +5,8 @@ ghost use Rattle.std.specs.Prelude.{◌≡◌, ◌+◌, length};
 ghost use Rattle.event_log.specs.History.{next_place, plan_in_force};
 ghost use Rattle.event_log.specs.Counting.{counted};
 
-use crate::message::{ADMISSION, MANY, Rows, judged, nanoseconds_since};
+use crate::desk::booked;
+use crate::message::{ADMISSION, Rows};
 use book_core::Book;
 use book_lock::{Desk, Opening, Shared};
 use plan_text::Plan;
@@ -14,53 +15,22 @@ use std::marker::Brand;
 use std::ops::Range;
 use std::sync::ledger::{Blank, Ledger};
 use std::sync::{Arc, Wait};
-use std::time::{Clock, Instant};
-
-/// Books a message and cancels it.
-fn book_and_cancel<A: Opening, T: Ledger, U: Ledger, H: Wait>(
-    rt: &H,
-    alloc: Global,
-    shared: &Shared<A, T, U, Rows>,
-    desk: &mut Desk<A>,
-    plan: &Arc<Plan>,
-    number: u32,
-) -> Option<()> {
-    let message = judged(alloc, plan, MANY, ADMISSION, number)?;
-    shared.arrive(rt, desk, MANY, &message).ok()?;
-    shared.cancel(rt, number).ok()?;
-    Some(())
-}
+use std::time::Clock;
 
 /// Books and cancels messages, two entries each, until there are as many entries as are told.
-fn fill<A: Opening, T: Ledger, U: Ledger, H: Wait>(
-    rt: &H,
-    alloc: Global,
-    shared: &Shared<A, T, U, Rows>,
-    desk: &mut Desk<A>,
-    entries: u32,
-) -> Option<()> {
-    let plan = shared.plan(rt).ok()?;
-    for number in 0..entries / 2 {
-        book_and_cancel(rt, alloc, shared, desk, &plan, number)?;
-    }
-    Some(())
-}
-
-/// Books a message, and gives the nanoseconds that the call took.
-fn book_one<A: Opening, T: Ledger, U: Ledger, H: Wait + Clock>(
+fn fill<A: Opening, T: Ledger, U: Ledger, H: Wait + Clock>(
     rt: &H,
     alloc: Global,
     shared: &Shared<A, T, U, Rows>,
     desk: &mut Desk<A>,
     plan: &Arc<Plan>,
-    control_id: u32,
-) -> Option<u64> {
-    let message = judged(alloc, plan, MANY, ADMISSION, control_id)?;
-    let began = Instant::now(rt).ok()?;
-    let receipt = shared.arrive(rt, desk, MANY, &message);
-    let took = nanoseconds_since(rt, began)?;
-    receipt.ok()?;
-    Some(took)
+    entries: u32,
+) -> Option<()> {
+    for number in 0..entries / 2 {
+        booked(rt, alloc, shared, desk, plan, ADMISSION, number)?;
+        shared.cancel(rt, number).ok()?;
+    }
+    Some(())
 }
 
 /// Books messages, and gives the nanoseconds that all calls took.
@@ -69,14 +39,15 @@ fn book_all<A: Opening, T: Ledger, U: Ledger, H: Wait + Clock>(
     alloc: Global,
     shared: &Shared<A, T, U, Rows>,
     desk: &mut Desk<A>,
+    plan: &Arc<Plan>,
     ids: Range<u32>,
 ) -> Option<u64> {
-    let plan = shared.plan(rt).ok()?;
-    let mut took = 0_u64;
+    let mut all = 0_u64;
     for control_id in ids {
-        took = took.saturating_add(book_one(rt, alloc, shared, desk, &plan, control_id)?);
+        let (_, took) = booked(rt, alloc, shared, desk, plan, ADMISSION, control_id)?;
+        all = all.saturating_add(took);
     }
-    Some(took)
+    Some(all)
 }
 
 /// Fills a shared book with so many entries, and books so many messages more at its first desk.
@@ -89,10 +60,11 @@ fn fill_and_book<A: Opening, T: Ledger, U: Ledger, H: Wait + Clock>(
     calls: u32,
 ) -> Option<u64> {
     let desk = desks.get_mut(0)?;
-    fill(rt, alloc, shared, desk, entries)?;
+    let plan = shared.plan(rt).ok()?;
+    fill(rt, alloc, shared, desk, &plan, entries)?;
     let first = entries / 2;
     let ids = first..first.saturating_add(calls);
-    book_all(rt, alloc, shared, desk, ids)
+    book_all(rt, alloc, shared, desk, &plan, ids)
 }
 
 /// Shares a book, and books so many messages behind so many entries.

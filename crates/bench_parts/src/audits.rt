@@ -4,7 +4,8 @@ ghost use Rattle.std.specs.Prelude.{◌≡◌, ◌+◌, length};
 ghost use Rattle.event_log.specs.History.{next_place, plan_in_force};
 ghost use Rattle.event_log.specs.Counting.{counted};
 
-use crate::message::{MANY, RESULT, Rows, judged, nanoseconds_since};
+use crate::desk::booked;
+use crate::message::{RESULT, Rows, nanoseconds_since};
 use book_core::{Book, Receipt};
 use book_lock::{Closed, Desk, Opening, Shared, audit};
 use plan_text::Plan;
@@ -21,47 +22,60 @@ pub struct Audits {
     pub falling: u64,
 }
 
-/// Brings a message to a desk, with bytes of its own, and gives its receipt.
-fn booked<A: Opening, T: Ledger, U: Ledger, H: Wait>(
+/// Books so many messages, and appends their receipts.
+fn push_receipts<A: Opening, T: Ledger, U: Ledger, H: Wait + Clock>(
     rt: &H,
     alloc: Global,
     shared: &Shared<A, T, U, Rows>,
     desk: &mut Desk<A>,
     plan: &Arc<Plan>,
-    control_id: u32,
-) -> Option<Receipt> {
-    let message = judged(alloc, plan, MANY, RESULT, control_id)?;
-    shared.arrive(rt, desk, MANY, &message).ok()
+    receipts: &mut Vec<Receipt>,
+    count: u32,
+) -> Option<()> {
+    for control_id in 0..count {
+        let (receipt, _) = booked(rt, alloc, shared, desk, plan, RESULT, control_id)?;
+        receipts.push(receipt).ok()?;
+    }
+    Some(())
 }
 
-/// Brings so many messages to a desk, and gives their receipts.
-fn receipts_of<A: Opening, T: Ledger, U: Ledger, H: Wait>(
+/// Books so many messages, and gives their receipts.
+fn receipts_of<A: Opening, T: Ledger, U: Ledger, H: Wait + Clock>(
     rt: &H,
     alloc: Global,
     shared: &Shared<A, T, U, Rows>,
     desk: &mut Desk<A>,
+    plan: &Arc<Plan>,
     count: u32,
 ) -> Option<Vec<Receipt>> {
-    let plan = shared.plan(rt).ok()?;
     let mut receipts = Vec::new(alloc);
-    for control_id in 0..count {
-        let receipt = booked(rt, alloc, shared, desk, &plan, control_id)?;
-        receipts.push(receipt).ok()?;
-    }
+    push_receipts(rt, alloc, shared, desk, plan, &mut receipts, count)?;
     Some(receipts)
+}
+
+/// Books so many messages at the first desk, and gives their receipts.
+fn first_receipts<A: Opening, T: Ledger, U: Ledger, H: Wait + Clock>(
+    rt: &H,
+    alloc: Global,
+    shared: &Shared<A, T, U, Rows>,
+    desks: &mut Vec<Desk<A>>,
+    count: u32,
+) -> Option<Vec<Receipt>> {
+    let desk = desks.get_mut(0)?;
+    let plan = shared.plan(rt).ok()?;
+    receipts_of(rt, alloc, shared, desk, &plan, count)
 }
 
 /// How long an audit takes, where the receipts are right.
 fn time_audit<H: Clock>(rt: &H, closed: &Closed<Rows>, receipts: &[Receipt]) -> Option<u64> {
-    let began = Instant::now(rt).ok()?;
+    let began = Instant::now(rt).ok();
     let answer = audit(closed, receipts);
-    let took = nanoseconds_since(rt, began)?;
-    answer.ok()?;
-    Some(took)
+    let took = nanoseconds_since(rt, began);
+    answer.ok().and(took)
 }
 
 /// Books so many messages at a shared book and closes it. Gives the closed book and the receipts.
-fn booked_and_closed<A: Opening, T: Ledger, U: Ledger, H: Wait>(
+fn booked_and_closed<A: Opening, T: Ledger, U: Ledger, H: Wait + Clock>(
     rt: &H,
     alloc: Global,
     book: Book<Rows>,
@@ -79,9 +93,8 @@ fn booked_and_closed<A: Opening, T: Ledger, U: Ledger, H: Wait>(
 {
     let opened = Shared::<A, T, U, Rows>::new(alloc, book, 1, 0, arrivals, takes, settlements);
     let (shared, mut desks, stations) = opened.ok()?;
-    let receipts = receipts_of(rt, alloc, &shared, desks.get_mut(0)?, count)?;
-    let closed = shared.close(desks, stations).ok()?;
-    Some((closed, receipts))
+    let receipts = first_receipts(rt, alloc, &shared, &mut desks, count);
+    shared.close(desks, stations).ok().zip(receipts)
 }
 
 /// Audits receipts in their order and in the other one.

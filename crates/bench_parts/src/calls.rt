@@ -1,6 +1,6 @@
 //! The measured calls. Each gives none where a call was refused.
 
-ghost use Rattle.std.specs.Prelude.{IfSome, IsTrue};
+ghost use Rattle.std.specs.Prelude.{IsTrue};
 ghost use Rattle.judge_core.specs.Judging.{is_bookable};
 
 use crate::message::{ADMISSION, FEW, MANY, Rows, judged, nanoseconds_since};
@@ -27,51 +27,50 @@ pub struct Times {
     pub cancel: u64,
 }
 
-/// An admission with this control id, judged as one that comes by a channel.
-fn admission(rt: &HostRuntime, book: &Book<Rows>, channel: u32, control_id: u32) -> Option<Judged>
-    ensures { IfSome result (λ judged. IsTrue (is_bookable judged.raw)) }
-{
-    judged(rt.alloc(), book.plan(), channel, ADMISSION, control_id)
-}
-
 /// Books a message, and gives how long that took.
-fn booked(rt: &HostRuntime, book: &mut Book<Rows>, message: &Judged) -> Option<u64>
+fn timed_arrival(rt: &HostRuntime, book: &mut Book<Rows>, message: &Judged) -> Option<u64>
     requires { IsTrue (is_bookable message.now.raw) }
 {
-    let began = Instant::now(rt).ok()?;
+    let began = Instant::now(rt).ok();
     let receipt = book.arrive(0, message);
-    let took = nanoseconds_since(rt, began)?;
-    match receipt {
-        Ok(receipt) if matches!(receipt.told, Told::Accepted(_)) => Some(took),
-        _ => None,
+    let took = nanoseconds_since(rt, began);
+    if matches!(receipt.ok()?.told, Told::Accepted(_)) {
+        took
+    } else {
+        None
     }
+}
+
+/// Books an admission with this control id that comes by a channel, and gives how long that took.
+fn booked(rt: &HostRuntime, book: &mut Book<Rows>, channel: u32, control_id: u32) -> Option<u64> {
+    let message = judged(rt.alloc(), book.plan(), channel, ADMISSION, control_id)?;
+    timed_arrival(rt, book, &message)
 }
 
 /// Books so many messages that were not booked yet, and gives how long that took.
 fn arrivals(rt: &HostRuntime, book: &mut Book<Rows>, channel: u32, ids: Range<u32>) -> Option<u64> {
     let mut took = 0_u64;
     for control_id in ids {
-        let message = admission(rt, book, channel, control_id)?;
-        took = took.saturating_add(booked(rt, book, &message)?);
+        took = took.saturating_add(booked(rt, book, channel, control_id)?);
     }
     Some(took)
 }
 
 /// Takes the front of a queue, and gives its ticket and how long that took.
 fn taken(rt: &HostRuntime, book: &mut Book<Rows>, d: u32, now: Moment) -> Option<(Ticket, u64)> {
-    let began = Instant::now(rt).ok()?;
+    let began = Instant::now(rt).ok();
     let job = book.take(d, now);
-    let took = nanoseconds_since(rt, began)?;
-    Some((job.ok()?.ticket, took))
+    let took = nanoseconds_since(rt, began);
+    let ticket = job.ok()?.ticket;
+    Some((ticket, took?))
 }
 
 /// Settles an attempt as one that is to be made again, and gives how long that took.
 fn settled(rt: &HostRuntime, book: &mut Book<Rows>, ticket: &Ticket, now: Moment) -> Option<u64> {
-    let began = Instant::now(rt).ok()?;
+    let began = Instant::now(rt).ok();
     let state = book.settle(ticket, Outcome::Again, now);
-    let took = nanoseconds_since(rt, began)?;
-    state.ok()?;
-    Some(took)
+    let took = nanoseconds_since(rt, began);
+    state.ok().and(took)
 }
 
 /// Sends the front of a queue so often, and gives how long the takes and the settlements took.
@@ -91,7 +90,7 @@ fn sendings(rt: &HostRuntime, book: &mut Book<Rows>, d: u32, times: u32) -> Opti
 fn cancellations(rt: &HostRuntime, book: &mut Book<Rows>, numbers: Range<u32>) -> Option<u64> {
     let mut took = 0_u64;
     for number in numbers {
-        let began = Instant::now(rt).ok()?;
+        let began = Instant::now(rt).ok();
         let mask = book.cancel(number);
         took = took.saturating_add(nanoseconds_since(rt, began)?);
         mask.ok()?;
@@ -102,9 +101,8 @@ fn cancellations(rt: &HostRuntime, book: &mut Book<Rows>, numbers: Range<u32>) -
 /// Books so many messages, and cancels each at once.
 pub fn book_and_cancel(rt: &HostRuntime, book: &mut Book<Rows>, ids: Range<u32>) -> Option<()> {
     for control_id in ids {
-        let message = admission(rt, book, MANY, control_id)?;
         let number = book.message_count();
-        booked(rt, book, &message)?;
+        booked(rt, book, MANY, control_id)?;
         book.cancel(number).ok()?;
     }
     Some(())

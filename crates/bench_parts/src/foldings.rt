@@ -8,11 +8,10 @@ use std::time::Instant;
 
 /// Forgets the messages below a number, and gives how long that took.
 fn folded(rt: &HostRuntime, book: &mut Book<Rows>, before: u32) -> Option<u64> {
-    let began = Instant::now(rt).ok()?;
+    let began = Instant::now(rt).ok();
     let pruned = book.prune(before);
-    let took = nanoseconds_since(rt, began)?;
-    pruned.ok()?;
-    Some(took)
+    let took = nanoseconds_since(rt, began);
+    pruned.ok().and(took)
 }
 
 /// Fills a book with messages that are cancelled and forgets them, but for the last ones, as often as is asked. Gives the

@@ -9,6 +9,7 @@
 mod arrivals;
 mod audits;
 mod calls;
+mod desk;
 mod foldings;
 mod message;
 mod text;
@@ -41,10 +42,15 @@ fn measured(rt: &HostRuntime, book: &mut Book<Rows>, count: u32) -> Option<Measu
     Some((times, before, book.len()))
 }
 
+/// Measures the calls on a new book. None where one was refused, or there is no memory for the book.
+fn measured_anew(rt: &HostRuntime, count: u32) -> Option<Measured> {
+    let mut book = empty_book(rt)?;
+    measured(rt, &mut book, count)
+}
+
 /// Fills a book, and measures the calls on it.
 fn tell_calls(rt: &HostRuntime, asked: Request) -> Result<()> {
-    let done = empty_book(rt).and_then(|mut book| measured(rt, &mut book, asked.count));
-    let Some((times, before, after)) = done else {
+    let Some((times, before, after)) = measured_anew(rt, asked.count) else {
         bail!("a call was refused, or there is no memory for a book");
     };
     println!(rt; "{before} entries before")?;
@@ -92,10 +98,15 @@ fn folded(rt: &HostRuntime, book: &mut Book<Rows>, asked: Request) -> Option<Fol
     Some((longest, book.len(), book.message_count()))
 }
 
+/// Prunes a new book, time and again. None where a call was refused, or there is no memory for the book.
+fn folded_anew(rt: &HostRuntime, asked: Request) -> Option<Folded> {
+    let mut book = empty_book(rt)?;
+    folded(rt, &mut book, asked)
+}
+
 /// Fills a book and prunes it, time and again.
 fn tell_foldings(rt: &HostRuntime, asked: Request) -> Result<()> {
-    let done = empty_book(rt).and_then(|mut book| folded(rt, &mut book, asked));
-    let Some((longest, place, message)) = done else {
+    let Some((longest, place, message)) = folded_anew(rt, asked) else {
         bail!("a call was refused, or there is no memory for a book");
     };
     println!(rt;

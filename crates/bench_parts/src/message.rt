@@ -8,7 +8,7 @@ use dest_queue::Addressed;
 use judge_core::{Judged, fits_block, judge};
 use plan_text::Plan;
 use record_list::RecordList;
-use std::alloc::Global;
+use std::alloc::{AllocError, Global};
 use std::hash::RandomState;
 use std::sync::Arc;
 use std::time::{Clock, Instant};
@@ -63,10 +63,18 @@ pub const FEW: u32 = 1;
 /// An empty book of that plan. None where memory was refused.
 pub fn empty_book(rt: &HostRuntime) -> Option<Book<Rows>> {
     let alloc = rt.alloc();
+    let hasher = RandomState::new(rt).ok()?;
     let plan = Plan::read(alloc, TEXT.as_bytes()).ok()?;
     let plan = Arc::new(alloc, plan).ok()?;
-    let hasher = RandomState::new(rt).ok()?;
     Some(Book::new(alloc, plan, EVENTS_MAX, hasher))
+}
+
+/// The text of a message of this type with this control id.
+fn text_of(alloc: Global, kind: &str, control_id: u32) -> Result<Vec<u8>, AllocError> {
+    let text = format!(in alloc;
+        "MSH|^~\\&|REG|HOSP|ENG|HUB|20231114221300||{kind}|M{control_id}|P|2.5.1|||AL|NE\rPID|1||77^^^H\r"
+    )?;
+    Vec::from_slice(alloc, text.as_bytes())
 }
 
 /// A message of this type with this control id, judged as one that comes by a channel. None where memory was refused.
@@ -79,24 +87,17 @@ pub fn judged(
 ) -> Option<Judged>
     ensures { IfSome result (λ judged. IsTrue (is_bookable judged.raw)) }
 {
-    let text = format!(in alloc;
-        "MSH|^~\\&|REG|HOSP|ENG|HUB|20231114221300||{kind}|M{control_id}|P|2.5.1|||AL|NE\rPID|1||77^^^H\r"
-    ).ok()?;
-    let raw = Vec::from_slice(alloc, text.as_bytes()).ok()?;
+    let raw = text_of(alloc, kind, control_id).ok()?;
     if plan.channels() <= channel || !fits_block(&raw) {
         return None;
     }
-    let judged = judge(alloc, plan, channel, raw).ok()?;
-    if judged.bookable() {
-        Some(judged)
-    } else {
-        None
-    }
+    let judged = judge(alloc, plan, channel, raw);
+    judged.ok().filter(|judged| judged.bookable())
 }
 
-/// Nanoseconds since a moment.
-pub fn nanoseconds_since<H: Clock>(rt: &H, began: Instant) -> Option<u64> {
-    let took = began.elapsed(rt).ok()?;
+/// Nanoseconds since a moment. None where the clock was not read, then or now.
+pub fn nanoseconds_since<H: Clock>(rt: &H, began: Option<Instant>) -> Option<u64> {
+    let took = began?.elapsed(rt).ok()?;
     let seconds = took.as_secs().saturating_mul(1_000_000_000);
     Some(seconds.saturating_add(u64::from(took.subsec_nanos())))
 }

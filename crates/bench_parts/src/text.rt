@@ -61,6 +61,26 @@ fn read_paths(message: &Message) -> Result<usize, Refusal> {
     Ok(bytes)
 }
 
+/// Does the work once, with a value that changes from round to round, and gives a number that depends on it.
+fn once(
+    alloc: Global,
+    what: Work,
+    text: &[u8],
+    message: &mut Message,
+    path: &Path,
+    round: u32,
+) -> Result<usize, Refusal> {
+    match what {
+        Work::Parse => Ok(Message::parse(alloc, text)?.header().len()),
+        Work::Get => read_paths(message),
+        Work::Set => {
+            let value: &[u8] = if round % 2 == 0 { b"98" } else { b"A|B" };
+            message.set(path, value)?;
+            Ok(value.len())
+        }
+    }
+}
+
 /// Does the work so many times, and gives a number that depends on all of it.
 pub fn repeated(alloc: Global, what: Work, segments: u32, rounds: u32) -> Result<usize, Refusal> {
     let text = message_text(alloc, segments)?;
@@ -68,15 +88,7 @@ pub fn repeated(alloc: Global, what: Work, segments: u32, rounds: u32) -> Result
     let path = Path::parse("OBX-5")?;
     let mut sum = 0usize;
     for round in 0..rounds {
-        let bytes = match what {
-            Work::Parse => Message::parse(alloc, &text)?.header().len(),
-            Work::Get => read_paths(&message)?,
-            Work::Set => {
-                let value: &[u8] = if round % 2 == 0 { b"98" } else { b"A|B" };
-                message.set(&path, value)?;
-                value.len()
-            }
-        };
+        let bytes = once(alloc, what, &text, &mut message, &path, round)?;
         sum = sum.wrapping_add(bytes);
     }
     Ok(sum)
