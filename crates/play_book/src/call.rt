@@ -2,6 +2,7 @@
 
 use dest_queue::Outcome;
 use event_log::Ticket;
+use hl7_head::Moment;
 use std::str::SplitWhitespace;
 
 /// A call of the book.
@@ -30,13 +31,13 @@ pub enum Call<'a> {
     /// The front of a queue is taken at a moment.
     Take {
         d: u32,
-        now: u64,
+        now: Moment,
     },
     /// An attempt is settled with its outcome at a moment.
     Settle {
         ticket: Ticket,
         outcome: Outcome,
-        now: u64,
+        now: Moment,
     },
     /// A message is cancelled.
     Cancel {
@@ -63,7 +64,7 @@ pub enum Call<'a> {
     /// Each message of a queue is taken and delivered at a moment.
     Drain {
         d: u32,
-        now: u64,
+        now: Moment,
     },
     /// How many messages a queue has.
     Queue {
@@ -98,8 +99,9 @@ fn number(words: &mut SplitWhitespace<'_>) -> Option<u32> {
 }
 
 /// A moment, in seconds since 1970.
-fn moment(words: &mut SplitWhitespace<'_>) -> Option<u64> {
-    words.next()?.parse::<u64>().ok()
+fn moment(words: &mut SplitWhitespace<'_>) -> Option<Moment> {
+    let seconds = words.next()?.parse().ok()?;
+    Moment::of_unix(seconds).ok()
 }
 
 /// The ticket of a message, a destination and an attempt.

@@ -7,6 +7,7 @@ mod shown;
 mod stage;
 
 use anyhow::Result;
+use book_core::EVENTS_MAX;
 use stage::Stage;
 
 /// Writes a line, with the answer to its call.
@@ -29,6 +30,6 @@ fn play_all(rt: &HostRuntime, stage: &mut Stage) -> Result<()> {
 }
 
 fn main(rt: HostRuntime) -> Result<()> {
-    let mut stage = Stage::new(&rt)?;
+    let mut stage = Stage::open(&rt, "built-in", EVENTS_MAX)?;
     play_all(&rt, &mut stage)
 }

@@ -1,7 +1,10 @@
 //! How messages, receipts, jobs and entries are written.
 
 use book_core::{Job, Receipt};
-use event_log::{Entry, Told};
+use dest_queue::{Outcome, SlotState};
+use event_log::{Entry, Ticket, Told};
+use hl7_head::Moment;
+use plan_text::Plan;
 use std::alloc::{AllocError, Global};
 
 /// The bytes 0x0D of a message, as a script writes them.
@@ -54,6 +57,39 @@ fn arrival_shown(
     format!(in alloc; "arrival by {conn} on {channel}, {told:?}, {text}")
 }
 
+/// The beginning of an attempt.
+fn take_shown(alloc: Global, ticket: Ticket, now: Moment) -> Result<String, AllocError> {
+    format!(in alloc;
+        "take {} {} {} at {}",
+        ticket.number,
+        ticket.destination,
+        ticket.attempt,
+        now.secs()
+    )
+}
+
+/// The end of an attempt.
+fn settle_shown(
+    alloc: Global,
+    ticket: Ticket,
+    outcome: Outcome,
+    now: Moment,
+    state: SlotState,
+) -> Result<String, AllocError> {
+    format!(in alloc;
+        "settle {} {} {} {outcome:?} at {}: {state:?}",
+        ticket.number,
+        ticket.destination,
+        ticket.attempt,
+        now.secs()
+    )
+}
+
+/// The deployment of a plan.
+fn deploy_shown(alloc: Global, plan: &Plan) -> Result<String, AllocError> {
+    format!(in alloc; "deploy {} to {}", plan.channels(), plan.destinations())
+}
+
 /// An entry.
 pub fn entry_shown(alloc: Global, entry: &Entry) -> Result<String, AllocError> {
     match entry {
@@ -63,29 +99,14 @@ pub fn entry_shown(alloc: Global, entry: &Entry) -> Result<String, AllocError> {
             raw,
             told,
         } => arrival_shown(alloc, *conn, *channel, raw.as_slice(), *told),
-        Entry::Take { ticket, now } => format!(in alloc;
-            "take {} {} {} at {}",
-            ticket.number,
-            ticket.destination,
-            ticket.attempt,
-            now.secs()
-        ),
+        Entry::Take { ticket, now } => take_shown(alloc, *ticket, *now),
         Entry::Settle {
             ticket,
             outcome,
             now,
             state,
-        } => format!(in alloc;
-            "settle {} {} {} {outcome:?} at {}: {state:?}",
-            ticket.number,
-            ticket.destination,
-            ticket.attempt,
-            now.secs()
-        ),
+        } => settle_shown(alloc, *ticket, *outcome, *now, *state),
         Entry::Cancel { number, mask } => format!(in alloc; "cancel {number} where {mask} says"),
-        Entry::Deploy { plan } => {
-            let plan = plan.plan();
-            format!(in alloc; "deploy {} to {}", plan.channels(), plan.destinations())
-        }
+        Entry::Deploy { plan } => deploy_shown(alloc, plan.plan()),
     }
 }

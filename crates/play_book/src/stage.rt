@@ -11,7 +11,8 @@ use judge_core::{Judged, fits_block, judge};
 use plan_text::Plan;
 use row_store::{PlainRows, RowStore};
 use stat_count::{CHANNELS, DESTINATIONS};
-use std::alloc::Global;
+use std::alloc::{AllocError, Global};
+use std::fmt::Debug;
 use std::fs;
 use std::hash::RandomState;
 use std::sync::Arc;
@@ -28,25 +29,34 @@ pub struct Stage {
 }
 
 /// A plan by the name of its file, or the built-in one.
-fn plan_named(rt: &HostRuntime, name: &str) -> Result<Arc<Plan>> {
+fn plan_named(rt: &HostRuntime, name: &str) -> Result<Plan> {
     let alloc = rt.alloc();
     if name == "built-in" {
-        return Ok(Arc::new(alloc, Plan::built_in(alloc)?)?);
+        return Ok(Plan::built_in(alloc)?);
     }
-    let text = fs::read(rt, name)?;
-    match Plan::read(alloc, &text) {
-        Ok(plan) => Ok(Arc::new(alloc, plan)?),
-        Err(fault) => bail!("{fault}"),
-    }
+    Ok(Plan::read(alloc, &fs::read(rt, name)?)?)
+}
+
+/// A plan of this name, to be shared.
+fn shared_plan(rt: &HostRuntime, name: &str) -> Result<Arc<Plan>> {
+    Ok(Arc::new(rt.alloc(), plan_named(rt, name)?)?)
+}
+
+/// Why a call was refused.
+fn refused<E: Debug>(alloc: Global, refusal: &E, code: u32) -> Result<String> {
+    Ok(format!(in alloc; "{refusal:?}, code {code}")?)
 }
 
 impl Stage {
-    /// An empty book of the built-in plan.
-    pub fn new(rt: &HostRuntime) -> Result<Stage> {
-        let plan = plan_named(rt, "built-in")?;
-        let shared = Arc::try_clone(&plan)?;
+    /// An empty book of the plan of this name, which may hold so many entries.
+    pub fn open(rt: &HostRuntime, plan: &str, events_max: u32) -> Result<Stage> {
+        if events_max == 0 || events_max > EVENTS_MAX {
+            bail!("no book has {events_max} entries");
+        }
         let alloc = rt.alloc();
-        let book = Book::new(alloc, shared, EVENTS_MAX, RandomState::new(rt)?);
+        let hasher = RandomState::new(rt)?;
+        let plan = shared_plan(rt, plan)?;
+        let book = Book::new(alloc, Arc::try_clone(&plan)?, events_max, hasher);
         Ok(Stage { alloc, book, plan })
     }
 
@@ -61,7 +71,7 @@ impl Stage {
     /// The answer to a call.
     fn answer(&mut self, rt: &HostRuntime, call: Call<'_>) -> Result<String> {
         match call {
-            Call::Book { plan, events_max } => self.open(rt, plan, events_max),
+            Call::Book { plan, events_max } => self.reopen(rt, plan, events_max),
             Call::Judge { plan } => self.judge_by(rt, plan),
             Call::Arrive { channel, text } => self.arrive(channel, text),
             Call::Many {
@@ -91,52 +101,66 @@ impl Stage {
         }
     }
 
+    /// The answer to a call that gives nothing.
+    fn done(&self) -> Result<String> {
+        Ok(String::from_str(self.alloc, "ok")?)
+    }
+
+    /// A new book.
+    fn reopen(&mut self, rt: &HostRuntime, plan: &str, events_max: u32) -> Result<String> {
+        *self = Stage::open(rt, plan, events_max)?;
+        self.done()
+    }
+
     /// Another plan by which messages are judged.
     fn judge_by(&mut self, rt: &HostRuntime, plan: &str) -> Result<String> {
-        self.plan = plan_named(rt, plan)?;
-        Ok(format!(in self.alloc; "ok")?)
+        self.plan = shared_plan(rt, plan)?;
+        self.done()
+    }
+
+    /// Messages are judged by the plan in force.
+    fn judge_by_book(&mut self) -> Result<String> {
+        self.plan = Arc::try_clone(self.book.plan())?;
+        self.done()
     }
 
     /// The answer to a cancellation: where the message waited, or why it is none.
     fn cancel(&mut self, number: u32) -> Result<String> {
-        let alloc = self.alloc;
         match self.book.cancel(number) {
-            Ok(mask) => Ok(format!(in alloc; "mask {mask}")?),
-            Err(refusal) => Ok(format!(in alloc; "{refusal:?}, code {}", refusal.code())?),
+            Ok(mask) => Ok(format!(in self.alloc; "mask {mask}")?),
+            Err(refusal) => refused(self.alloc, &refusal, refusal.code()),
         }
     }
 
     /// The answer to a deployment; messages are judged by the plan from then on.
     fn deploy(&mut self, rt: &HostRuntime, plan: &str) -> Result<String> {
-        let alloc = self.alloc;
-        let plan = plan_named(rt, plan)?;
-        match self.book.deploy(Arc::try_clone(&plan)?) {
-            Ok(()) => {
-                self.plan = plan;
-                Ok(format!(in alloc; "ok")?)
-            }
-            Err(refusal) => Ok(format!(in alloc; "{refusal:?}, code {}", refusal.code())?),
+        match self.book.deploy(shared_plan(rt, plan)?) {
+            Ok(()) => self.judge_by_book(),
+            Err(refusal) => refused(self.alloc, &refusal, refusal.code()),
         }
     }
 
     /// How many of so many deployments of a plan are booked.
     fn deploys(&mut self, rt: &HostRuntime, count: u32, plan: &str) -> Result<String> {
-        let plan = plan_named(rt, plan)?;
+        Ok(self.deploy_again(count, &shared_plan(rt, plan)?)?)
+    }
+
+    /// How many of so many deployments of a shared plan are booked.
+    fn deploy_again(&mut self, count: u32, plan: &Arc<Plan>) -> Result<String, AllocError> {
         let mut booked = 0_u32;
         for _ in 0..count {
-            if self.book.deploy(Arc::try_clone(&plan)?).is_ok() {
+            if self.book.deploy(Arc::try_clone(plan)?).is_ok() {
                 booked = booked.saturating_add(1);
             }
         }
-        Ok(format!(in self.alloc; "{booked} deployed")?)
+        format!(in self.alloc; "{booked} deployed")
     }
 
     /// The answer to a pruning.
     fn prune(&mut self, before: u32) -> Result<String> {
-        let alloc = self.alloc;
         match self.book.prune(before) {
-            Ok(()) => Ok(format!(in alloc; "ok")?),
-            Err(refusal) => Ok(format!(in alloc; "{refusal:?}, code {}", refusal.code())?),
+            Ok(()) => self.done(),
+            Err(refusal) => refused(self.alloc, &refusal, refusal.code()),
         }
     }
 
@@ -169,49 +193,45 @@ impl Stage {
         Ok(format!(in self.alloc; "{}", self.book.len())?)
     }
 
-    /// A new book.
-    fn open(&mut self, rt: &HostRuntime, plan: &str, events_max: u32) -> Result<String> {
-        let plan = plan_named(rt, plan)?;
-        if events_max == 0 || events_max > EVENTS_MAX {
-            bail!("no book has {events_max} entries");
-        }
-        let hasher = RandomState::new(rt)?;
-        self.book = Book::new(self.alloc, Arc::try_clone(&plan)?, events_max, hasher);
-        self.plan = plan;
-        Ok(format!(in self.alloc; "ok")?)
-    }
-
-    /// What is made of bytes that come on a channel.
-    fn judged(&self, channel: u32, bytes: Vec<u8>) -> Result<Judged> {
+    /// What is made of a text that comes on a channel, with a number in it.
+    fn judged(&self, channel: u32, text: &str, number: u32) -> Result<Judged> {
+        let bytes = bytes_of(self.alloc, text, number)?;
         if channel >= self.plan.channels() || !fits_block(&bytes) {
             bail!("it can't be judged");
         }
         Ok(judge(self.alloc, &self.plan, channel, bytes)?)
     }
 
-    /// Judges bytes that come on a channel and books them.
-    fn booked(&mut self, channel: u32, bytes: Vec<u8>) -> Result<Result<Receipt, NotBooked>> {
-        let judged = self.judged(channel, bytes)?;
+    /// Books what was judged, if it may be.
+    fn book_judged(&mut self, judged: &Judged) -> Result<Result<Receipt, NotBooked>> {
         if !judged.bookable() {
             bail!("it isn't booked");
         }
-        Ok(self.book.arrive(CONNECTION, &judged))
+        Ok(self.book.arrive(CONNECTION, judged))
+    }
+
+    /// Judges a text that comes on a channel, with a number in it, and books it.
+    fn booked(
+        &mut self,
+        channel: u32,
+        text: &str,
+        number: u32,
+    ) -> Result<Result<Receipt, NotBooked>> {
+        let judged = self.judged(channel, text, number)?;
+        self.book_judged(&judged)
     }
 
     /// The answer to an arrival: what its receipt says, or why there is none.
     fn arrive(&mut self, channel: u32, text: &str) -> Result<String> {
-        let alloc = self.alloc;
-        let bytes = bytes_of(alloc, text, 0)?;
-        match self.booked(channel, bytes)? {
-            Ok(receipt) => Ok(receipt_shown(alloc, &receipt)?),
-            Err(refusal) => Ok(format!(in alloc; "{refusal:?}, code {}", refusal.code())?),
+        match self.booked(channel, text, 0)? {
+            Ok(receipt) => Ok(receipt_shown(self.alloc, &receipt)?),
+            Err(refusal) => refused(self.alloc, &refusal, refusal.code()),
         }
     }
 
     /// Whether a text that comes on a channel, with a number in it, is accepted.
     fn accepts(&mut self, channel: u32, text: &str, number: u32) -> Result<bool> {
-        let bytes = bytes_of(self.alloc, text, number)?;
-        match self.booked(channel, bytes)? {
+        match self.booked(channel, text, number)? {
             Ok(receipt) => Ok(matches!(receipt.told, Told::Accepted(_))),
             Err(_) => Ok(false),
         }
@@ -229,34 +249,30 @@ impl Stage {
     }
 
     /// The answer to a take: the job, or why there is none.
-    fn take(&mut self, d: u32, now: u64) -> Result<String> {
-        let alloc = self.alloc;
-        match self.book.take(d, moment_at(now)?) {
-            Ok(job) => Ok(job_shown(alloc, &job)?),
-            Err(refusal) => Ok(format!(in alloc; "{refusal:?}, code {}", refusal.code())?),
+    fn take(&mut self, d: u32, now: Moment) -> Result<String> {
+        match self.book.take(d, now) {
+            Ok(job) => Ok(job_shown(self.alloc, &job)?),
+            Err(refusal) => refused(self.alloc, &refusal, refusal.code()),
         }
     }
 
     /// The answer to a settlement: the state of the slot, or why there is none.
-    fn settle(&mut self, ticket: &Ticket, outcome: Outcome, now: u64) -> Result<String> {
-        let alloc = self.alloc;
-        let now = moment_at(now)?;
-        Ok(match self.book.settle(ticket, outcome, now) {
-            Ok(state) => format!(in alloc; "{state:?}")?,
-            Err(refusal) => format!(in alloc; "{refusal:?}, code {}", refusal.code())?,
-        })
+    fn settle(&mut self, ticket: &Ticket, outcome: Outcome, now: Moment) -> Result<String> {
+        match self.book.settle(ticket, outcome, now) {
+            Ok(state) => Ok(format!(in self.alloc; "{state:?}")?),
+            Err(refusal) => refused(self.alloc, &refusal, refusal.code()),
+        }
     }
 
     /// Takes the front of a queue and delivers it.
     fn deliver(&mut self, d: u32, now: Moment) -> Result<()> {
-        let job = self.book.take(d, now)?;
-        self.book.settle(&job.ticket, Outcome::Delivered, now)?;
+        let ticket = self.book.take(d, now)?.ticket;
+        self.book.settle(&ticket, Outcome::Delivered, now)?;
         Ok(())
     }
 
     /// How many messages of a queue are taken and delivered, one after another.
-    fn drain(&mut self, d: u32, now: u64) -> Result<String> {
-        let now = moment_at(now)?;
+    fn drain(&mut self, d: u32, now: Moment) -> Result<String> {
         let waiting = self.book.queue_len(d);
         for _ in 0..waiting {
             self.deliver(d, now)?;
@@ -301,13 +317,5 @@ impl Stage {
             Some(entry) => Ok(entry_shown(self.alloc, entry)?),
             None => Ok(format!(in self.alloc; "none")?),
         }
-    }
-}
-
-/// The moment so many seconds after 1970 began.
-fn moment_at(seconds: u64) -> Result<Moment> {
-    match i64::try_from(seconds) {
-        Ok(seconds) => Ok(Moment::of_unix(seconds)?),
-        Err(_) => bail!("no moment"),
     }
 }
