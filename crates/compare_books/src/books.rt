@@ -3,13 +3,15 @@
 ghost use Rattle.std.specs.Prelude.{IsTrue};
 ghost use Rattle.judge_core.specs.Judging.{is_bookable};
 
+use crate::alike::is_alike;
 use crate::dice::{Dice, NO_TICKET};
 use crate::known::{Key, Keys};
 use crate::plan::{Said, judged_by, plan_of};
 use anyhow::{Result, bail};
 use book_core::{Book, CancelRefusal, DeployRefusal, EVENTS_MAX, Letter, NotBooked, PruneRefusal};
 use dest_queue::{Addressed, SettleRefusal, SlotState};
-use event_log::{Ticket, Told};
+use event_log::{TakeRefusal, Ticket, Told};
+use hl7_head::Moment;
 use judge_core::Judged;
 use plan_text::Plan;
 use row_store::{PlainRows, QUEUES};
@@ -57,6 +59,24 @@ fn other_engine(alloc: Global, plan: &Arc<Plan>) -> Result<Box<SequentialBook>> 
     Ok(Box::new(alloc, SequentialBook::new(alloc, plan, ENTRIES))?)
 }
 
+/// What a book tells a sender, and where that stands.
+fn told(book: &mut Engine, judged: &Judged) -> Result<(Told, usize), NotBooked>
+    requires { IsTrue (is_bookable judged.now.raw) }
+{
+    let receipt = book.arrive(CONNECTION, judged)?;
+    Ok((receipt.told, receipt.entry))
+}
+
+/// The attempt that begins where a book takes the front of a queue.
+fn taken(book: &mut Engine, d: u32, now: Moment) -> Result<Ticket, TakeRefusal> {
+    Ok(book.take(d, now)?.ticket)
+}
+
+/// A book deploys a plan, of which it becomes another owner.
+fn deploy(book: &mut Engine, plan: &Arc<Plan>) -> Result<(), DeployRefusal> {
+    book.deploy(Arc::try_clone(plan)?)
+}
+
 impl Books {
     /// Engines in which nothing is booked.
     pub fn new(rt: &HostRuntime, asked: bool) -> Result<Books> {
@@ -84,49 +104,36 @@ impl Books {
         above.saturating_sub(4)
     }
 
-    /// An error where the sequential engine, if it is asked, tells a sender something else than this.
-    fn compare_told(&mut self, judged: &Judged, told: Result<Told, OtherRefusal>) -> Result<()>
+    /// Whether the sequential engine, if it is asked, tells a sender the same.
+    fn tells(&mut self, judged: &Judged, told: Result<Told, OtherRefusal>) -> bool
         requires { IsTrue (is_bookable judged.now.raw) }
     {
-        let Some(other) = &mut self.other else {
-            return Ok(());
-        };
-        if !judged.plan().same(other.plan()) {
-            bail!("there are two plans");
+        match &mut self.other {
+            Some(other) => {
+                judged.plan().same(other.plan()) && other.arrive(CONNECTION, judged) == told
+            }
+            None => true,
         }
-        if other.arrive(CONNECTION, judged) != told {
-            bail!("an arrival has two answers");
-        }
-        Ok(())
     }
 
-    /// What the book tells a sender, and where that stands; none where it is full. An error where the sequential engine
-    /// tells something else.
+    /// What all tell a sender, and where that stands; none where the book is full. An error where they tell different
+    /// things, or at another place.
     fn told(&mut self, judged: &Judged) -> Result<Option<(Told, usize)>>
         requires { IsTrue (is_bookable judged.now.raw) }
     {
-        match self.book.arrive(CONNECTION, judged) {
-            Ok(receipt) => {
-                self.compare_told(judged, Ok(receipt.told))?;
-                Ok(Some((receipt.told, receipt.entry)))
-            }
-            Err(NotBooked::Full) => {
-                self.compare_told(judged, Err(OtherRefusal::Full))?;
-                Ok(None)
-            }
+        let answer = told(&mut self.book, judged);
+        let due = match answer {
+            Ok((told, _)) => Ok(told),
+            Err(NotBooked::Full) => Err(OtherRefusal::Full),
             Err(refusal) => bail!("{refusal}"),
+        };
+        if !self.tells(judged, due) {
+            bail!("an arrival has two answers");
         }
-    }
-
-    /// An error where the pruned book tells a sender something else than this, or at another place.
-    fn compare_pruned(&mut self, judged: &Judged, told: Told, place: usize) -> Result<()>
-        requires { IsTrue (is_bookable judged.now.raw) }
-    {
-        let again = self.pruned.arrive(CONNECTION, judged)?;
-        if (again.told, again.entry) != (told, place) {
+        if answer.is_ok() && told(&mut self.pruned, judged) != answer {
             bail!("an arrival has another answer where messages are forgotten");
         }
-        Ok(())
+        Ok(answer.ok())
     }
 
     /// Whether all book a message, an error where they tell its sender different things. A new key is kept.
@@ -137,7 +144,6 @@ impl Books {
         let Some((told, place)) = self.told(judged)? else {
             return Ok(false);
         };
-        self.compare_pruned(judged, told, place)?;
         if let Told::Accepted(_) | Told::Filtered = told {
             self.keys.push(Key {
                 channel,
@@ -165,10 +171,12 @@ impl Books {
     pub fn take(&mut self, dice: &mut Dice) -> Result<bool> {
         let d = dice.roll(5);
         let now = dice.now()?;
-        let ticket = self.book.take(d, now).map(|job| job.ticket);
-        let again = self.pruned.take(d, now).map(|job| job.ticket);
-        let other = self.other.as_mut().map(|other| other.take(d, now));
-        if ticket != again || other.is_some_and(|other| other != ticket) {
+        let ticket = taken(&mut self.book, d, now);
+        let other = match &mut self.other {
+            Some(other) => other.take(d, now),
+            None => ticket,
+        };
+        if taken(&mut self.pruned, d, now) != ticket || other != ticket {
             bail!("a take has two answers");
         }
         if let Ok(ticket) = ticket {
@@ -185,18 +193,18 @@ impl Books {
         let outcome = dice.outcome();
         let now = dice.now()?;
         let answer = self.book.settle(&ticket, outcome, now);
+        let told = answer.map_err(NotSettled::Refused);
+        let other = match &mut self.other {
+            Some(other) => other.settle(&ticket, outcome, now),
+            None => told,
+        };
         let due = if ticket.number < self.forgotten {
             Err(SettleRefusal::NoSlot)
         } else {
             answer
         };
-        if let Some(other) = &mut self.other {
-            if other.settle(&ticket, outcome, now) != answer.map_err(NotSettled::Refused) {
-                bail!("a settlement has two answers");
-            }
-        }
-        if self.pruned.settle(&ticket, outcome, now) != due {
-            bail!("a settlement has another answer where messages are forgotten");
+        if self.pruned.settle(&ticket, outcome, now) != due || other != told {
+            bail!("a settlement has two answers");
         }
         Ok(answer.is_ok())
     }
@@ -206,30 +214,39 @@ impl Books {
     pub fn cancel(&mut self, dice: &mut Dice) -> Result<bool> {
         let number = self.number(dice);
         let mask = self.book.cancel(number);
+        let other = match &mut self.other {
+            Some(other) => other.cancel(number),
+            None => mask,
+        };
         let due = if number < self.forgotten {
             Err(CancelRefusal::NoSuchMessage)
         } else {
             mask
         };
-        let other = self.other.as_mut().map(|other| other.cancel(number));
-        if self.pruned.cancel(number) != due || other.is_some_and(|other| other != mask) {
+        if self.pruned.cancel(number) != due || other != mask {
             bail!("a cancellation has two answers");
         }
         Ok(mask.is_ok())
     }
 
-    /// Whether all deploy a plan. An error where one does, or they refuse it for two reasons. Where the history is
-    /// folded there may be room for one that is full otherwise, so it isn't deployed there.
+    /// Whether all deploy a plan. An error where one does, or they refuse it for two reasons.
     pub fn deploy(&mut self, alloc: Global, dice: &mut Dice) -> Result<bool> {
         let plan = plan_of(alloc, dice.said())?;
-        let (shared, third) = (Arc::try_clone(&plan)?, Arc::try_clone(&plan)?);
-        let answer = self.book.deploy(plan);
-        if let Some(other) = &mut self.other {
-            if other.deploy(shared) != answer {
-                bail!("a deployment has two answers");
-            }
+        self.deploy_all(&plan)
+    }
+
+    /// Whether all deploy this plan. Where the history is folded there may be room for one that is full otherwise, so it
+    /// isn't deployed there.
+    fn deploy_all(&mut self, plan: &Arc<Plan>) -> Result<bool> {
+        let answer = deploy(&mut self.book, plan);
+        let other = match &mut self.other {
+            Some(other) => other.deploy(Arc::try_clone(plan)?),
+            None => answer,
+        };
+        if other != answer {
+            bail!("a deployment has two answers");
         }
-        if answer != Err(DeployRefusal::Full) && self.pruned.deploy(third) != answer {
+        if answer != Err(DeployRefusal::Full) && deploy(&mut self.pruned, plan) != answer {
             bail!("a deployment has another answer where messages are forgotten");
         }
         Ok(answer.is_ok())
@@ -270,28 +287,32 @@ impl Books {
         })
     }
 
-    /// An error where a slot, a queue, the statistics or the number of entries is not the same in all; forgotten
-    /// messages have no slots.
+    /// Whether a slot, a queue, the number of entries and the statistics are the same where messages are forgotten;
+    /// forgotten messages have no slots.
+    fn is_pruned_alike(&self, number: u32, d: u32) -> bool {
+        let due = if number < self.forgotten {
+            None
+        } else {
+            self.book.status(number, d)
+        };
+        self.pruned.status(number, d) == due
+            && self.pruned.queue_len(d) == self.book.queue_len(d)
+            && self.pruned.len() == self.book.len()
+            && *self.pruned.counts() == *self.book.counts()
+    }
+
+    /// An error where a slot, a queue, the statistics or the number of entries is not the same in all.
     pub fn compare(&self, dice: &mut Dice) -> Result<()> {
         let number = self.number(dice);
         let d = dice.roll(5);
-        let state = self.book.status(number, d);
-        let waiting = self.book.queue_len(d);
-        let len = self.book.len();
-        if let Some(other) = &self.other {
-            if other.status(number, d)? != state
-                || other.queue_len(d)? as u64 != waiting
-                || other.entries().len() != len
-            {
-                bail!("a slot, a queue or the history is not the same");
-            }
+        let alike = match &self.other {
+            Some(other) => is_alike(&self.book, other, number, d)?,
+            None => true,
+        };
+        if !alike {
+            bail!("a slot, a queue or the history is not the same");
         }
-        let due = if number < self.forgotten { None } else { state };
-        if self.pruned.status(number, d) != due
-            || self.pruned.queue_len(d) != waiting
-            || self.pruned.len() != len
-            || *self.pruned.counts() != *self.book.counts()
-        {
+        if !self.is_pruned_alike(number, d) {
             bail!(
                 "a slot, a queue, the history or the statistics are not the same where messages are forgotten"
             );

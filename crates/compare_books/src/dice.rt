@@ -7,7 +7,7 @@ use anyhow::Result;
 use dest_queue::Outcome;
 use event_log::Ticket;
 use hl7_head::Moment;
-use std::alloc::Global;
+use std::alloc::{AllocError, Global};
 
 /// A ticket that no take gives: attempts are counted from 1.
 pub const NO_TICKET: Ticket = Ticket {
@@ -54,14 +54,14 @@ impl Dice {
     }
 
     /// The text of a message under a control id (MSH-10). What stands behind its version is given.
-    pub fn message(&mut self, alloc: Global, id: u32, asked: &str) -> Result<String> {
+    pub fn message(&mut self, alloc: Global, id: u32, asked: &str) -> Result<String, AllocError> {
         let event = self.pick(["A01", "A08", "A08", "A04"]);
         let version = self.pick(["2.5.1", "2.5.1", "2.5.1", "2.9"]);
         let patient = self.pick(["77", "77", "", "78"]);
         let class = self.pick(["I", "O", "I", "E"]);
-        Ok(format!(in alloc;
+        format!(in alloc;
             "MSH|^~\\&|REG|HOSP|ENG|HUB|||ADT^{event}|{id}|P|{version}{asked}\rPID|1||{patient}\rPV1|1|{class}\r"
-        )?)
+        )
     }
 
     /// Which acknowledgments a message asks for (MSH-15 and MSH-16), as it stands behind its version.
@@ -70,14 +70,14 @@ impl Dice {
     }
 
     /// A text that is no message, or an acknowledgment: it is not answered.
-    pub fn unanswered(&mut self, alloc: Global) -> Result<String> {
+    pub fn unanswered(&mut self, alloc: Global) -> Result<String, AllocError> {
         let text = self.pick([
             "HELLO",
             "",
             "MSH|^~\\&|A|B|C|D|||ACK|9|P|2.5.1\rMSA|AA|1\r",
             "PID|1\r",
         ]);
-        Ok(String::from_str(alloc, text)?)
+        String::from_str(alloc, text)
     }
 
     /// What comes between two blocks: nothing, bytes that are skipped, or a block that is broken.

@@ -1,8 +1,7 @@
 //! What comes on a connection.
 
 use crate::dice::Dice;
-use anyhow::Result;
-use std::alloc::Global;
+use std::alloc::{AllocError, Global};
 use std::mem;
 
 /// A block is cut into pieces of at most so many bytes.
@@ -12,23 +11,37 @@ const PIECE: u32 = 120;
 #[derive(Drop)]
 pub struct Line {
     alloc: Global,
+    channel: u32,
     coming: Vec<u8>,
     came: usize,
     blocks: Vec<Vec<u8>>,
 }
 
-/// A piece that comes, and the blocks that it ends.
+/// A piece that comes on a channel, and the blocks that it ends.
 #[derive(Drop)]
 pub struct Piece {
+    pub channel: u32,
     pub bytes: Vec<u8>,
     pub ended: Vec<Vec<u8>>,
 }
 
+/// The text of a block: a message, or what is not answered.
+fn text(alloc: Global, dice: &mut Dice) -> Result<String, AllocError> {
+    match dice.roll(8) {
+        0 => dice.unanswered(alloc),
+        _ => {
+            let (id, asked) = (dice.roll(12), dice.asked());
+            dice.message(alloc, id, asked)
+        }
+    }
+}
+
 impl Line {
-    /// On which nothing came yet.
-    pub fn new(alloc: Global) -> Line {
+    /// On a channel, on which nothing came yet.
+    pub fn new(alloc: Global, channel: u32) -> Line {
         Line {
             alloc,
+            channel,
             coming: Vec::new(alloc),
             came: 0,
             blocks: Vec::new(alloc),
@@ -36,22 +49,21 @@ impl Line {
     }
 
     /// Another block is to come, with a message or without.
-    fn add_block(&mut self, dice: &mut Dice) -> Result<()> {
-        let text = match dice.roll(8) {
-            0 => dice.unanswered(self.alloc)?,
-            _ => {
-                let (id, asked) = (dice.roll(12), dice.asked());
-                dice.message(self.alloc, id, asked)?
-            }
-        };
-        let block = format!(in self.alloc; "{}\x0b{text}\x1c\r", dice.between())?;
-        self.coming.extend_from_slice(block.as_bytes())?;
+    fn add_block(&mut self, dice: &mut Dice) -> Result<(), AllocError> {
+        let text = text(self.alloc, dice)?;
+        self.come(dice.between(), &text)?;
         self.blocks.push(text.into_bytes())?;
         Ok(())
     }
 
+    /// A text is to come in a block, with something before it.
+    fn come(&mut self, before: &str, text: &str) -> Result<(), AllocError> {
+        let block = format!(in self.alloc; "{before}\x0b{text}\x1c\r")?;
+        self.coming.extend_from_slice(block.as_bytes())
+    }
+
     /// Where all came, another block is to come: a few of them now and then.
-    fn add_blocks(&mut self, dice: &mut Dice) -> Result<()> {
+    fn add_blocks(&mut self, dice: &mut Dice) -> Result<(), AllocError> {
         self.coming.clear();
         self.came = 0;
         let blocks = match dice.roll(6) {
@@ -65,7 +77,7 @@ impl Line {
     }
 
     /// The next piece. A few blocks come as one.
-    pub fn next(&mut self, dice: &mut Dice) -> Result<Piece> {
+    pub fn next(&mut self, dice: &mut Dice) -> Result<Piece, AllocError> {
         if self.came >= self.coming.len() {
             self.add_blocks(dice)?;
         }
@@ -83,6 +95,10 @@ impl Line {
             Vec::new(self.alloc)
         };
         self.came = self.came.saturating_add(len);
-        Ok(Piece { bytes, ended })
+        Ok(Piece {
+            channel: self.channel,
+            bytes,
+            ended,
+        })
     }
 }

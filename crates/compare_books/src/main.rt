@@ -2,6 +2,7 @@
 //! with it, by steps. It stops where two answers differ. The numbers look like chance and are the same on each run.
 #![tactic(auto)]
 
+mod alike;
 mod books;
 mod calls;
 mod dice;

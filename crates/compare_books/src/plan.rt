@@ -6,7 +6,7 @@ ghost use Rattle.std.specs.Arc.{arc_value};
 use anyhow::{Result, bail};
 use judge_core::{Judged, fits_block, judge};
 use plan_text::Plan;
-use std::alloc::Global;
+use std::alloc::{AllocError, Global};
 use std::sync::Arc;
 
 /// What plans differ in: a destination's name, attempts and interval, and a channel's name.
@@ -31,8 +31,8 @@ impl Said {
 /// Inpatients go to A, outpatients to B, patients with an identifier to C, and updates to D, twice at most. A channel
 /// of its own takes everything for C. The name, the attempts and the interval of A and the name of the first channel
 /// are given.
-pub fn plan_of(alloc: Global, said: Said) -> Result<Arc<Plan>> {
-    let text = format!(in alloc;
+fn text_of(alloc: Global, said: Said) -> Result<String, AllocError> {
+    format!(in alloc;
         r#"
 [[destination]]
 name = "{}"
@@ -78,7 +78,12 @@ versions = ["*"]
 route = [{{ to = "C" }}]
 "#,
         said.destination, said.attempts, said.interval, said.channel, said.destination
-    )?;
+    )
+}
+
+/// A plan that says this.
+pub fn plan_of(alloc: Global, said: Said) -> Result<Arc<Plan>> {
+    let text = text_of(alloc, said)?;
     match Plan::read(alloc, text.as_bytes()) {
         Ok(plan) => Ok(Arc::new(alloc, plan)?),
         Err(fault) => bail!("{fault}"),

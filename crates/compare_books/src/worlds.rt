@@ -1,5 +1,6 @@
 //! Worlds and the sequential engine, to which the same happens.
 
+use crate::alike::is_alike;
 use crate::dice::{Dice, NO_TICKET};
 use crate::line::{Line, Piece};
 use crate::plan::{Said, judged_by, plan_of};
@@ -7,11 +8,11 @@ use anyhow::{Result, bail};
 use book_core::Letter;
 use dest_queue::Addressed;
 use engine_model::{Step, World, steps_of};
-use event_log::{Entry, Ticket};
+use event_log::Ticket;
 use hl7_head::Moment;
 use row_store::PlainRows;
 use sequential_book::SequentialBook;
-use std::alloc::Global;
+use std::alloc::{AllocError, Global};
 use std::hash::RandomState;
 
 type Engine = World<PlainRows<Addressed<Letter>>>;
@@ -37,11 +38,11 @@ pub struct Worlds {
 /// A world in which nothing came.
 fn silent(rt: &HostRuntime) -> Result<Box<Engine>> {
     let alloc = rt.alloc();
+    let hasher = RandomState::new(rt)?;
     let plan = plan_of(alloc, Said::FIRST)?;
     if plan.channels() != 2 {
         bail!("the plan has two channels");
     }
-    let hasher = RandomState::new(rt)?;
     let world = World::new(alloc, plan, &CHANNELS, ENTRIES, hasher)?;
     Ok(Box::new(alloc, world)?)
 }
@@ -52,31 +53,38 @@ fn sequential(alloc: Global) -> Result<Box<SequentialBook>> {
     Ok(Box::new(alloc, SequentialBook::new(alloc, plan, ENTRIES))?)
 }
 
-/// Bytes that come on a connection one by one.
-fn one_by_one(alloc: Global, conn: u32, bytes: &[u8], now: Moment) -> Result<Vec<Step>> {
-    let mut steps = Vec::new(alloc);
-    for byte in bytes.chunks(1) {
-        let bytes = Vec::from_slice(alloc, byte)?;
-        steps.push(Step::Chunk { conn, bytes, now })?;
-    }
-    Ok(steps)
-}
-
-/// What an entry says.
-fn entry_text(alloc: Global, entry: Option<&Entry>) -> Result<String> {
-    match entry {
-        Some(entry) => Ok(format!(in alloc; "{entry:?}")?),
-        None => bail!("there is no entry"),
-    }
-}
-
 /// A line for each connection.
-fn lines(alloc: Global) -> Result<Vec<Line>> {
-    let mut lines = Vec::new(alloc);
-    for _ in CHANNELS {
-        lines.push(Line::new(alloc))?;
+fn lines(alloc: Global) -> Result<Vec<Line>, AllocError> {
+    let mut lines = Vec::with_capacity(alloc, CHANNELS.len())?;
+    for channel in CHANNELS {
+        lines.push(Line::new(alloc, channel))?;
     }
     Ok(lines)
+}
+
+/// Bytes come on a connection of a world.
+fn hear(
+    alloc: Global,
+    world: &mut Engine,
+    conn: u32,
+    bytes: &[u8],
+    now: Moment,
+) -> Result<(), AllocError> {
+    let bytes = Vec::from_slice(alloc, bytes)?;
+    world.step(Step::Chunk { conn, bytes, now });
+    Ok(())
+}
+
+/// Whether an entry is the same in a world and in the sequential engine.
+fn is_entry_alike(
+    alloc: Global,
+    world: &Engine,
+    other: &SequentialBook,
+    place: usize,
+) -> Result<bool, AllocError> {
+    let entry = format!(in alloc; "{:?}", world.book().entry(place))?;
+    let due = format!(in alloc; "{:?}", other.entries().get(place))?;
+    Ok(entry == due)
 }
 
 impl Worlds {
@@ -85,10 +93,10 @@ impl Worlds {
         let alloc = rt.alloc();
         Ok(Worlds {
             alloc,
+            lines: lines(alloc)?,
+            other: sequential(alloc)?,
             whole: silent(rt)?,
             bytewise: silent(rt)?,
-            other: sequential(alloc)?,
-            lines: lines(alloc)?,
             last: NO_TICKET,
         })
     }
@@ -96,29 +104,34 @@ impl Worlds {
     /// A piece comes on a connection.
     pub fn chunk(&mut self, dice: &mut Dice) -> Result<()> {
         let now = dice.now()?;
-        let place = dice.roll(4);
-        let (Some(line), Some(channel)) = (
-            self.lines.get_mut(place as usize),
-            CHANNELS.get(place as usize),
-        ) else {
+        let conn = dice.roll(4);
+        let Some(line) = self.lines.get_mut(conn as usize) else {
             bail!("there is no such connection");
         };
-        let Piece { bytes, ended } = line.next(dice)?;
-        self.bytewise
-            .run(&one_by_one(self.alloc, place, &bytes, now)?);
-        self.whole.step(Step::Chunk {
-            conn: place,
-            bytes,
-            now,
-        });
-        for raw in ended {
-            self.arrive(place, *channel, raw)?;
+        let piece = line.next(dice)?;
+        self.hear(conn, &piece.bytes, now)?;
+        self.book(conn, &piece)
+    }
+
+    /// Bytes come on a connection of both worlds.
+    fn hear(&mut self, conn: u32, bytes: &[u8], now: Moment) -> Result<(), AllocError> {
+        for byte in bytes.chunks(1) {
+            hear(self.alloc, &mut self.bytewise, conn, byte, now)?;
+        }
+        hear(self.alloc, &mut self.whole, conn, bytes, now)
+    }
+
+    /// The sequential engine books the messages that a piece ends.
+    fn book(&mut self, conn: u32, piece: &Piece) -> Result<()> {
+        for raw in &piece.ended {
+            self.arrive(conn, piece.channel, raw)?;
         }
         Ok(())
     }
 
     /// The sequential engine books a message, if it is one.
-    fn arrive(&mut self, conn: u32, channel: u32, raw: Vec<u8>) -> Result<()> {
+    fn arrive(&mut self, conn: u32, channel: u32, raw: &[u8]) -> Result<()> {
+        let raw = Vec::from_slice(self.alloc, raw)?;
         let judged = judged_by(self.alloc, self.other.plan(), channel, raw)?;
         if judged.bookable() {
             let _ = self.other.arrive(conn, &judged);
@@ -133,8 +146,7 @@ impl Worlds {
         if let Ok(ticket) = self.other.take(d, now) {
             self.last = ticket;
         }
-        self.whole.step(Step::Take { d, now });
-        self.bytewise.step(Step::Take { d, now });
+        self.step(Step::Take { d, now });
         Ok(())
     }
 
@@ -145,12 +157,7 @@ impl Worlds {
         let outcome = dice.outcome();
         let now = dice.now()?;
         let _ = self.other.settle(&ticket, outcome, now);
-        self.whole.step(Step::Settle {
-            ticket,
-            outcome,
-            now,
-        });
-        self.bytewise.step(Step::Settle {
+        self.step(Step::Settle {
             ticket,
             outcome,
             now,
@@ -162,8 +169,14 @@ impl Worlds {
     pub fn cancel(&mut self, dice: &mut Dice) {
         let number = dice.roll(16);
         let _ = self.other.cancel(number);
-        self.whole.step(Step::Cancel { number });
-        self.bytewise.step(Step::Cancel { number });
+        self.step(Step::Cancel { number });
+    }
+
+    /// Both worlds take a step.
+    fn step(&mut self, step: Step) {
+        let steps = [step];
+        self.whole.run(&steps);
+        self.bytewise.run(&steps);
     }
 
     /// An error where there are two numbers of entries, or where the worlds count a destination or a channel in two
@@ -175,27 +188,30 @@ impl Worlds {
             bail!("there are two numbers of entries");
         }
         let d = dice.roll(4);
-        if book.counts().destination(d) != bytewise.counts().destination(d) {
-            bail!("a destination is counted in two ways");
-        }
-        if book.counts().channel(d / 2) != bytewise.counts().channel(d / 2) {
-            bail!("a channel is counted in two ways");
+        let (counts, again) = (book.counts(), bytewise.counts());
+        if counts.destination(d) != again.destination(d)
+            || counts.channel(d / 2) != again.channel(d / 2)
+        {
+            bail!("a destination or a channel is counted in two ways");
         }
         Ok(())
     }
 
     /// An error where a queue or a slot is not the same in the first world and in the sequential engine.
     pub fn compare_queues(&self) -> Result<()> {
-        let book = self.whole.book();
         for d in 0..5 {
-            if book.queue_len(d) != self.other.queue_len(d)? as u64 {
-                bail!("a queue has two lengths");
-            }
-            if book.status(d, d) != self.other.status(d, d)? {
-                bail!("a slot has two states");
+            if !is_alike(self.whole.book(), &self.other, d, d)? {
+                bail!("a queue has two lengths, or a slot two states");
             }
         }
         Ok(())
+    }
+
+    /// Whether a connection was sent the same in both worlds, and has not ended.
+    fn is_sent_alike(&self, conn: u32) -> bool {
+        self.whole.output(conn) == self.bytewise.output(conn)
+            && !self.whole.ended(conn)
+            && !self.bytewise.ended(conn)
     }
 
     /// How many bytes the connections were sent. An error where one was sent other bytes in the other world, or has
@@ -203,53 +219,40 @@ impl Worlds {
     pub fn compare_output(&self) -> Result<usize> {
         let mut sent = 0_usize;
         for conn in 0..4 {
-            let output = self.whole.output(conn);
-            if output != self.bytewise.output(conn) {
-                bail!("a connection was sent two things");
+            if !self.is_sent_alike(conn) {
+                bail!("a connection was sent two things, or has ended");
             }
-            if self.whole.ended(conn) || self.bytewise.ended(conn) {
-                bail!("a connection has ended");
-            }
-            sent = sent.saturating_add(output.len());
+            sent = sent.saturating_add(self.whole.output(conn).len());
         }
         Ok(sent)
     }
 
-    /// A world that takes the steps of the history.
-    fn again(&self, rt: &HostRuntime) -> Result<Box<Engine>> {
-        let steps = steps_of(self.alloc, self.whole.book())?;
-        let mut again = silent(rt)?;
-        again.run(&steps);
-        Ok(again)
+    /// How many entries a world has. An error where the sequential engine has others.
+    fn compare_history(&self, world: &Engine) -> Result<usize> {
+        let len = world.book().len();
+        if len != self.other.entries().len() {
+            bail!("there are two numbers of entries");
+        }
+        for place in 0..len {
+            if !is_entry_alike(self.alloc, world, &self.other, place)? {
+                bail!("entry {place} isn't the same");
+            }
+        }
+        Ok(len)
     }
 
-    /// An error where an entry isn't the same in a world.
-    fn compare_entry(&self, engine: &Engine, place: usize, entry: &Entry) -> Result<()> {
-        let due = entry_text(self.alloc, Some(entry))?;
-        if entry_text(self.alloc, engine.book().entry(place))? != due {
-            bail!("entry {place} isn't the same");
-        }
-        Ok(())
-    }
-
-    /// An error where a world has other entries than the sequential engine.
-    fn compare_history(&self, engine: &Engine) -> Result<()> {
-        for (place, entry) in self.other.entries().iter().enumerate() {
-            self.compare_entry(engine, place, entry)?;
-        }
-        Ok(())
+    /// How many entries a world has that takes the steps of the history. An error where the sequential engine has others.
+    fn compare_again(&self, again: &mut Engine) -> Result<usize> {
+        again.run(&steps_of(self.alloc, self.whole.book())?);
+        self.compare_history(again)
     }
 
     /// How many entries there are. An error where one isn't the same in all three, or where a world that takes the
     /// steps of the history has another.
     pub fn compare_entries(&self, rt: &HostRuntime) -> Result<usize> {
-        let again = self.again(rt)?;
-        if again.book().len() != self.whole.book().len() {
-            bail!("the steps of the history give another");
-        }
-        for engine in [&self.whole, &self.bytewise, &again] {
-            self.compare_history(engine)?;
-        }
-        Ok(self.other.entries().len())
+        self.compare_history(&self.whole)?;
+        self.compare_history(&self.bytewise)?;
+        let mut again = silent(rt)?;
+        self.compare_again(&mut again)
     }
 }
