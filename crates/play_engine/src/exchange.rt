@@ -1,15 +1,15 @@
 //! The book that connections are served from, what comes by the next one, and what came of it.
 
 use crate::pieces::Pieces;
-use crate::script::{Call, Cut};
-use crate::shown::{replies_shown, report_shown};
+use crate::script::{Call, Coming, Cut, Setting};
+use crate::shown::{payload_shown, served_shown};
 use anyhow::{Result, bail};
 use book_core::{Book, EVENTS_MAX, Letter};
 use conn_core::Line;
 use conn_worker::{Counted, Still, TURNS_MAX, nearest, serve_within};
 use dest_queue::Addressed;
 use plan_text::Plan;
-use play_script::{bytes_of, shown};
+use play_script::bytes_of;
 use row_store::PlainRows;
 use stat_count::DESTINATIONS;
 use std::alloc::{AllocError, Global};
@@ -20,17 +20,33 @@ use std::{fs, mem};
 /// The moment of the acknowledgments where no other is asked for: 14 November 2023, 22:13:20 UTC.
 const ANSWERED_AT: u64 = 1_700_000_000;
 
-/// The plan of this name: the built-in one, or that in a file.
-fn plan_named(rt: &HostRuntime, name: &str) -> Result<Plan> {
-    let alloc = rt.alloc();
-    if name == "built-in" {
-        return Ok(Plan::built_in(alloc)?);
-    }
+/// The book that connections are served from.
+type EngineBook = Book<PlainRows<Addressed<Letter>>>;
+
+/// The plan in a file.
+fn plan_in(rt: &HostRuntime, name: &str) -> Result<Plan> {
     let text = fs::read(rt, name)?;
-    match Plan::read(alloc, &text) {
+    match Plan::read(rt.alloc(), &text) {
         Ok(plan) => Ok(plan),
         Err(fault) => bail!("{name}: {fault}"),
     }
+}
+
+/// The plan of this name, to be shared: the built-in one, or that in a file.
+fn plan_named(rt: &HostRuntime, name: &str) -> Result<Arc<Plan>> {
+    let plan = if name == "built-in" {
+        Plan::built_in(rt.alloc())?
+    } else {
+        plan_in(rt, name)?
+    };
+    Ok(Arc::new(rt.alloc(), plan)?)
+}
+
+/// An empty book of a plan, which may hold so many entries.
+fn empty_book(rt: &HostRuntime, plan: &Arc<Plan>, events: u32) -> Result<EngineBook> {
+    let hasher = RandomState::new(rt)?;
+    let events = events.clamp(1, EVENTS_MAX);
+    Ok(Book::new(rt.alloc(), Arc::try_clone(plan)?, events, hasher))
 }
 
 /// A book, the limits and the moment of its connections, and what comes by the next one.
@@ -42,16 +58,15 @@ pub struct Exchange {
     clock: u64,
     bound: u64,
     stream: Vec<u8>,
-    book: Book<PlainRows<Addressed<Letter>>>,
+    book: EngineBook,
 }
 
 impl Exchange {
     /// With an empty book of the plan of this name.
     pub fn new(rt: &HostRuntime, name: &str) -> Result<Exchange> {
         let alloc = rt.alloc();
-        let plan = Arc::new(alloc, plan_named(rt, name)?)?;
-        let shared = Arc::try_clone(&plan)?;
-        let book = Book::new(alloc, shared, EVENTS_MAX, RandomState::new(rt)?);
+        let plan = plan_named(rt, name)?;
+        let book = empty_book(rt, &plan, EVENTS_MAX)?;
         Ok(Exchange {
             alloc,
             plan,
@@ -63,37 +78,59 @@ impl Exchange {
         })
     }
 
+    /// All begins anew, with the plan of this name.
+    fn begin_with(&mut self, rt: &HostRuntime, name: &str) -> Result<()> {
+        *self = Exchange::new(rt, name)?;
+        Ok(())
+    }
+
+    /// Empties the book, which may hold so many entries from now on.
+    fn begin_within(&mut self, rt: &HostRuntime, events: u32) -> Result<()> {
+        self.events = events;
+        self.begin_anew(rt)
+    }
+
     /// Empties the book.
     fn begin_anew(&mut self, rt: &HostRuntime) -> Result<()> {
-        let plan = Arc::try_clone(&self.plan)?;
-        let events = self.events.clamp(1, EVENTS_MAX);
-        self.book = Book::new(self.alloc, plan, events, RandomState::new(rt)?);
+        self.book = empty_book(rt, &self.plan, self.events)?;
         Ok(())
     }
 
     /// Does what a call asks, and gives what came of it as lines of text.
     pub fn play(&mut self, rt: &HostRuntime, call: Call<'_>) -> Result<String> {
         match call {
-            Call::Serve(cut) => return self.served(cut),
-            Call::Exchange => return self.exchanged(rt),
-            Call::Take(destination) => return self.taken(destination),
-            Call::Plan(name) => *self = Exchange::new(rt, name)?,
-            Call::Events(events) => {
-                self.events = events;
-                self.begin_anew(rt)?;
-            }
-            Call::Clock(seconds) => self.clock = seconds,
-            Call::Bound(bound) => self.bound = bound,
-            Call::Admission(id, rest) => self.admit(id, rest)?,
-            Call::Text(text) => self.come_block(text)?,
-            Call::Bytes(text) => self.come(text)?,
-            Call::Letters(count) => self.come_letters(count)?,
+            Call::Serve(cut) => Ok(self.serve(cut)?),
+            Call::Exchange => self.exchange(rt),
+            Call::Take(destination) => Ok(self.taken(destination)?),
+            Call::Set(setting) => self.set(rt, setting),
+            Call::Come(coming) => Ok(self.come(coming)?),
+        }
+    }
+
+    /// Sets what a connection is served by. Nothing is told of it.
+    fn set(&mut self, rt: &HostRuntime, setting: Setting<'_>) -> Result<String> {
+        match setting {
+            Setting::Plan(name) => self.begin_with(rt, name)?,
+            Setting::Events(events) => self.begin_within(rt, events)?,
+            Setting::Clock(seconds) => self.clock = seconds,
+            Setting::Bound(bound) => self.bound = bound,
         }
         Ok(String::new(self.alloc))
     }
 
+    /// This comes by the next connection. Nothing is told of it.
+    fn come(&mut self, coming: Coming<'_>) -> Result<String, AllocError> {
+        match coming {
+            Coming::Admission(id, rest) => self.admit(id, rest),
+            Coming::Text(text) => self.come_block(text),
+            Coming::Bytes(text) => self.come_bytes(text),
+            Coming::Letters(count) => self.come_letters(count),
+        }?;
+        Ok(String::new(self.alloc))
+    }
+
     /// These bytes come.
-    fn come(&mut self, text: &str) -> Result<(), AllocError> {
+    fn come_bytes(&mut self, text: &str) -> Result<(), AllocError> {
         let bytes = bytes_of(self.alloc, text)?;
         self.stream.extend_from_slice(&bytes)
     }
@@ -101,7 +138,7 @@ impl Exchange {
     /// A block with this text comes.
     fn come_block(&mut self, text: &str) -> Result<(), AllocError> {
         let block = format!(in self.alloc; "<VT>{text}<FS><CR>")?;
-        self.come(block.as_str())
+        self.come_bytes(block.as_str())
     }
 
     /// An admission of patient 77 comes, with this control id, and this behind its version.
@@ -120,41 +157,50 @@ impl Exchange {
         Ok(())
     }
 
-    /// What comes of a stream that is cut so, in a new book.
-    fn served_anew(&mut self, rt: &HostRuntime, cut: Cut, stream: Vec<u8>) -> Result<String> {
-        self.stream = stream;
-        self.begin_anew(rt)?;
-        self.served(cut)
+    /// Takes what came by the next connection.
+    fn take_stream(&mut self) -> Vec<u8> {
+        mem::replace(&mut self.stream, Vec::new(self.alloc))
+    }
+
+    /// What comes of the stream, cut so.
+    fn serve(&mut self, cut: Cut) -> Result<String, AllocError> {
+        let stream = self.take_stream();
+        self.served(cut, &stream)
     }
 
     /// What comes of the stream however it is cut, each time in a new book.
-    fn exchanged(&mut self, rt: &HostRuntime) -> Result<String> {
-        let stream = self.stream.clone()?;
-        let bytes = self.served_anew(rt, Cut::AtEachByte, stream.clone()?)?;
-        let ends = self.served_anew(rt, Cut::BehindEachEnd, stream.clone()?)?;
+    fn exchange(&mut self, rt: &HostRuntime) -> Result<String> {
+        let stream = self.take_stream();
+        self.exchanged(rt, &stream)
+    }
+
+    /// What comes of a stream however it is cut, each time in a new book.
+    fn exchanged(&mut self, rt: &HostRuntime, stream: &[u8]) -> Result<String> {
+        let bytes = self.served_anew(rt, Cut::AtEachByte, stream)?;
+        let ends = self.served_anew(rt, Cut::BehindEachEnd, stream)?;
         let whole = self.served_anew(rt, Cut::Nowhere, stream)?;
-        if bytes != whole {
-            bail!("cut at each byte otherwise:\n{bytes}");
-        }
-        if ends != whole {
-            bail!("cut behind each end otherwise:\n{ends}");
-        }
+        all_same(bytes.as_str(), ends.as_str(), whole.as_str())?;
         Ok(whole)
     }
 
-    /// Serves the stream, and gives the replies, the report, the channel's counts and the slots of message 0.
-    fn served(&mut self, cut: Cut) -> Result<String> {
-        let told = self.told(cut)?;
-        let counts = self.counts_shown()?;
-        let slots = self.slots_shown()?;
-        Ok(format!(in self.alloc; "{told}{counts}{slots}")?)
+    /// What comes of a stream that is cut so, in a new book.
+    fn served_anew(&mut self, rt: &HostRuntime, cut: Cut, stream: &[u8]) -> Result<String> {
+        self.begin_anew(rt)?;
+        Ok(self.served(cut, stream)?)
     }
 
-    /// Serves the stream, and gives the replies and the report.
-    fn told(&mut self, cut: Cut) -> Result<String, AllocError> {
+    /// Serves a stream, and gives the replies, the report, the channel's counts and the slots of message 0.
+    fn served(&mut self, cut: Cut, stream: &[u8]) -> Result<String, AllocError> {
+        let mut text = self.told(cut, stream)?;
+        self.add_counts(&mut text)?;
+        self.add_slots(&mut text)?;
+        Ok(text)
+    }
+
+    /// Serves a stream, and gives the replies and the report.
+    fn told(&mut self, cut: Cut, stream: &[u8]) -> Result<String, AllocError> {
         let alloc = self.alloc;
-        let stream = mem::replace(&mut self.stream, Vec::new(alloc));
-        let mut reader = Counted::new(Pieces { rest: &stream, cut });
+        let mut reader = Counted::new(Pieces { rest: stream, cut });
         let mut writer = Counted::new(Vec::new(alloc));
         let mut clock = Still(nearest(self.clock));
         let bound = self.bound.min(TURNS_MAX);
@@ -172,40 +218,45 @@ impl Exchange {
             &mut clock,
             bound,
         );
-        let replies = replies_shown(alloc, &writer.into_inner())?;
-        let report = report_shown(alloc, &report)?;
-        format!(in alloc; "{replies}{report}")
+        served_shown(alloc, &writer.into_inner(), &report)
     }
 
-    /// What the channel counts.
-    fn counts_shown(&self) -> Result<String, AllocError> {
+    /// Adds what the channel counts.
+    fn add_counts(&self, text: &mut String) -> Result<(), AllocError> {
         let counts = self.book.counts().channel(0);
-        format!(in self.alloc;
-            "  received {}, filtered {}, accepted {}, refused {}, repeats {}\n",
+        writeln!(
+            text,
+            "  received {}, filtered {}, accepted {}, refused {}, repeats {}",
             counts.received, counts.filtered, counts.accepted, counts.refused, counts.repeats
         )
     }
 
-    /// Where message 0 goes, a destination a line.
-    fn slots_shown(&self) -> Result<String, AllocError> {
-        let mut text = String::new(self.alloc);
+    /// Adds where message 0 goes, a destination a line.
+    fn add_slots(&self, text: &mut String) -> Result<(), AllocError> {
         for destination in 0..DESTINATIONS {
             if let Some(state) = self.book.status(0, destination) {
-                let line = format!(in self.alloc; "  message 0 at {destination}: {state:?}\n")?;
-                text.push_str(line.as_str())?;
+                writeln!(text, "  message 0 at {destination}: {state:?}")?;
             }
         }
-        Ok(text)
+        Ok(())
     }
 
     /// What is to be sent to a destination, or why nothing is.
-    fn taken(&mut self, destination: u32) -> Result<String> {
+    fn taken(&mut self, destination: u32) -> Result<String, AllocError> {
         match self.book.take(destination, nearest(self.clock)) {
-            Ok(job) => {
-                let payload = shown(self.alloc, job.payload.as_slice())?;
-                Ok(format!(in self.alloc; "  {payload}\n")?)
-            }
-            Err(refusal) => Ok(format!(in self.alloc; "  {refusal:?}\n")?),
+            Ok(job) => payload_shown(self.alloc, job.payload.as_slice()),
+            Err(refusal) => format!(in self.alloc; "  {refusal:?}\n"),
         }
     }
+}
+
+/// Fails where what comes of a stream depends on how it is cut.
+fn all_same(bytes: &str, ends: &str, whole: &str) -> Result<()> {
+    if bytes != whole {
+        bail!("cut at each byte otherwise:\n{bytes}");
+    }
+    if ends != whole {
+        bail!("cut behind each end otherwise:\n{ends}");
+    }
+    Ok(())
 }

@@ -8,9 +8,9 @@ pub enum Cut {
     BehindEachEnd,
 }
 
-/// A line of a script.
+/// What a connection is served by.
 #[derive(Clone, Copy)]
-pub enum Call<'a> {
+pub enum Setting<'a> {
     /// `plan NAME`: a new book of the plan `built-in` or of that in a file.
     Plan(&'a str),
     /// `events N`: a new book of at most so many entries.
@@ -19,6 +19,11 @@ pub enum Call<'a> {
     Clock(u64),
     /// `bound N`: so many reads and so many events are a connection's.
     Bound(u64),
+}
+
+/// What comes by the next connection.
+#[derive(Clone, Copy)]
+pub enum Coming<'a> {
     /// `admission ID REST`: an admission of patient 77 comes, with this control id, and this behind its version.
     Admission(&'a str, &'a str),
     /// `text TEXT`: a block with this text comes.
@@ -27,6 +32,15 @@ pub enum Call<'a> {
     Bytes(&'a str),
     /// `letters N`: so many letters come.
     Letters(u32),
+}
+
+/// A line of a script.
+#[derive(Clone, Copy)]
+pub enum Call<'a> {
+    /// What a connection is served by is set.
+    Set(Setting<'a>),
+    /// Something comes by the next connection.
+    Come(Coming<'a>),
     /// `serve whole`, `serve bytes` or `serve ends`: what came is served as one connection, cut so.
     Serve(Cut),
     /// `exchange`: what came is served however it is cut, each time in a new book.
@@ -47,20 +61,20 @@ pub fn call_of(line: &str) -> Option<Call<'_>> {
 /// The call of this word about a text.
 fn call_with<'a>(word: &str, rest: &'a str) -> Option<Call<'a>> {
     match word {
-        "plan" => Some(Call::Plan(rest)),
-        "text" => Some(Call::Text(rest)),
-        "bytes" => Some(Call::Bytes(rest)),
-        "admission" => Some(admission(rest)),
+        "plan" => Some(Call::Set(Setting::Plan(rest))),
+        "text" => Some(Call::Come(Coming::Text(rest))),
+        "bytes" => Some(Call::Come(Coming::Bytes(rest))),
+        "admission" => Some(Call::Come(admission(rest))),
         "serve" => served(rest),
         _ => numbered(word, rest.parse().ok()?),
     }
 }
 
 /// The admission of this control id, with what follows it.
-fn admission(text: &str) -> Call<'_> {
+fn admission(text: &str) -> Coming<'_> {
     match text.split_once(' ') {
-        Some((id, rest)) => Call::Admission(id, rest),
-        None => Call::Admission(text, ""),
+        Some((id, rest)) => Coming::Admission(id, rest),
+        None => Coming::Admission(text, ""),
     }
 }
 
@@ -77,8 +91,8 @@ fn served(cut: &str) -> Option<Call<'static>> {
 /// The call of this word about a number.
 fn numbered(word: &str, number: u64) -> Option<Call<'static>> {
     match word {
-        "clock" => Some(Call::Clock(number)),
-        "bound" => Some(Call::Bound(number)),
+        "clock" => Some(Call::Set(Setting::Clock(number))),
+        "bound" => Some(Call::Set(Setting::Bound(number))),
         _ => counted(word, u32::try_from(number).ok()?),
     }
 }
@@ -86,8 +100,8 @@ fn numbered(word: &str, number: u64) -> Option<Call<'static>> {
 /// The call of this word about a number of entries, of letters or of a destination.
 fn counted(word: &str, number: u32) -> Option<Call<'static>> {
     match word {
-        "events" => Some(Call::Events(number)),
-        "letters" => Some(Call::Letters(number)),
+        "events" => Some(Call::Set(Setting::Events(number))),
+        "letters" => Some(Call::Come(Coming::Letters(number))),
         "take" => Some(Call::Take(number)),
         _ => None,
     }

@@ -6,7 +6,7 @@ use play_script::shown;
 use std::alloc::{AllocError, Global};
 
 /// Replies, a block a line.
-pub fn replies_shown(alloc: Global, bytes: &[u8]) -> Result<String, AllocError> {
+fn replies_shown(alloc: Global, bytes: &[u8]) -> Result<String, AllocError> {
     if bytes.is_empty() {
         return Ok(String::new(alloc));
     }
@@ -15,26 +15,41 @@ pub fn replies_shown(alloc: Global, bytes: &[u8]) -> Result<String, AllocError> 
     format!(in alloc; "  {lines}\n")
 }
 
-/// The entry that a message got, and what its sender was told.
-fn receipt_shown(alloc: Global, receipt: &Receipt) -> Result<String, AllocError> {
+/// Adds the entry that a message got, and what its sender was told.
+fn add_receipt(text: &mut String, receipt: &Receipt) -> Result<(), AllocError> {
     let len = receipt.raw.as_slice().len();
-    format!(in alloc;
-        "  entry {}: connection {}, channel {}, {len} bytes, {:?}\n",
+    writeln!(
+        text,
+        "  entry {}: connection {}, channel {}, {len} bytes, {:?}",
         receipt.entry, receipt.conn, receipt.channel, receipt.told
     )
 }
 
-/// The entries and what was told, and what the blocks and their end were.
-pub fn report_shown(alloc: Global, report: &ServeReport) -> Result<String, AllocError> {
-    let mut text = String::new(alloc);
+/// Adds the entries and what was told, and what the blocks and their end were.
+fn add_report(text: &mut String, report: &ServeReport) -> Result<(), AllocError> {
     for receipt in &report.receipts {
-        let line = receipt_shown(alloc, receipt)?;
-        text.push_str(line.as_str())?;
+        add_receipt(text, receipt)?;
     }
-    let line = format!(in alloc;
-        "  unreadable {}, strays {}, breaks {}, unbooked {}, end {:?}\n",
+    writeln!(
+        text,
+        "  unreadable {}, strays {}, breaks {}, unbooked {}, end {:?}",
         report.unreadable, report.strays, report.breaks, report.unbooked, report.end
-    )?;
-    text.push_str(line.as_str())?;
+    )
+}
+
+/// What a connection wrote, and the report of it.
+pub fn served_shown(
+    alloc: Global,
+    replies: &[u8],
+    report: &ServeReport,
+) -> Result<String, AllocError> {
+    let mut text = replies_shown(alloc, replies)?;
+    add_report(&mut text, report)?;
     Ok(text)
+}
+
+/// What is sent of a message.
+pub fn payload_shown(alloc: Global, payload: &[u8]) -> Result<String, AllocError> {
+    let payload = shown(alloc, payload)?;
+    format!(in alloc; "  {payload}\n")
 }
