@@ -23,9 +23,9 @@ CLAIMS = (
      ['book_core.Headline.KeepsItsPromise']),
     ('Replies', '`replies`, on top of what a message is',
      ['conn_core.Replies.replies']),
-    ('Serving', 'the clauses `served`, `booked`, `read_fault`, `write_fault` and `flushed` of `serve_within` and '
-     '`answer_stream`: `Serves`, `Books` and how faults are counted, on top of replies and of what a history is',
-     ['conn_worker.Serving.Serves', 'conn_core.Booking.Books', 'conn_worker.Faults.*']),
+    ('Serving', 'the clauses `served`, `read_fault`, `write_fault` and `flushed` of `serve_within` and `answer_stream`: '
+     '`ServesAndBooks`, `Serves`, `Books` and how faults are counted, on top of replies and of what a history is',
+     ['conn_worker.Serving.ServesAndBooks', 'conn_core.Booking.Books', 'conn_worker.Faults.*']),
     ('A message at a book', 'the clause `told` of `answer_block`: `BookAnswers`, on top of `answer` and `is_full`',
      ['conn_core.Booking.BookAnswers']),
     ('Delivering', 'the clause `attempts` of `deliver`: `Delivers`, on top of framing and of what a message is',

@@ -1,19 +1,19 @@
 -- One more piece of a stream.
-use Rattle.std.proofs.Common.{◌≡◌, ◌≢◌, ℕ, List, [], ◌++◌, Option, map, Result, Ok, Err, OnErr, IfErr, refl, sym, ap, ◌∙◌, append_assoc, append-nil}
+use Rattle.std.proofs.Common.{◌≡◌, ◌≢◌, ℕ, List, [], ◌++◌, Option, Result, Ok, Err, OnErr, IfErr, refl, sym, ap, ◌∙◌, append_assoc, append-nil}
 use Rattle.std.specs.Io.KnownBytes.{Consumes, Appends, IsAtEnd}
 use Rattle.std.proofs.KnownBytes.{Consumes-nil, Consumes-trans, Appends-nil, Appends-trans}
+use Rattle.book_core.specs.declared.receipt.Receipt.{Receipt}
 use Rattle.mllp_frame.specs.Event.{Event}
-use Rattle.mllp_frame.specs.Framed.{Framed, fed, blank}
+use Rattle.mllp_frame.specs.Framed.{Framed, fed}
 use Rattle.mllp_frame.specs.Framing.{blocks, open_end}
 use Rattle.conn_worker.specs.declared.report.ServeEnd.{ServeEnd}
 use Rattle.conn_worker.specs.declared.report.ServeEnd.TheVariants.{End, ReadFault, WriteFault, NoMemory, TurnBound}
 use Rattle.conn_worker.specs.declared.report.ServeReport.{ServeReport}
 use Rattle.conn_worker.specs.declared.dialogue.Dialogue.{Dialogue}
 use Rattle.conn_core.specs.Replies.{Answer}
-use Rattle.conn_core.specs.Messages.{message_by}
-use Rattle.conn_worker.specs.Serving.{Tells, Serves}
+use Rattle.conn_worker.specs.Serving.{Tells, ServesAndBooks}
 use Rattle.conn_worker.specs.declared.session.Session.{Session}
-use Rattle.conn_worker.specs.Session.{SoFar}
+use Rattle.conn_worker.specs.Session.{IsFresh, SoFar}
 use Rattle.conn_worker.specs.Stream.{StopsReading, StopsWriting}
 use Rattle.conn_worker.specs.Handling.{HandlesAll, HandlesFront, StopsHandling}
 
@@ -23,11 +23,12 @@ pub record StreamLaws : Type 0 where
   pub end_is : (s more : List ℕ) → open_end (s ++ more) ≡ open_end (open_end s ++ more)
 
 -- how serving ended is no part of what is told
-tells_end : {conn channel : ℕ} {events : List Event} {answers : List Answer} (r : ServeReport) (end : ServeEnd) → Tells conn channel events answers r → Tells conn channel events answers (record r { end = end })
+tells_end : {K : Type 0} {conn channel : ℕ} {events : List Event} {answers : List Answer} {receipts : List Receipt} (r : ServeReport K) (end : ServeEnd) → Tells conn channel events answers receipts r
+    → Tells conn channel events answers receipts (record r { end = end })
 tells_end r end s =
     record {
       messages = s.messages;
-      receipts = s.receipts;
+      booked = s.booked;
       unbooked = s.unbooked;
       unreadable_ones = s.unreadable_ones;
       stray_ones = s.stray_ones;
@@ -35,65 +36,76 @@ tells_end r end s =
     }
 
 -- no further piece was read
-pub ends_here : {conn channel : ℕ} {to_read left held holds : Option (List ℕ)} {z : Session} (left' : Option (List ℕ)) (end : ServeEnd) → SoFar conn channel to_read left held holds z
-    → Consumes left left' [] → (end ≡ End → IsAtEnd left') → Serves conn channel to_read left' held holds (record z.dialogue.report { end = end })
-ends_here {conn} {channel} {to_read} {left} {held} {holds} {z} left' end s reads at_end =
+pub ends_here : {B K : Type 0} {books : B → List Receipt → Type 0} {has : K → List Receipt → Type 0} {conn channel : ℕ} {to_read left held holds : Option (List ℕ)} {b : B} {z : Session K}
+    (left' : Option (List ℕ)) (end : ServeEnd) → SoFar books has conn channel to_read left held holds b z
+    → Consumes left left' [] → (end ≡ End → IsAtEnd left') → ServesAndBooks (books b) has conn channel to_read left' held holds (record z.dialogue.report { end = end })
+ends_here {B} {K} {books} {has} {conn} {channel} {to_read} {left} {held} {holds} {b} {z} left' end s reads at_end =
     record {
-      read = s.read;
-      reads = let r = Consumes-trans to_read left left' s.read [] s.reads reads in rw append-nil at r;
-      handled = blocks s.read;
-      later = [];
-      events = sym (append-nil (blocks s.read));
-      answers = s.stands.answers;
-      tells = tells_end z.dialogue.report end s.stands.tells;
-      written = s.written;
-      unwritten = [];
-      replies = s.stands.replies ∙ ap (λ l. s.written ++ l) s.all_written;
-      wrote = s.wrote;
-      whole = λ e. (at_end e, refl, refl);
+      receipts = s.stands.receipts;
+      serves = record {
+        read = s.read;
+        reads = let r = Consumes-trans to_read left left' s.read [] s.reads reads in rw append-nil at r;
+        handled = blocks s.read;
+        later = [];
+        events = sym (append-nil (blocks s.read));
+        answers = s.stands.answers;
+        tells = tells_end z.dialogue.report end s.stands.tells;
+        written = s.written;
+        unwritten = [];
+        replies = s.stands.replies ∙ ap (λ l. s.written ++ l) s.all_written;
+        wrote = s.wrote;
+        whole = λ e. (at_end e, refl, refl);
+      };
+      booked = s.stands.booked;
+      kept = s.stands.kept;
     }
 
-module _ (laws : StreamLaws) where
+module _ {B K : Type 0} (books : B → B → List Receipt → Type 0) {has : K → List Receipt → Type 0} {first b b' : B} (laws : StreamLaws) where
   -- a piece was read, the first of its events handled, and the front of their replies written
-  pub ends_amid : {conn channel : ℕ} {to_read left held holds : Option (List ℕ)} {z : Session} (left' holds' : Option (List ℕ)) (t' : Dialogue) (end : ServeEnd) (piece written unwritten : List ℕ)
-      → SoFar conn channel to_read left held holds z
-      → Consumes left left' piece → HandlesFront conn channel (blocks (z.framer.open_end ++ piece)) z.dialogue t'
+  pub ends_amid : {conn channel : ℕ} {to_read left held holds : Option (List ℕ)} {z : Session K} (left' holds' : Option (List ℕ)) (t' : Dialogue K) (end : ServeEnd) (piece written unwritten : List ℕ)
+      → SoFar (books first) has conn channel to_read left held holds b z
+      → Consumes left left' piece → HandlesFront books has conn channel (blocks (z.framer.open_end ++ piece)) b b' z.dialogue t'
       → t'.replies.bytes.items ≡ written ++ unwritten → Appends holds holds' written → end ≢ End
-      → Serves conn channel to_read left' held holds' (record t'.report { end = end })
+      → ServesAndBooks (books first b') has conn channel to_read left' held holds' (record t'.report { end = end })
   ends_amid {conn} {channel} {to_read} {left} {held} {holds} {z} left' holds' t' end piece written unwritten s reads front bytes_are wrote other =
-      let a = front (blocks s.read) s.written s.stands in
+      let a = front first (blocks s.read) s.written s.stands in
       record {
-        read = s.read ++ piece;
-        reads = Consumes-trans to_read left left' s.read piece s.reads reads;
-        handled = blocks s.read ++ a.handled;
-        later = a.later;
-        events =
-            laws.blocks_are s.read piece
-            ∙ ap (λ l. blocks s.read ++ blocks (l ++ piece)) (sym s.left_open)
-            ∙ ap (λ l. blocks s.read ++ l) a.whole
-            ∙ sym (append_assoc (blocks s.read) a.handled a.later);
-        answers = a.answers;
-        tells = tells_end t'.report end a.tells;
-        written = s.written ++ written;
-        unwritten = unwritten ++ a.missing;
-        replies =
-            a.replies
-            ∙ ap (λ l. s.written ++ (l ++ a.missing)) bytes_are
-            ∙ ap (λ l. s.written ++ l) (append_assoc written unwritten a.missing)
-            ∙ sym (append_assoc s.written written (unwritten ++ a.missing));
-        wrote = Appends-trans held holds holds' s.written written s.wrote wrote;
-        whole = λ e. absurd (other e);
+        receipts = a.receipts;
+        serves = record {
+          read = s.read ++ piece;
+          reads = Consumes-trans to_read left left' s.read piece s.reads reads;
+          handled = blocks s.read ++ a.handled;
+          later = a.later;
+          events =
+              laws.blocks_are s.read piece
+              ∙ ap (λ l. blocks s.read ++ blocks (l ++ piece)) (sym s.left_open)
+              ∙ ap (λ l. blocks s.read ++ l) a.whole
+              ∙ sym (append_assoc (blocks s.read) a.handled a.later);
+          answers = a.answers;
+          tells = tells_end t'.report end a.tells;
+          written = s.written ++ written;
+          unwritten = unwritten ++ a.missing;
+          replies =
+              a.replies
+              ∙ ap (λ l. s.written ++ (l ++ a.missing)) bytes_are
+              ∙ ap (λ l. s.written ++ l) (append_assoc written unwritten a.missing)
+              ∙ sym (append_assoc s.written written (unwritten ++ a.missing));
+          wrote = Appends-trans held holds holds' s.written written s.wrote wrote;
+          whole = λ e. absurd (other e);
+        };
+        booked = a.booked;
+        kept = a.kept;
       }
 
   -- a piece was read, its events handled, and all their replies written
-  pub goes_on : {conn channel : ℕ} {to_read left held holds : Option (List ℕ)} {z : Session} (left' holds' : Option (List ℕ)) (t' : Dialogue) (z'' : Session) (piece : List ℕ)
-      → SoFar conn channel to_read left held holds z
-      → Consumes left left' piece → HandlesAll conn channel (blocks (z.framer.open_end ++ piece)) z.dialogue t'
+  pub goes_on : {conn channel : ℕ} {to_read left held holds : Option (List ℕ)} {z : Session K} (left' holds' : Option (List ℕ)) (t' : Dialogue K) (z'' : Session K) (piece : List ℕ)
+      → SoFar (books first) has conn channel to_read left held holds b z
+      → Consumes left left' piece → HandlesAll books has conn channel (blocks (z.framer.open_end ++ piece)) b b' z.dialogue t'
       → Appends holds holds' t'.replies.bytes.items → z''.framer.to_come ≡ [] → z''.framer.open_end ≡ open_end (z.framer.open_end ++ piece)
       → z''.dialogue.report ≡ t'.report → z''.dialogue.replies.made ≡ t'.replies.made → z''.dialogue.replies.bytes.items ≡ []
-      → SoFar conn channel to_read left' held holds' z''
+      → SoFar (books first) has conn channel to_read left' held holds' b' z''
   goes_on {conn} {channel} {to_read} {left} {held} {holds} {z} left' holds' t' z'' piece s reads all wrote none_left end_is report_is made_is cleared =
-      let a = all (blocks s.read) s.written s.stands in
+      let a = all first (blocks s.read) s.written s.stands in
       let events : blocks (s.read ++ piece) ≡ blocks s.read ++ blocks (z.framer.open_end ++ piece) = laws.blocks_are s.read piece ∙ ap (λ l. blocks s.read ++ blocks (l ++ piece)) (sym s.left_open) in
       record {
         read = s.read ++ piece;
@@ -103,6 +115,9 @@ module _ (laws : StreamLaws) where
         written = s.written ++ t'.replies.bytes.items;
         wrote = Appends-trans held holds holds' s.written t'.replies.bytes.items s.wrote wrote;
         stands = record {
+          receipts = a.receipts;
+          booked = a.booked;
+          kept = rw report_is a.kept;
           answers = a.answers;
           tells = rw (events, report_is) a.tells;
           replies = a.replies ∙ sym (append-nil (s.written ++ t'.replies.bytes.items)) ∙ ap (λ l. (s.written ++ t'.replies.bytes.items) ++ l) (sym cleared);
@@ -136,40 +151,49 @@ if_err_two (Ok x) f p q = tt
 if_err_two (Err e) f p q = f e p q
 
 -- at the start nothing is read
-pub starts : (conn channel : ℕ) (to_read held : Option (List ℕ)) (z : Session) → z.framer ≡ blank → z.dialogue.report.receipts.items ≡ [] → z.dialogue.report.unbooked ≡ 0 → z.dialogue.report.unreadable ≡ 0 → z.dialogue.report.strays ≡ 0 → z.dialogue.report.breaks ≡ 0
-    → z.dialogue.replies.made ≡ 0 → z.dialogue.replies.bytes.items ≡ [] → SoFar conn channel to_read to_read held held z
-starts conn channel to_read held z fresh receipts unbooked un st br made none =
+pub starts : {B K : Type 0} {books : B → List Receipt → Type 0} {has : K → List Receipt → Type 0} (conn channel : ℕ) (to_read held : Option (List ℕ)) (b : B) (z : Session K) → IsFresh has z → books b []
+    → SoFar books has conn channel to_read to_read held held b z
+starts conn channel to_read held b z fresh none =
+    let new = fresh.dialogue in
     record {
       read = [];
       reads = Consumes-nil to_read;
-      none_left = ap (λ (f : Framed). f.to_come) fresh;
-      left_open = ap (λ (f : Framed). f.open_end) fresh;
+      none_left = ap (λ (f : Framed). f.to_come) fresh.framer;
+      left_open = ap (λ (f : Framed). f.open_end) fresh.framer;
       written = [];
       wrote = Appends-nil held;
       stands = record {
+        receipts = [];
+        booked = none;
+        kept = new.receipts;
         answers = [];
-        tells = record { messages = refl; receipts = ap (map message_by) receipts; unbooked = unbooked; unreadable_ones = un; stray_ones = st; broken_ones = br };
-        replies = sym none;
-        made = made;
+        tells = record { messages = refl; booked = refl; unbooked = new.unbooked; unreadable_ones = new.unreadable_ones; stray_ones = new.stray_ones; broken_ones = new.broken_ones };
+        replies = sym new.bytes;
+        made = new.made;
       };
-      all_written = none;
+      all_written = new.bytes;
     }
 
 -- nothing was read, and nothing handled
-pub serves_nothing : (conn channel : ℕ) (to_read held : Option (List ℕ)) (r : ServeReport) → r.receipts.items ≡ [] → r.unbooked ≡ 0 → r.unreadable ≡ 0 → r.strays ≡ 0 → r.breaks ≡ 0
-    → r.end ≢ End → Serves conn channel to_read to_read held held r
-serves_nothing conn channel to_read held r receipts unbooked un st br other =
+pub serves_nothing : {K : Type 0} {books : List Receipt → Type 0} {has : K → List Receipt → Type 0} (conn channel : ℕ) (to_read held : Option (List ℕ)) (r : ServeReport K) → has r.receipts [] → books []
+    → r.unbooked ≡ 0 → r.unreadable ≡ 0 → r.strays ≡ 0 → r.breaks ≡ 0 → r.end ≢ End → ServesAndBooks books has conn channel to_read to_read held held r
+serves_nothing conn channel to_read held r receipts none unbooked un st br other =
     record {
-      read = [];
-      reads = Consumes-nil to_read;
-      handled = [];
-      later = [];
-      events = refl;
-      answers = [];
-      tells = record { messages = refl; receipts = ap (map message_by) receipts; unbooked = unbooked; unreadable_ones = un; stray_ones = st; broken_ones = br };
-      written = [];
-      unwritten = [];
-      replies = refl;
-      wrote = Appends-nil held;
-      whole = λ e. absurd (other e);
+      receipts = [];
+      serves = record {
+        read = [];
+        reads = Consumes-nil to_read;
+        handled = [];
+        later = [];
+        events = refl;
+        answers = [];
+        tells = record { messages = refl; booked = refl; unbooked = unbooked; unreadable_ones = un; stray_ones = st; broken_ones = br };
+        written = [];
+        unwritten = [];
+        replies = refl;
+        wrote = Appends-nil held;
+        whole = λ e. absurd (other e);
+      };
+      booked = none;
+      kept = receipts;
     }

@@ -2,6 +2,7 @@
 use Rattle.std.specs.Prelude.{◌≡◌, ℕ, List, [], ◌++◌, map, Option, count_by}
 use Rattle.std.specs.Result.{is_err}
 use Rattle.std.specs.Io.KnownBytes.{Consumes, Appends, IsAtEnd}
+use Rattle.book_core.specs.declared.receipt.Receipt.{Receipt}
 use Rattle.mllp_frame.specs.Event.{Event}
 use Rattle.mllp_frame.specs.Framing.{blocks}
 use Rattle.conn_core.specs.Messages.{booked, is_break, is_stray, is_unreadable, message_by, messages_of}
@@ -9,10 +10,11 @@ use Rattle.conn_core.specs.Replies.{Answer, replies}
 use Rattle.conn_worker.specs.declared.report.ServeReport.{ServeReport}
 use Rattle.conn_worker.specs.declared.report.ServeEnd.TheVariants.{End}
 
--- A report tells of these events, of which the messages got these answers.
-pub record Tells (conn channel : ℕ) (events : List Event) (answers : List Answer) (r : ServeReport) : Type 0 where
+-- A report tells of these events, of which the messages got these answers, and the booked ones these receipts.
+pub record Tells {K : Type 0} (conn channel : ℕ) (events : List Event) (answers : List Answer) (receipts : List Receipt)
+    (r : ServeReport K) : Type 0 where
   pub messages : messages_of events ≡ map (λ a. a.raw) answers
-  pub receipts : map message_by r.receipts.items ≡ booked conn channel answers
+  pub booked : map message_by receipts ≡ booked conn channel answers
   pub unbooked : r.unbooked ≡ count_by (λ a. is_err a.outcome) answers
   pub unreadable_ones : r.unreadable ≡ count_by is_unreadable events
   pub stray_ones : r.strays ≡ count_by is_stray events
@@ -20,16 +22,26 @@ pub record Tells (conn channel : ℕ) (events : List Event) (answers : List Answ
 
 -- The events at the front of those read were handled and are told of, and the front of their replies was written. At the
 -- reader's end nothing is left out: all that it had was read, all events were handled and all replies written.
-pub record Serves (conn channel : ℕ) (to_read left held holds : Option (List ℕ)) (r : ServeReport) : Type 0 where
+pub record Serves {K : Type 0} (conn channel : ℕ) (to_read left held holds : Option (List ℕ)) (receipts : List Receipt)
+    (r : ServeReport K) : Type 0 where
   pub read : List ℕ
   pub reads : Consumes to_read left read
   pub handled : List Event
   pub later : List Event
   pub events : blocks read ≡ handled ++ later
   pub answers : List Answer
-  pub tells : Tells conn channel handled answers r
+  pub tells : Tells conn channel handled answers receipts r
   pub written : List ℕ
   pub unwritten : List ℕ
   pub replies : replies conn answers ≡ written ++ unwritten
   pub wrote : Appends held holds written
   pub whole : r.end ≡ End → IsAtEnd left × (later ≡ []) × (unwritten ≡ [])
+
+-- The receipts of a connection that was served so are those of the messages that were booked, as `books` says it, and were
+-- handed in, as `has` says it.
+pub record ServesAndBooks {K : Type 0} (books : List Receipt → Type 0) (has : K → List Receipt → Type 0) (conn channel : ℕ)
+    (to_read left held holds : Option (List ℕ)) (r : ServeReport K) : Type 0 where
+  pub receipts : List Receipt
+  pub serves : Serves conn channel to_read left held holds receipts r
+  pub booked : books receipts
+  pub kept : has r.receipts receipts

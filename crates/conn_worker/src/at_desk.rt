@@ -84,7 +84,7 @@ pub fn serve<
 
     // The messages read, what was told of them, and what was written.
     ensures served { Serves conn channel (R.remaining reader.old.inner) (R.remaining reader.new.inner)
-        (W.contents writer.old.inner) (W.contents writer.new.inner) result }
+        (W.contents writer.old.inner) (W.contents writer.new.inner) result.receipts.items result }
 
     // The receipts are as many as the arrivals that the desk counted.
     ensures counted { desk.new ≡ desk.old + vec_len result.receipts }

@@ -3,9 +3,10 @@
 ghost use Rattle.std.specs.Prelude.{◌≡◌, ◌+◌, ◌<◌, ◌≤◌, ◌∷◌, [], IfErr, OnOk, OnErr};
 ghost use Rattle.mllp_frame.specs.Event.{block, event_of};
 ghost use Rattle.mllp_frame.specs.Framing.{IsBlockData, HoldsData};
-ghost use Rattle.conn_worker.specs.Handling.{BooksMore, Fits, Handles, HandlesAll, HandlesFront, StopsHandling};
+ghost use Rattle.conn_worker.specs.Handling.{Fits, HandlesAll, HandlesFront, StopsHandling};
 
 use crate::clock::Clock;
+use crate::keeping::Keeping;
 use crate::report::{ServeEnd, ServeReport};
 use conn_core::{Booking, Line, Replies, answer_block};
 use fixed_numbers::TURNS_MAX;
@@ -15,17 +16,17 @@ use std::alloc::{AllocError, Global};
 
 /// What came of a connection's events so far, and the replies to them.
 #[derive(Drop)]
-pub struct Dialogue {
-    pub report: ServeReport,
+pub struct Dialogue<K> {
+    pub report: ServeReport<K>,
     /// How many events there were.
     pub events: u64,
     pub replies: Replies,
 }
 
-impl Dialogue {
+impl<K: Keeping> Dialogue<K> {
     /// With nothing read yet.
     pub fn new(alloc: Global) -> Self
-        ensures receipts { result.report.receipts.items ≡ [] }
+        ensures receipts { K.has result.report.receipts [] }
         ensures unreadable_ones { result.report.unreadable ≡ 0 }
         ensures stray_ones { result.report.strays ≡ 0 }
         ensures broken_ones { result.report.breaks ≡ 0 }
@@ -53,9 +54,11 @@ impl Dialogue {
         requires data { IsBlockData raw.items }
         requires fits { Fits self.old }
         requires few { self.old.events ≤ TURNS_MAX }
-        ensures ok { OnOk result (Handles line.now.conn line.now.channel (block raw.items) self.old self.new) }
-        ensures err { OnErr result (HandlesFront line.now.conn line.now.channel (block raw.items ∷ []) self.old self.new) }
-        ensures booked { BooksMore B.books book.old book.new self.old.report.receipts.items self.new.report.receipts.items }
+        ensures ok { OnOk result (HandlesAll B.books K.has line.now.conn line.now.channel (block raw.items ∷ [])
+            book.old book.new self.old self.new) }
+        ensures err { OnErr result (HandlesFront B.books K.has line.now.conn line.now.channel (block raw.items ∷ [])
+            book.old book.new self.old self.new) }
+        ensures channels { B.channels book.new ≡ B.channels book.old }
         ensures made { OnOk result (self.new.replies.made ≤ self.old.replies.made + 2) }
         ensures unbooked { OnOk result (self.new.report.unbooked ≤ self.old.report.unbooked + 1) }
         ensures unreadable_ones { OnOk result (self.new.report.unreadable ≤ self.old.report.unreadable + 1) }
@@ -63,7 +66,7 @@ impl Dialogue {
         ensures broken_ones { OnOk result (self.new.report.breaks ≡ self.old.report.breaks) }
         ensures events { OnOk result (self.new.events ≡ self.old.events) }
     {
-        self.report.receipts.reserve(1)?;
+        self.report.receipts.reserve()?;
         let outcome = answer_block(line, book, raw, now, &mut self.replies)?;
         let whole = outcome.is_whole();
         self.report.count(outcome);
@@ -82,9 +85,11 @@ impl Dialogue {
         requires data { HoldsData (event_of event) }
         requires fits { Fits self.old }
         requires few { self.old.events < TURNS_MAX }
-        ensures ok { OnOk result (Handles line.now.conn line.now.channel (event_of event) self.old self.new) }
-        ensures err { OnErr result (HandlesFront line.now.conn line.now.channel (event_of event ∷ []) self.old self.new) }
-        ensures booked { BooksMore B.books book.old book.new self.old.report.receipts.items self.new.report.receipts.items }
+        ensures ok { OnOk result (HandlesAll B.books K.has line.now.conn line.now.channel (event_of event ∷ [])
+            book.old book.new self.old self.new) }
+        ensures err { OnErr result (HandlesFront B.books K.has line.now.conn line.now.channel (event_of event ∷ [])
+            book.old book.new self.old self.new) }
+        ensures channels { B.channels book.new ≡ B.channels book.old }
         ensures fits { OnOk result (Fits self.new) }
         ensures counted { OnOk result (self.new.events ≡ self.old.events + 1) }
     {
@@ -111,14 +116,16 @@ impl Dialogue {
         requires fits { Fits self.old }
         requires few { self.old.events ≤ events_max }
         requires bound { events_max ≤ TURNS_MAX }
-        ensures ok { OnOk result (HandlesAll line.now.conn line.now.channel framer.old.to_come self.old self.new) }
+        ensures ok { OnOk result (HandlesAll B.books K.has line.now.conn line.now.channel framer.old.to_come
+            book.old book.new self.old self.new) }
         ensures left { OnOk result (framer.new ≡ record framer.old { to_come = [] }) }
         ensures fits { OnOk result (Fits self.new) }
         ensures few { OnOk result (self.new.events ≤ events_max) }
-        ensures err { OnErr result (HandlesFront line.now.conn line.now.channel framer.old.to_come self.old self.new) }
+        ensures err { OnErr result (HandlesFront B.books K.has line.now.conn line.now.channel framer.old.to_come
+            book.old book.new self.old self.new) }
         ensures stop { IfErr result (λ end. StopsHandling end) }
         ensures bound { IfErr result (λ end. end ≡ ServeEnd.TurnBound → self.new.events ≡ events_max) }
-        ensures booked { BooksMore B.books book.old book.new self.old.report.receipts.items self.new.report.receipts.items }
+        ensures channels { B.channels book.new ≡ B.channels book.old }
     {
         while let Some(event) = framer.next() {
             if self.events >= events_max {

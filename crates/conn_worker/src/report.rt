@@ -1,9 +1,11 @@
 //! What serving a connection comes to.
 
-ghost use Rattle.std.specs.Prelude.{◌≡◌, ◌+◌, ◌<◌, ◌++◌, [], vec_len, vec_capacity};
+ghost use Rattle.std.specs.Prelude.{◌≡◌, ◌+◌, ◌<◌, ◌++◌, [], List};
+ghost use Rattle.book_core.specs.declared.receipt.Receipt.{Receipt};
 ghost use Rattle.conn_core.specs.Outcomes.{receipts_in};
 ghost use Rattle.conn_worker.specs.Counting.{unbooked_in, unreadable_in, strays_in};
 
+use crate::keeping::Keeping;
 use book_core::Receipt;
 use conn_core::{BlockOutcome, Booked};
 use std::alloc::{AllocError, Global};
@@ -36,9 +38,9 @@ impl From<AllocError> for ServeEnd {
 
 /// What came of a connection's events, and why serving it ended.
 #[derive(Debug, Drop)]
-pub struct ServeReport {
-    /// The receipts of the booked messages, in the order in which they came.
-    pub receipts: Vec<Receipt>,
+pub struct ServeReport<K = Vec<Receipt>> {
+    /// What is kept of the receipts of the booked messages, in the order in which they came.
+    pub receipts: K,
     /// How many blocks were no message.
     pub unreadable: u64,
     /// How many were acknowledgments, which ask for no answer.
@@ -50,10 +52,10 @@ pub struct ServeReport {
     pub end: ServeEnd,
 }
 
-impl ServeReport {
+impl<K: Keeping> ServeReport<K> {
     /// Of no event yet; where nothing else ends it, memory was refused.
     pub fn new(alloc: Global) -> Self
-        ensures receipts { result.receipts.items ≡ [] }
+        ensures receipts { K.has result.receipts [] }
         ensures unreadable_ones { result.unreadable ≡ 0 }
         ensures stray_ones { result.strays ≡ 0 }
         ensures broken_ones { result.breaks ≡ 0 }
@@ -61,7 +63,7 @@ impl ServeReport {
         ensures end { result.end ≡ ServeEnd.NoMemory }
     {
         ServeReport {
-            receipts: Vec::new(alloc),
+            receipts: K::new(alloc),
             unreadable: 0,
             strays: 0,
             breaks: 0,
@@ -70,13 +72,14 @@ impl ServeReport {
         }
     }
 
-    /// Counts what became of a block, and keeps the receipt of a booked message, for which there is room.
+    /// Counts what became of a block, and hands in the receipt of a booked message, for which there is room.
     pub fn count(&mut self, outcome: BlockOutcome)
-        requires room { vec_len self.old.receipts < vec_capacity self.old.receipts }
+        requires room { K.has_room self.old.receipts }
         requires few_unreadable { self.old.unreadable < u64.MAX }
         requires few_strays { self.old.strays < u64.MAX }
         requires few_unbooked { self.old.unbooked < u64.MAX }
-        ensures receipts { self.new.receipts.items ≡ self.old.receipts.items ++ receipts_in outcome }
+        ensures receipts { (receipts : List Receipt) →
+            K.has self.old.receipts receipts → K.has self.new.receipts (receipts ++ receipts_in outcome) }
         ensures unbooked { self.new.unbooked ≡ self.old.unbooked + unbooked_in outcome }
         ensures unreadable_ones { self.new.unreadable ≡ self.old.unreadable + unreadable_in outcome }
         ensures stray_ones { self.new.strays ≡ self.old.strays + strays_in outcome }
@@ -90,7 +93,7 @@ impl ServeReport {
                     outcome: Ok(receipt),
                     whole: _,
                 },
-            ) => self.receipts.push_reserved(receipt),
+            ) => self.receipts.keep(receipt),
             BlockOutcome::Message(
                 Booked {
                     outcome: Err(_),

@@ -1,14 +1,14 @@
 //! Serving a connection.
 
-ghost use Rattle.std.specs.Prelude.{◌≡◌, ◌<◌, ◌≤◌, ◌⊎◌, [], false, IfOk, IfErr, OnOk, List, ℕ, Option};
-ghost use Rattle.conn_worker.specs.Handling.{BooksMore};
-ghost use Rattle.conn_worker.specs.Serving.{Serves};
+ghost use Rattle.std.specs.Prelude.{◌≡◌, ◌<◌, ◌≤◌, ◌⊎◌, false, IfOk, IfErr, OnOk, List, ℕ, Option};
+ghost use Rattle.conn_worker.specs.Serving.{ServesAndBooks};
 ghost use Rattle.conn_worker.specs.Faults.{Rose};
-ghost use Rattle.conn_worker.specs.Session.{IsReady, SoFar};
+ghost use Rattle.conn_worker.specs.Session.{IsFresh, IsReady, SoFar};
 
 use crate::clock::Clock;
 use crate::counted::Counted;
 use crate::dialogue::Dialogue;
+use crate::keeping::Keeping;
 use crate::report::{ServeEnd, ServeReport};
 use crate::stream::{read_piece, write_out};
 use conn_core::{Booking, Line};
@@ -23,7 +23,7 @@ const PIECE: usize = 16_384;
 
 /// What a connection has while it is served.
 #[derive(Drop)]
-pub struct Session {
+pub struct Session<K> {
     pub framer: Framer,
     /// Where the next piece is read to.
     pub buffer: Vec<u8>,
@@ -31,17 +31,15 @@ pub struct Session {
     pub turns: u64,
     /// The most events that are handled.
     pub events_max: u64,
-    pub dialogue: Dialogue,
+    pub dialogue: Dialogue<K>,
 }
 
-impl Session {
+impl<K: Keeping> Session<K> {
     /// With nothing read yet.
-    fn new(alloc: Global, bound: u64) -> Result<Session, AllocError>
+    fn new(alloc: Global, bound: u64) -> Result<Self, AllocError>
         requires { bound ≤ TURNS_MAX }
         ensures ready { IfOk result (λ s. IsReady s) }
-        ensures start { IfOk result (λ s. (conn channel : ℕ) (to_read held : Option (List ℕ))
-            → SoFar conn channel to_read to_read held held s) }
-        ensures none { IfOk result (λ s. s.dialogue.report.receipts.items ≡ []) }
+        ensures fresh { IfOk result (λ s. IsFresh K.has s) }
     {
         Ok(Session {
             framer: Framer::new(alloc),
@@ -64,15 +62,18 @@ impl Session {
         requires ready { IsReady self.old }
         requires channel { line.now.channel < B.channels book.old }
         ensures ready { OnOk result (IsReady self.new) }
-        ensures ok { OnOk result ((to_read held : Option (List ℕ)) →
-            SoFar line.now.conn line.now.channel to_read (R.remaining reader.old.inner) held (W.contents writer.old.inner) self.old →
-            SoFar line.now.conn line.now.channel to_read (R.remaining reader.new.inner) held (W.contents writer.new.inner) self.new) }
+        ensures ok { OnOk result ((first : B) (to_read held : Option (List ℕ)) →
+            SoFar (B.books first) K.has line.now.conn line.now.channel to_read (R.remaining reader.old.inner)
+            held (W.contents writer.old.inner) book.old self.old →
+            SoFar (B.books first) K.has line.now.conn line.now.channel to_read (R.remaining reader.new.inner)
+            held (W.contents writer.new.inner) book.new self.new) }
         ensures progress { OnOk result (self.new.turns < self.old.turns) }
-        ensures err { IfErr result (λ end. (to_read held : Option (List ℕ)) →
-            SoFar line.now.conn line.now.channel to_read (R.remaining reader.old.inner) held (W.contents writer.old.inner) self.old →
-            Serves line.now.conn line.now.channel to_read (R.remaining reader.new.inner) held (W.contents writer.new.inner)
-            (record self.new.dialogue.report { end = end })) }
-        ensures booked { BooksMore B.books book.old book.new self.old.dialogue.report.receipts.items self.new.dialogue.report.receipts.items }
+        ensures err { IfErr result (λ end. (first : B) (to_read held : Option (List ℕ)) →
+            SoFar (B.books first) K.has line.now.conn line.now.channel to_read (R.remaining reader.old.inner)
+            held (W.contents writer.old.inner) book.old self.old →
+            ServesAndBooks (B.books first book.new) K.has line.now.conn line.now.channel to_read (R.remaining reader.new.inner)
+            held (W.contents writer.new.inner) (record self.new.dialogue.report { end = end })) }
+        ensures channels { B.channels book.new ≡ B.channels book.old }
         ensures reader { reader.old.faults ≤ reader.new.faults }
         ensures writer { writer.old.faults ≤ writer.new.faults }
         ensures read_fault { IfErr result (λ end. end ≡ ServeEnd.ReadFault → Rose reader.old.faults reader.new.faults) }
@@ -111,11 +112,10 @@ impl Session {
     ) -> ServeEnd
         requires ready { IsReady self.old }
         requires channel { line.now.channel < B.channels book.old }
-        requires start { SoFar line.now.conn line.now.channel (R.remaining reader.old.inner) (R.remaining reader.old.inner)
-            (W.contents writer.old.inner) (W.contents writer.old.inner) self.old }
-        ensures served { Serves line.now.conn line.now.channel (R.remaining reader.old.inner) (R.remaining reader.new.inner)
-            (W.contents writer.old.inner) (W.contents writer.new.inner) (record self.new.dialogue.report { end = result }) }
-        ensures booked { BooksMore B.books book.old book.new self.old.dialogue.report.receipts.items self.new.dialogue.report.receipts.items }
+        requires fresh { IsFresh K.has self.old }
+        ensures served { ServesAndBooks (B.books book.old book.new) K.has line.now.conn line.now.channel
+            (R.remaining reader.old.inner) (R.remaining reader.new.inner) (W.contents writer.old.inner) (W.contents writer.new.inner)
+            (record self.new.dialogue.report { end = result }) }
         ensures read_fault { result ≡ ServeEnd.ReadFault → Rose reader.old.faults reader.new.faults }
         ensures write_fault { result ≡ ServeEnd.WriteFault → Rose writer.old.faults writer.new.faults }
         ensures flushed { result ≡ ServeEnd.End → writer.old.unflushed ≡ false → writer.new.unflushed ≡ false }
@@ -132,23 +132,21 @@ impl Session {
 /// Serves a connection to its reader's end, or to a fault, or to so many reads or events: each message is booked and
 /// acknowledged as its header asks (HL7 v2.5.1, 2.9.2 and 2.9.3). The replies to a piece are written and flushed before
 /// the next read waits. The moments of the replies are the clock's.
-pub fn serve_within<B: Booking, R: Read, W: Write, C: Clock>(
+pub fn serve_within<B: Booking, K: Keeping, R: Read, W: Write, C: Clock>(
     line: &Line,
     book: &mut B,
     reader: &mut Counted<R>,
     writer: &mut Counted<W>,
     clock: &mut C,
     bound: u64,
-) -> ServeReport
+) -> ServeReport<K>
     requires channel { line.now.channel < B.channels book.old }
     requires bound { bound ≤ 1_000_000_000 }
 
-    // The messages read, what was told of them, and what was written.
-    ensures served { Serves line.now.conn line.now.channel (R.remaining reader.old.inner) (R.remaining reader.new.inner)
-        (W.contents writer.old.inner) (W.contents writer.new.inner) result }
-
-    // The receipts are those of the messages that were booked here.
-    ensures booked { B.books book.old book.new result.receipts.items }
+    // The messages read, what was told of them, and what was written. The receipts that were handed in are those of the
+    // messages that were booked here.
+    ensures served { ServesAndBooks (B.books book.old book.new) K.has line.now.conn line.now.channel
+        (R.remaining reader.old.inner) (R.remaining reader.new.inner) (W.contents writer.old.inner) (W.contents writer.new.inner) result }
 
     // A fault is told where the device failed.
     ensures read_fault { result.end ≡ ServeEnd.ReadFault → Rose reader.old.faults reader.new.faults }
@@ -157,7 +155,7 @@ pub fn serve_within<B: Booking, R: Read, W: Write, C: Clock>(
     // At the reader's end all that was written is flushed.
     ensures flushed { result.end ≡ ServeEnd.End → writer.old.unflushed ≡ false → writer.new.unflushed ≡ false }
 {
-    let Ok(mut session) = Session::new(line.alloc, bound) else {
+    let Ok(mut session) = Session::<K>::new(line.alloc, bound) else {
         return ServeReport::new(line.alloc);
     };
     let end = session.serve_pieces(line, book, reader, writer, clock);

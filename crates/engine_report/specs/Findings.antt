@@ -1,5 +1,6 @@
 -- What is wrong with the receipts of the connections, and how a run ends.
 use Rattle.std.specs.Prelude.{◌≡◌, ℕ, ◌++◌, ◌⊎◌, List, [], ◌∷◌, Option, None, Some, Result, Ok, Err, All, map, string_bytes, slice_get, if◌then◌else◌, nat_lt}
+use Rattle.std.specs.Global.{Vec}
 use Rattle.std.specs.List.{filter_map, flat_map, zip}
 use Rattle.std.specs.List.Sorted.{IsPermutation, IsStrictlyIncreasing}
 use Rattle.plan_text.specs.Entries.{ChannelEntry}
@@ -20,17 +21,21 @@ finding_of (audit.Missing place) = finding.Missing
 finding_of (audit.Doubled place) = finding.Doubled
 finding_of (audit.Differs place) = finding.Differs
 
+-- what came of a connection, with its receipts
+abbrev pub Served : Type 0
+Served = ServeReport (Vec Receipt)
+
 -- the receipts of all connections
-abbrev pub receipts_in : List ServeReport → List Receipt
+abbrev pub receipts_in : List Served → List Receipt
 receipts_in served = flat_map (λ r. r.receipts.items) served
 
 -- the receipts of a connection are in the order in which they were booked
-abbrev pub IsRising : ServeReport → Type 0
+abbrev pub IsRising : Served → Type 0
 IsRising r = IsStrictlyIncreasing (map (λ x. x.entry) r.receipts.items)
 
 -- what is wrong with the receipts of the connections: without a closed book, that shares of it are missing; else what the
 -- audit found first; else that those of a connection are out of order; else nothing
-abbrev pub IsFinding : Option Held → List ServeReport → Option Finding → Type 0
+abbrev pub IsFinding : Option Held → List Served → Option Finding → Type 0
 IsFinding None served found = found ≡ Some finding.SharesMissing
 IsFinding (Some closed) served None = IsPermutation (unfolded closed (receipts_in served)) (receipts_due closed) × All IsRising served
 IsFinding (Some closed) served (Some finding.OutOfOrder) =
@@ -67,7 +72,7 @@ last_told before (f ∷ fs) = last_told (Err f) fs
 
 -- how a run ends: what is wrong with the receipts is told last, before that the doors that failed, and before these that
 -- the statistics couldn't be written
-pub record Concludes (closed : Option Held) (served : List ServeReport) (failed : List Fault) (result : Result (Unit {0}) Fault) : Type 0 where
+pub record Concludes (closed : Option Held) (served : List Served) (failed : List Fault) (result : Result (Unit {0}) Fault) : Type 0 where
   pub found : Option Finding
   pub is_found : IsFinding closed served found
   pub written : Result (Unit {0}) Fault

@@ -1,6 +1,7 @@
 //! One connection, answered over a book of one's own.
 
-ghost use Rattle.std.specs.Prelude.{◌≡◌, ◌↔◌, IsOk, IfErr, false};
+ghost use Rattle.std.specs.Prelude.{◌≡◌, ◌↔◌, IsOk, IfErr, false, List};
+ghost use Rattle.book_core.specs.declared.receipt.Receipt.{Receipt};
 ghost use Rattle.conn_core.specs.Booking.{Books};
 ghost use Rattle.conn_worker.specs.Faults.{Rose};
 ghost use Rattle.conn_worker.specs.Serving.{Serves};
@@ -9,7 +10,7 @@ ghost use Rattle.engine_report.specs.Ending.{fault_at};
 use crate::fault::Fault;
 use book_core::{Book, Letter};
 use conn_core::Line;
-use conn_worker::{Clock, Counted, ServeEnd, ServeReport, TURNS_MAX, serve_within};
+use conn_worker::{Clock, Counted, ServeEnd, ServeReport, TURNS_MAX, Unkept, serve_within};
 use dest_queue::Addressed;
 use row_store::RowStore;
 use std::alloc::Global;
@@ -32,13 +33,12 @@ pub fn answer_stream<S: RowStore<Addressed<Letter>>, R: Read, W: Write, C: Clock
     reader: &mut Counted<R>,
     writer: &mut Counted<W>,
     clock: &mut C,
-) -> ServeReport
-    // The messages read, what was told of them, and what was written.
-    ensures served { Serves CONNECTION CHANNEL (R.remaining reader.old.inner) (R.remaining reader.new.inner)
-        (W.contents writer.old.inner) (W.contents writer.new.inner) result }
-
-    // The receipts are the book's new entries.
-    ensures booked { Books book.old book.new result.receipts.items }
+) -> ServeReport<Unkept>
+    // The messages read, what was told of them, and what was written. Their receipts, which are not kept, are the book's new
+    // entries.
+    ensures served { (receipts : List Receipt) × Books book.old book.new receipts
+        × Serves CONNECTION CHANNEL (R.remaining reader.old.inner) (R.remaining reader.new.inner)
+        (W.contents writer.old.inner) (W.contents writer.new.inner) receipts result }
 
     // A fault is told where the device failed.
     ensures read_fault { result.end ≡ ServeEnd.ReadFault → Rose reader.old.faults reader.new.faults }

@@ -4,7 +4,7 @@ use crate::devices::{CUTS, Cut, Devices, Mishap, SMOOTH, Sink, Source};
 use crate::stage::{Rows, waiting};
 use book_core::{Book, EVENTS_MAX};
 use conn_core::Line;
-use conn_worker::{Counted, ServeEnd, Still, TURNS_MAX, nearest, serve_within};
+use conn_worker::{Counted, ServeEnd, ServeReport, Still, TURNS_MAX, nearest, serve_within};
 use std::alloc::Global;
 use std::test::Fail;
 
@@ -45,7 +45,7 @@ fn serve_from(alloc: Global, book: &mut Book<Rows>, stream: &[u8], devices: Devi
     let mut writer = Counted::new(Sink::new(alloc, devices));
     let (conn, channel) = (0, 0);
     book.plan().rules();
-    let report = serve_within(
+    let report: ServeReport = serve_within(
         &Line {
             alloc,
             conn,

@@ -6,7 +6,7 @@ use crate::shown::{payload_shown, served_shown};
 use anyhow::{Result, bail};
 use book_core::{Book, EVENTS_MAX, Letter};
 use conn_core::Line;
-use conn_worker::{Counted, Still, TURNS_MAX, nearest, serve_within};
+use conn_worker::{Counted, ServeReport, Still, TURNS_MAX, nearest, serve_within};
 use dest_queue::Addressed;
 use plan_text::Plan;
 use play_script::bytes_of;
@@ -206,7 +206,7 @@ impl Exchange {
         let bound = self.bound.min(TURNS_MAX);
         let (conn, channel) = (0, 0);
         self.book.plan().rules();
-        let report = serve_within(
+        let report: ServeReport = serve_within(
             &Line {
                 alloc,
                 conn,

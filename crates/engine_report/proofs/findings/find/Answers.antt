@@ -5,13 +5,12 @@ use Rattle.book_lock.specs.Auditing.{IsFirstFault}
 use Rattle.book_lock.specs.Rises.{Held}
 use Rattle.book_lock.specs.declared.receipt_audit.AuditFault.{AuditFault}
 use Rattle.book_lock.specs.declared.receipt_audit.AuditFault.TheVariants.{Missing, Doubled, Differs}
-use Rattle.conn_worker.specs.declared.report.ServeReport.{ServeReport}
 use Rattle.engine_report.specs.declared.fault.Finding.{Finding}
-use Rattle.engine_report.specs.Findings.{IsFinding, finding_of, receipts_in}
+use Rattle.engine_report.specs.Findings.{IsFinding, Served, finding_of, receipts_in}
 use Rattle.engine_report.proofs.findings.find.Goals as goal
 
 -- what an audit found first is what is wrong
-audited : (closed : Held) (served : List ServeReport) (f : AuditFault) → IsFirstFault closed (receipts_in served) f → IsFinding (Some closed) served (Some (finding_of f))
+audited : (closed : Held) (served : List Served) (f : AuditFault) → IsFirstFault closed (receipts_in served) f → IsFinding (Some closed) served (Some (finding_of f))
 audited closed served (Missing place) is = (Missing place, is, refl)
 audited closed served (Doubled place) is = (Doubled place, is, refl)
 audited closed served (Differs place) is = (Differs place, is, refl)

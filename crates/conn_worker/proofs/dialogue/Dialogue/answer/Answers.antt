@@ -1,16 +1,20 @@
-use Rattle.std.proofs.Common.{◌≡◌, true, false, refl, sym, ap, ◌∙◌, arith}
+use Rattle.std.proofs.Common.{◌≡◌, true, false, [], refl, sym, ap, ◌∙◌, arith}
 use Rattle.conn_core.specs.declared.replies.Replies.{Replies}
 use Rattle.conn_core.specs.Outcomes.{is_whole}
 use Rattle.conn_worker.specs.declared.dialogue.Dialogue.{Dialogue}
-use Rattle.conn_worker.proofs.Growing.{books_no_more}
+use Rattle.conn_worker.proofs.Growing.{keeps_none}
 use Rattle.conn_worker.proofs.Standing.{same_dialogue, block_answered, block_answered_in_part, on_err_always, none_handled}
 use Rattle.conn_worker.proofs.dialogue.Dialogue.answer.Goals as goal
 
 pub returns-in_err-reserve-clause-err : goal.returns-in_err-reserve-clause-err
 returns-in_err-reserve-clause-err g c =
-    let same : Dialogue = record c.args.self.now { report = record c.args.self.now.report { receipts = c.reserve.new.self } } in
-    on_err_always c.from_residual.result (λ before text s. none_handled {t = same} (same_dialogue c.args.self.now same s (record {
-      receipts = c.reserve.ensures.items;
+    let same : Dialogue g.row.K.Denot = record c.args.self.now { report = record c.args.self.now.report { receipts = c.reserve.new.self } } in
+    on_err_always c.from_residual.result (λ first before text s. none_handled {t = same} (same_dialogue c.args.self.now same s
+    (record {
+      booked = λ rs h. g.met.B.Booking.after _ _ _ rs [] h (g.met.B.Booking.nothing _);
+      kept = keeps_none g.K.Keeping.has _ _ c.reserve.ensures.same;
+    })
+    (record {
       unbooked = refl;
       unreadable = omega arith;
       strays = omega arith;
@@ -19,14 +23,15 @@ returns-in_err-reserve-clause-err g c =
       bytes = refl;
     })))
 
-pub returns-in_err-reserve-clause-booked : goal.returns-in_err-reserve-clause-booked
-returns-in_err-reserve-clause-booked g c = books_no_more g.B.Booking.books _ _ _ _ (g.met.B.Booking.nothing _) c.reserve.ensures.items
-
 pub returns-in_err-outcome-clause-err : goal.returns-in_err-outcome-clause-err
 returns-in_err-outcome-clause-err g c =
-    let same : Dialogue = record c.args.self.now { report = record c.args.self.now.report { receipts = c.reserve.new.self }; replies = c.answer_block.new.replies } in
-    on_err_always c.from_residual-in_err-outcome.result (λ before text s. none_handled {t = same} (same_dialogue c.args.self.now same s (record {
-      receipts = c.reserve.ensures.items;
+    let same : Dialogue g.row.K.Denot = record c.args.self.now { report = record c.args.self.now.report { receipts = c.reserve.new.self }; replies = c.answer_block.new.replies } in
+    on_err_always c.from_residual-in_err-outcome.result (λ first before text s. none_handled {t = same} (same_dialogue c.args.self.now same s
+    (record {
+      booked = λ rs h. g.met.B.Booking.after _ _ _ rs [] h c.in_err-outcome.ensures.unbooked;
+      kept = keeps_none g.K.Keeping.has _ _ c.reserve.ensures.same;
+    })
+    (record {
       unbooked = refl;
       unreadable = omega arith;
       strays = omega arith;
@@ -36,14 +41,14 @@ returns-in_err-outcome-clause-err g c =
     })))
 
 pub returns-then-whole-clause-ok : goal.returns-then-whole-clause-ok
-returns-then-whole-clause-ok g c before text s =
-    let reserved : Dialogue = record c.args.self.now { report = record c.args.self.now.report { receipts = c.reserve.new.self } } in
+returns-then-whole-clause-ok g c first before text s =
     let whole : is_whole c.in_ok-outcome.outcome ≡ true = sym c.is_whole-whole.ensures ∙ c.if-whole.true in
-    block_answered c.args.raw.items c.args.now reserved _
-    (same_dialogue c.args.self.now reserved s (record { receipts = c.reserve.ensures.items; unbooked = refl; unreadable = omega arith; strays = omega arith; breaks = omega arith; made = refl; bytes = refl }))
-    c.in_ok-outcome.outcome c.in_ok-outcome.ensures.kind
+    block_answered c.args.raw.items c.args.now c.args.self.now _ s c.in_ok-outcome.outcome c.in_ok-outcome.ensures.kind
     (record {
-      receipts = c.count.ensures.receipts;
+      booked = λ rs h. g.met.B.Booking.after _ _ _ rs _ h c.in_ok-outcome.ensures.booked;
+      kept = λ rs h. c.count.ensures.receipts rs (c.reserve.ensures.same rs h);
+    })
+    (record {
       unbooked = c.count.ensures.unbooked;
       unreadable = c.count.ensures.unreadable_ones;
       strays = c.count.ensures.stray_ones;
@@ -52,14 +57,14 @@ returns-then-whole-clause-ok g c before text s =
     (c.in_ok-outcome.ensures.counted whole) (c.in_ok-outcome.ensures.replies whole)
 
 pub returns-else-whole-clause-err : goal.returns-else-whole-clause-err
-returns-else-whole-clause-err g c before text s =
-    let reserved : Dialogue = record c.args.self.now { report = record c.args.self.now.report { receipts = c.reserve.new.self } } in
+returns-else-whole-clause-err g c first before text s =
     let part : is_whole c.in_ok-outcome.outcome ≡ false = sym c.is_whole-whole.ensures ∙ c.if-whole.false in
-    block_answered_in_part c.args.raw.items c.args.now reserved _
-    (same_dialogue c.args.self.now reserved s (record { receipts = c.reserve.ensures.items; unbooked = refl; unreadable = omega arith; strays = omega arith; breaks = omega arith; made = refl; bytes = refl }))
-    c.in_ok-outcome.outcome c.in_ok-outcome.ensures.kind
+    block_answered_in_part c.args.raw.items c.args.now c.args.self.now _ s c.in_ok-outcome.outcome c.in_ok-outcome.ensures.kind
     (record {
-      receipts = c.count.ensures.receipts;
+      booked = λ rs h. g.met.B.Booking.after _ _ _ rs _ h c.in_ok-outcome.ensures.booked;
+      kept = λ rs h. c.count.ensures.receipts rs (c.reserve.ensures.same rs h);
+    })
+    (record {
       unbooked = c.count.ensures.unbooked;
       unreadable = c.count.ensures.unreadable_ones;
       strays = c.count.ensures.stray_ones;

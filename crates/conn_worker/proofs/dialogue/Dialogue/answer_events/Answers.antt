@@ -1,7 +1,6 @@
 use Rattle.std.proofs.Common.{◌≡◌, ◌∷◌, [], ◌++◌, List, drop, refl, sym, ap, ◌∙◌, append_assoc, append-nil, arith}
 use Rattle.mllp_frame.specs.Event.{Event, event_of}
 use Rattle.mllp_frame.specs.Framed.{Framed}
-use Rattle.conn_worker.proofs.Growing.{books_more, books_no_more}
 use Rattle.conn_worker.proofs.Standing.{first_event, handled_more, handled_front, front_of_more, stop_between, on_err_always}
 use Rattle.conn_worker.proofs.dialogue.Dialogue.answer_events.Goals as goal
 
@@ -10,10 +9,9 @@ loop-event-init g c =
     record {
       handled = [];
       whole = refl;
-      stands = λ before text s. rw append-nil s;
+      stands = λ first before text s. rw append-nil s;
       rest = refl;
-      booked = books_no_more g.B.Booking.books _ _ _ _ (g.met.B.Booking.nothing _) refl;
-      channel = c.requires.channel;
+      channels = refl;
       fits = c.requires.fits;
       few = c.requires.few;
     }
@@ -36,8 +34,7 @@ loop-event-preserved g c =
           ∙ ap (λ l. (c.loop-event.invariant.handled ++ event_of c.in-Some.event ∷ []) ++ l) (sym rest);
       stands = handled_more c.loop-event.invariant.stands c.in_ok-answer_event.ensures.ok;
       rest = ap (λ (f : Framed). record f { to_come = [] }) c.in-Some.ensures.rest ∙ c.loop-event.invariant.rest;
-      booked = books_more g.B.Booking.books g.met.B.Booking.after _ _ _ _ _ _ c.loop-event.invariant.booked c.answer_event.ensures.booked;
-      channel = omega (arith, c.loop-event.invariant.channel, g.met.B.Booking.same_channels _ _ _ c.answer_event.ensures.booked.arrivals);
+      channels = c.answer_event.ensures.channels ∙ c.loop-event.invariant.channels;
       fits = c.in_ok-answer_event.ensures.fits;
       few = omega (arith, c.in_ok-answer_event.ensures.counted, c.if-self-events_max.false);
     }
@@ -52,6 +49,3 @@ returns-in_err-answer_event-clause-err g c =
     (c.loop-event.invariant.whole
     ∙ ap (λ l. c.loop-event.invariant.handled ++ l) first
     ∙ sym (append_assoc c.loop-event.invariant.handled (event_of c.in-Some.event ∷ []) (drop 1 c.loop-event.framer.to_come))))
-
-pub returns-in_err-answer_event-clause-booked : goal.returns-in_err-answer_event-clause-booked
-returns-in_err-answer_event-clause-booked g c = books_more g.B.Booking.books g.met.B.Booking.after _ _ _ _ _ _ c.loop-event.invariant.booked c.in_err-answer_event.ensures.booked

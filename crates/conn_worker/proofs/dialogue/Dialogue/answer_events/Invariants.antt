@@ -1,7 +1,6 @@
-use Rattle.std.proofs.Common.{◌≡◌, ◌<◌, ◌≤◌, [], ◌++◌, List, length}
+use Rattle.std.proofs.Common.{◌≡◌, ◌≤◌, [], ◌++◌, List, length}
 use Rattle.mllp_frame.specs.Event.{Event}
 use Rattle.mllp_frame.specs.Framed.{Framed}
-use Rattle.conn_worker.specs.Handling.{BooksMore}
 use Rattle.conn_worker.specs.Handling.{HandlesAll, Fits}
 use Rattle.conn_worker.proofs.dialogue.Dialogue.answer_events.Given as goal
 
@@ -12,10 +11,9 @@ invariant-loop-event g l =
     record {
       handled : List Event;
       whole : l.fn.framer.to_come ≡ handled ++ l.framer.to_come;
-      stands : HandlesAll l.line.conn l.line.channel handled l.fn.self l.self;
+      stands : HandlesAll g.B.Booking.books g.K.Keeping.has l.line.conn l.line.channel handled l.fn.book l.book l.fn.self l.self;
       rest : emptied l.framer ≡ emptied l.fn.framer;
-      booked : BooksMore g.B.Booking.books l.fn.book l.book l.fn.self.report.receipts.items l.self.report.receipts.items;
-      channel : l.line.channel < g.B.Booking.channels l.book;
+      channels : g.B.Booking.channels l.book ≡ g.B.Booking.channels l.fn.book;
       fits : Fits l.self;
       few : l.self.events ≤ l.events_max;
     }

@@ -1,7 +1,17 @@
-use Rattle.conn_worker.proofs.Pieces.{starts}
 use Rattle.conn_worker.proofs.session.Session.new.Goals as goal
 
-pub returns-clause-start : goal.returns-clause-start
-returns-clause-start c =
+pub returns-clause-fresh : goal.returns-clause-fresh
+returns-clause-fresh g c =
     let t = c.new-2.ensures in
-    λ conn channel to_read held. starts conn channel to_read held _ c.new.ensures t.receipts t.unbooked t.unreadable_ones t.stray_ones t.broken_ones t.made t.bytes
+    record {
+      framer = c.new.ensures;
+      dialogue = record {
+        receipts = t.receipts;
+        unbooked = t.unbooked;
+        unreadable_ones = t.unreadable_ones;
+        stray_ones = t.stray_ones;
+        broken_ones = t.broken_ones;
+        made = t.made;
+        bytes = t.bytes;
+      };
+    }

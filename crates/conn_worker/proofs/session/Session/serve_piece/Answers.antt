@@ -10,23 +10,23 @@ use Rattle.conn_worker.proofs.Pieces.{StreamLaws, ends_here, ends_amid, goes_on,
 use Rattle.conn_worker.proofs.session.Session.serve_piece.Goals as goal
 
 pub returns-in-Err-clause-err : goal.returns-in-Err-clause-err
-returns-in-Err-clause-err g c to_read held s =
+returns-in-Err-clause-err g c first to_read held s =
     ends_here _ c.in-Err.end s c.in-Err.ensures.nothing (λ e. reading_end _ _ _ _ c.in-Err.ensures.stop e)
 
 pub returns-in_default-clause-err : goal.returns-in_default-clause-err
-returns-in_default-clause-err g c to_read held s =
+returns-in_default-clause-err g c first to_read held s =
     let laws : StreamLaws = record { blocks_are = c.longer_streams.ensures.blocks; end_is = c.longer_streams.ensures.end } in
-    ends_amid laws _ _ c.args.self.now.dialogue _ _ [] [] s c.in-Ok.ensures.piece.1 (λ before text st. none_handled st) s.all_written (Appends-nil _) (λ e. cc)
+    ends_amid g.B.Booking.books laws _ _ c.args.self.now.dialogue _ _ [] [] s c.in-Ok.ensures.piece.1 (λ from before text st. none_handled st) s.all_written (Appends-nil _) (λ e. cc)
 
 pub returns-in-Err-write_out-clause-err : goal.returns-in-Err-write_out-clause-err
-returns-in-Err-write_out-clause-err g c to_read held s =
+returns-in-Err-write_out-clause-err g c first to_read held s =
     let laws : StreamLaws = record { blocks_are = c.longer_streams.ensures.blocks; end_is = c.longer_streams.ensures.end } in
     let reads = subst (λ (l : List ℕ). Consumes (g.R.Read.remaining c.args.reader.now.inner) (g.R.Read.remaining c.read_piece.new.reader.inner) (take c.in-Ok.len l)) (sym (c.deref.ensures.value ∙ with_items_is c.args.self.now.buffer c.read_piece.new.buffer (omega (arith, c.read_piece.ensures.same_room, c.deref_mut.ensures.len)))) c.in-Ok.ensures.piece.1 in
     let fed = fed_events c.args.self.now.framer c.feed.new.self _ c.in-Ok-feed.ensures.ok c.requires.ready.none_left in
-    let front = either_way c.answer_events-answered.result c.answer_events-answered.ensures.ok c.answer_events-answered.ensures.err in
+    let front = either_way g.B.Booking.books g.K.Keeping.has c.answer_events-answered.result c.answer_events-answered.ensures.ok c.answer_events-answered.ensures.err in
     let w = c.in-Err-write_out.ensures.front in
-    ends_amid laws _ _ c.answer_events-answered.new.self _ _ w.written w.unwritten s reads
-    (subst (λ (es : List Event). HandlesFront c.args.line.now.conn c.args.line.now.channel es c.args.self.now.dialogue c.answer_events-answered.new.self) fed front)
+    ends_amid g.B.Booking.books laws _ _ c.answer_events-answered.new.self _ _ w.written w.unwritten s reads
+    (subst (λ (es : List Event). HandlesFront g.B.Booking.books g.K.Keeping.has c.args.line.now.conn c.args.line.now.channel es c.args.book.now c.answer_events-answered.new.book c.args.self.now.dialogue c.answer_events-answered.new.self) fed front)
     (sym c.deref-2.ensures.value ∙ w.whole) w.wrote (writing_other _ _ _ c.in-Err-write_out.ensures.stop)
 
 pub returns-clause-ok : goal.returns-clause-ok
@@ -35,9 +35,9 @@ returns-clause-ok g c =
     let reads = subst (λ (l : List ℕ). Consumes (g.R.Read.remaining c.args.reader.now.inner) (g.R.Read.remaining c.read_piece.new.reader.inner) (take c.in-Ok.len l)) (sym (c.deref.ensures.value ∙ with_items_is c.args.self.now.buffer c.read_piece.new.buffer (omega (arith, c.read_piece.ensures.same_room, c.deref_mut.ensures.len)))) c.in-Ok.ensures.piece.1 in
     let fed = fed_events c.args.self.now.framer c.feed.new.self _ c.in-Ok-feed.ensures.ok c.requires.ready.none_left in
     on_ok_two c.answer_events-answered.result
-    (λ all left to_read held s.
-    goes_on laws _ _ c.answer_events-answered.new.self _ _ s reads
-    (subst (λ (es : List Event). HandlesAll c.args.line.now.conn c.args.line.now.channel es c.args.self.now.dialogue c.answer_events-answered.new.self) fed all)
+    (λ all left first to_read held s.
+    goes_on g.B.Booking.books laws _ _ c.answer_events-answered.new.self _ _ s reads
+    (subst (λ (es : List Event). HandlesAll g.B.Booking.books g.K.Keeping.has c.args.line.now.conn c.args.line.now.channel es c.args.book.now c.answer_events-answered.new.book c.args.self.now.dialogue c.answer_events-answered.new.self) fed all)
     (subst (λ (l : List ℕ). Appends (g.W.Write.contents c.args.writer.now.inner) (g.W.Write.contents c.write_out.new.writer.inner) l) c.deref-2.ensures.value c.in-Ok-write_out.ensures.ok)
     (ap (λ (f : Framed). f.to_come) left)
     (ap (λ (f : Framed). f.open_end) left ∙ ap (λ (f : Framed). f.open_end) c.in-Ok-feed.ensures.ok)
@@ -50,8 +50,8 @@ returns-clause-err g c =
     let reads = subst (λ (l : List ℕ). Consumes (g.R.Read.remaining c.args.reader.now.inner) (g.R.Read.remaining c.read_piece.new.reader.inner) (take c.in-Ok.len l)) (sym (c.deref.ensures.value ∙ with_items_is c.args.self.now.buffer c.read_piece.new.buffer (omega (arith, c.read_piece.ensures.same_room, c.deref_mut.ensures.len)))) c.in-Ok.ensures.piece.1 in
     let fed = fed_events c.args.self.now.framer c.feed.new.self _ c.in-Ok-feed.ensures.ok c.requires.ready.none_left in
     if_err_two c.answer_events-answered.result
-    (λ end front stop to_read held s.
-    ends_amid laws _ _ c.answer_events-answered.new.self end _ c.answer_events-answered.new.self.replies.bytes.items [] s reads
-    (subst (λ (es : List Event). HandlesFront c.args.line.now.conn c.args.line.now.channel es c.args.self.now.dialogue c.answer_events-answered.new.self) fed front)
+    (λ end front stop first to_read held s.
+    ends_amid g.B.Booking.books laws _ _ c.answer_events-answered.new.self end _ c.answer_events-answered.new.self.replies.bytes.items [] s reads
+    (subst (λ (es : List Event). HandlesFront g.B.Booking.books g.K.Keeping.has c.args.line.now.conn c.args.line.now.channel es c.args.book.now c.answer_events-answered.new.book c.args.self.now.dialogue c.answer_events-answered.new.self) fed front)
     (sym (append-nil _)) (subst (λ (l : List ℕ). Appends (g.W.Write.contents c.args.writer.now.inner) (g.W.Write.contents c.write_out.new.writer.inner) l) c.deref-2.ensures.value c.in-Ok-write_out.ensures.ok) (handling_other end stop))
     c.answer_events-answered.ensures.err c.answer_events-answered.ensures.stop

@@ -1,5 +1,4 @@
-use Rattle.std.proofs.Common.{◌≡◌, ◌≤◌, ◌<◌, false}
-use Rattle.conn_worker.specs.Handling.{BooksMore}
+use Rattle.std.proofs.Common.{◌≡◌, ◌≤◌, false}
 use Rattle.conn_worker.specs.Session.{IsReady, SoFar}
 use Rattle.conn_worker.proofs.session.Session.serve_pieces.Given as goal
 
@@ -7,10 +6,9 @@ use Rattle.conn_worker.proofs.session.Session.serve_pieces.Given as goal
 abbrev pub invariant-pieces : goal.invariant-pieces
 invariant-pieces g l =
     record {
-      so_far : SoFar l.line.conn l.line.channel (g.R.Read.remaining l.fn.reader.inner) (g.R.Read.remaining l.reader.inner) (g.W.Write.contents l.fn.writer.inner) (g.W.Write.contents l.writer.inner) l.self;
-      booked : BooksMore g.B.Booking.books l.fn.book l.book l.fn.self.dialogue.report.receipts.items l.self.dialogue.report.receipts.items;
+      so_far : SoFar (g.B.Booking.books l.fn.book) g.K.Keeping.has l.line.conn l.line.channel (g.R.Read.remaining l.fn.reader.inner) (g.R.Read.remaining l.reader.inner) (g.W.Write.contents l.fn.writer.inner) (g.W.Write.contents l.writer.inner) l.book l.self;
       ready : IsReady l.self;
-      channel : l.line.channel < g.B.Booking.channels l.book;
+      channels : g.B.Booking.channels l.book ≡ g.B.Booking.channels l.fn.book;
       reader : l.fn.reader.faults ≤ l.reader.faults;
       writer : l.fn.writer.faults ≤ l.writer.faults;
       flushed : l.fn.writer.unflushed ≡ false → l.writer.unflushed ≡ false;
