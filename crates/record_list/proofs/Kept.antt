@@ -1,9 +1,7 @@
 -- A store of linked rows stays whole: what each change does to marks, places, rows and the directory.
-use Rattle.std.proofs.Common.{◌≡◌, ◌≤◌, ◌<◌, ◌^◌, ◌==◌, ◌||◌, ◌&&◌, ℕ, zero, suc, Bool, true, false, cond, List, [], ◌∷◌, ◌++◌, map, slice_index_or, replicate, refl, sym, ap, ◌∙◌, subst, arith}
+use Rattle.std.proofs.Common.{◌≡◌, ◌≤◌, ◌<◌, ◌^◌, ◌||◌, ◌&&◌, ℕ, zero, suc, Bool, true, false, cond, List, [], ◌∷◌, ◌++◌, length, map, slice_index_or, replicate, refl, sym, ap, ◌∙◌, subst, arith}
 use Rattle.std.specs.Prelude.{All}
 use Rattle.std.specs.Option.{is_some}
-use Rattle.std.specs.Int.{bit_at}
-use Rattle.std.proofs.lemmas.Bool.Decides.{nat_tests}
 use Rattle.std.specs.declared.option.Option.{Option}
 use Rattle.std.specs.declared.option.Option.TheVariants.{None, Some}
 use denote.RawPtr.{Ptr}
@@ -13,13 +11,12 @@ use Rattle.node_heap.proofs.Cut.{same_ptr_refl, same_ptr_symm}
 use Rattle.row_store.specs.declared.Row.{Row}
 use Rattle.row_store.specs.Rows.{NumbersRise, is_row, stands_in, front_of, is_linked, unlinked}
 use Rattle.row_store.proofs.Bits.{beyond_width}
-use Rattle.record_list.specs.declared.link_table.Link.{Link}
 use Rattle.record_list.specs.declared.links.Node.{Node}
 use Rattle.record_list.specs.declared.links.Links.{Links}
-use Rattle.record_list.specs.Chain.{place, link, first_or, last_or, chain, entry_of, entries, members, link_at, change_node, row_of, rows_of, items_at}
-use Rattle.record_list.specs.Linked.{IsAway, IsApart, places, IsLinked, IsThreaded}
+use Rattle.record_list.specs.Chain.{place, first_or, last_or, chain, entry_of, entries, members, link_at, change_node, row_of, rows_of, items_at}
+use Rattle.record_list.specs.Linked.{IsAway, IsApart, places, IsLinked}
 use Rattle.record_list.specs.Listed.{listed}
-use Rattle.record_list.specs.Stands.{stands, AreMarked, IsWhole, IsKept}
+use Rattle.record_list.specs.Stands.{stands, AreMarked, IsKept}
 use Rattle.record_list.proofs.Chains.{keys, away_members}
 use Rattle.record_list.proofs.Join.{apart_like}
 
@@ -27,17 +24,6 @@ pub is_some_at : {X : Type 0} (xs : List (Option X)) (d : ℕ) → slice_index_o
 is_some_at [] d = refl
 is_some_at (x ∷ xs) zero = refl
 is_some_at (x ∷ xs) (suc d) = is_some_at xs d
-
--- a queue is a chain
-pub stands_queue : (d mask : ℕ) → d < 32 → stands d mask ≡ (bit_at mask d == 1)
-stands_queue d mask lt = rw (other d lt) refl
-  where
-    other : (d : ℕ) → d < 32 → (d == 32) ≡ false
-    other d lt = grind (arith, nat_tests)
-
--- every row stands in the last chain
-pub stands_all : (mask : ℕ) → stands 32 mask ≡ true
-stands_all mask = refl
 
 abbrev no_place : Option Place
 no_place = None
@@ -47,13 +33,9 @@ none_at zero d = refl
 none_at (suc n) zero = refl
 none_at (suc n) (suc d) = none_at n d
 
-abbrev first_link : Link → List (Ptr × Link) → Link
-first_link l [] = l
-first_link l (e ∷ es) = e.1
-
 module _ {T : Type 0} where
   abbrev pub IsMarked : Ptr × Row T × List Bool → Type 0
-  IsMarked i = (i.1.mask < 2 ^ 32) × ((d : ℕ) → d < 33 → slice_index_or i.2 d false ≡ stands d i.1.mask)
+  IsMarked i = (i.1.mask < 2 ^ 32) × ((d : ℕ) → d < 32 → slice_index_or i.2 d false ≡ stands d i.1.mask)
 
   pub rows_of_items : (hs : List (Held (Node T))) → rows_of hs ≡ map (λ (i : Ptr × Row T × List Bool). i.1) (items_at hs)
   rows_of_items [] = refl
@@ -71,7 +53,7 @@ module _ {T : Type 0} where
 
   -- a store is whole where its nodes are like others that are
   pub kept_from : (hs : List (Held (Node T))) (t : Links T) (directory : List (ℕ × Place)) → items_at t.nodes.held ≡ items_at hs → IsApart (places hs) → AreMarked (items_at hs) → NumbersRise (rows_of hs)
-      → directory ≡ listed hs → ((d : ℕ) → d < 33 → IsLinked d t) → IsKept t directory
+      → directory ≡ listed hs → ((d : ℕ) → d < 32 → IsLinked d t) → IsKept t directory
   kept_from hs t directory items apart marked rise listed_is linked = record {
     whole = record {
       apart = apart_like hs t.nodes.held items apart;
@@ -114,7 +96,7 @@ module _ {T : Type 0} where
 
   -- whether a node's row stands in a queue is whether it has a link there
   pub in_queue : (d : ℕ) (h : Held (Node T)) → d < 32 → IsMarked (h.at, row_of h.node, map is_some h.node.links) → stands_in d h.node.row ≡ is_some (link_at d h.node)
-  in_queue d h lt m = sym (sym (is_some_at h.node.links d) ∙ m.1 d (omega (arith, lt)) ∙ stands_queue d h.node.row.mask lt)
+  in_queue d h lt m = sym (m.1 d lt) ∙ is_some_at h.node.links d
 
   -- no node stands in the chain: there is no front
   pub front_none : (d : ℕ) (hs : List (Held (Node T))) → d < 32 → AreMarked (items_at hs) → None ≡ first_or None (members d hs) → front_of d (rows_of hs) ≡ None
@@ -149,36 +131,32 @@ module _ {T : Type 0} where
         (h.node, (rw here refl, rw inside refl))
   ]) refl e
 
-  -- each node stands in the last chain
-  all_members : (hs : List (Held (Node T))) → AreMarked (items_at hs) → members 32 hs ≡ places hs
-  all_members [] m = refl
-  all_members (h ∷ hs) m = (elim (link_at 32 h.node) as (λ o. link_at 32 h.node ≡ o → keys (entry_of h.at o (entries 32 hs)) ≡ h.at ∷ places hs) [
-    | None ↦ λ k. let wrong : true ≡ false = sym (sym (is_some_at h.node.links 32) ∙ m.0.1 32 (omega arith)) ∙ ap is_some k in cc
-    | Some l ↦ λ k. ap (λ ps. h.at ∷ ps) (all_members hs m.1)
-  ]) refl
+  -- the first of the nodes that are listed is freed
+  pub record Freed (at : Place) (left : List (ℕ × Place)) (hs : List (Held (Node T))) : Type 0 where
+    pub node : Node T
+    pub found : find_node at.ptr hs ≡ Some node
+    pub listed_is : left ≡ listed (drop_node at.ptr hs)
+    pub fewer : length hs ≡ suc (length (drop_node at.ptr hs))
 
-  threaded : (b : Option Place) (hs : List (Held (Node T))) → AreMarked (items_at hs) → entries 32 hs ≡ chain b (members 32 hs) None → (head : Option Place) → head ≡ first_or None (places hs) → IsThreaded head hs
-  threaded b [] m e head is = is
-  threaded b (h ∷ hs) m e head is = (elim (link_at 32 h.node) as (λ o. link_at 32 h.node ≡ o → entry_of h.at o (entries 32 hs) ≡ chain b (keys (entry_of h.at o (entries 32 hs))) None → IsThreaded head (h ∷ hs)) [
-    | None ↦ λ k e'. let wrong : true ≡ false = sym (sym (is_some_at h.node.links 32) ∙ m.0.1 32 (omega arith)) ∙ ap is_some k in cc
-    | Some l ↦ λ k e'.
-        let on : entries 32 hs ≡ chain (Some (place h.at)) (members 32 hs) None = cc in
-        let pair : l ≡ link b (first_or None (members 32 hs)) = ap (first_link l) e' in
-        (is, (l, k, threaded (Some (place h.at)) hs m.1 on l.next (ap (λ (q : Link). q.next) pair ∙ ap (first_or None) (all_members hs m.1))))
-  ]) refl e
+  pub first_freed : (e : ℕ × Place) (left : List (ℕ × Place)) (hs : List (Held (Node T))) → e ∷ left ≡ listed hs → Freed e.1 left hs
+  first_freed e left [] is = cc
+  first_freed e left (h ∷ hs) is =
+      let here = same_ptr_refl h.at in
+      let at : place h.at ≡ e.1 = cc in
+      let rest : left ≡ listed hs = cc in
+      subst (λ p. Freed p left (h ∷ hs)) at (record { node = h.node; found = rw here refl; listed_is = rw here rest; fewer = rw here refl })
 
-  pub whole_threaded : (s : Links T) → IsWhole s → IsThreaded (slice_index_or s.heads 32 None) s.nodes.held
-  whole_threaded s w =
-      let k = w.linked 32 (omega arith) in
-      threaded None s.nodes.held w.marked k.0 (slice_index_or s.heads 32 None) (k.1 ∙ ap (first_or None) (all_members s.nodes.held w.marked))
+  pub none_listed : (hs : List (Held (Node T))) → [] ≡ listed hs → hs ≡ []
+  none_listed [] is = refl
+  none_listed (h ∷ hs) is = cc
 
-  pub new_kept : (s : Links T) (directory : List (ℕ × Place)) → s.nodes.held ≡ [] → s.heads ≡ replicate 33 None → s.tails ≡ replicate 33 None → directory ≡ [] → IsKept s directory
+  pub new_kept : (s : Links T) (directory : List (ℕ × Place)) → s.nodes.held ≡ [] → s.heads ≡ replicate 32 None → s.tails ≡ replicate 32 None → directory ≡ [] → IsKept s directory
   new_kept s directory n h t e = record {
     whole = record {
       apart = subst (λ hs. IsApart (places hs)) (sym n) tt;
       linked = λ d lt. subst (λ (z : List (Held (Node T)) × List (Option Place) × List (Option Place)).
           (entries d z.0 ≡ chain None (members d z.0) None) × (slice_index_or z.1 d None ≡ first_or None (members d z.0)) × (slice_index_or z.2 d None ≡ last_or None (members d z.0))) (λ i. (sym n i, sym h i, sym t i))
-          (refl, none_at 33 d, none_at 33 d);
+          (refl, none_at 32 d, none_at 32 d);
       marked = subst (λ hs. AreMarked (items_at hs)) (sym n) tt;
     };
     rise = subst (λ hs. NumbersRise (rows_of hs)) (sym n) (λ k inside. absurd (omega arith));

@@ -14,7 +14,7 @@ use Rattle.record_list.proofs.Entering.{differ, same}
 -- the links of a node that stands alone in each chain, and below d what they become
 module _ (mask : ℕ) (tails : List (Option Place)) where
   abbrev pub Written : ℕ → List (Option Link) → Type 0
-  Written d ls = ((e : ℕ) → e < d → slice_index_or ls e None ≡ new_link (stands e mask) (slice_index_or tails e None)) × ((e : ℕ) → d ≤ e → e < 33 → slice_index_or ls e None ≡ new_link (stands e mask) None)
+  Written d ls = ((e : ℕ) → e < d → slice_index_or ls e None ≡ new_link (stands e mask) (slice_index_or tails e None)) × ((e : ℕ) → d ≤ e → e < 32 → slice_index_or ls e None ≡ new_link (stands e mask) None)
 
   below : (e d : ℕ) → e < d + 1 → e ≢ d → e < d
   below e d lt ne = omega (arith, lt, ne)
@@ -22,13 +22,13 @@ module _ (mask : ℕ) (tails : List (Option Place)) where
   above : (e d : ℕ) → d + 1 ≤ e → e ≢ d
   above e d le p = omega (arith, le, p)
 
-  alone_at : (d : ℕ) (ls : List (Option Link)) → Written d ls → d < 33 → (y : Bool) → stands d mask ≡ y → slice_index_or ls d None ≡ new_link y None
+  alone_at : (d : ℕ) (ls : List (Option Link)) → Written d ls → d < 32 → (y : Bool) → stands d mask ≡ y → slice_index_or ls d None ≡ new_link y None
   alone_at d ls w lt y is = w.1 d (omega arith) lt ∙ ap (λ b. new_link b None) is
 
-  pub links_stand : (d : ℕ) (ls : List (Option Link)) → Written d ls → d < 33 → stands d mask ≡ true → is_some (slice_index_or ls d None) ≡ true
+  pub links_stand : (d : ℕ) (ls : List (Option Link)) → Written d ls → d < 32 → stands d mask ≡ true → is_some (slice_index_or ls d None) ≡ true
   links_stand d ls w lt y = ap is_some (alone_at d ls w lt true y)
 
-  pub links_set : (d : ℕ) (ls ks : List (Option Link)) → Written d ls → d < 33 → stands d mask ≡ true → ks ≡ slice_set ls d (Some (link (slice_index_or tails d None) None)) → Written (d + 1) ks
+  pub links_set : (d : ℕ) (ls ks : List (Option Link)) → Written d ls → d < 32 → stands d mask ≡ true → ks ≡ slice_set ls d (Some (link (slice_index_or tails d None) None)) → Written (d + 1) ks
   links_set d ls ks w lt y is = (
     λ e le. (elim (e == d) as (λ b. (e == d) ≡ b → slice_index_or ks e None ≡ new_link (stands e mask) (slice_index_or tails e None)) [
       | true ↦ λ q. subst (λ k. slice_index_or ks k None ≡ new_link (stands k mask) (slice_index_or tails k None)) (sym (same e d q))
@@ -38,7 +38,7 @@ module _ (mask : ℕ) (tails : List (Option Place)) where
     λ e le more. ap (λ l. slice_index_or l e None) is ∙ get_or-set_other ls d e (Some (link (slice_index_or tails d None) None)) None (above e d le) ∙ w.1 e (omega (arith, le)) more,
   )
 
-  pub links_skip : (d : ℕ) (ls ks : List (Option Link)) → Written d ls → d < 33 → stands d mask ≡ false → ks ≡ ls → Written (d + 1) ks
+  pub links_skip : (d : ℕ) (ls ks : List (Option Link)) → Written d ls → d < 32 → stands d mask ≡ false → ks ≡ ls → Written (d + 1) ks
   links_skip d ls ks w lt y is = (
     λ e le. (elim (e == d) as (λ b. (e == d) ≡ b → slice_index_or ks e None ≡ new_link (stands e mask) (slice_index_or tails e None)) [
       | true ↦ λ q. subst (λ k. slice_index_or ks k None ≡ new_link (stands k mask) (slice_index_or tails k None)) (sym (same e d q))

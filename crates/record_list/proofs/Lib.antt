@@ -1,3 +1,4 @@
+pub mod Beside
 pub mod Change
 pub mod Chains
 pub mod Closing
@@ -12,4 +13,3 @@ pub mod Listing
 pub mod Packing
 pub mod Store
 pub mod Table
-pub mod Thread

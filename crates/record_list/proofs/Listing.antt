@@ -1,8 +1,9 @@
 -- The directory's entries, whose numbers rise.
-use Rattle.std.proofs.Common.{◌≡◌, ◌≢◌, ℕ, ◌+◌, ◌<◌, ◌≤◌, ◌==◌, true, false, List, [], ◌∷◌, ◌++◌, length, get_or, IfSome, IfNone, Result, Ok, Err, inl, inr, refl, ap, arith, suc, zero}
+use Rattle.std.proofs.Common.{◌≡◌, ◌≢◌, ℕ, ◌+◌, ◌<◌, ◌≤◌, ◌==◌, true, false, List, [], ◌∷◌, ◌++◌, length, get_or, IfSome, IfNone, Result, Ok, Err, inl, inr, refl, subst, ap, arith, suc, zero}
 use Rattle.std.specs.Prelude.{All, IsSome, OnSome, remove}
 use Rattle.std.specs.List.{HoldsAt}
 use Rattle.std.specs.List.Sorted.{IsBinarySearchResult, IsNonDecreasingBy}
+use Rattle.std.specs.Option.{option_to_list}
 use Rattle.std.specs.Result.{result_ok}
 use Rattle.std.proofs.lemmas.Bool.{cases_lt}
 use Rattle.std.proofs.lemmas.Bool.Decides.{nat_tests}
@@ -131,3 +132,8 @@ listed_longer (Some e) es more is = found es is
       | true ↦ λ t. rw t (rw t at f)
       | false ↦ λ t. rw t (found es (rw t at f))
     ]) refl
+
+-- numbers go on rising where the first is taken out
+pub ascend-rest : (first : Option (ℕ × Place)) (es rest : List (ℕ × Place)) → es ≡ option_to_list first ++ rest → NumbersAscend es → NumbersAscend rest
+ascend-rest None es rest is rise = subst NumbersAscend is rise
+ascend-rest (Some e) es rest is rise = λ i j d less inside. (subst NumbersAscend is rise) (suc i) (suc j) d (omega (arith, less)) (omega (arith, inside))

@@ -1,5 +1,5 @@
 -- What each call does to a store that is whole.
-use Rattle.std.proofs.Common.{◌≡◌, ◌≢◌, ◌≤◌, ◌<◌, ◌+◌, ◌-◌, ◌^◌, ◌==◌, ◌||◌, ℕ, zero, suc, Bool, true, false, cond, List, [], ◌∷◌, ◌++◌, map, Result, Ok, Err, slice_index_or, slice_set, refl, sym, ap, ◌∙◌, subst, arith}
+use Rattle.std.proofs.Common.{◌≡◌, ◌≢◌, ◌≤◌, ◌<◌, ◌+◌, ◌-◌, ◌^◌, ◌==◌, ℕ, zero, suc, Bool, true, false, cond, List, [], ◌∷◌, ◌++◌, map, Result, Ok, Err, slice_index_or, slice_set, refl, sym, ap, ◌∙◌, subst, arith}
 use Rattle.std.specs.Prelude.{All, OnOk, OnErr}
 use Rattle.std.specs.Option.{is_some}
 use Rattle.std.specs.Result.{is_ok}
@@ -27,7 +27,7 @@ use Rattle.record_list.proofs.Chains.{keys}
 use Rattle.record_list.proofs.Enter.{same_linked}
 use Rattle.record_list.proofs.Entering.{differ, same}
 use Rattle.record_list.proofs.Found.{Found, found_at, Absent, absent_at}
-use Rattle.record_list.proofs.Kept.{is_some_at, stands_queue, IsMarked, kept_from, marked_push, marked_changed, marked_dropped, apart_dropped, listed_changed, in_queue}
+use Rattle.record_list.proofs.Kept.{is_some_at, IsMarked, kept_from, marked_push, marked_changed, marked_dropped, apart_dropped, listed_changed, in_queue}
 use Rattle.record_list.proofs.LastLinks.{is_new}
 use Rattle.record_list.proofs.Leave.{set_same, places_changed}
 
@@ -69,7 +69,7 @@ module _ {T : Type 0} where
 
   -- a node is changed
   pub kept_changed : (s t : Links T) (directory : List (ℕ × Place)) (n : ℕ) (at : Place) (f : Node T → Node T) (g : Row T → Row T) → IsKept s directory → Found n at s.nodes.held → ((x : Node T) → (f x).row ≡ g x.row) → ((r : Row T) → (g r).number ≡ r.number)
-      → items_at t.nodes.held ≡ items_at (change_node at.ptr f s.nodes.held) → ((x : Node T) → IsMarked (at.ptr, row_of x, map is_some x.links) → IsMarked (at.ptr, row_of (f x), map is_some (f x).links)) → ((d : ℕ) → d < 33 → IsLinked d t) → IsKept t directory
+      → items_at t.nodes.held ≡ items_at (change_node at.ptr f s.nodes.held) → ((x : Node T) → IsMarked (at.ptr, row_of x, map is_some x.links) → IsMarked (at.ptr, row_of (f x), map is_some (f x).links)) → ((d : ℕ) → d < 32 → IsLinked d t) → IsKept t directory
   kept_changed s t directory n at f g k on rows numbers items marks linked =
       kept_from (change_node at.ptr f s.nodes.held) t directory items
       (subst IsApart (sym (places_changed at.ptr f s.nodes.held)) k.whole.apart)
@@ -84,10 +84,10 @@ module _ {T : Type 0} where
       | true ↦ λ q.
           let at : e ≡ d = same e d q in
           let gone : is_some (slice_index_or (slice_set x.links d None) e None) ≡ false = ap (λ k. is_some (slice_index_or (slice_set x.links d None) k None)) at ∙ ap is_some (set_none x.links d) in
-          let out : stands d (without d x.row.mask) ≡ false = stands_queue d (without d x.row.mask) lt ∙ ap (λ b. b == 1) (bit_at-without_same x.row.mask d) in
+          let out : stands d (without d x.row.mask) ≡ false = ap (λ b. b == 1) (bit_at-without_same x.row.mask d) in
           gone ∙ sym out ∙ ap (λ k. stands k (without d x.row.mask)) (sym at)
       | false ↦ λ q.
-          ap is_some (get_or-set_other x.links d e None None (differ e d q)) ∙ sym (is_some_at x.links e) ∙ m.1 e le ∙ ap (λ b. (e == 32) || (b == 1)) (sym (bit_at-without_other x.row.mask d e (differ e d q)))
+          ap is_some (get_or-set_other x.links d e None None (differ e d q)) ∙ sym (is_some_at x.links e) ∙ m.1 e le ∙ ap (λ b. b == 1) (sym (bit_at-without_other x.row.mask d e (differ e d q)))
     ]) refl,
   )
 
@@ -111,7 +111,7 @@ module _ {T : Type 0} where
         subst (λ b. items_at t.nodes.held ≡ cond b (items_at (change_node p (without_link d) s.nodes.held)) (items_at s.nodes.held)) yet items
   ]) refl
 
-  pub left_linked : (d : ℕ) (s t : Links T) → IsWhole s → IsLinked d t → ((e : ℕ) → e ≢ d → IsSameChain e s t) → (e : ℕ) → e < 33 → IsLinked e t
+  pub left_linked : (d : ℕ) (s t : Links T) → IsWhole s → IsLinked d t → ((e : ℕ) → e ≢ d → IsSameChain e s t) → (e : ℕ) → e < 32 → IsLinked e t
   left_linked d s t w l others e lt = (elim (e == d) as (λ b. (e == d) ≡ b → IsLinked e t) [
     | true ↦ λ q. subst (λ k. IsLinked k t) (sym (same e d q)) l
     | false ↦ λ q. same_linked e s t (others e (differ e d q)) (w.linked e lt)
@@ -140,7 +140,7 @@ module _ {T : Type 0} where
 
   -- the state s, and the state m with one more node, whose links know the ends of the chains
   module _ (s m : Links T) (w : IsWhole s) (p : Ptr) (x : Node T) (fresh : find_node p s.nodes.held ≡ None) (held : m.nodes.held ≡ s.nodes.held ++ held_at p x ∷ []) (heads : m.heads ≡ s.heads) (tails : m.tails ≡ s.tails)
-      (links : (d : ℕ) → d < 33 → link_at d x ≡ new_link (stands d x.row.mask) (tail_at d s)) where
+      (links : (d : ℕ) → d < 32 → link_at d x ≡ new_link (stands d x.row.mask) (tail_at d s)) where
     abbrev longer : List (Held (Node T))
     longer = s.nodes.held ++ held_at p x ∷ []
 
@@ -150,10 +150,10 @@ module _ {T : Type 0} where
     pub apart_pushed : IsApart (places m.nodes.held)
     apart_pushed = subst (λ hs. IsApart (places hs)) (sym held) apart_longer
 
-    in_now : (d : ℕ) → d < 33 → (y : Bool) → stands d x.row.mask ≡ y → entries d m.nodes.held ≡ entries d s.nodes.held ++ entry_of p (new_link y (tail_at d s)) []
+    in_now : (d : ℕ) → d < 32 → (y : Bool) → stands d x.row.mask ≡ y → entries d m.nodes.held ≡ entries d s.nodes.held ++ entry_of p (new_link y (tail_at d s)) []
     in_now d lt y e = ap (entries d) held ∙ entries_push d s.nodes.held (held_at p x) ∙ ap (λ o. entries d s.nodes.held ++ entry_of p o []) (links d lt ∙ ap (λ b. new_link b (tail_at d s)) e)
 
-    pub hangs_pushed : (d : ℕ) → d < 33 → stands d x.row.mask ≡ true → Hangs d m p
+    pub hangs_pushed : (d : ℕ) → d < 32 → stands d x.row.mask ≡ true → Hangs d m p
     hangs_pushed d lt e =
         let k = w.linked d lt in
         record {
@@ -163,7 +163,7 @@ module _ {T : Type 0} where
           tail = ap (λ l. slice_index_or l d None) tails ∙ k.2;
         }
 
-    pub linked_pushed : (d : ℕ) → d < 33 → stands d x.row.mask ≡ false → IsLinked d m
+    pub linked_pushed : (d : ℕ) → d < 32 → stands d x.row.mask ≡ false → IsLinked d m
     linked_pushed d lt e =
         let k = w.linked d lt in
         let same : entries d m.nodes.held ≡ entries d s.nodes.held = in_now d lt false e ∙ Rattle.std.proofs.Common.append-nil (entries d s.nodes.held) in
@@ -173,7 +173,7 @@ module _ {T : Type 0} where
     rows_longer = map-append (λ (h : Held (Node T)). h.node.row) s.nodes.held (held_at p x ∷ [])
 
     pub kept_pushed : (t : Links T) (directory after : List (ℕ × Place)) → IsKept s directory → x.row.mask < 2 ^ 32 → All (λ row. row.number < x.row.number) (rows_of s.nodes.held) → after ≡ directory ++ (x.row.number, place p) ∷ []
-        → items_at t.nodes.held ≡ items_at m.nodes.held → ((d : ℕ) → d < 33 → IsLinked d t) → IsKept t after
+        → items_at t.nodes.held ≡ items_at m.nodes.held → ((d : ℕ) → d < 32 → IsLinked d t) → IsKept t after
     kept_pushed t directory after k fits below more items linked =
         kept_from longer t after (items ∙ ap items_at held) apart_longer
         (subst AreMarked (sym (map-append (λ (h : Held (Node T)). (h.at, row_of h.node, map is_some h.node.links)) s.nodes.held (held_at p x ∷ [])))

@@ -8,7 +8,7 @@ use Rattle.node_heap.specs.declared.nodes.Place.{Place}
 use Rattle.record_list.specs.declared.link_table.Link.{Link}
 use Rattle.record_list.specs.declared.links.Node.{Node}
 use Rattle.record_list.specs.declared.links.Links.{Links}
-use Rattle.record_list.specs.Chain.{place, link, link_at, first_or, last_or, chain, entries, members}
+use Rattle.record_list.specs.Chain.{link, first_or, last_or, chain, entries, members}
 
 abbrev pub IsAway : Ptr → List Ptr → Type 0
 IsAway p [] = Unit {0}
@@ -35,11 +35,6 @@ module _ {T : Type 0} where
       (entries d s.nodes.held ≡ chain None (members d s.nodes.held) None)
       × (head_at d s ≡ first_or None (members d s.nodes.held))
       × (tail_at d s ≡ last_or None (members d s.nodes.held))
-
-  -- the chain of all rows, from its first node on
-  abbrev pub IsThreaded : Option Place → List (Held (Node T)) → Type 0
-  IsThreaded head [] = head ≡ None
-  IsThreaded head (h ∷ hs) = (head ≡ Some (place h.at)) × ((l : Link) × (link_at 32 h.node ≡ Some l) × IsThreaded l.next hs)
 
   -- the chain d but for what the nodes before and after a gap say of each other
   pub record Gap (d : ℕ) (s : Links T) (before after : Option Place) : Type 0 where

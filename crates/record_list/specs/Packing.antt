@@ -25,10 +25,10 @@ links_of (s ∷ ss) (e ∷ es) = link_of s e ∷ links_of ss es
 abbrev pub slot_of : ℕ → ℕ → ℕ
 slot_of queue d = if nat_lt d queue then d else d - 1
 
--- the link in the chain d: of the row among all rows, in its first queue, or in one of the others
-abbrev pub link_in : ℕ → Option Link → List (Option Link) → Option Link → ℕ → Option Link
-link_in queue first others row d = if d == 32 then row else if d == queue then first else slice_index_or others (slot_of queue d) None
+-- the link in the chain d: in the row's first queue, or in one of the others
+abbrev pub link_in : ℕ → Option Link → List (Option Link) → ℕ → Option Link
+link_in queue first others d = if d == queue then first else slice_index_or others (slot_of queue d) None
 
--- the links in the 33 chains
-abbrev pub table_of : ℕ → Option Link → List (Option Link) → Option Link → List (Option Link)
-table_of queue first others row = map (link_in queue first others row) (range_with_len 0 33)
+-- the links in the 32 chains
+abbrev pub table_of : ℕ → Option Link → List (Option Link) → List (Option Link)
+table_of queue first others = map (link_in queue first others) (range_with_len 0 32)

@@ -1,13 +1,13 @@
 //! Where the node of each row lies.
 
-ghost use Rattle.std.specs.Prelude.{◌≡◌, ◌≢◌, ◌<◌, [], ◌∷◌, ◌++◌, All, IfSome, IfNone, OnOk, OnErr, length};
+ghost use Rattle.std.specs.Prelude.{◌≡◌, ◌≢◌, ◌<◌, [], ◌∷◌, ◌++◌, All, IfSome, IfNone, MatchOption, OnOk, OnErr, length};
 ghost use Rattle.std.specs.List.{HoldsAt};
 ghost use Rattle.std.specs.declared.option.Option.TheVariants.{Some};
 ghost use Rattle.record_list.specs.Listed.{place_of, without_number};
 
+use crate::entries::Entries;
 use node_heap::Place;
 use std::alloc::{AllocError, Global};
-use std::collections::VecDeque;
 use std::marker::Model;
 
 /// The places of the rows' nodes by the rows' numbers, in rising order, and the row that was asked for last, which is
@@ -16,7 +16,7 @@ use std::marker::Model;
 /// whichever are fewer.
 #[derive(Drop)]
 pub struct Directory {
-    places: VecDeque<(u32, Place)>,
+    entries: Entries,
     latest: Option<(u32, Place)>,
 }
 
@@ -28,9 +28,9 @@ impl Model for Directory {
 
     ghost use Rattle.record_list.specs.Listed.{IsListed, NumbersAscend};
 
-    ghost view = { λ s. s.places.items };
+    ghost view = { λ s. s.entries };
 
-    ghost invariant = { λ s. record { listed : IsListed s.latest s.places.items; rise : NumbersAscend s.places.items } };
+    ghost invariant = { λ s. record { listed : IsListed s.latest s.entries; rise : NumbersAscend s.entries } };
 }
 
 impl Directory {
@@ -39,7 +39,7 @@ impl Directory {
         ensures { result ≡ [] }
     {
         Directory {
-            places: VecDeque::new(alloc),
+            entries: Entries::new(alloc),
             latest: None,
         }
     }
@@ -50,9 +50,7 @@ impl Directory {
         ensures found { IfSome result (HoldsAt (λ entry. entry.0 ≡ number) self.now) }
         ensures missing { IfNone result (All (λ entry. entry.0 ≢ number) self.now) }
     {
-        self.places
-            .binary_search_by_key(&number, |entry| entry.0)
-            .ok()
+        self.entries.index_of(number)
     }
 
     /// The place of a row's node.
@@ -63,7 +61,7 @@ impl Directory {
             Some((latest, at)) if latest == number => Some(at),
             _ => {
                 let index = self.index_of(number)?;
-                Some(self.places[index].1)
+                Some(self.entries.place(index))
             }
         }
     }
@@ -92,7 +90,7 @@ impl Directory {
         ensures ok { OnOk result (self.new ≡ self.old ++ (number, at) ∷ []) }
         ensures err { OnErr result (self.new ≡ self.old) }
     {
-        self.places.push_back((number, at))?;
+        self.entries.push(number, at)?;
         Ok(())
     }
 
@@ -102,14 +100,22 @@ impl Directory {
     {
         self.latest = None;
         if let Some(index) = self.index_of(number) {
-            let _entry = self.places.remove(index);
+            self.entries.remove(index);
         }
+    }
+
+    /// Takes the first row out.
+    pub(crate) fn pop_first(&mut self) -> Option<(u32, Place)>
+        ensures { MatchOption result (self.old ≡ []) (λ entry. self.old ≡ entry ∷ self.new) }
+    {
+        self.latest = None;
+        self.entries.pop_first()
     }
 
     /// How many rows there are.
     pub(crate) fn len(&self) -> usize
         ensures { result ≡ length self.now }
     {
-        self.places.len()
+        self.entries.len()
     }
 }

@@ -6,6 +6,7 @@ ghost use Rattle.row_store.specs.declared.Row.{Row};
 ghost use Rattle.row_store.specs.Rows.{numbers, queue_of, item_at, unlinked};
 
 mod directory;
+mod entries;
 mod link_table;
 mod links;
 mod record_list;

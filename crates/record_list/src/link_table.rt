@@ -105,15 +105,11 @@ impl OtherLinks {
     }
 }
 
-/// The seats of a node among all rows and in its row's first queue.
+/// The first queue of a row as it was pushed, and its node's seat there.
 #[derive(Clone, Copy)]
-struct Seats {
-    /// The first queue of the row as it was pushed.
+struct QueueSeat {
     queue: u8,
-    /// Its seat among all rows.
-    row_seat: Seat,
-    /// Its seat in that queue.
-    queue_seat: Seat,
+    seat: Seat,
 }
 
 /// Where a node's neighbours in its row's first queue lie, and its links in the others.
@@ -126,40 +122,29 @@ pub struct QueueLinks {
 /// The block of the links in several queues takes 544 bytes.
 const _: () = prove!(size_of::<QueueLinks>() == 544);
 
-/// The seats of a node, and where its neighbours in queues lie.
+/// The seat of a node in its row's first queue, and where its neighbours in queues lie.
 #[derive(Drop)]
 enum Seating {
     /// The row was pushed into one queue, or none: its ends there.
-    OneQueue(Seats, Ends),
+    OneQueue(QueueSeat, Ends),
     /// The row was pushed into several queues: its links there, in a block of their own.
-    Several(Seats, Box<QueueLinks>),
+    Several(QueueSeat, Box<QueueLinks>),
 }
 
 impl Seating {
-    ghost use Rattle.record_list.specs.Seating.{seats_of, queue_ends_of, others_of};
+    ghost use Rattle.record_list.specs.Seating.{queue_seat_of, queue_ends_of, others_of};
 
-    /// The seats, whichever links there are beside them.
-    fn seats(&self) -> Seats
-        ensures { result ≡ seats_of self.now }
+    /// The first queue, and the seat there.
+    fn queue_seat(&self) -> QueueSeat
+        ensures { result ≡ queue_seat_of self.now }
     {
         match self {
-            Seating::OneQueue(seats, _) => *seats,
-            Seating::Several(seats, _) => *seats,
+            Seating::OneQueue(first, _) => *first,
+            Seating::Several(first, _) => *first,
         }
     }
 
-    /// Writes the seats alone.
-    fn set_seats(&mut self, seats: Seats)
-        ensures seats { seats_of self.new ≡ seats }
-        ensures rest { (queue_ends_of self.new ≡ queue_ends_of self.old) × (others_of self.new ≡ others_of self.old) }
-    {
-        match self {
-            Seating::OneQueue(kept, _) => *kept = seats,
-            Seating::Several(kept, _) => *kept = seats,
-        }
-    }
-
-    /// The ends in the row's first queue.
+    /// The ends in the first queue.
     fn queue_ends(&self) -> Ends
         ensures { result ≡ queue_ends_of self.now }
     {
@@ -169,87 +154,85 @@ impl Seating {
         }
     }
 
-    /// Writes the ends in the row's first queue alone.
-    fn set_queue_ends(&mut self, ends: Ends)
+    /// Writes the seat and the ends in the first queue alone.
+    fn set_in_queue(&mut self, first: QueueSeat, ends: Ends)
+        ensures seat { queue_seat_of self.new ≡ first }
         ensures ends { queue_ends_of self.new ≡ ends }
-        ensures rest { (seats_of self.new ≡ seats_of self.old) × (others_of self.new ≡ others_of self.old) }
+        ensures rest { others_of self.new ≡ others_of self.old }
     {
         match self {
-            Seating::OneQueue(_, kept) => *kept = ends,
-            Seating::Several(_, links) => links.first = ends,
+            Seating::OneQueue(kept, kept_ends) => {
+                *kept = first;
+                *kept_ends = ends;
+            }
+            Seating::Several(kept, links) => {
+                *kept = first;
+                links.first = ends;
+            }
         }
     }
 }
 
-/// A link for each of 33 chains, or none. Those in the last chain and in a row's only queue stand here, and those in several
-/// queues in a block of their own, which a row that was pushed into one queue goes without.
+/// A link for each of 32 chains, or none. That in a row's only queue stands here, and those in several queues in a block of
+/// their own, which a row that was pushed into one queue goes without.
 #[derive(Drop)]
 pub struct LinkTable {
-    row_ends: Ends,
     seating: Seating,
 }
 
-/// What stands in place takes 40 bytes.
-const _: () = prove!(size_of::<LinkTable>() == 40);
+/// What stands in place takes 24 bytes.
+const _: () = prove!(size_of::<LinkTable>() == 24);
 
 impl Model for LinkTable {
     ghost use Rattle.std.specs.Prelude.{List, ◌<◌};
     ghost use Rattle.std.specs.declared.option.Option.{Option};
     ghost use Rattle.record_list.specs.declared.link_table.Link.{Link};
-    ghost use Rattle.record_list.specs.Seating.{seats_of, table_by};
+    ghost use Rattle.record_list.specs.Seating.{queue_seat_of, table_by};
 
     ghost Value = { List (Option Link) };
 
-    ghost view = { λ s. table_by s.row_ends s.seating };
+    ghost view = { λ s. table_by s.seating };
 
-    ghost invariant = { λ s. (seats_of s.seating).queue < 32 };
+    ghost invariant = { λ s. (queue_seat_of s.seating).queue < 32 };
 }
 
 impl LinkTable {
-    /// Those of a row that stands alone in the queues of its mask and in the last chain. An error is want of memory for
-    /// those in other queues.
+    /// Those of a row that stands alone in the queues of its mask. An error is want of memory for those in several.
     pub(crate) fn for_queues(alloc: Global, mask: u32) -> Result<LinkTable, AllocError>
-        ensures { IfOk result (λ links. (d : ℕ) → d < 33 → slice_index_or links d None ≡ new_link (stands d mask) None) }
+        ensures { IfOk result (λ links. (d : ℕ) → d < 32 → slice_index_or links d None ≡ new_link (stands d mask) None) }
     {
         let queue = mask.trailing_zeros() as usize % 32;
         let in_queue = stands(mask, queue);
         let rest = if in_queue { mask - (1 << queue) } else { mask };
-        let seats = Seats {
+        let first = QueueSeat {
             queue: queue as u8,
-            row_seat: Seat::Alone,
-            queue_seat: Seat::alone(in_queue),
+            seat: Seat::alone(in_queue),
         };
         let nowhere = Ends {
             prev: Place::nowhere(),
             next: Place::nowhere(),
         };
         let seating = if rest == 0 {
-            Seating::OneQueue(seats, nowhere)
+            Seating::OneQueue(first, nowhere)
         } else {
             let links = QueueLinks {
                 first: nowhere,
                 others: OtherLinks::alone(mask, queue),
             };
-            Seating::Several(seats, Box::new(alloc, links)?)
+            Seating::Several(first, Box::new(alloc, links)?)
         };
-        Ok(LinkTable {
-            row_ends: nowhere,
-            seating,
-        })
+        Ok(LinkTable { seating })
     }
 
     /// The link in the chain d.
     pub(crate) fn get(&self, d: usize) -> Option<Link>
-        requires { d < 33 }
+        requires { d < 32 }
         ensures { result ≡ slice_index_or self.now d None }
     {
-        let seats = self.seating.seats();
-        let queue = seats.queue as usize;
-        if d == 32 {
-            return unpacked(seats.row_seat, self.row_ends);
-        }
+        let first = self.seating.queue_seat();
+        let queue = first.queue as usize;
         if d == queue {
-            return unpacked(seats.queue_seat, self.seating.queue_ends());
+            return unpacked(first.seat, self.seating.queue_ends());
         }
         match &self.seating {
             Seating::OneQueue(..) => None,
@@ -259,33 +242,28 @@ impl LinkTable {
 
     /// Gives the node this link in the chain d, in which it stands.
     pub(crate) fn set(&mut self, d: usize, link: Option<Link>)
-        requires chain { d < 33 }
+        requires chain { d < 32 }
         requires stands { is_some (slice_index_or self.old d None) ≡ true }
         ensures { self.new ≡ slice_set self.old d link }
     {
-        let mut seats = self.seating.seats();
-        let queue = seats.queue as usize;
-        let (seat, ends) = packed(link);
-        if d == 32 {
-            seats.row_seat = seat;
-            self.seating.set_seats(seats);
-            self.row_ends = ends;
-        } else if d == queue {
-            seats.queue_seat = seat;
-            self.seating.set_seats(seats);
-            self.seating.set_queue_ends(ends);
+        let first = self.seating.queue_seat();
+        let queue = first.queue as usize;
+        if d == queue {
+            let (seat, ends) = packed(link);
+            let first = QueueSeat { seat, ..first };
+            self.seating.set_in_queue(first, ends);
         } else if let Seating::Several(_, links) = &mut self.seating {
             links.others.set(slot_of(queue, d), link);
         }
     }
 }
 
-/// Whether a row with this mask stands in the chain d. All rows stand in the last chain.
+/// Whether a row with this mask stands in the chain d.
 pub(crate) fn stands(mask: u32, d: usize) -> bool
-    requires { d < 33 }
+    requires { d < 32 }
     ensures { result ≡ stands d mask }
 {
-    d == 32 || mask >> d & 1 == 1
+    mask >> d & 1 == 1
 }
 
 /// The slot of queue d among those of all queues but one.

@@ -1,4 +1,4 @@
-//! Nodes that stand in up to 33 chains: one for each queue, and the last for all rows.
+//! Nodes that stand in up to 32 chains, one for each queue.
 ghost use Rattle.std.specs.Prelude.{min, ◌-◌, ◌^◌, ◌≡◌, ◌≢◌, ◌<◌, ◌≤◌, ◌+◌, ℕ, [], ◌∷◌, ◌++◌, slice_index_or, true, false, IfOk, IfSome, MatchOption, MatchResult, replicate, if◌then◌else◌};
 ghost use Rattle.std.specs.Option.{is_some};
 ghost use Rattle.record_list.specs.Stands.{stands};
@@ -6,6 +6,7 @@ ghost use Rattle.std.specs.Borrow.{sem, Lends};
 ghost use Rattle.std.specs.declared.option.Option.TheVariants.{None, Some};
 ghost use Rattle.node_heap.specs.Held.{IsHeld, find_node, drop_node, held_at};
 
+use crate::directory::Directory;
 use crate::link_table::{Link, LinkTable, QueueLinks, stands};
 use node_heap::{Nodes, Place};
 use row_store::Row;
@@ -18,16 +19,16 @@ pub struct Node<T> {
     pub(crate) links: LinkTable,
 }
 
-/// A row of a word takes 48 bytes beside its item, and one of several queues 592 with the block of its links there.
-const _: () = prove!(size_of::<Node<u64>>() == size_of::<u64>() + 48);
+/// A row of a word takes 32 bytes beside its item, and one of several queues 576 with the block of its links there.
+const _: () = prove!(size_of::<Node<u64>>() == size_of::<u64>() + 32);
 
-const _: () = prove!(size_of::<Node<u64>>() + size_of::<QueueLinks>() == size_of::<u64>() + 592);
+const _: () = prove!(size_of::<Node<u64>>() + size_of::<QueueLinks>() == size_of::<u64>() + 576);
 
 /// The ends of the chains, and the memory of the nodes.
 pub struct Links<T> {
     pub(crate) nodes: Nodes<Node<T>>,
-    pub(crate) heads: [Option<Place>; 33],
-    pub(crate) tails: [Option<Place>; 33],
+    pub(crate) heads: [Option<Place>; 32],
+    pub(crate) tails: [Option<Place>; 32],
     pub(crate) visits: u64,
 }
 
@@ -39,12 +40,12 @@ impl<T> Links<T> {
 
     pub(crate) fn new() -> Links<T>
         ensures nodes { result.nodes.held ≡ [] }
-        ensures ends { (result.heads ≡ replicate 33 None) × (result.tails ≡ replicate 33 None) }
+        ensures ends { (result.heads ≡ replicate 32 None) × (result.tails ≡ replicate 32 None) }
     {
         Links {
             nodes: Nodes::new(),
-            heads: [None; 33],
-            tails: [None; 33],
+            heads: [None; 32],
+            tails: [None; 32],
             visits: 0,
         }
     }
@@ -71,7 +72,7 @@ impl<T> Links<T> {
 
     /// `prev` is followed by `next` in the chain d.
     pub(crate) fn point_on(&mut self, d: usize, prev: Option<Place>, next: Option<Place>)
-        requires chain { d < 33 }
+        requires chain { d < 32 }
         requires held { IfSome prev (λ at. IsHeld at.ptr self.old.nodes.held) }
         ensures nodes { self.new.nodes.held ≡ change_at prev (with_next d next) self.old.nodes.held }
         ensures heads { self.new.heads ≡ end_after prev d next self.old.heads }
@@ -95,7 +96,7 @@ impl<T> Links<T> {
 
     /// `next` is preceded by `prev` in the chain d.
     pub(crate) fn point_back(&mut self, d: usize, prev: Option<Place>, next: Option<Place>)
-        requires chain { d < 33 }
+        requires chain { d < 32 }
         requires held { IfSome next (λ at. IsHeld at.ptr self.old.nodes.held) }
         ensures nodes { self.new.nodes.held ≡ change_at next (with_prev d prev) self.old.nodes.held }
         ensures heads { self.new.heads ≡ self.old.heads }
@@ -119,7 +120,7 @@ impl<T> Links<T> {
 
     /// Closes the gap in the chain d.
     pub(crate) fn join(&mut self, d: usize, prev: Option<Place>, next: Option<Place>)
-        requires chain { d < 33 }
+        requires chain { d < 32 }
         requires apart { IsApart (places self.old.nodes.held) }
         requires gap { Gap d self.old prev next }
         ensures linked { IsLinked d self.new }
@@ -134,7 +135,7 @@ impl<T> Links<T> {
 
     /// The chain d ends with the node at `at`, which stands in it.
     pub(crate) fn enter(&mut self, d: usize, at: Place)
-        requires chain { d < 33 }
+        requires chain { d < 32 }
         requires apart { IsApart (places self.old.nodes.held) }
         requires hangs { Hangs d self.old at.ptr }
         ensures linked { IsLinked d self.new }
@@ -150,10 +151,10 @@ impl<T> Links<T> {
 
     /// The links of a node that will be the last row. An error is want of memory.
     pub(crate) fn last_links(&self, alloc: Global, mask: u32) -> Result<LinkTable, AllocError>
-        ensures { IfOk result (λ links. (d : ℕ) → d < 33 → slice_index_or links d None ≡ new_link (stands d mask) (tail_at d self.now)) }
+        ensures { IfOk result (λ links. (d : ℕ) → d < 32 → slice_index_or links d None ≡ new_link (stands d mask) (tail_at d self.now)) }
     {
         let mut links = LinkTable::for_queues(alloc, mask)?;
-        for d in 0..33 {
+        for d in 0..32 {
             if stands(mask, d) {
                 let link = Link {
                     prev: self.tails[d],
@@ -168,14 +169,14 @@ impl<T> Links<T> {
     /// The last row's node, at `at`, is linked in in each of the chains that it stands in.
     pub(crate) fn enter_all(&mut self, at: Place, mask: u32)
         requires apart { IsApart (places self.old.nodes.held) }
-        requires hangs { (d : ℕ) → d < 33 → stands d mask ≡ true → Hangs d self.old at.ptr }
-        requires linked { (d : ℕ) → d < 33 → stands d mask ≡ false → IsLinked d self.old }
-        ensures linked { (d : ℕ) → d < 33 → IsLinked d self.new }
-        ensures members { (d : ℕ) → d < 33 → members d self.new.nodes.held ≡ members d self.old.nodes.held }
+        requires hangs { (d : ℕ) → d < 32 → stands d mask ≡ true → Hangs d self.old at.ptr }
+        requires linked { (d : ℕ) → d < 32 → stands d mask ≡ false → IsLinked d self.old }
+        ensures linked { (d : ℕ) → d < 32 → IsLinked d self.new }
+        ensures members { (d : ℕ) → d < 32 → members d self.new.nodes.held ≡ members d self.old.nodes.held }
         ensures items { items_at self.new.nodes.held ≡ items_at self.old.nodes.held }
-        ensures visits { self.new.visits ≤ self.old.visits + 33 }
+        ensures visits { self.new.visits ≤ self.old.visits + 32 }
     {
-        for d in 0..33 {
+        for d in 0..32 {
             if stands(mask, d) {
                 self.enter(d, at);
             }
@@ -208,7 +209,8 @@ impl<T> Links<T> {
 
 impl<T: Drop> Links<T> {
     ghost use Rattle.record_list.specs.Chain.{items_at};
-    ghost use Rattle.record_list.specs.Linked.{IsThreaded, IsApart, places, IsLinked, IsOpen};
+    ghost use Rattle.record_list.specs.Linked.{IsApart, places, IsLinked, IsOpen};
+    ghost use Rattle.record_list.specs.Listed.{listed};
     ghost use Rattle.record_list.specs.Stands.{IsWhole};
 
     /// Gives the node a block, and hands it back where there is no memory.
@@ -241,7 +243,7 @@ impl<T: Drop> Links<T> {
         ensures value { find_node at.ptr self.old.nodes.held ≡ Some result }
         ensures whole { IsWhole self.new }
         ensures items { items_at self.new.nodes.held ≡ items_at (drop_node at.ptr self.old.nodes.held) }
-        ensures visits { self.new.visits ≤ self.old.visits + 67 }
+        ensures visits { self.new.visits ≤ self.old.visits + 65 }
     {
         self.visit(at);
         let node = self.withdraw(at, alloc);
@@ -252,35 +254,30 @@ impl<T: Drop> Links<T> {
     /// Closes the gaps that a node left.
     fn join_all(&mut self, gaps: &LinkTable)
         requires apart { IsApart (places self.old.nodes.held) }
-        requires gaps { (d : ℕ) → d < 33 → IsOpen d self.old (slice_index_or gaps.now d None) }
-        ensures linked { (d : ℕ) → d < 33 → IsLinked d self.new }
+        requires gaps { (d : ℕ) → d < 32 → IsOpen d self.old (slice_index_or gaps.now d None) }
+        ensures linked { (d : ℕ) → d < 32 → IsLinked d self.new }
         ensures items { items_at self.new.nodes.held ≡ items_at self.old.nodes.held }
-        ensures visits { self.new.visits ≤ self.old.visits + 66 }
+        ensures visits { self.new.visits ≤ self.old.visits + 64 }
     {
-        for d in 0..33 {
+        for d in 0..32 {
             if let Some(link) = gaps.get(d) {
                 self.join(d, link.prev, link.next);
             }
         }
     }
 
-    /// Frees each node, in the order of the rows.
-    pub(crate) fn free(self, alloc: Global)
-        requires { IsThreaded (slice_index_or self.heads 32 None) self.nodes.held }
+    /// Frees each node, in the order of the rows. The directory has the place of each.
+    pub(crate) fn free(self, mut directory: Directory, alloc: Global)
+        requires { directory ≡ listed self.nodes.held }
     {
         let Links {
             mut nodes,
-            heads,
+            heads: _,
             tails: _,
             visits: _,
         } = self;
-        let mut head = heads[32];
-        while let Some(at) = head {
-            let block = nodes.take(at, alloc);
-            head = match block.links.get(32) {
-                Some(link) => link.next,
-                None => None,
-            };
+        while let Some((_, at)) = directory.pop_first() {
+            let _block = nodes.take(at, alloc);
         }
         nodes.destroy_empty();
     }

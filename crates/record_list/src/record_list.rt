@@ -12,8 +12,8 @@ use row_store::{QUEUES, Row, RowStore};
 use std::alloc::{AllocFailed, Global};
 use std::marker::Model;
 
-/// The rows, each in a node of its own that is linked in each queue where the row stands and in the list of all rows,
-/// and the directory that leads from a number to its node. No call searches.
+/// The rows, each in a node of its own that is linked in each queue where the row stands, and the directory, which leads
+/// from a number to its node and has all nodes in the order of the rows. No call searches.
 pub struct RecordList<T: Drop> {
     links: Links<T>,
     directory: Directory,
@@ -65,7 +65,7 @@ impl<T: Drop> RowStore<T> for RecordList<T> {
         ensures err { OnErr result (self.new.0 ≡ self.old.0) }
         ensures missing { OnErr result (◌≡◌ {A = ℕ} 0 0) }
         ensures item_returned { IfErr result (λ failed. failed.value ≡ item) }
-        ensures visits { self.new.1 ≤ self.old.1 + 34 }
+        ensures visits { self.new.1 ≤ self.old.1 + 32 }
     {
         let Ok(links) = self.links.last_links(self.alloc, mask) else {
             return Err(AllocFailed { value: item });
@@ -136,7 +136,7 @@ impl<T: Drop> RowStore<T> for RecordList<T> {
     fn remove(&mut self, number: u32) -> Option<T>
         ensures item { result ≡ item_at number self.old.0 }
         ensures removed { self.new.0 ≡ removed number self.old.0 }
-        ensures visits { self.new.1 ≤ self.old.1 + 67 }
+        ensures visits { self.new.1 ≤ self.old.1 + 65 }
     {
         let at = self.directory.find(number)?;
         let node = self.links.take_out(at, self.alloc);
@@ -166,9 +166,9 @@ impl<T: Drop> Drop for RecordList<T> {
     fn drop(self) {
         let RecordList {
             links,
-            directory: _,
+            directory,
             alloc,
         } = self;
-        links.free(alloc);
+        links.free(directory, alloc);
     }
 }

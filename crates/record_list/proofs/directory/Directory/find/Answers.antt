@@ -13,5 +13,6 @@ returns-in_ok-index-in_default c =
     let index = c.in_ok-index-in_default.index in
     let here = c.in_ok-index-in_default.ensures in
     let first = first_at c.args.number index c.args.self.now (rw (← c.self.view_is) c.self.invariant.rise) here.within here.found in
-    ap (λ (e : ℕ × Place). Some e.1) (c.index.ensures ∙ ap (λ (es : List (ℕ × Place)). get_or es index c.index.result.now) c.self.view_is)
-    ∙ sym (place-at c.args.number index c.index.result.now c.args.self.now first)
+    let d : ℕ × Place = (0, c.place.result) in
+    ap (λ (at : Place). Some at) c.place.ensures ∙ ap (λ (es : List (ℕ × Place)). Some (get_or es index d).1) c.self.view_is
+    ∙ sym (place-at c.args.number index d c.args.self.now first)

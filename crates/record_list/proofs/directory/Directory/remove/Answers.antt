@@ -1,14 +1,14 @@
-use Rattle.std.proofs.Common.{◌∙◌, arith, sym, subst, ap}
+use Rattle.std.proofs.Common.{◌∙◌, sym, subst, ap}
 use Rattle.std.proofs.lemmas.List.Edits.{length-remove}
 use Rattle.record_list.specs.Listed.{NumbersAscend, without_number}
-use Rattle.record_list.proofs.Listing.{held, without-unlisted, without-at, first_at, ascend-remove}
+use Rattle.record_list.proofs.Listing.{without-unlisted, without-at, first_at, ascend-remove}
 use Rattle.record_list.proofs.directory.Directory.remove.Goals as goal
 
 pub invariant_of-self-in-Some : goal.invariant_of-self-in-Some
 invariant_of-self-in-Some c =
-    let es = c.self.inside.places.items in
+    let es = c.self.inside.entries in
     let inside = c.in-Some.ensures.within in
-    let shorter = held c.remove-entry.result (c.remove-entry.ensures.variant.1 (omega arith)) c.remove-entry.ensures.items in
+    let shorter = c.remove.ensures in
     record {
       listed = tt;
       rise = subst NumbersAscend (sym shorter) (ascend-remove es c.in-Some.index c.self.invariant.rise inside (length-remove es c.in-Some.index inside));
@@ -16,12 +16,12 @@ invariant_of-self-in-Some c =
 
 pub returns-in-Some : goal.returns-in-Some
 returns-in-Some c =
-    let es = c.self.inside.places.items in
+    let es = c.self.inside.entries in
     let here = c.in-Some.ensures in
     let inside = here.within in
     let first = first_at c.args.number c.in-Some.index es c.self.invariant.rise here.within here.found in
-    held c.remove-entry.result (c.remove-entry.ensures.variant.1 (omega arith)) c.remove-entry.ensures.items ∙ sym (without-at c.args.number c.in-Some.index es first) ∙ ap (without_number c.args.number) c.self.view_is
+    c.remove.ensures ∙ sym (without-at c.args.number c.in-Some.index es first) ∙ ap (without_number c.args.number) c.self.view_is
 
 pub returns-in_default : goal.returns-in_default
 returns-in_default c =
-    sym (without-unlisted c.args.number c.self.inside.places.items c.in_default.ensures.missing) ∙ ap (without_number c.args.number) c.self.view_is
+    sym (without-unlisted c.args.number c.self.inside.entries c.in_default.ensures.missing) ∙ ap (without_number c.args.number) c.self.view_is

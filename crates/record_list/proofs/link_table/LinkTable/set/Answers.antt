@@ -2,20 +2,19 @@ use Rattle.std.proofs.Common.{◌≡◌, true, false, sym, ap, ◌∙◌, slice_
 use Rattle.std.specs.Option.{is_some}
 use Rattle.std.specs.declared.option.Option.TheVariants.{None}
 use Rattle.record_list.specs.Packing.{link_of, slot_of, table_of}
-use Rattle.record_list.specs.Seating.{seats_of, queue_ends_of, others_of, table_by}
+use Rattle.record_list.specs.Seating.{queue_seat_of, queue_ends_of, others_of, table_by}
 use Rattle.record_list.proofs.Table.{read_other, write_first, write_other}
 use Rattle.record_list.proofs.link_table.LinkTable.set.Goals as goal
 
 pub returns-then-d-queue : goal.returns-then-d-queue
 returns-then-d-queue c =
     let k = c.self.inside in
-    let s = seats_of k.seating in
+    let s = queue_seat_of k.seating in
     let x = link_of c.packed-seat.result.0 c.packed-seat.result.1 in
-    let seats = c.set_queue_ends.ensures.rest.0 ∙ c.set_seats-then-d-queue.ensures.seats in
-    let others = c.set_queue_ends.ensures.rest.1 ∙ c.set_seats-then-d-queue.ensures.rest.1 in
-    (λ i. let t = seats i in table_of t.queue (link_of t.queue_seat (c.set_queue_ends.ensures.ends i)) (others i) (link_of t.row_seat k.row_ends))
-    ∙ ap (λ t. table_of t.queue x (others_of k.seating) (link_of t.row_seat k.row_ends)) c.seats-seats.ensures
-    ∙ write_first s.queue (link_of s.queue_seat (queue_ends_of k.seating)) _ _ _ c.args.d c.requires.chain c.if-d-eq32.false (c.if-d-queue.true ∙ ap (λ t. t.queue) c.seats-seats.ensures)
+    let set = c.set_in_queue.ensures in
+    (λ i. let t = set.seat i in table_of t.queue (link_of t.seat (set.ends i)) (set.rest i))
+    ∙ ap (λ t. table_of t.queue x (others_of k.seating)) c.queue_seat-first.ensures
+    ∙ write_first s.queue (link_of s.seat (queue_ends_of k.seating)) _ _ c.args.d c.requires.chain (c.if-d-queue.true ∙ ap (λ t. t.queue) c.queue_seat-first.ensures)
     ∙ (λ i. slice_set (c.self.view_is i) c.args.d (c.packed-seat.ensures i))
 
 pub returns-in-Several : goal.returns-in-Several
@@ -23,21 +22,21 @@ returns-in-Several c =
     let k = c.self.inside in
     let s = c.in-Several.field-0 in
     let block = c.deref_mut.result.now in
-    let queue = ap (λ t. t.queue) (c.seats-seats.ensures ∙ ap seats_of c.in-Several.is) in
+    let queue = ap (λ t. t.queue) (c.queue_seat-first.ensures ∙ ap queue_seat_of c.in-Several.is) in
     let slot = c.slot_of.ensures.slot ∙ ap (λ q. slot_of q c.args.d) queue in
-    write_other s.queue _ _ c.args.link block.others _ c.args.d c.requires.chain c.if-d-eq32.false (λ p. c.if-d-queue.false (p ∙ sym queue))
+    write_other s.queue _ c.args.link block.others _ c.args.d c.requires.chain (λ p. c.if-d-queue.false (p ∙ sym queue))
     (c.set.ensures.written ∙ ap (λ n. slice_set block.others n c.args.link) slot)
     (ap (λ n. slice_index_or c.set.new.self n None) (sym slot) ∙ c.set.ensures.stands)
-    ∙ ap (λ b. slice_set (table_of s.queue (link_of s.queue_seat b.first) b.others (link_of s.row_seat k.row_ends)) c.args.d c.args.link) c.deref_mut.ensures.value
-    ∙ ap (λ l. slice_set l c.args.d c.args.link) (sym (ap (table_by k.row_ends) c.in-Several.is) ∙ c.self.view_is)
+    ∙ ap (λ b. slice_set (table_of s.queue (link_of s.seat b.first) b.others) c.args.d c.args.link) c.deref_mut.ensures.value
+    ∙ ap (λ l. slice_set l c.args.d c.args.link) (sym (ap table_by c.in-Several.is) ∙ c.self.view_is)
 
 pub returns-in_default : goal.returns-in_default
 returns-in_default c =
     let k = c.self.inside in
-    let s = seats_of k.seating in
-    let queue = ap (λ t. t.queue) c.seats-seats.ensures in
+    let s = queue_seat_of k.seating in
+    let queue = ap (λ t. t.queue) c.queue_seat-first.ensures in
     let none : is_some (slice_index_or c.args.self.now c.args.d None) ≡ false =
     ap is_some (ap (λ l. slice_index_or l c.args.d None) (sym c.self.view_is)
-    ∙ read_other s.queue _ _ (others_of k.seating) c.args.d c.requires.chain c.if-d-eq32.false (λ p. c.if-d-queue.false (p ∙ sym queue))
+    ∙ read_other s.queue _ (others_of k.seating) c.args.d c.requires.chain (λ p. c.if-d-queue.false (p ∙ sym queue))
     ∙ ap (λ t. slice_index_or (others_of t) (slot_of s.queue c.args.d) None) c.in_default.is) in
     let wrong : true ≡ false = sym c.requires.stands ∙ none in cc
