@@ -8,7 +8,7 @@ use judge_core::{Deliveries, Text, TextPiece};
 use std::alloc::AllocError;
 
 /// What is sent of an accepted message: its control id, and the text for each destination.
-#[derive(Debug, Drop)]
+#[derive(Drop)]
 pub struct Letter {
     pub control_id: TextPiece,
     pub deliveries: Deliveries,
@@ -30,7 +30,7 @@ impl Letter {
 }
 
 /// A message to be sent to a destination.
-#[derive(Debug, Drop)]
+#[derive(Drop)]
 pub struct Job {
     /// The right to settle this attempt.
     pub ticket: Ticket,

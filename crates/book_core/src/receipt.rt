@@ -9,7 +9,7 @@ use std::alloc::{AllocError, AllocFailed};
 use thiserror::Error;
 
 /// What stands in the history of an arrival, and where.
-#[derive(Debug, Drop)]
+#[derive(Drop)]
 pub struct Receipt {
     /// The place of its entry, counted from 0.
     pub entry: usize,

@@ -1,6 +1,6 @@
 //! Worlds and the sequential engine, to which the same happens.
 
-use crate::alike::is_alike;
+use crate::alike::{is_alike, is_same};
 use crate::dice::{Dice, NO_TICKET};
 use crate::line::{Line, Piece};
 use crate::plan::{Said, judged_by, plan_of};
@@ -75,16 +75,12 @@ fn hear(
     Ok(())
 }
 
-/// Whether an entry is the same in a world and in the sequential engine.
-fn is_entry_alike(
-    alloc: Global,
-    world: &Engine,
-    other: &SequentialBook,
-    place: usize,
-) -> Result<bool, AllocError> {
-    let entry = format!(in alloc; "{:?}", world.book().entry(place))?;
-    let due = format!(in alloc; "{:?}", other.entries().get(place))?;
-    Ok(entry == due)
+/// Whether an entry is there in a world and in the sequential engine, and is the same.
+fn is_entry_alike(world: &Engine, other: &SequentialBook, place: usize) -> bool {
+    match (world.book().entry(place), other.entries().get(place)) {
+        (Some(entry), Some(due)) => is_same(entry, due),
+        _ => false,
+    }
 }
 
 impl Worlds {
@@ -234,7 +230,7 @@ impl Worlds {
             bail!("there are two numbers of entries");
         }
         for place in 0..len {
-            if !is_entry_alike(self.alloc, world, &self.other, place)? {
+            if !is_entry_alike(world, &self.other, place) {
                 bail!("entry {place} isn't the same");
             }
         }

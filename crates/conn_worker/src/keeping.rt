@@ -51,7 +51,7 @@ impl Keeping for Vec<Receipt> {
 }
 
 /// No receipt is kept, where nobody reads them.
-#[derive(Clone, Copy, Debug, Drop)]
+#[derive(Clone, Copy, Drop)]
 pub struct Unkept;
 
 impl Keeping for Unkept {

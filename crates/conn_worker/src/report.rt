@@ -37,7 +37,7 @@ impl From<AllocError> for ServeEnd {
 }
 
 /// What came of a connection's events, and why serving it ended.
-#[derive(Debug, Drop)]
+#[derive(Drop)]
 pub struct ServeReport<K = Vec<Receipt>> {
     /// What is kept of the receipts of the booked messages, in the order in which they came.
     pub receipts: K,

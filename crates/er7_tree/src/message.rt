@@ -25,7 +25,7 @@ use std::sync::Arc;
 ///
 /// It has at most [`MAX_SEGMENTS`](crate::MAX_SEGMENTS) segments, no second header, and no segment holds a carriage return. It
 /// keeps one text and the spans of its segments in that text.
-#[derive(Debug, Drop)]
+#[derive(Drop)]
 pub struct Message {
     delims: Delims,
     text: Arc<Vec<u8>>,

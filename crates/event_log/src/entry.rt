@@ -50,7 +50,7 @@ pub struct Ticket {
 }
 
 /// A plan that was deployed, held once for all its owners.
-#[derive(Debug, Drop)]
+#[derive(Drop)]
 pub struct DeployedPlan {
     plan: Arc<Plan>,
 }
@@ -84,7 +84,7 @@ impl DeployedPlan {
 }
 
 /// An event with its reply.
-#[derive(Debug, Drop)]
+#[derive(Drop)]
 pub enum Entry {
     /// A text came by a connection, on a channel.
     Arrival {

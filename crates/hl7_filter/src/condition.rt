@@ -15,7 +15,7 @@ use std::borrow::CowSlice;
 
 /// A condition on a message, of the values of its pieces or of other conditions. Two conditions are equal where they have
 /// the same form, places, texts and members.
-#[derive(Debug, Drop)]
+#[derive(Drop)]
 pub enum Cond {
     /// The value is this text.
     Equals(Path, Bytes),

@@ -10,7 +10,7 @@ use std::sync::Arc;
 
 /// The header of a message: the fields and components of its segment MSH that an engine reads, raw. It keeps the text of the
 /// message, as one more of its owners.
-#[derive(Debug, Drop)]
+#[derive(Drop)]
 pub struct Header {
     delims: Delims,
     text: Arc<Vec<u8>>,

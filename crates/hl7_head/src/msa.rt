@@ -9,7 +9,7 @@ use std::marker::Model;
 const PIECES_READ: usize = 4;
 
 /// The fields of a message acknowledgment segment, MSA, raw.
-#[derive(Debug, Drop)]
+#[derive(Drop)]
 pub struct Msa {
     /// MSA-1, the acknowledgment code (table 0008).
     pub code: Vec<u8>,

@@ -42,7 +42,7 @@ pub fn first_pieces<const N: usize>(text: &[u8], part: Span, separator: u8) -> [
 }
 
 /// Where the pieces of a header stand in the text of its message.
-#[derive(Clone, Copy, Debug)]
+#[derive(Clone, Copy)]
 pub struct Places {
     pub encoding_characters: Span,
     pub sending_application: Span,

@@ -6,14 +6,14 @@ use er7_tree::Path;
 use hl7_filter::Bytes;
 
 /// Two texts of a lookup table: a value, and its partner.
-#[derive(Debug, PartialEq, Eq, Drop)]
+#[derive(PartialEq, Eq, Drop)]
 pub struct Pair {
     pub from: Bytes,
     pub to: Bytes,
 }
 
 /// A step that changes a message. Two steps are equal where they have the same form, places and texts.
-#[derive(Debug, Drop)]
+#[derive(Drop)]
 pub enum Step {
     /// The piece becomes this text, in which delimiters and control characters are escaped.
     Set(Path, Bytes),

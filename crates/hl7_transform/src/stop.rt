@@ -3,7 +3,7 @@ use er7_tree::Refusal;
 use std::alloc::AllocError;
 
 /// Why one step wasn't taken.
-#[derive(Clone, Copy, Debug)]
+#[derive(Clone, Copy)]
 pub(crate) enum Stop {
     Cause(StopCause),
     NoMemory,

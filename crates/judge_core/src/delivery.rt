@@ -23,7 +23,7 @@ use std::slice;
 use std::sync::Arc;
 
 /// A text for one destination, by its place in the plan.
-#[derive(Debug, Drop)]
+#[derive(Drop)]
 pub struct Delivery {
     pub destination: u32,
     pub payload: Text,
@@ -31,7 +31,7 @@ pub struct Delivery {
 
 /// The texts of a message for its destinations, with a list on the heap only where there are several. It is there for speed: a
 /// message for one destination takes a request for memory less.
-#[derive(Debug, Drop)]
+#[derive(Drop)]
 pub(crate) enum Outgoing {
     Nowhere,
     One(Delivery),
@@ -40,14 +40,14 @@ pub(crate) enum Outgoing {
 
 /// Deliveries as their owners keep them. It is there for speed: a single one is kept in place, and shares its text alone, so
 /// that it takes no memory of its own.
-#[derive(Debug, Drop)]
+#[derive(Drop)]
 pub(crate) enum Kept {
     One(Delivery),
     Several(Arc<Vec<Delivery>>),
 }
 
 /// Where a message goes and with which texts, held once for all its owners: at most 32 destinations, each once.
-#[derive(Debug, Drop)]
+#[derive(Drop)]
 pub struct Deliveries {
     items: Kept,
 }

@@ -25,7 +25,7 @@ use std::sync::Arc;
 const KEY_MARKS: usize = 3;
 
 /// What is decided of a text.
-#[derive(Debug, Drop)]
+#[derive(Drop)]
 pub enum Verdict {
     /// It is no message: there is no answer.
     Unreadable,

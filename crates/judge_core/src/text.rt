@@ -12,7 +12,7 @@ use std::marker::Model;
 use std::sync::Arc;
 
 /// The bytes of a text, held once for all its owners.
-#[derive(Debug, Drop)]
+#[derive(Drop)]
 pub struct Text {
     shared: Arc<Vec<u8>>,
 }
@@ -62,7 +62,7 @@ impl Text {
 }
 
 /// A piece of a text, as a span of the bytes that its owners share: so it takes no memory of its own where it is kept.
-#[derive(Debug, Drop)]
+#[derive(Drop)]
 pub struct TextPiece {
     shared: Arc<Vec<u8>>,
     start: u32,

@@ -36,7 +36,7 @@ pub enum Break {
 }
 
 /// What a stream holds, in order. Bytes outside of blocks give no event.
-#[derive(Debug, PartialEq, Eq, Drop)]
+#[derive(PartialEq, Eq, Drop)]
 pub enum FrameEvent {
     /// A whole block, by its data, of at most [`DATA_MAX`] bytes.
     Block(Vec<u8>),

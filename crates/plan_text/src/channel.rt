@@ -17,7 +17,7 @@ use hl7_transform::Step;
 use std::marker::Model;
 
 /// An entry of a channel's list of message types (MSH-9).
-#[derive(Debug, Drop)]
+#[derive(Drop)]
 pub enum MessageType {
     /// Any message type, of a nonempty MSH-9.1.
     Any,
@@ -36,7 +36,7 @@ pub enum ProcessingId {
 }
 
 /// An entry of a channel's list of versions (MSH-12.1).
-#[derive(Debug, Drop)]
+#[derive(Drop)]
 pub enum VersionId {
     /// Any version, also an empty one.
     Any,
@@ -45,7 +45,7 @@ pub enum VersionId {
 }
 
 /// The way from a channel to a destination.
-#[derive(Debug, Drop)]
+#[derive(Drop)]
 pub struct Route {
     pub(crate) to: u32,
     pub(crate) filter: Option<Cond>,
@@ -94,7 +94,7 @@ impl Route {
 }
 
 /// Where messages come from: a listener, which messages it takes, and their routes.
-#[derive(Debug, Drop)]
+#[derive(Drop)]
 pub struct Channel {
     pub(crate) name: Literal,
     pub(crate) listen: Literal,

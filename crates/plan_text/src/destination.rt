@@ -15,7 +15,7 @@ pub enum Await {
 }
 
 /// Where messages go: one peer over MLLP, and how often and how long it is tried.
-#[derive(Debug, Drop)]
+#[derive(Drop)]
 pub struct Destination {
     pub(crate) name: Literal,
     pub(crate) address: Literal,

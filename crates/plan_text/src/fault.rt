@@ -107,7 +107,7 @@ impl PlanFault {
 }
 
 /// Why reading stopped.
-#[derive(Debug, Drop)]
+#[derive(Drop)]
 pub(crate) enum Stop {
     NoMemory,
     Fault(PlanFault),

@@ -12,7 +12,7 @@ use std::marker::Model;
 /// The destinations that messages go to, and the channels that they come in on. A place counts from 0.
 ///
 /// Two plans are equal where they say the same, wherever they lie in memory.
-#[derive(Debug, Drop)]
+#[derive(Drop)]
 pub struct Plan {
     pub(crate) destinations: Vec<Destination>,
     pub(crate) channels: Vec<Channel>,
