@@ -4,7 +4,7 @@ use delivery_worker::{Link, LinkFault, TcpLink};
 use plan_text::Plan;
 use std::alloc::Global;
 use std::io::{Read, Write};
-use std::net::TcpListener;
+use std::net::{TcpListener, TcpStream};
 use std::test::Fail;
 
 /// A plan whose one destination is at this port, with a timeout of one second.
@@ -18,8 +18,52 @@ fn plan_for(alloc: Global, port: u16) -> Result<Plan, Fail> {
     }
 }
 
-/// What is sent arrives, what is answered is received, silence and a closed port are faults, and a connection after a
-/// fault is a new one.
+/// Whether the peer gets what was sent, and what it answers is received.
+fn is_told(link: &mut TcpLink<'_, HostRuntime>, peer: &mut TcpStream) -> Result<bool, Fail> {
+    let mut asked = [0; 5];
+    peer.read_exact(&mut asked)?;
+    peer.write_all(b"told")?;
+    let mut buffer = [0; 16];
+    let told = link.receive(&mut buffer) == Ok(4) && buffer.starts_with(b"told");
+    Ok(told && asked == *b"asked" && link.faults() == 0)
+}
+
+/// Whether silence is a fault, and what is sent after a fault is one too.
+fn is_lost(link: &mut TcpLink<'_, HostRuntime>) -> bool {
+    let mut buffer = [0; 16];
+    link.receive(&mut buffer) == Err(LinkFault)
+        && link.send(b"again") == Err(LinkFault)
+        && link.faults() == 2
+}
+
+/// Whether a connection after a fault is a new one, whose end is seen.
+fn sees_the_end(
+    link: &mut TcpLink<'_, HostRuntime>,
+    listener: &TcpListener,
+) -> Result<bool, Fail> {
+    if link.connect().is_err() {
+        return Ok(false);
+    }
+    let (peer, _) = listener.accept()?;
+    drop(peer);
+    Ok(link.receive(&mut [0; 16]) == Ok(0))
+}
+
+/// Whether what is sent arrives, what is answered is received, silence and a closed port are faults, and a connection after
+/// a fault is a new one.
+fn comes_out(
+    listener: TcpListener,
+    link: &mut TcpLink<'_, HostRuntime>,
+) -> Result<bool, Fail> {
+    if link.connect().is_err() || link.send(b"asked").is_err() {
+        return Ok(false);
+    }
+    let (mut peer, _) = listener.accept()?;
+    let came_out = is_told(link, &mut peer)? && is_lost(link) && sees_the_end(link, &listener)?;
+    drop(listener);
+    Ok(came_out && link.connect() == Err(LinkFault) && link.faults() == 3)
+}
+
 #[test]
 fn loopback(rt: HostRuntime) -> Result<(), Fail> {
     let listener = TcpListener::bind(&rt, "127.0.0.1:0")?;
@@ -27,30 +71,6 @@ fn loopback(rt: HostRuntime) -> Result<(), Fail> {
     let Some(destination) = plan.destination(0) else {
         return Err("no destination".into());
     };
-    let mut link = TcpLink::new(&rt, destination);
-    let mut buffer = [0; 16];
-
-    assert!(rt; link.connect().is_ok() && link.send(b"asked").is_ok());
-    let (mut peer, _) = listener.accept()?;
-    let mut asked = [0; 5];
-    peer.read_exact(&mut asked)?;
-    assert!(rt; asked == *b"asked");
-    peer.write_all(b"told")?;
-    assert_eq!(rt; link.receive(&mut buffer), Ok(4));
-    assert!(rt; buffer.starts_with(b"told"));
-    assert_eq!(rt; link.faults(), 0);
-
-    assert_eq!(rt; link.receive(&mut buffer), Err(LinkFault));
-    assert_eq!(rt; link.send(b"again"), Err(LinkFault));
-    assert_eq!(rt; link.faults(), 2);
-
-    assert!(rt; link.connect().is_ok());
-    let (second, _) = listener.accept()?;
-    drop(second);
-    assert_eq!(rt; link.receive(&mut buffer), Ok(0));
-
-    drop(listener);
-    assert_eq!(rt; link.connect(), Err(LinkFault));
-    assert_eq!(rt; link.faults(), 3);
+    assert!(rt; comes_out(listener, &mut TcpLink::new(&rt, destination))?);
     Ok(())
 }
