@@ -5,7 +5,7 @@ Processor time is read from /proc every second, so up to a second of each check 
 the system (setsid) aren't counted, so two gates may be measured side by side. Of each check that is no edit it further
 tells the functions whose proof took longest, by when the prover wrote each checked part: seconds on the clock, not of a
 processor, and only roughly right where a check has several processes. The same is told of each file of a crate, the longest
-first. An interruption (SIGINT, SIGTERM) ends the command, and what was seen until then is told.
+first, and of all that is derived or dropped. An interruption (SIGINT, SIGTERM) ends the command, and what was seen until then is told.
 
 Usage: bench/gate.py [COMMAND WORD..]
 """
@@ -23,6 +23,7 @@ SLOWEST = 40  # how many functions are told
 FILES = 6  # how many files of a crate are told
 TICKS = os.sysconf('SC_CLK_TCK')
 KINDS = ('proof', 'tests', 'edits')
+DERIVED = re.compile(r'(Debug|Display|PartialEq|Clone|Destruct)(?=\.|$)')  # what is derived or dropped, in a function's path
 PARTS = re.compile(r'rattle-logic-built-locked-(\d+)-')  # the folder in which a check keeps its parts while it runs
 
 
@@ -95,6 +96,13 @@ def tell(taken, parts, minutes):
     for crate, by_file in sorted(files.items(), key=lambda it: -it[1].total()):
         told = ', '.join(f'{file or "(crate)"} {seconds:.0f}' for file, seconds in by_file.most_common(FILES))
         print(f'{by_file.total():7.1f} s {crate}: {told}')
+    derived = collections.Counter()
+    for (_, function), seconds in slowest.items():
+        found = DERIVED.search(function)
+        if found:
+            derived[found[1]] += seconds
+    told = ', '.join(f'{what} {seconds:.0f}' for what, seconds in derived.most_common())
+    print(f'{sum(slowest.values()):7.1f} s all, of them what is derived or dropped: {told}')
     for (crate, function), seconds in slowest.most_common(SLOWEST):
         print(f'{seconds:7.1f} s {crate} {function}')
 
