@@ -55,7 +55,8 @@ fn is_arrival(entry: &Entry, due: (u32, u32, Told), bytes: &[u8]) -> bool {
         channel,
         raw,
         told,
-    } = entry else {
+    } = entry
+    else {
         return false;
     };
     (*conn, *channel, *told) == due && raw.as_slice() == bytes
@@ -68,7 +69,8 @@ fn is_settlement(entry: &Entry, due: (Outcome, Ticket, Moment, SlotState)) -> bo
         ticket,
         now,
         state,
-    } = entry else {
+    } = entry
+    else {
         return false;
     };
     (*outcome, *ticket, *now, *state) == due

@@ -37,10 +37,7 @@ fn is_lost(link: &mut TcpLink<'_, HostRuntime>) -> bool {
 }
 
 /// Whether a connection after a fault is a new one, whose end is seen.
-fn sees_the_end(
-    link: &mut TcpLink<'_, HostRuntime>,
-    listener: &TcpListener,
-) -> Result<bool, Fail> {
+fn sees_the_end(link: &mut TcpLink<'_, HostRuntime>, listener: &TcpListener) -> Result<bool, Fail> {
     if link.connect().is_err() {
         return Ok(false);
     }
@@ -51,10 +48,7 @@ fn sees_the_end(
 
 /// Whether what is sent arrives, what is answered is received, silence and a closed port are faults, and a connection after
 /// a fault is a new one.
-fn comes_out(
-    listener: TcpListener,
-    link: &mut TcpLink<'_, HostRuntime>,
-) -> Result<bool, Fail> {
+fn comes_out(listener: TcpListener, link: &mut TcpLink<'_, HostRuntime>) -> Result<bool, Fail> {
     if link.connect().is_err() || link.send(b"asked").is_err() {
         return Ok(false);
     }
