@@ -3,9 +3,9 @@
 ghost use Rattle.std.specs.Prelude.{◌≡◌, ◌≤◌, ℕ, None, Some, Ok, IfOk, false, true, length, map, option_map, min, pos, string_bytes};
 ghost use Rattle.clap.specs.declared.builder.command.Command.TheViews.{out-Command as fields_of};
 ghost use Rattle.clap.specs.declared.builder.value_parser.ValueParser.TheVariants as parser;
-ghost use Rattle.clap.specs.Words.{FailsBy, app_of, fault_of, found_of, new_rule, rows_of, rule_of, subcommand_of, subcommand_rows_of, with_rule};
+ghost use Rattle.clap.specs.Words.{FailsBy, app_of, fault_of, found_of, new_rule, rows_of, rule_of, subcommand_of, subcommand_rows_of, with_rule, with_subcommand};
 ghost use Rattle.engine_words.specs.Request.{without_words, IsWithinLimits};
-ghost use Rattle.engine_words.specs.Words.{accept_rule, answer_app, check_app, events_rule, now_rule, plan_rule, program, run_app, Asks, AsksAnswer, AsksBy, AsksRun, IsAccept, IsBound};
+ghost use Rattle.engine_words.specs.Words.{accept_rule, answer_app, check_app, events_rule, now_rule, plan_rule, program, run_app, top, Asks, AsksAnswer, AsksBy, AsksRun, IsAccept, IsBound};
 
 use clap::builder::ValueParser;
 use clap::{Arg, ArgMatches, Command, Error, value_parser};
@@ -143,32 +143,31 @@ fn plan_word<'a>(alloc: Global) -> Arg<'a>
         .help("A plan in TOML")
 }
 
-/// The command with its plan, an option of its own, and `--events`.
-fn with_words<'a>(
+/// The command with an option of its own, and `--events`.
+fn with_options<'a>(
     alloc: Global,
     command: Command<'a>,
-    plan: Arg<'a>,
     option: Arg<'a>,
 ) -> Result<Command<'a>, AllocError>
     requires command { (fields_of command).has_globals ≡ false }
-    requires plan { plan.global ≡ false }
     requires option { option.global ≡ false }
-    ensures app { IfOk result (λ c. app_of c
-        ≡ with_rule (with_rule (with_rule (app_of command.entry) (rule_of plan.entry)) (rule_of option.entry)) events_rule) }
+    ensures app { IfOk result (λ c. app_of c ≡ with_rule (with_rule (app_of command.entry) (rule_of option.entry)) events_rule) }
     ensures local { IfOk result (λ c. (fields_of c).has_globals ≡ false) }
 {
-    command.arg(plan)?.arg(option)?.arg(events_option(alloc))
+    command.arg(option)?.arg(events_option(alloc))
 }
 
 fn answer_command<'a>(alloc: Global) -> Result<Command<'a>, AllocError>
     ensures app { IfOk result (λ c. app_of c ≡ answer_app) }
     ensures local { IfOk result (λ c. (fields_of c).has_globals ≡ false) }
 {
-    let command = Command::new(alloc, "answer").about(
-        "Acknowledges the blocks on standard input, to standard output, as connection 0 of the plan's first channel",
-    );
     let plan = Arg::new(alloc, "PLAN").help("A plan in TOML; the built-in plan where left out");
-    with_words(alloc, command, plan, now_option(alloc))
+    let command = Command::new(alloc, "answer")
+        .about(
+            "Acknowledges the blocks on standard input, to standard output, as connection 0 of the plan's first channel",
+        )
+        .arg(plan)?;
+    with_options(alloc, command, now_option(alloc))
 }
 
 fn check_command<'a>(alloc: Global) -> Result<Command<'a>, AllocError>
@@ -188,12 +187,14 @@ fn run_command<'a>(alloc: Global) -> Result<Command<'a>, AllocError>
         .about(
             "Listens for each channel of a plan, acknowledges what comes, and delivers it to the destinations",
         )
-        .after_help(RUNNING);
-    with_words(alloc, command, plan_word(alloc), accept_option(alloc))
+        .after_help(RUNNING)
+        .arg(plan_word(alloc))?;
+    with_options(alloc, command, accept_option(alloc))
 }
 
-fn program_command<'a>(alloc: Global) -> Result<Command<'a>, AllocError>
-    ensures { IfOk result (λ c. app_of c ≡ program) }
+/// The program by its name, with its version and help, before it has any command.
+fn top_command<'a>(alloc: Global) -> Command<'a>
+    ensures { app_of result ≡ top }
 {
     Command::new(alloc, "hl7_engine")
         .about(
@@ -201,9 +202,29 @@ fn program_command<'a>(alloc: Global) -> Result<Command<'a>, AllocError>
         )
         .after_help(STATUSES)
         .version(VERSION)
-        .subcommand(answer_command(alloc)?)?
-        .subcommand(check_command(alloc)?)?
-        .subcommand(run_command(alloc)?)
+}
+
+/// The program with `answer`, its first command.
+fn answering<'a>(alloc: Global) -> Result<Command<'a>, AllocError>
+    ensures { IfOk result (λ c. app_of c ≡ with_subcommand top answer_app.top) }
+{
+    let answer = answer_command(alloc)?;
+    top_command(alloc).subcommand(answer)
+}
+
+/// The program with `answer` and `check`.
+fn checking<'a>(alloc: Global) -> Result<Command<'a>, AllocError>
+    ensures { IfOk result (λ c. app_of c ≡ with_subcommand (with_subcommand top answer_app.top) check_app.top) }
+{
+    let check = check_command(alloc)?;
+    answering(alloc)?.subcommand(check)
+}
+
+fn program_command<'a>(alloc: Global) -> Result<Command<'a>, AllocError>
+    ensures { IfOk result (λ c. app_of c ≡ program) }
+{
+    let run = run_command(alloc)?;
+    checking(alloc)?.subcommand(run)
 }
 
 /// The moment that many seconds after the year 1970 began, or the last one.
