@@ -1,36 +1,14 @@
 //! Deliveries of the built-in plan's destination, whose messages are sent three times at most, ten seconds apart.
 
-ghost use Rattle.std.specs.Prelude.{◌≡◌, ◌+◌, length};
-ghost use Rattle.event_log.specs.History.{next_place, plan_in_force};
-ghost use Rattle.event_log.specs.Counting.{counted};
-
-use crate::played::{Leaping, Play, Played};
-use book_core::{Book, EVENTS_MAX, Letter};
-use book_lock::{Opening, Shared};
-use delivery_worker::{DeliverEnd, DeliverReport, deliver};
-use dest_queue::{Addressed, FailCause, SlotState};
-use judge_core::{fits_block, judge};
-use plan_text::Plan;
-use row_store::PlainRows;
+use crate::played::{Play, Played};
+use crate::stage::{BLOCKS, Delivered, Rows, deliver_all, waiting};
+use book_core::Book;
+use delivery_worker::{DeliverEnd, DeliverReport};
+use dest_queue::{FailCause, SlotState};
 use std::alloc::Global;
-use std::hash::RandomState;
-use std::marker::Brand;
-use std::sync::ledger::{Blank, Ledger};
-use std::sync::{Arc, Wait};
+use std::sync::Wait;
 use std::test::Fail;
 use std::time;
-
-/// Messages with the control ids M1 and M2.
-const MESSAGES: [&str; 2] = [
-    "MSH|^~\\&|REG|HOSP|ENG|HUB|20231114221300||ADT^A01^ADT_A01|M1|P|2.5.1\rPID|1||77^^^H\r",
-    "MSH|^~\\&|REG|HOSP|ENG|HUB|20231114221300||ADT^A01^ADT_A01|M2|P|2.5.1\rPID|1||77^^^H\r",
-];
-
-/// The two as blocks, one behind the other.
-const BOTH: &str =
-    "\x0bMSH|^~\\&|REG|HOSP|ENG|HUB|20231114221300||ADT^A01^ADT_A01|M1|P|2.5.1\rPID|1||77^^^H\r\x1c\r\x0bMSH|^~\\&|REG|HOSP|ENG|HUB|20231114221300||ADT^A01^ADT_A01|M2|P|2.5.1\rPID|1||77^^^H\r\x1c\r";
-
-type Rows = PlainRows<Addressed<Letter>>;
 
 /// What a destination does, and what is to come of it.
 struct Case {
@@ -206,117 +184,44 @@ const CASES: [Case; 9] = [
     },
 ];
 
-/// Books a message that came by connection 0 on the first channel.
-fn book_message(alloc: Global, book: &mut Book<Rows>, text: &str) -> Result<(), Fail> {
-    let raw = Vec::from_slice(alloc, text.as_bytes())?;
-    if !fits_block(&raw) {
-        return Err("a block".into());
+/// Whether the bytes are the two blocks in their order.
+fn are_both(bytes: &[u8]) -> bool {
+    match bytes.split_at_checked(BLOCKS[0].len()) {
+        Some((first, second)) => { first == BLOCKS[0].as_bytes() && second == BLOCKS[1].as_bytes() }
+        None => false,
     }
-    let plan = Arc::try_clone(book.plan())?;
-    plan.rules();
-    let judged = judge(alloc, &plan, 0, raw)?;
-    if !judged.bookable() {
-        return Err("a message".into());
-    }
-    book.arrive(0, &judged)?;
-    Ok(())
 }
 
-/// A book of the built-in plan in which so many messages wait.
-fn waiting(rt: &HostRuntime, messages: usize) -> Result<Book<Rows>, Fail> {
-    let alloc = rt.alloc();
-    let plan = Arc::new(alloc, Plan::built_in(alloc)?)?;
-    let mut book = Book::new(alloc, plan, EVENTS_MAX, RandomState::new(rt)?);
-    for text in &MESSAGES[..messages.min(2)] {
-        book_message(alloc, &mut book, text)?;
-    }
-    Ok(book)
+/// Whether a case comes out as it is to. What was sent of two messages are two blocks in their order.
+fn is_right(case: &Case, link: &Played<'_>, delivered: &Delivered) -> bool {
+    let all = case.messages == 2 && case.turns > 1;
+    delivered.report == case.report
+        && link.connections == case.connections
+        && delivered.closed.book().status(0, 0) == Some(case.state)
+        && (!all || are_both(&link.sent))
 }
 
-/// What came of a case.
-#[derive(Drop)]
-struct Outcome {
-    report: DeliverReport,
-    connections: u32,
-    sent: Vec<u8>,
-    state: Option<SlotState>,
-}
-
-/// Delivers what waits in a book to a destination that is played.
-fn play<A: Opening, T: Ledger, U: Ledger, H: Wait + time::Clock>(
+/// Whether a case comes out as it is to, with the book in which its messages wait. It doesn't where memory was refused.
+fn comes_out<H: Wait + time::Clock>(
     rt: &H,
     alloc: Global,
-    book: Book<Rows>,
-    arrivals: Blank,
-    takes: Blank,
-    settlements: Blank,
+    book: Option<Book<Rows>>,
     case: &Case,
-) -> Result<Outcome, Fail>
-    requires counts { counted book ≡ A.counts }
-    requires first { next_place book ≡ A.first }
-    requires channels { length (plan_in_force book).channels ≡ A.channels }
-    requires arrivals { (arrivals.name ≡ A.name) × (arrivals.parts ≡ A.parts) × (A.parts ≡ 1) }
-    requires takes { (takes.name ≡ T.name) × (takes.parts ≡ T.parts) × (T.parts ≡ 2) }
-    requires settlements { (settlements.name ≡ U.name) × (settlements.parts ≡ U.parts) × (U.parts ≡ 2) }
-{
-    let opened = Shared::<A, T, U, Rows>::new(alloc, book, 0, 1, arrivals, takes, settlements);
-    let Ok((shared, desks, mut stations)) = opened else {
-        return Err("memory".into());
-    };
-    let Some(mut station) = stations.pop() else {
-        return Err("no station".into());
-    };
-    shared.finish(rt);
+) -> bool {
     let mut link = Played::new(alloc, case.plays);
-    let mut clock = Leaping {
-        seconds: 0,
-        leap: 20,
-    };
-    let report = deliver(
-        rt,
-        alloc,
-        &shared,
-        &mut station,
-        &mut link,
-        0,
-        &mut clock,
-        case.turns,
-    );
-    stations.push(station)?;
-    let Ok(closed) = shared.close(desks, stations) else {
-        return Err("shares".into());
-    };
-    Ok(Outcome {
-        report,
-        connections: link.connections,
-        sent: link.sent,
-        state: closed.book().status(0, 0),
-    })
+    match deliver_all(rt, alloc, book, &mut link, case.turns) {
+        Some(delivered) => is_right(case, &link, &delivered),
+        None => false,
+    }
 }
 
-/// Each case comes out as it is to. What was sent of two messages are two blocks in their order.
+/// Each case comes out as it is to.
 #[test]
 fn cases(rt: HostRuntime) -> Result<(), Fail> {
     for case in &CASES {
-        let book = waiting(&rt, case.messages)?;
-        let played = play::<Brand, Brand, Brand, HostRuntime>(
-            &rt,
-            rt.alloc(),
-            book,
-            Blank::new(1),
-            Blank::new(2),
-            Blank::new(2),
-            case,
-        )?;
-        assert!(rt; played.report == case.report, "{}", case.name);
-        assert!(rt; played.connections == case.connections, "{}", case.name);
-        assert!(rt; played.state == Some(case.state), "{}", case.name);
-        let all = case.messages == 2 && case.turns > 1;
-        assert!(rt;
-            !all || played.sent.as_slice() == BOTH.as_bytes(),
-            "{}",
-            case.name
-        );
+        let book = waiting(&rt, case.messages);
+        let right = comes_out(&rt, rt.alloc(), book, case);
+        assert!(rt; right, "{}", case.name);
     }
     Ok(())
 }

@@ -8,4 +8,6 @@ mod played;
 #[cfg(test)]
 mod refused_delivering;
 #[cfg(test)]
+mod stage;
+#[cfg(test)]
 mod tcp;
