@@ -6,7 +6,7 @@ ghost use Rattle.event_log.specs.Counting.{counted};
 
 use crate::stage::{Gate, Partner, Stage};
 use book_core::{Book, EVENTS_MAX, Letter, Receipt};
-use book_lock::{Closed, Opening, Shared, audit, rising};
+use book_lock::{Closed, Desk, Opening, Shared, audit, rising};
 use conn_worker::{ServeEnd, ServeReport, Still, nearest};
 use delivery_worker::{DeliverEnd, DeliverReport};
 use dest_queue::Addressed;
@@ -30,67 +30,63 @@ type Rows = PlainRows<Addressed<Letter>>;
 const PLAN: &str =
     "[[destination]]\nname = \"A\"\naddress = \"127.0.0.1:6671\"\n[[destination]]\nname = \"B\"\naddress = \"127.0.0.1:6672\"\n[[channel]]\nname = \"ADT\"\nlisten = \"127.0.0.1:6660\"\ntypes = [\"ADT\"]\nprocessing = [\"P\", \"T\"]\nversions = [\"2.5.1\"]\n[[channel.route]]\nto = \"A\"\n[[channel.route]]\nto = \"B\"\n";
 
-/// An empty book of that plan.
-fn empty_book(rt: &HostRuntime) -> Result<Book<Rows>, Fail> {
+/// An empty book of that plan. None where memory is refused.
+fn empty_book(rt: &HostRuntime) -> Option<Book<Rows>> {
     let alloc = rt.alloc();
-    let Ok(plan) = Plan::read(alloc, PLAN.as_bytes()) else {
-        return Err("the plan".into());
-    };
-    plan.rules();
-    let plan = Arc::new(alloc, plan)?;
-    Ok(Book::new(alloc, plan, EVENTS_MAX, RandomState::new(rt)?))
+    let hasher = RandomState::new(rt).ok()?;
+    let plan = Plan::read(alloc, PLAN.as_bytes()).ok()?;
+    let plan = Arc::new(alloc, plan).ok()?;
+    Some(Book::new(alloc, plan, EVENTS_MAX, hasher))
 }
 
-/// What came of a run: the statistics that were shown at its end, and how many arrivals each desk made.
+/// The door of the channel.
+fn doors_of(alloc: Global, stage: &Stage) -> Option<Vec<Gate<'_>>> {
+    let mut doors = Vec::new(alloc);
+    doors.push(Gate::new(stage)).ok()?;
+    Some(doors)
+}
+
+/// The links of the destinations.
+fn links_of(alloc: Global, stage: &Stage) -> Option<Vec<Partner<'_>>> {
+    let mut links = Vec::new(alloc);
+    links.push(Partner::new(stage, false)).ok()?;
+    links.push(Partner::new(stage, true)).ok()?;
+    Some(links)
+}
+
+/// What was shown at the end of a run, before the book was closed: the statistics, and how many arrivals each desk made.
+#[derive(Clone, Copy)]
+struct Shown {
+    counts: Counts,
+    made: (u64, u64),
+}
+
+/// What came of a run.
 #[derive(Drop)]
 struct Ended {
-    shown: Counts,
-    made: (u64, u64),
+    shown: Shown,
     closed: Closed<Rows>,
     served: Vec<ServeReport>,
     delivered: Vec<DeliverReport>,
 }
 
-/// Runs the workers of a book with two connections on its one channel, and closes it.
-fn run<
-    A: Opening + Send + Sync,
-    T: Ledger + Send + Sync,
-    U: Ledger + Send + Sync,
-    H: Wait + Threads + time::Clock + Log + Sync,
->(
+/// What is shown at two desks.
+fn shown_at<A: Opening, T: Ledger, U: Ledger, H: Wait>(
     rt: &H,
-    alloc: Global,
-    stage: &Stage,
-    book: Book<Rows>,
-    arrivals: Blank,
-    takes: Blank,
-    settlements: Blank,
-) -> Result<Ended, Fail>
-    requires counts { counted book ≡ A.counts }
-    requires first { next_place book ≡ A.first }
-    requires channels { length (plan_in_force book).channels ≡ A.channels }
-    requires arrivals { (arrivals.name ≡ A.name) × (arrivals.parts ≡ A.parts) × (A.parts ≡ 3) }
-    requires takes { (takes.name ≡ T.name) × (takes.parts ≡ T.parts) × (T.parts ≡ 3) }
-    requires settlements { (settlements.name ≡ U.name) × (settlements.parts ≡ U.parts) × (U.parts ≡ 3) }
-{
-    let opened = Shared::<A, T, U, Rows>::new(alloc, book, 2, 2, arrivals, takes, settlements);
-    let Ok((shared, desks, stations)) = opened else {
-        return Err("memory".into());
-    };
-    let mut doors = Vec::new(alloc);
-    doors.push(Gate::new(stage))?;
-    let mut links = Vec::new(alloc);
-    links.push(Partner::new(stage, false))?;
-    links.push(Partner::new(stage, true))?;
-    let staff = Staff {
-        desks,
-        doors,
-        stations,
-        links,
-    };
-    let Ok(worked) = run_workers(rt, alloc, &shared, staff, 2, Still(nearest(0))) else {
-        return Err("the workers".into());
-    };
+    shared: &Shared<A, T, U, Rows>,
+    desks: &mut [Desk<A>],
+) -> Option<Shown> {
+    let counts = shared.counts(rt, desks.first_mut()?);
+    let made = (desks.first()?.made(), desks.last()?.made());
+    Some(Shown { counts, made })
+}
+
+/// Takes the book out of its lock, once the workers have ended. None where a share is missing.
+fn close<A: Opening, T: Ledger, U: Ledger, H: Wait, D: Drop, L: Drop>(
+    rt: &H,
+    shared: Shared<A, T, U, Rows>,
+    worked: Worked<A, T, U, D, L>,
+) -> Option<Ended> {
     let Worked {
         staff,
         served,
@@ -101,28 +97,75 @@ fn run<
         stations,
         ..
     } = staff;
-    let Some(first) = desks.get_mut(0) else {
-        return Err("desks".into());
-    };
-    let shown = shared.counts(rt, first);
-    let (Some(first), Some(second)) = (desks.get(0), desks.get(1)) else {
-        return Err("desks".into());
-    };
-    let made = (first.made(), second.made());
-    let Ok(closed) = shared.close(desks, stations) else {
-        return Err("shares".into());
-    };
-    Ok(Ended {
+    let shown = shown_at(rt, &shared, &mut desks)?;
+    let closed = shared.close(desks, stations).ok()?;
+    Some(Ended {
         shown,
-        made,
         closed,
         served,
         delivered,
     })
 }
 
-/// The receipts of both connections. Each has one, and ended as it should.
-fn receipts_of(alloc: Global, served: Vec<ServeReport>) -> Result<Vec<Receipt>, Fail> {
+/// Runs the workers of a book with two connections on its one channel, and closes it. None where memory is refused, or
+/// something is missing at the end.
+fn run<
+    'a,
+    A: Opening + Send + Sync,
+    T: Ledger + Send + Sync,
+    U: Ledger + Send + Sync,
+    H: Wait + Threads + time::Clock + Log + Sync,
+>(
+    rt: &H,
+    alloc: Global,
+    book: Book<Rows>,
+    arrivals: Blank,
+    takes: Blank,
+    settlements: Blank,
+    doors: Vec<Gate<'a>>,
+    links: Vec<Partner<'a>>,
+) -> Option<Ended>
+    requires counts { counted book ≡ A.counts }
+    requires first { next_place book ≡ A.first }
+    requires channels { length (plan_in_force book).channels ≡ A.channels }
+    requires arrivals { (arrivals.name ≡ A.name) × (arrivals.parts ≡ A.parts) × (A.parts ≡ 3) }
+    requires takes { (takes.name ≡ T.name) × (takes.parts ≡ T.parts) × (T.parts ≡ 3) }
+    requires settlements { (settlements.name ≡ U.name) × (settlements.parts ≡ U.parts) × (U.parts ≡ 3) }
+{
+    let opened = Shared::<A, T, U, Rows>::new(alloc, book, 2, 2, arrivals, takes, settlements);
+    let (shared, desks, stations) = opened.ok()?;
+    let staff = Staff {
+        desks,
+        doors,
+        stations,
+        links,
+    };
+    let worked = run_workers(rt, alloc, &shared, staff, 2, Still(nearest(0))).ok()?;
+    close(rt, shared, worked)
+}
+
+/// Runs the workers of a book on a stage. None where there is no book, memory is refused, or something is missing at the end.
+fn run_on<H: Wait + Threads + time::Clock + Log + Sync>(
+    rt: &H,
+    alloc: Global,
+    stage: &Stage,
+    book: Option<Book<Rows>>,
+) -> Option<Ended> {
+    let (doors, links) = (doors_of(alloc, stage)?, links_of(alloc, stage)?);
+    run::<Brand, Brand, Brand, H>(
+        rt,
+        alloc,
+        book?,
+        Blank::new(3),
+        Blank::new(3),
+        Blank::new(3),
+        doors,
+        links,
+    )
+}
+
+/// The receipts of both connections. None unless each has one, and ended as it should.
+fn receipts_of(alloc: Global, served: Vec<ServeReport>) -> Option<Vec<Receipt>> {
     let mut all = Vec::new(alloc);
     for report in served {
         let ServeReport {
@@ -131,11 +174,11 @@ fn receipts_of(alloc: Global, served: Vec<ServeReport>) -> Result<Vec<Receipt>, 
             ..
         } = report;
         if end != ServeEnd::End || receipts.len() != 1 || !rising(&receipts) {
-            return Err("a connection".into());
+            return None;
         }
-        all.append(&mut receipts)?;
+        all.append(&mut receipts).ok()?;
     }
-    Ok(all)
+    Some(all)
 }
 
 /// What delivering to each destination comes to: both messages at their first attempt.
@@ -147,33 +190,55 @@ const BOTH: DeliverReport = DeliverReport {
     end: DeliverEnd::Drained,
 };
 
+/// Whether two messages were received and delivered to both destinations, each desk made one arrival, and the statistics
+/// shown before the close are those of the closed book.
+fn counts_both(shown: &Shown, closed: &Closed<Rows>) -> bool {
+    shown.made == (1, 1)
+        && shown.counts == *closed.book().counts()
+        && shown.counts.channel(0).received == 2
+        && shown.counts.destination(0).delivered == 2
+        && shown.counts.destination(1).delivered == 2
+}
+
+/// Whether a run comes out as it is to.
+fn is_right(alloc: Global, ended: Ended) -> bool {
+    let Ended {
+        shown,
+        closed,
+        served,
+        delivered,
+    } = ended;
+    let Some(receipts) = receipts_of(alloc, served) else {
+        return false;
+    };
+    receipts.len() == 2
+        && audit(&closed, &receipts).is_ok()
+        && counts_both(&shown, &closed)
+        && delivered.as_slice() == [BOTH, BOTH].as_slice()
+}
+
+/// Whether a run on a stage, by this book, comes out as it is to.
+fn comes_out<H: Wait + Threads + time::Clock + Log + Sync>(
+    rt: &H,
+    alloc: Global,
+    stage: &Stage,
+    book: Option<Book<Rows>>,
+) -> bool {
+    match run_on(rt, alloc, stage, book) {
+        Some(ended) => is_right(alloc, ended),
+        None => false,
+    }
+}
+
 /// Connection 1 comes once connection 0 is read, and connection 0 brings its message once connection 1 has its reply.
 /// Connection 1 ends once its message is answered by destination 1. The first send to each destination ends once that to the
 /// other was begun, and the first receive likewise. All get on, and both messages are delivered to both destinations. The
 /// desks made an arrival each, and the statistics shown before the close are those of the closed book.
 #[test]
 fn workers_wait_for_one_another(rt: HostRuntime) -> Result<(), Fail> {
-    let alloc = rt.alloc();
     let stage = Stage::new(1_000_000);
-    let book = empty_book(&rt)?;
-    let ended = run::<Brand, Brand, Brand, HostRuntime>(
-        &rt,
-        alloc,
-        &stage,
-        book,
-        Blank::new(3),
-        Blank::new(3),
-        Blank::new(3),
-    )?;
+    let right = comes_out(&rt, rt.alloc(), &stage, empty_book(&rt));
     assert!(rt; !stage.is_stuck(), "a worker waited in vain");
-    let receipts = receipts_of(alloc, ended.served)?;
-    assert!(rt; audit(&ended.closed, &receipts).is_ok());
-    assert_eq!(rt; receipts.len(), 2);
-    assert!(rt; ended.made == (1, 1) && ended.shown == *ended.closed.book().counts());
-    assert!(rt; ended.shown.channel(0).received == 2);
-    assert!(rt;
-        ended.shown.destination(0).delivered == 2 && ended.shown.destination(1).delivered == 2
-    );
-    assert!(rt; ended.delivered.as_slice() == [BOTH, BOTH].as_slice());
+    assert!(rt; right);
     Ok(())
 }

@@ -59,6 +59,15 @@ pub struct Worked<A: Opening, T: Ledger, U: Ledger, D, L> {
     pub delivered: Vec<DeliverReport>,
 }
 
+/// Where the workers work.
+#[derive(Drop)]
+struct Posts<A: Opening, T: Ledger, U: Ledger, D, L> {
+    /// In the order of the plan's channels.
+    inlets: Vec<Inlet<A, D>>,
+    /// In the order of the plan's destinations.
+    outlets: Vec<Loan<Outlet<T, U, L>>>,
+}
+
 /// The seats of a channel's connections, at the next desks.
 fn seats_at<A: Opening>(
     alloc: Global,
@@ -121,6 +130,26 @@ fn outlets_of<T: Ledger, U: Ledger, L: Drop>(
         }))?;
     }
     Ok(outlets)
+}
+
+/// The posts of a staff.
+fn posts_of<A: Opening, T: Ledger, U: Ledger, D: Drop, L: Drop>(
+    alloc: Global,
+    channels: u32,
+    accept: u32,
+    staff: Staff<A, T, U, D, L>,
+) -> Result<Posts<A, T, U, D, L>, AllocError>
+    requires { channels ≡ A.channels }
+{
+    let Staff {
+        desks,
+        doors,
+        stations,
+        links,
+    } = staff;
+    let inlets = inlets_of(alloc, channels, accept, desks, doors)?;
+    let outlets = outlets_of(alloc, stations, links)?;
+    Ok(Posts { inlets, outlets })
 }
 
 impl<A: Opening, T: Ledger, U: Ledger, D: Drop, L: Drop> Worked<A, T, U, D, L> {
@@ -204,26 +233,75 @@ impl<A: Opening, T: Ledger, U: Ledger, D: Drop, L: Drop> Worked<A, T, U, D, L> {
         }
         Ok(())
     }
+
+    /// Takes in what the doors of all channels brought.
+    fn take_inlets(&mut self, inlets: Vec<Inlet<A, D>>) -> Result<(), AllocError>
+        requires { vec_len self.old.served ≤ vec_len self.old.staff.desks }
+        ensures served { OnOk result (vec_len self.new.served ≤ vec_len self.new.staff.desks) }
+        ensures delivered { self.new.delivered ≡ self.old.delivered }
+        ensures links { self.new.staff.links ≡ self.old.staff.links }
+        ensures stations { self.new.staff.stations ≡ self.old.staff.stations }
+    {
+        for inlet in inlets {
+            self.take_inlet(inlet)?;
+        }
+        Ok(())
+    }
+
+    /// Takes in what delivered to all destinations.
+    fn take_outlets(&mut self, outlets: Vec<Loan<Outlet<T, U, L>>>) -> Result<(), AllocError>
+        requires delivered { vec_len self.old.delivered ≤ vec_len self.old.staff.stations }
+        requires links { vec_len self.old.staff.links ≡ vec_len self.old.staff.stations }
+        ensures delivered { OnOk result (vec_len self.new.delivered ≤ vec_len self.new.staff.stations) }
+        ensures links { OnOk result (vec_len self.new.staff.links ≡ vec_len self.new.staff.stations) }
+        ensures served { self.new.served ≡ self.old.served }
+        ensures desks { self.new.staff.desks ≡ self.old.staff.desks }
+    {
+        for outlet in outlets {
+            self.take_outlet(outlet)?;
+        }
+        Ok(())
+    }
 }
 
-/// What came of the work at these inlets and outlets.
+/// What came of the work at these posts.
 fn gather<A: Opening, T: Ledger, U: Ledger, D: Drop, L: Drop>(
     alloc: Global,
-    inlets: Vec<Inlet<A, D>>,
-    outlets: Vec<Loan<Outlet<T, U, L>>>,
+    posts: Posts<A, T, U, D, L>,
 ) -> Result<Worked<A, T, U, D, L>, AllocError>
     ensures served { IfOk result (λ w. vec_len w.served ≤ vec_len w.staff.desks) }
     ensures delivered { IfOk result (λ w. vec_len w.delivered ≤ vec_len w.staff.stations) }
     ensures links { IfOk result (λ w. vec_len w.staff.links ≡ vec_len w.staff.stations) }
 {
+    let Posts { inlets, outlets } = posts;
     let mut worked = Worked::new(alloc);
-    for inlet in inlets {
-        worked.take_inlet(inlet)?;
-    }
-    for outlet in outlets {
-        worked.take_outlet(outlet)?;
-    }
+    worked.take_inlets(inlets)?;
+    worked.take_outlets(outlets)?;
     Ok(worked)
+}
+
+/// Has each worker work at its post. Whether all could be started.
+fn work_at<
+    A: Opening + Sync,
+    T: Ledger + Sync,
+    U: Ledger + Sync,
+    S: RowStore<Addressed<Letter>> + Send,
+    C: Clock + Copy + Sync,
+    H: Wait + Threads + time::Clock + Log + Sync,
+    R: Read + Send + Drop,
+    W: Write + Send + Drop,
+    D: Door<Reader = R, Writer = W> + Send + Drop,
+    L: Link + Send + Drop,
+>(
+    rt: &H,
+    alloc: Global,
+    shared: &Shared<A, T, U, S>,
+    posts: &Posts<A, T, U, D, L>,
+    clock: C,
+) -> bool {
+    let site = Site::new(rt, alloc, shared, clock);
+    work_all(&site, &posts.inlets, &posts.outlets);
+    !site.is_stopped()
 }
 
 /// Runs the engine until all connections have ended and all queues are empty, with each worker on a thread of its own: for
@@ -262,18 +340,9 @@ pub fn run_workers<
     ensures links { IfOk result (λ w. vec_len w.staff.links ≡ vec_len w.staff.stations) }
 {
     let channels = shared.plan(rt)?.channels();
-    let Staff {
-        desks,
-        doors,
-        stations,
-        links,
-    } = staff;
-    let inlets = inlets_of(alloc, channels, accept, desks, doors)?;
-    let outlets = outlets_of(alloc, stations, links)?;
-    let site = Site::new(rt, alloc, shared, clock);
-    work_all(&site, &inlets, &outlets);
-    if site.is_stopped() {
+    let posts = posts_of(alloc, channels, accept, staff)?;
+    if !work_at(rt, alloc, shared, &posts, clock) {
         return Err(Understaffed);
     }
-    Ok(gather(alloc, inlets, outlets)?)
+    Ok(gather(alloc, posts)?)
 }

@@ -1,7 +1,7 @@
 use Rattle.std.proofs.Common.{length}
 use Rattle.event_log.specs.Counting.{counted}
 use Rattle.event_log.specs.History.{next_place, plan_in_force}
-use Rattle.engine_tests.proofs.held.workers_wait_for_one_another.Given as goal
+use Rattle.engine_tests.proofs.held.run_on.Given as goal
 
 abbrev pub ghosts-run-A-Opening : goal.ghosts-run-A-Opening
 ghosts-run-A-Opening g a = record { counts = counted a.book; first = next_place a.book; channels = length (plan_in_force a.book).channels }
