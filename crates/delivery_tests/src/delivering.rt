@@ -2,9 +2,10 @@
 
 use crate::played::{Play, Played};
 use crate::stage::{BLOCKS, Delivered, Rows, deliver_all, waiting};
-use book_core::Book;
+use book_core::{Book, Letter};
 use delivery_worker::{DeliverEnd, DeliverReport};
-use dest_queue::{FailCause, SlotState};
+use dest_queue::{Addressed, FailCause, SlotState};
+use row_store::RowStore;
 use std::alloc::Global;
 use std::sync::Wait;
 use std::test::Fail;
@@ -193,7 +194,11 @@ fn are_both(bytes: &[u8]) -> bool {
 }
 
 /// Whether a case comes out as it is to. What was sent of two messages are two blocks in their order.
-fn is_right(case: &Case, link: &Played<'_>, delivered: &Delivered) -> bool {
+fn is_right<S: RowStore<Addressed<Letter>>>(
+    case: &Case,
+    link: &Played<'_>,
+    delivered: &Delivered<S>,
+) -> bool {
     let all = case.messages == 2 && case.turns > 1;
     delivered.report == case.report
         && link.connections == case.connections
@@ -202,10 +207,10 @@ fn is_right(case: &Case, link: &Played<'_>, delivered: &Delivered) -> bool {
 }
 
 /// Whether a case comes out as it is to, with the book in which its messages wait. It doesn't where memory was refused.
-fn comes_out<H: Wait + time::Clock>(
+fn comes_out<S: RowStore<Addressed<Letter>> + Drop, H: Wait + time::Clock>(
     rt: &H,
     alloc: Global,
-    book: Option<Book<Rows>>,
+    book: Option<Book<S>>,
     case: &Case,
 ) -> bool {
     let mut link = Played::new(alloc, case.plays);
@@ -219,7 +224,7 @@ fn comes_out<H: Wait + time::Clock>(
 #[test]
 fn cases(rt: HostRuntime) -> Result<(), Fail> {
     for case in &CASES {
-        let book = waiting(&rt, case.messages);
+        let book = waiting::<Rows>(&rt, case.messages);
         let right = comes_out(&rt, rt.alloc(), book, case);
         assert!(rt; right, "{}", case.name);
     }

@@ -1,9 +1,11 @@
 //! Delivering where one request for memory may be refused, as `rt try --test --fail-alloc N` refuses the Nth.
 
 use crate::played::{Play, Played};
-use crate::stage::{BLOCKS, Delivered, deliver_all, waiting};
+use crate::stage::{BLOCKS, Delivered, Rows, deliver_all, waiting};
+use book_core::Letter;
 use delivery_worker::DeliverEnd;
-use dest_queue::SlotState;
+use dest_queue::{Addressed, SlotState};
+use row_store::RowStore;
 use stat_count::DestinationCounts;
 use std::alloc::Global;
 use std::test::Fail;
@@ -54,7 +56,7 @@ fn is_sent_in_order(sent: &[u8], taken: u64) -> bool {
 }
 
 /// Whether both messages are delivered, each attempt is settled, and the statistics count them.
-fn is_settled(delivered: &Delivered) -> bool {
+fn is_settled<S: RowStore<Addressed<Letter>>>(delivered: &Delivered<S>) -> bool {
     let (book, report) = (delivered.closed.book(), &delivered.report);
     let due = DestinationCounts {
         waiting: 0,
@@ -70,7 +72,7 @@ fn is_settled(delivered: &Delivered) -> bool {
 }
 
 /// Whether at most one attempt was made again, and each message was sent and delivered, in order.
-fn is_right(delivered: &Delivered, sent: &[u8]) -> bool {
+fn is_right<S: RowStore<Addressed<Letter>>>(delivered: &Delivered<S>, sent: &[u8]) -> bool {
     let report = &delivered.report;
     is_settled(delivered)
         && is_sent_in_order(sent, report.taken)
@@ -85,7 +87,8 @@ fn holds_where_memory_is_refused(rt: HostRuntime) -> Result<(), Fail> {
     let Some(mut link) = roomy_link(rt.alloc()) else {
         return Ok(());
     };
-    let Some(delivered) = deliver_all(&rt, rt.alloc(), waiting(&rt, 2), &mut link, TURNS) else {
+    let Some(delivered) = deliver_all(&rt, rt.alloc(), waiting::<Rows>(&rt, 2), &mut link, TURNS)
+    else {
         return Ok(());
     };
     assert!(rt; is_right(&delivered, &link.sent), "{:?}", delivered.report);
@@ -98,7 +101,8 @@ fn all_is_done_with_memory_to_spare(rt: HostRuntime) -> Result<(), Fail> {
     let Some(mut link) = roomy_link(rt.alloc()) else {
         return Err("memory".into());
     };
-    let Some(delivered) = deliver_all(&rt, rt.alloc(), waiting(&rt, 2), &mut link, TURNS) else {
+    let Some(delivered) = deliver_all(&rt, rt.alloc(), waiting::<Rows>(&rt, 2), &mut link, TURNS)
+    else {
         return Err("memory".into());
     };
     assert!(rt; is_right(&delivered, &link.sent) && delivered.report.taken == 2);

@@ -12,7 +12,7 @@ use delivery_worker::{DeliverReport, deliver};
 use dest_queue::Addressed;
 use judge_core::{Judged, fits_block, judge};
 use plan_text::Plan;
-use row_store::PlainRows;
+use row_store::{PlainRows, RowStore};
 use std::alloc::Global;
 use std::hash::RandomState;
 use std::marker::Brand;
@@ -20,6 +20,7 @@ use std::sync::ledger::{Blank, Ledger};
 use std::sync::{Arc, Wait};
 use std::time;
 
+/// The rows of the tests' books.
 pub type Rows = PlainRows<Addressed<Letter>>;
 
 /// Messages with the control ids M1 and M2.
@@ -51,7 +52,7 @@ fn judged(alloc: Global, plan: &Arc<Plan>, text: &str) -> Option<Judged>
 }
 
 /// An empty book of the built-in plan. None where memory was refused.
-fn empty_book(rt: &HostRuntime) -> Option<Book<Rows>> {
+fn empty_book<S: RowStore<Addressed<Letter>>>(rt: &HostRuntime) -> Option<Book<S>> {
     let alloc = rt.alloc();
     let hasher = RandomState::new(rt).ok()?;
     let plan = Arc::new(alloc, Plan::built_in(alloc).ok()?).ok()?;
@@ -59,7 +60,11 @@ fn empty_book(rt: &HostRuntime) -> Option<Book<Rows>> {
 }
 
 /// Books messages that came by connection 0. None where memory was refused.
-fn fill(alloc: Global, book: &mut Book<Rows>, messages: &[&str]) -> Option<()> {
+fn fill<S: RowStore<Addressed<Letter>>>(
+    alloc: Global,
+    book: &mut Book<S>,
+    messages: &[&str],
+) -> Option<()> {
     for text in messages {
         let judged = judged(alloc, book.plan(), text)?;
         book.arrive(0, &judged).ok()?;
@@ -68,7 +73,10 @@ fn fill(alloc: Global, book: &mut Book<Rows>, messages: &[&str]) -> Option<()> {
 }
 
 /// A book of the built-in plan in which so many messages wait, at most two. None where memory was refused.
-pub fn waiting(rt: &HostRuntime, messages: usize) -> Option<Book<Rows>> {
+pub fn waiting<S: RowStore<Addressed<Letter>> + Drop>(
+    rt: &HostRuntime,
+    messages: usize,
+) -> Option<Book<S>> {
     let mut book = empty_book(rt)?;
     fill(rt.alloc(), &mut book, &MESSAGES[..messages.min(2)])?;
     Some(book)
@@ -76,16 +84,22 @@ pub fn waiting(rt: &HostRuntime, messages: usize) -> Option<Book<Rows>> {
 
 /// What came of delivering, and the book after it.
 #[derive(Drop)]
-pub struct Delivered {
+pub struct Delivered<S: RowStore<Addressed<Letter>>> {
     pub report: DeliverReport,
-    pub closed: Closed<Rows>,
+    pub closed: Closed<S>,
 }
 
 /// Delivers what waits at the last of the stations, in so many turns at most.
-fn deliver_at<A: Opening, T: Ledger, U: Ledger, H: Wait + time::Clock>(
+fn deliver_at<
+    A: Opening,
+    T: Ledger,
+    U: Ledger,
+    S: RowStore<Addressed<Letter>>,
+    H: Wait + time::Clock,
+>(
     rt: &H,
     alloc: Global,
-    shared: &Shared<A, T, U, Rows>,
+    shared: &Shared<A, T, U, S>,
     stations: &mut [Station<T, U>],
     link: &mut Played<'_>,
     turns: u64,
@@ -100,16 +114,22 @@ fn deliver_at<A: Opening, T: Ledger, U: Ledger, H: Wait + time::Clock>(
 }
 
 /// Shares a book, delivers what waits in it, and closes it. None where memory was refused for sharing it.
-fn deliver_and_close<A: Opening, T: Ledger, U: Ledger, H: Wait + time::Clock>(
+fn deliver_and_close<
+    A: Opening,
+    T: Ledger,
+    U: Ledger,
+    S: RowStore<Addressed<Letter>> + Drop,
+    H: Wait + time::Clock,
+>(
     rt: &H,
     alloc: Global,
-    book: Book<Rows>,
+    book: Book<S>,
     arrivals: Blank,
     takes: Blank,
     settlements: Blank,
     link: &mut Played<'_>,
     turns: u64,
-) -> Option<Delivered>
+) -> Option<Delivered<S>>
     requires counts { counted book ≡ A.counts }
     requires first { next_place book ≡ A.first }
     requires channels { length (plan_in_force book).channels ≡ A.channels }
@@ -117,7 +137,7 @@ fn deliver_and_close<A: Opening, T: Ledger, U: Ledger, H: Wait + time::Clock>(
     requires takes { (takes.name ≡ T.name) × (takes.parts ≡ T.parts) × (T.parts ≡ 2) }
     requires settlements { (settlements.name ≡ U.name) × (settlements.parts ≡ U.parts) × (U.parts ≡ 2) }
 {
-    let opened = Shared::<A, T, U, Rows>::new(alloc, book, 0, 1, arrivals, takes, settlements);
+    let opened = Shared::<A, T, U, S>::new(alloc, book, 0, 1, arrivals, takes, settlements);
     let (shared, desks, mut stations) = opened.ok()?;
     let report = deliver_at(rt, alloc, &shared, &mut stations, link, turns)?;
     let closed = shared.close(desks, stations).ok()?;
@@ -126,14 +146,14 @@ fn deliver_and_close<A: Opening, T: Ledger, U: Ledger, H: Wait + time::Clock>(
 
 /// Delivers what waits in a book over a link, in so many turns at most. None where there is no book, or memory was refused for
 /// sharing it.
-pub fn deliver_all<H: Wait + time::Clock>(
+pub fn deliver_all<S: RowStore<Addressed<Letter>> + Drop, H: Wait + time::Clock>(
     rt: &H,
     alloc: Global,
-    book: Option<Book<Rows>>,
+    book: Option<Book<S>>,
     link: &mut Played<'_>,
     turns: u64,
-) -> Option<Delivered> {
-    deliver_and_close::<Brand, Brand, Brand, H>(
+) -> Option<Delivered<S>> {
+    deliver_and_close::<Brand, Brand, Brand, S, H>(
         rt,
         alloc,
         book?,

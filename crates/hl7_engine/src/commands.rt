@@ -17,8 +17,10 @@ use engine_words::Request;
 use plan_text::Plan;
 use record_list::RecordList;
 use run::run;
+use std::alloc::AllocError;
 use std::fs;
 use std::io::ErrorKind;
+use std::sync::Arc;
 
 /// The store of a book's rows: linked nodes.
 type EngineRows = RecordList<Addressed<Letter>>;
@@ -34,6 +36,15 @@ fn read_plan<'a>(rt: &HostRuntime, path: &'a str) -> Result<Plan, Fault<'a>> {
         Err(_) => return Err(Fault::File(path)),
     };
     Ok(Plan::read(rt.alloc(), &text)?)
+}
+
+/// A plan to be shared: that in a file, or the built-in one.
+fn shared_plan<'a>(rt: &HostRuntime, path: Option<&'a str>) -> Result<Arc<Plan>, Fault<'a>> {
+    let plan = match path {
+        Some(path) => read_plan(rt, path)?,
+        None => Plan::built_in(rt.alloc())?,
+    };
+    Ok(Arc::new(rt.alloc(), plan).map_err(AllocError::from)?)
 }
 
 /// Does what is asked. The fault is the first that was found. Threads are started, and waited for, by `handle`.

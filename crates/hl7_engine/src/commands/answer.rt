@@ -2,13 +2,13 @@
 
 ghost use Rattle.std.specs.Prelude.{◌≡◌, ◌≤◌};
 
-use crate::commands::{EngineBook, read_plan};
+use crate::commands::{EngineBook, shared_plan};
 use book_core::EVENTS_MAX;
 use conn_worker::{Clock, Counted, Running, Still};
 use engine_report::{Fault, answer_stream, hasher, outcome};
 use hl7_head::Moment;
 use plan_text::Plan;
-use std::alloc::{AllocError, Global};
+use std::alloc::Global;
 use std::hash::RandomState;
 use std::io::{Read, Write};
 use std::sync::Arc;
@@ -16,7 +16,7 @@ use std::sync::Arc;
 /// Serves one connection by a plan, in a new book.
 fn serve<'a, R: Read + Drop, W: Write + Drop, C: Clock>(
     alloc: Global,
-    plan: Plan,
+    plan: Arc<Plan>,
     events: u32,
     hasher: RandomState,
     clock: &mut C,
@@ -26,7 +26,6 @@ fn serve<'a, R: Read + Drop, W: Write + Drop, C: Clock>(
     requires some { 1 ≤ events }
     requires few { events ≤ EVENTS_MAX }
 {
-    let plan = Arc::new(alloc, plan).map_err(AllocError::from)?;
     let mut book = EngineBook::new(alloc, plan, events, hasher);
     let mut reader = Counted::new(reader);
     let mut writer = Counted::new(writer);
@@ -48,10 +47,7 @@ pub fn answer<'a>(
     requires few { events ≤ EVENTS_MAX }
 {
     let alloc = rt.alloc();
-    let plan = match plan {
-        Some(path) => read_plan(rt, path)?,
-        None => Plan::built_in(alloc)?,
-    };
+    let plan = shared_plan(rt, plan)?;
     let hasher = hasher(rt)?;
     let (reader, writer) = (rt.stdin(), rt.stdout());
     match now {

@@ -8,7 +8,7 @@ ghost use Rattle.engine_report.specs.Findings.{Concludes, last_told};
 ghost use Rattle.engine_report.specs.Lines.{lines_of_closed};
 
 use crate::commands::devices::{Devices, listen_faults, open_devices};
-use crate::commands::{EngineBook, EngineRows, read_plan};
+use crate::commands::{EngineBook, EngineRows, shared_plan};
 use crate::handle::Handle;
 use book_core::EVENTS_MAX;
 use book_lock::{Closed, Opening, Shared};
@@ -248,7 +248,7 @@ pub fn run<'a, H: Handle>(
     requires few { events ≤ EVENTS_MAX }
 {
     let alloc = rt.alloc();
-    let plan = Arc::new(alloc, read_plan(rt, path)?).map_err(AllocError::from)?;
+    let plan = shared_plan(rt, Some(path))?;
     let ended = run_by(rt, handle, &plan, accept, events)?;
     conclude(rt, alloc, &plan, ended)
 }
