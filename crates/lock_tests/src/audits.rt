@@ -1,19 +1,20 @@
 //! What is handed in at a close, and the audit of receipts after it.
 
-ghost use Rattle.std.specs.Prelude.{◌≡◌, ◌+◌, IfOk, IsTrue, length};
-ghost use Rattle.judge_core.specs.Judging.{is_bookable};
+ghost use Rattle.std.specs.Prelude.{◌≡◌, ◌+◌, length};
 ghost use Rattle.event_log.specs.History.{next_place, plan_in_force};
 ghost use Rattle.event_log.specs.Counting.{counted};
 
-use crate::stage::{M1, M2, Rows, close, judged, open, waiting};
-use book_core::{Book, EVENTS_MAX, Receipt, Told};
+use crate::stage::{M1, M2, Rows, bring, waiting};
+use book_core::{Book, EVENTS_MAX, Letter, Receipt, Told};
 use book_lock::{AuditFault, Closed, Desk, NotClosed, Opening, Shared, Station, audit, rising};
 use conn_worker::nearest;
-use judge_core::{Judged, Text};
+use dest_queue::Addressed;
+use judge_core::Text;
+use row_store::RowStore;
 use std::alloc::Global;
 use std::marker::Brand;
+use std::sync::Wait;
 use std::sync::ledger::{Blank, Ledger};
-use std::sync::{Arc, Wait};
 use std::test::Fail;
 
 /// Which shares are handed in at the first close.
@@ -168,9 +169,9 @@ const AUDITS: [Audit; 10] = [
 
 /// A day's end: how many desks and stations came back where the first close was refused, and the book.
 #[derive(Drop)]
-struct Day {
+struct Day<S: RowStore<Addressed<Letter>>> {
     back: Option<(usize, usize)>,
-    closed: Closed<Rows>,
+    closed: Closed<S>,
 }
 
 /// Keeps a share back from those that are handed in, unless it is given.
@@ -186,138 +187,126 @@ fn keep_back<X: Drop>(
     Ok(())
 }
 
-/// Puts further shares to those that are handed in.
-fn add<X: Drop>(handed: &mut Vec<X>, further: Vec<X>) -> Result<(), Fail> {
-    for share in further {
-        handed.push(share)?;
-    }
+/// The desks and stations that are handed in, or those that are kept.
+type Shares<A, T, U> = (Vec<Desk<A>>, Vec<Station<T, U>>);
+
+/// Puts the kept shares to those that are handed in.
+fn add<A: Opening, T: Ledger, U: Ledger>(
+    handed: &mut Shares<A, T, U>,
+    kept: &mut Shares<A, T, U>,
+) -> Result<(), Fail> {
+    handed.0.append(&mut kept.0)?;
+    handed.1.append(&mut kept.1)?;
     Ok(())
 }
 
 /// Closes a book at last, with the shares that were kept.
-fn close_at_last<A: Opening, T: Ledger, U: Ledger>(
-    missing: NotClosed<A, T, U, Rows>,
-    kept_desks: Vec<Desk<A>>,
-    kept_stations: Vec<Station<T, U>>,
-) -> Result<Day, Fail> {
+fn close_at_last<A: Opening, T: Ledger, U: Ledger, S: RowStore<Addressed<Letter>> + Drop>(
+    missing: NotClosed<A, T, U, S>,
+    kept: &mut Shares<A, T, U>,
+) -> Result<Day<S>, Fail> {
     let NotClosed::SharesMissing {
         shared,
-        mut desks,
-        mut stations,
+        desks,
+        stations,
     } = missing;
     let back = Some((desks.len(), stations.len()));
-    add(&mut desks, kept_desks)?;
-    add(&mut stations, kept_stations)?;
-    let closed = close(shared, desks, stations)?;
-    Ok(Day { back, closed })
+    let mut handed = (desks, stations);
+    add(&mut handed, kept)?;
+    match shared.close(handed.0, handed.1) {
+        Ok(closed) => Ok(Day { back, closed }),
+        Err(_) => Err("shares".into()),
+    }
 }
 
-/// The desks and stations that are handed in, or those that are kept.
-type Shares<A, T, U> = (Vec<Desk<A>>, Vec<Station<T, U>>);
-
 /// Closes a book with the shares that are handed in, and with the others too where that was refused.
-fn close_twice<A: Opening, T: Ledger, U: Ledger>(
-    shared: Shared<A, T, U, Rows>,
+fn close_twice<A: Opening, T: Ledger, U: Ledger, S: RowStore<Addressed<Letter>> + Drop>(
+    shared: Shared<A, T, U, S>,
     handed: Shares<A, T, U>,
-    kept: Shares<A, T, U>,
-) -> Result<Day, Fail> {
+    kept: &mut Shares<A, T, U>,
+) -> Result<Day<S>, Fail> {
     match shared.close(handed.0, handed.1) {
         Ok(closed) => Ok(Day { back: None, closed }),
-        Err(missing) => close_at_last(missing, kept.0, kept.1),
+        Err(missing) => close_at_last(missing, kept),
     }
 }
 
 /// Keeps back the shares that are not given.
 fn keep<A: Opening, T: Ledger, U: Ledger>(
-    alloc: Global,
     given: &Given,
     handed: &mut Shares<A, T, U>,
-) -> Result<Shares<A, T, U>, Fail> {
-    let (mut desks, mut stations) = (Vec::new(alloc), Vec::new(alloc));
-    keep_back(&mut handed.0, 1, given.idle, &mut desks)?;
-    keep_back(&mut handed.0, 0, given.busy, &mut desks)?;
-    keep_back(&mut handed.1, 0, given.station, &mut stations)?;
-    Ok((desks, stations))
+    kept: &mut Shares<A, T, U>,
+) -> Result<(), Fail> {
+    keep_back(&mut handed.0, 1, given.idle, &mut kept.0)?;
+    keep_back(&mut handed.0, 0, given.busy, &mut kept.0)?;
+    keep_back(&mut handed.1, 0, given.station, &mut kept.1)
 }
 
-/// A message judged by the plan in force.
-fn judged_now<A: Opening, T: Ledger, U: Ledger, H: Wait>(
+/// Whether a message is booked by connection 5.
+fn books<A: Opening, T: Ledger, U: Ledger, S: RowStore<Addressed<Letter>>, H: Wait>(
     rt: &H,
     alloc: Global,
-    shared: &Shared<A, T, U, Rows>,
-    text: &str,
-) -> Result<Judged, Fail>
-    ensures { IfOk result (λ judged. IsTrue (is_bookable judged.raw)) }
-{
-    let plan = shared.plan(rt)?;
-    judged(alloc, &plan, text)
-}
-
-/// Books a judged message by connection 5.
-fn arrive<A: Opening, T: Ledger, U: Ledger, H: Wait>(
-    rt: &H,
-    shared: &Shared<A, T, U, Rows>,
-    desk: &mut Desk<A>,
-    judged: &Judged,
-) -> Result<(), Fail>
-    requires { IsTrue (is_bookable judged.now.raw) }
-{
-    shared.arrive(rt, desk, 5, judged)?;
-    Ok(())
-}
-
-/// Books a message by connection 5.
-fn book_message<A: Opening, T: Ledger, U: Ledger, H: Wait>(
-    rt: &H,
-    alloc: Global,
-    shared: &Shared<A, T, U, Rows>,
+    shared: &Shared<A, T, U, S>,
     desk: &mut Desk<A>,
     text: &str,
-) -> Result<(), Fail> {
-    let judged = judged_now(rt, alloc, shared, text)?;
-    arrive(rt, shared, desk, &judged)
+) -> bool {
+    bring(rt, alloc, shared, desk, 5, text).is_some()
 }
 
-/// Books a message, takes it, and books another.
-fn work_at<A: Opening, T: Ledger, U: Ledger, H: Wait>(
+/// Books a message at the first desk, takes it at the first station, and books another. Whether all of that was done.
+fn work<A: Opening, T: Ledger, U: Ledger, S: RowStore<Addressed<Letter>>, H: Wait>(
     rt: &H,
     alloc: Global,
-    shared: &Shared<A, T, U, Rows>,
-    desk: &mut Desk<A>,
-    station: &mut Station<T, U>,
-) -> Result<(), Fail> {
-    book_message(rt, alloc, shared, desk, M1)?;
-    shared.take(rt, station, 0, nearest(0))?;
-    book_message(rt, alloc, shared, desk, M2)
-}
-
-/// Works at the first desk and the first station.
-fn work<A: Opening, T: Ledger, U: Ledger, H: Wait>(
-    rt: &H,
-    alloc: Global,
-    shared: &Shared<A, T, U, Rows>,
+    shared: &Shared<A, T, U, S>,
     shares: &mut Shares<A, T, U>,
-) -> Result<(), Fail> {
-    let Some(desk) = shares.0.first_mut() else {
-        return Err("no desk".into());
+) -> bool {
+    let (Some(desk), Some(station)) = (shares.0.first_mut(), shares.1.first_mut()) else {
+        return false;
     };
-    let Some(station) = shares.1.first_mut() else {
-        return Err("no station".into());
-    };
-    work_at(rt, alloc, shared, desk, station)
+    books(rt, alloc, shared, desk, M1)
+        && shared.take(rt, station, 0, nearest(0)).is_ok()
+        && books(rt, alloc, shared, desk, M2)
 }
 
-/// Works at one of two desks and at a station, and closes the book, a second time with all shares where the first close
-/// was refused.
-fn end_day<A: Opening, T: Ledger, U: Ledger, H: Wait>(
+/// Works at one of two desks and at a station, and keeps back the shares that are not given.
+fn work_and_keep<A: Opening, T: Ledger, U: Ledger, S: RowStore<Addressed<Letter>>, H: Wait>(
     rt: &H,
     alloc: Global,
-    book: Book<Rows>,
+    shared: &Shared<A, T, U, S>,
+    given: &Given,
+    handed: &mut Shares<A, T, U>,
+    kept: &mut Shares<A, T, U>,
+) -> Result<(), Fail> {
+    if !work(rt, alloc, shared, handed) {
+        return Err("a call".into());
+    }
+    keep(given, handed, kept)
+}
+
+/// Works at the first desk and the station, and closes the book, a second time with all shares where the first close was
+/// refused.
+fn end_with<A: Opening, T: Ledger, U: Ledger, S: RowStore<Addressed<Letter>> + Drop, H: Wait>(
+    rt: &H,
+    alloc: Global,
+    shared: Shared<A, T, U, S>,
+    mut handed: Shares<A, T, U>,
+    given: &Given,
+) -> Result<Day<S>, Fail> {
+    let mut kept = (Vec::new(alloc), Vec::new(alloc));
+    work_and_keep(rt, alloc, &shared, given, &mut handed, &mut kept)?;
+    close_twice(shared, handed, &mut kept)
+}
+
+/// Shares a book between two desks and a station, works at one desk and the station, and closes it.
+fn end_day<A: Opening, T: Ledger, U: Ledger, S: RowStore<Addressed<Letter>> + Drop, H: Wait>(
+    rt: &H,
+    alloc: Global,
+    book: Book<S>,
     arrivals: Blank,
     takes: Blank,
     settlements: Blank,
     given: &Given,
-) -> Result<Day, Fail>
+) -> Result<Day<S>, Fail>
     requires counts { counted book ≡ A.counts }
     requires first { next_place book ≡ A.first }
     requires channels { length (plan_in_force book).channels ≡ A.channels }
@@ -325,19 +314,11 @@ fn end_day<A: Opening, T: Ledger, U: Ledger, H: Wait>(
     requires takes { (takes.name ≡ T.name) × (takes.parts ≡ T.parts) × (T.parts ≡ 2) }
     requires settlements { (settlements.name ≡ U.name) × (settlements.parts ≡ U.parts) × (U.parts ≡ 2) }
 {
-    let (shared, desks, stations) = open::<A, T, U>(
-        alloc,
-        book,
-        2,
-        1,
-        arrivals,
-        takes,
-        settlements,
-    )?;
-    let mut handed = (desks, stations);
-    work(rt, alloc, &shared, &mut handed)?;
-    let kept = keep(alloc, given, &mut handed)?;
-    close_twice(shared, handed, kept)
+    let opened = Shared::<A, T, U, S>::new(alloc, book, 2, 1, arrivals, takes, settlements);
+    match opened {
+        Ok((shared, desks, stations)) => end_with(rt, alloc, shared, (desks, stations), given),
+        Err(_) => Err("memory".into()),
+    }
 }
 
 /// The receipts of these slips.
@@ -357,7 +338,10 @@ fn receipts(alloc: Global, slips: &[Slip]) -> Result<Vec<Receipt>, Fail> {
 }
 
 /// The first audit that comes out otherwise than it is to.
-fn unmet(alloc: Global, closed: &Closed<Rows>) -> Result<Option<usize>, Fail> {
+fn unmet<S: RowStore<Addressed<Letter>>>(
+    alloc: Global,
+    closed: &Closed<S>,
+) -> Result<Option<usize>, Fail> {
     for (place, case) in AUDITS.iter().enumerate() {
         let receipts = receipts(alloc, case.slips)?;
         let answer = audit(closed, receipts.as_slice());
@@ -369,8 +353,13 @@ fn unmet(alloc: Global, closed: &Closed<Rows>) -> Result<Option<usize>, Fail> {
 }
 
 /// A day at a book, of which these shares are handed in.
-fn day_at<H: Wait>(rt: &H, alloc: Global, book: Book<Rows>, given: &Given) -> Result<Day, Fail> {
-    end_day::<Brand, Brand, Brand, H>(
+fn day_at<S: RowStore<Addressed<Letter>> + Drop, H: Wait>(
+    rt: &H,
+    alloc: Global,
+    book: Book<S>,
+    given: &Given,
+) -> Result<Day<S>, Fail> {
+    end_day::<Brand, Brand, Brand, S, H>(
         rt,
         alloc,
         book,
@@ -382,15 +371,19 @@ fn day_at<H: Wait>(rt: &H, alloc: Global, book: Book<Rows>, given: &Given) -> Re
 }
 
 /// Whether as many shares came back as are due, and each audit comes out as it is to.
-fn is_right(alloc: Global, given: &Given, day: &Day) -> Result<bool, Fail> {
+fn is_right<S: RowStore<Addressed<Letter>>>(
+    alloc: Global,
+    given: &Given,
+    day: &Day<S>,
+) -> Result<bool, Fail> {
     Ok(day.back == given.back && unmet(alloc, &day.closed)?.is_none())
 }
 
 /// Whether a day at a book, of which these shares are handed in, comes out as it is to.
-fn comes_out<H: Wait>(
+fn comes_out<S: RowStore<Addressed<Letter>> + Drop, H: Wait>(
     rt: &H,
     alloc: Global,
-    book: Book<Rows>,
+    book: Book<S>,
     given: &Given,
 ) -> Result<bool, Fail> {
     let day = day_at(rt, alloc, book, given)?;
@@ -402,7 +395,7 @@ fn comes_out<H: Wait>(
 #[test]
 fn cases(rt: HostRuntime) -> Result<(), Fail> {
     for (place, given) in GIVEN.iter().enumerate() {
-        let book = waiting(&rt, false, EVENTS_MAX, &[])?;
+        let book: Book<Rows> = waiting(&rt, false, EVENTS_MAX, &[])?;
         let right = comes_out(&rt, rt.alloc(), book, given)?;
         assert!(rt; right, "case {place}");
     }

@@ -1,19 +1,15 @@
 //! Calls of a shared book answer as the book's do.
 
-ghost use Rattle.std.specs.Prelude.{◌≡◌, ◌+◌, length};
-ghost use Rattle.event_log.specs.History.{next_place, plan_in_force};
-ghost use Rattle.event_log.specs.Counting.{counted};
-
-use crate::stage::{M1, M2, Rows, UPDATE, close, open, waiting};
-use book_core::{Book, CancelRefusal, EVENTS_MAX, TakeRefusal, Ticket};
-use book_lock::{Closed, Desk, Opening, Shared, Station};
+use crate::stage::{Done, M1, M2, Rows, Task, UPDATE, comes_out, waiting};
+use book_core::{Book, CancelRefusal, EVENTS_MAX, Letter, TakeRefusal, Ticket};
+use book_lock::{Desk, Opening, Shared, Station};
 use conn_worker::nearest;
-use dest_queue::{FailCause, Outcome, SettleRefusal, SlotState};
+use dest_queue::{Addressed, FailCause, Outcome, SettleRefusal, SlotState};
 use plan_text::Plan;
+use row_store::RowStore;
 use stat_count::Counts;
 use std::alloc::Global;
-use std::marker::Brand;
-use std::sync::ledger::{Blank, Ledger};
+use std::sync::ledger::Ledger;
 use std::sync::{Arc, Wait};
 use std::test::Fail;
 
@@ -179,9 +175,9 @@ const CASES: [Case; 3] = [
 ];
 
 /// Whether a take gives a job with this control id and this text.
-fn sends<A: Opening, T: Ledger, U: Ledger, H: Wait>(
+fn sends<A: Opening, T: Ledger, U: Ledger, S: RowStore<Addressed<Letter>>, H: Wait>(
     rt: &H,
-    shared: &Shared<A, T, U, Rows>,
+    shared: &Shared<A, T, U, S>,
     station: &mut Station<T, U>,
     d: u32,
     now: u64,
@@ -197,9 +193,9 @@ fn sends<A: Opening, T: Ledger, U: Ledger, H: Wait>(
 }
 
 /// Whether a take gives this ticket, or is refused so.
-fn takes<A: Opening, T: Ledger, U: Ledger, H: Wait>(
+fn takes<A: Opening, T: Ledger, U: Ledger, S: RowStore<Addressed<Letter>>, H: Wait>(
     rt: &H,
-    shared: &Shared<A, T, U, Rows>,
+    shared: &Shared<A, T, U, S>,
     station: &mut Station<T, U>,
     d: u32,
     now: u64,
@@ -212,9 +208,9 @@ fn takes<A: Opening, T: Ledger, U: Ledger, H: Wait>(
 }
 
 /// Whether a call is answered as is due.
-fn is_met<A: Opening, T: Ledger, U: Ledger, H: Wait>(
+fn is_met<A: Opening, T: Ledger, U: Ledger, S: RowStore<Addressed<Letter>>, H: Wait>(
     rt: &H,
-    shared: &Shared<A, T, U, Rows>,
+    shared: &Shared<A, T, U, S>,
     station: &mut Station<T, U>,
     call: Call,
 ) -> bool {
@@ -231,9 +227,9 @@ fn is_met<A: Opening, T: Ledger, U: Ledger, H: Wait>(
 }
 
 /// The first of these calls that is answered otherwise than is due; those behind it aren't made.
-fn first_unmet<A: Opening, T: Ledger, U: Ledger, H: Wait>(
+fn first_unmet<A: Opening, T: Ledger, U: Ledger, S: RowStore<Addressed<Letter>>, H: Wait>(
     rt: &H,
-    shared: &Shared<A, T, U, Rows>,
+    shared: &Shared<A, T, U, S>,
     station: &mut Station<T, U>,
     calls: &[Call],
 ) -> Option<usize> {
@@ -254,108 +250,45 @@ struct Answers {
     plan: Arc<Plan>,
 }
 
-/// The answers, and the book after them.
-#[derive(Drop)]
-struct Played {
-    answers: Answers,
-    closed: Closed<Rows>,
-}
+impl Task for Case {
+    type Answer = Answers;
 
-/// Makes calls of a shared book, one after another.
-fn make<A: Opening, T: Ledger, U: Ledger, H: Wait>(
-    rt: &H,
-    shared: &Shared<A, T, U, Rows>,
-    desks: &mut [Desk<A>],
-    stations: &mut [Station<T, U>],
-    calls: &[Call],
-) -> Result<Answers, Fail> {
-    let Some(desk) = desks.first_mut() else {
-        return Err("no desk".into());
-    };
-    let Some(station) = stations.first_mut() else {
-        return Err("no station".into());
-    };
-    Ok(Answers {
-        unmet: first_unmet(rt, shared, station, calls),
-        shown: shared.counts(rt, desk),
-        plan: shared.plan(rt)?,
-    })
-}
+    fn work<A: Opening, T: Ledger, U: Ledger, S: RowStore<Addressed<Letter>>, H: Wait>(
+        &self,
+        rt: &H,
+        _: Global,
+        shared: &Shared<A, T, U, S>,
+        desks: &mut [Desk<A>],
+        stations: &mut [Station<T, U>],
+    ) -> Option<Answers> {
+        let (desk, station) = (desks.first_mut()?, stations.first_mut()?);
+        Some(Answers {
+            unmet: first_unmet(rt, shared, station, self.calls),
+            shown: shared.counts(rt, desk),
+            plan: shared.plan(rt).ok()?,
+        })
+    }
 
-/// Shares a book, makes calls of it, and closes it.
-fn play<A: Opening, T: Ledger, U: Ledger, H: Wait>(
-    rt: &H,
-    alloc: Global,
-    book: Book<Rows>,
-    arrivals: Blank,
-    takes: Blank,
-    settlements: Blank,
-    calls: &[Call],
-) -> Result<Played, Fail>
-    requires counts { counted book ≡ A.counts }
-    requires first { next_place book ≡ A.first }
-    requires channels { length (plan_in_force book).channels ≡ A.channels }
-    requires arrivals { (arrivals.name ≡ A.name) × (arrivals.parts ≡ A.parts) × (A.parts ≡ 2) }
-    requires takes { (takes.name ≡ T.name) × (takes.parts ≡ T.parts) × (T.parts ≡ 2) }
-    requires settlements { (settlements.name ≡ U.name) × (settlements.parts ≡ U.parts) × (U.parts ≡ 2) }
-{
-    let (shared, mut desks, mut stations) = open::<A, T, U>(
-        alloc,
-        book,
-        1,
-        1,
-        arrivals,
-        takes,
-        settlements,
-    )?;
-    let answers = make(rt, &shared, &mut desks, &mut stations, calls)?;
-    let closed = close(shared, desks, stations)?;
-    Ok(Played { answers, closed })
-}
-
-/// Whether each call was answered as is due, the slots are as they are to be, the statistics shown before the close are
-/// those of the closed book, and the plan shown is its plan.
-fn is_right(slots: [Option<SlotState>; 4], played: &Played) -> bool {
-    let (answers, book) = (&played.answers, played.closed.book());
-    answers.unmet.is_none()
-        && answers.shown == *book.counts()
-        && answers.plan.same(book.plan())
-        && book.status(0, 0) == slots[0]
-        && book.status(0, 1) == slots[1]
-        && book.status(0, 2) == slots[2]
-        && book.status(0, 3) == slots[3]
-}
-
-/// What comes of these calls of a book.
-fn play_at<H: Wait>(
-    rt: &H,
-    alloc: Global,
-    book: Book<Rows>,
-    calls: &[Call],
-) -> Result<Played, Fail> {
-    play::<Brand, Brand, Brand, H>(
-        rt,
-        alloc,
-        book,
-        Blank::new(2),
-        Blank::new(2),
-        Blank::new(2),
-        calls,
-    )
-}
-
-/// Whether these calls of a book come out as they are to.
-fn comes_out<H: Wait>(rt: &H, alloc: Global, book: Book<Rows>, case: &Case) -> Result<bool, Fail> {
-    let played = play_at(rt, alloc, book, case.calls)?;
-    Ok(is_right(case.slots, &played))
+    /// Whether each call was answered as is due, the slots are as they are to be, the statistics shown before the close are
+    /// those of the closed book, and the plan shown is its plan.
+    fn is_right<S: RowStore<Addressed<Letter>>>(&self, done: &Done<Answers, S>) -> bool {
+        let (answers, book, slots) = (&done.answer, done.closed.book(), self.slots);
+        answers.unmet.is_none()
+            && answers.shown == *book.counts()
+            && answers.plan.same(book.plan())
+            && book.status(0, 0) == slots[0]
+            && book.status(0, 1) == slots[1]
+            && book.status(0, 2) == slots[2]
+            && book.status(0, 3) == slots[3]
+    }
 }
 
 /// Each case comes out as it is to.
 #[test]
 fn cases(rt: HostRuntime) -> Result<(), Fail> {
     for (place, case) in CASES.iter().enumerate() {
-        let book = waiting(&rt, case.four, EVENTS_MAX, case.messages)?;
-        let right = comes_out(&rt, rt.alloc(), book, case)?;
+        let book: Book<Rows> = waiting(&rt, case.four, EVENTS_MAX, case.messages)?;
+        let right = comes_out(&rt, rt.alloc(), book, case);
         assert!(rt; right, "case {place}");
     }
     Ok(())

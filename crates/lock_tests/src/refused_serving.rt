@@ -1,22 +1,19 @@
 //! Serving at a desk of a shared book where one request for memory may be refused, as `rt try --test --fail-alloc N` refuses
 //! the Nth.
 
-ghost use Rattle.std.specs.Prelude.{◌≡◌, ◌+◌, ◌<◌, length};
-ghost use Rattle.event_log.specs.History.{next_place, plan_in_force};
-ghost use Rattle.event_log.specs.Counting.{counted};
+ghost use Rattle.std.specs.Prelude.{◌<◌};
 
 use crate::devices::{Cut, Devices, SMOOTH, Sink, Source};
-use crate::stage::Rows;
-use book_core::{Book, EVENTS_MAX};
-use book_lock::{Closed, Desk, Opened, Opening, Shared, audit, rising};
+use crate::stage::{Done, Rows, Task, empty_book, plan, share};
+use book_core::{Book, EVENTS_MAX, Letter};
+use book_lock::{Closed, Desk, Opening, Shared, Station, audit, rising};
 use conn_worker::{Counted, ServeEnd, ServeReport, Still, nearest, serve};
-use plan_text::Plan;
+use dest_queue::Addressed;
+use row_store::RowStore;
 use stat_count::Counts;
 use std::alloc::Global;
-use std::hash::RandomState;
-use std::marker::Brand;
-use std::sync::ledger::{Blank, Ledger};
-use std::sync::{Arc, Wait};
+use std::sync::Wait;
+use std::sync::ledger::Ledger;
 use std::test::Fail;
 
 /// Two admissions, of which the first asks for an accept acknowledgment and the second for both.
@@ -51,21 +48,9 @@ struct Course {
     after: Counts,
 }
 
-/// What came of serving, and the book after it.
-#[derive(Drop)]
-struct Served {
-    course: Course,
-    closed: Closed<Rows>,
-}
-
 /// An empty book of the built-in plan. None where memory was refused.
-fn empty_book(rt: &HostRuntime) -> Option<Book<Rows>> {
-    let alloc = rt.alloc();
-    let plan = Plan::built_in(alloc).ok()?;
-    plan.rules();
-    let plan = Arc::new(alloc, plan).ok()?;
-    let hasher = RandomState::new(rt).ok()?;
-    Some(Book::new(alloc, plan, EVENTS_MAX, hasher))
+fn book<S: RowStore<Addressed<Letter>> + Drop>(rt: &HostRuntime) -> Option<Book<S>> {
+    empty_book(rt, plan(rt.alloc(), false)?, EVENTS_MAX)
 }
 
 /// A writer that needs no further memory. None where memory was refused for it.
@@ -76,10 +61,10 @@ fn roomy_sink(alloc: Global, devices: Devices) -> Option<Sink> {
 }
 
 /// Serves the two messages at a desk, over these devices.
-fn serve_at<A: Opening, T: Ledger, U: Ledger, H: Wait>(
+fn serve_at<A: Opening, T: Ledger, U: Ledger, S: RowStore<Addressed<Letter>>, H: Wait>(
     rt: &H,
     alloc: Global,
-    shared: &Shared<A, T, U, Rows>,
+    shared: &Shared<A, T, U, S>,
     desk: &mut Desk<A>,
     devices: Devices,
     sink: Sink,
@@ -111,76 +96,6 @@ fn serve_at<A: Opening, T: Ledger, U: Ledger, H: Wait>(
     }
 }
 
-/// Serves the two messages at the first desk, over these devices. None where memory was refused before.
-fn serve_first<A: Opening, T: Ledger, U: Ledger, H: Wait>(
-    rt: &H,
-    alloc: Global,
-    shared: &Shared<A, T, U, Rows>,
-    desks: &mut [Desk<A>],
-    devices: Devices,
-) -> Option<Course> {
-    if shared.plan(rt).ok()?.channels() == 0 {
-        return None;
-    }
-    let desk = desks.first_mut()?;
-    let sink = roomy_sink(alloc, devices)?;
-    Some(serve_at(rt, alloc, shared, desk, devices, sink))
-}
-
-/// Serves the two messages at a desk of a shared book, and closes it. None where memory was refused before.
-fn serve_and_close<A: Opening, T: Ledger, U: Ledger, H: Wait>(
-    rt: &H,
-    alloc: Global,
-    opened: Opened<A, T, U, Rows>,
-    cut: Cut,
-) -> Option<Served> {
-    let (shared, mut desks, stations) = opened;
-    let devices = Devices { cut, ..SMOOTH };
-    let course = serve_first(rt, alloc, &shared, &mut desks, devices)?;
-    let closed = shared.close(desks, stations).ok()?;
-    Some(Served { course, closed })
-}
-
-/// Shares a book, serves the two messages at a desk, from a stream that is cut so, and closes it. None where memory was
-/// refused before.
-fn serve_two<A: Opening, T: Ledger, U: Ledger, H: Wait>(
-    rt: &H,
-    alloc: Global,
-    book: Book<Rows>,
-    arrivals: Blank,
-    takes: Blank,
-    settlements: Blank,
-    cut: Cut,
-) -> Option<Served>
-    requires counts { counted book ≡ A.counts }
-    requires first { next_place book ≡ A.first }
-    requires channels { length (plan_in_force book).channels ≡ A.channels }
-    requires arrivals { (arrivals.name ≡ A.name) × (arrivals.parts ≡ A.parts) × (A.parts ≡ 2) }
-    requires takes { (takes.name ≡ T.name) × (takes.parts ≡ T.parts) × (T.parts ≡ 1) }
-    requires settlements { (settlements.name ≡ U.name) × (settlements.parts ≡ U.parts) × (U.parts ≡ 1) }
-{
-    let opened = Shared::<A, T, U, Rows>::new(alloc, book, 1, 0, arrivals, takes, settlements);
-    serve_and_close(rt, alloc, opened.ok()?, cut)
-}
-
-/// Serves the two messages by a book. None where memory was refused before.
-fn serve_messages<H: Wait>(
-    rt: &H,
-    alloc: Global,
-    book: Option<Book<Rows>>,
-    cut: Cut,
-) -> Option<Served> {
-    serve_two::<Brand, Brand, Brand, H>(
-        rt,
-        alloc,
-        book?,
-        Blank::new(2),
-        Blank::new(1),
-        Blank::new(1),
-        cut,
-    )
-}
-
 /// Whether bytes are one text behind another.
 fn are_both(bytes: &[u8], first: &str, second: &str) -> bool {
     match bytes.split_at_checked(first.len()) {
@@ -207,56 +122,123 @@ fn may_be(end: ServeEnd, booked: usize, written: &[u8]) -> bool {
 }
 
 /// Whether the book has the messages of the receipts, in order, waiting to be delivered, and nothing else.
-fn has_the_booked(served: &Served) -> bool {
-    let (course, book) = (&served.course, served.closed.book());
-    let receipts = course.report.receipts.as_slice();
+fn has_the_booked<S: RowStore<Addressed<Letter>>>(course: &Course, closed: &Closed<S>) -> bool {
+    let (book, receipts) = (closed.book(), course.report.receipts.as_slice());
     let booked = receipts.len();
     book.len() == booked
         && book.queue_len(0) == booked as u64
         && course.made == booked as u64
         && rising(receipts)
-        && audit(&served.closed, receipts).is_ok()
+        && audit(closed, receipts).is_ok()
         && course.after == *book.counts()
         && (booked > 0 || course.before == course.after)
+}
+
+/// Serves the two messages at a desk, from a stream that is cut so.
+#[derive(Clone, Copy)]
+struct Serving {
+    cut: Cut,
+}
+
+impl Task for Serving {
+    type Answer = Course;
+
+    /// None where memory was refused before.
+    fn work<A: Opening, T: Ledger, U: Ledger, S: RowStore<Addressed<Letter>>, H: Wait>(
+        &self,
+        rt: &H,
+        alloc: Global,
+        shared: &Shared<A, T, U, S>,
+        desks: &mut [Desk<A>],
+        _: &mut [Station<T, U>],
+    ) -> Option<Course> {
+        if shared.plan(rt).ok()?.channels() == 0 {
+            return None;
+        }
+        let desk = desks.first_mut()?;
+        let devices = Devices {
+            cut: self.cut,
+            ..SMOOTH
+        };
+        let sink = roomy_sink(alloc, devices)?;
+        Some(serve_at(rt, alloc, shared, desk, devices, sink))
+    }
+
+    /// Whether what was told is what was booked, and the book has nothing else.
+    fn is_right<S: RowStore<Addressed<Letter>>>(&self, served: &Done<Course, S>) -> bool {
+        let course = &served.answer;
+        let report = &course.report;
+        may_be(report.end, report.receipts.len(), &course.written)
+            && has_the_booked(course, &served.closed)
+    }
+}
+
+/// One message comes behind the other, or both in one piece.
+const IN_TWO: Serving = Serving {
+    cut: Cut::BehindEachEnd,
+};
+
+const IN_ONE: Serving = Serving { cut: Cut::Nowhere };
+
+/// How serving came out: whether what was told is what was booked, how it ended, and how many messages were booked.
+#[derive(Clone, Copy)]
+struct Told {
+    right: bool,
+    end: ServeEnd,
+    booked: usize,
+}
+
+/// How serving came out.
+fn told_of<S: RowStore<Addressed<Letter>>>(serving: &Serving, served: &Done<Course, S>) -> Told {
+    let report = &served.answer.report;
+    Told {
+        right: serving.is_right(served),
+        end: report.end,
+        booked: report.receipts.len(),
+    }
+}
+
+/// Serves the two messages by a book, and tells how that came out. None where memory was refused before.
+fn serve_by<S: RowStore<Addressed<Letter>> + Drop, H: Wait>(
+    rt: &H,
+    alloc: Global,
+    book: Option<Book<S>>,
+    serving: &Serving,
+) -> Option<Told> {
+    let served = share(rt, alloc, book?, serving).ok()?;
+    Some(told_of(serving, &served))
 }
 
 /// Whichever request is refused: what was told is what was booked, and the book has nothing else.
 #[test]
 fn holds_where_memory_is_refused(rt: HostRuntime) -> Result<(), Fail> {
-    let Some(served) = serve_messages(&rt, rt.alloc(), empty_book(&rt), Cut::BehindEachEnd) else {
+    let Some(told) = serve_by(&rt, rt.alloc(), book::<Rows>(&rt), &IN_TWO) else {
         return Ok(());
     };
-    let report = &served.course.report;
-    let may_be = may_be(report.end, report.receipts.len(), &served.course.written);
-    assert!(rt;
-        may_be,
-        "{:?}, {} booked",
-        report.end,
-        report.receipts.len()
-    );
-    assert!(rt; has_the_booked(&served));
+    assert!(rt; told.right, "{:?}, {} booked", told.end, told.booked);
     Ok(())
+}
+
+/// Whether both messages were booked and acknowledged.
+fn all_is_done(told: Option<Told>) -> bool {
+    let Some(told) = told else {
+        return false;
+    };
+    told.right && told.end == ServeEnd::End && told.booked == 2
 }
 
 /// With memory to spare both are booked and acknowledged.
 #[test]
 fn all_is_done_with_memory_to_spare(rt: HostRuntime) -> Result<(), Fail> {
-    let Some(served) = serve_messages(&rt, rt.alloc(), empty_book(&rt), Cut::BehindEachEnd) else {
-        return Err("memory".into());
-    };
-    let course = &served.course;
-    assert!(rt; course.report.end == ServeEnd::End && course.report.receipts.len() == 2);
-    assert!(rt; are_both(&course.written, FIRST, SECOND) && has_the_booked(&served));
+    let told = serve_by(&rt, rt.alloc(), book::<Rows>(&rt), &IN_TWO);
+    assert!(rt; all_is_done(told));
     Ok(())
 }
 
 /// Messages that come in one piece are booked in the order in which they come.
 #[test]
 fn messages_of_a_piece_are_booked_in_order(rt: HostRuntime) -> Result<(), Fail> {
-    let Some(served) = serve_messages(&rt, rt.alloc(), empty_book(&rt), Cut::Nowhere) else {
-        return Err("memory".into());
-    };
-    assert!(rt; served.course.report.receipts.len() == 2 && has_the_booked(&served));
-    assert!(rt; are_both(&served.course.written, FIRST, SECOND));
+    let told = serve_by(&rt, rt.alloc(), book::<Rows>(&rt), &IN_ONE);
+    assert!(rt; all_is_done(told));
     Ok(())
 }

@@ -2,9 +2,11 @@
 
 use crate::devices::{CUTS, Cut, Devices, Mishap, SMOOTH, Sink, Source};
 use crate::stage::{Rows, waiting};
-use book_core::{Book, EVENTS_MAX};
+use book_core::{Book, EVENTS_MAX, Letter};
 use conn_core::Line;
 use conn_worker::{Counted, ServeEnd, ServeReport, Still, TURNS_MAX, nearest, serve_within};
+use dest_queue::Addressed;
+use row_store::RowStore;
 use std::alloc::Global;
 use std::test::Fail;
 
@@ -40,7 +42,12 @@ struct Served {
 }
 
 /// Serves a stream from a book over these devices, at 14 November 2023, 22:13:20 UTC.
-fn serve_from(alloc: Global, book: &mut Book<Rows>, stream: &[u8], devices: Devices) -> Served {
+fn serve_from<S: RowStore<Addressed<Letter>>>(
+    alloc: Global,
+    book: &mut Book<S>,
+    stream: &[u8],
+    devices: Devices,
+) -> Served {
     let mut reader = Counted::new(Source::new(stream, devices));
     let mut writer = Counted::new(Sink::new(alloc, devices));
     let (conn, channel) = (0, 0);
@@ -74,8 +81,29 @@ fn serve_from(alloc: Global, book: &mut Book<Rows>, stream: &[u8], devices: Devi
 /// Serves the conversation over these devices, by the built-in plan.
 fn serve(rt: &HostRuntime, devices: Devices) -> Result<Served, Fail> {
     let stream = both(rt.alloc(), &MESSAGES)?;
-    let mut book = waiting(rt, false, EVENTS_MAX, &[])?;
+    let mut book: Book<Rows> = waiting(rt, false, EVENTS_MAX, &[])?;
     Ok(serve_from(rt.alloc(), &mut book, &stream, devices))
+}
+
+/// Why serving ended, and with how many faults of the reader and of the writer.
+type Ending = (ServeEnd, u64, u64);
+
+const WELL: Ending = (ServeEnd::End, 0, 0);
+
+const UNREAD: Ending = (ServeEnd::ReadFault, 1, 0);
+
+const UNWRITTEN: Ending = (ServeEnd::WriteFault, 0, 1);
+
+impl Served {
+    /// Whether this was written, and serving ended so.
+    fn wrote(&self, due: &[u8], ending: Ending) -> bool {
+        self.written.as_slice() == due && (self.end, self.read_faults, self.write_faults) == ending
+    }
+
+    /// Whether all that was written was flushed.
+    fn is_flushed(&self) -> bool {
+        self.flushed == self.written.len() && !self.unflushed
+    }
 }
 
 /// What is written once so many bytes were read.
@@ -89,36 +117,50 @@ fn due(replies: &[u8], read: usize) -> &[u8] {
     }
 }
 
+/// Whether what came before a read that fails is answered, where a read brings a byte. So many reads are made at most.
+fn answers_until_read(rt: &HostRuntime, replies: &[u8], at: u32) -> Result<bool, Fail> {
+    let served = serve(
+        rt,
+        Devices {
+            cut: Cut::AtEachByte,
+            reading: Mishap::Fails { at },
+            ..SMOOTH
+        },
+    )?;
+    let read = (at as usize).saturating_sub(1);
+    let all = MESSAGES[0].len() + MESSAGES[1].len();
+    let ending = if read <= all { UNREAD } else { WELL };
+    Ok(served.wrote(due(replies, read), ending) && served.is_flushed())
+}
+
 /// The replies to what came before a read are written and flushed when that read is made.
 #[test]
 fn a_reader_that_fails(rt: HostRuntime) -> Result<(), Fail> {
     let replies = both(rt.alloc(), &REPLIES)?;
-    let length = both(rt.alloc(), &MESSAGES)?.len();
     for at in 1..=220 {
-        let devices = Devices {
-            cut: Cut::AtEachByte,
-            reading: Mishap::Fails { at },
-            ..SMOOTH
-        };
-        let served = serve(&rt, devices)?;
-        let read = at as usize - 1;
-        let due = due(&replies, read);
-        let (end, faults) = if read <= length {
-            (ServeEnd::ReadFault, (1, 0))
-        } else {
-            (ServeEnd::End, (0, 0))
-        };
-        assert!(rt; served.written.as_slice() == due, "call {at}");
-        assert!(rt;
-            served.flushed == due.len() && !served.unflushed,
-            "call {at}"
-        );
-        assert!(rt;
-            (served.end, (served.read_faults, served.write_faults)) == (end, faults),
-            "call {at}"
-        );
+        let right = answers_until_read(&rt, &replies, at)?;
+        assert!(rt; right, "call {at}");
     }
     Ok(())
+}
+
+/// Whether the replies are written up to a write that fails, where a write takes a byte, and both messages are booked.
+fn writes_until(rt: &HostRuntime, replies: &[u8], at: u32) -> Result<bool, Fail> {
+    let served = serve(
+        rt,
+        Devices {
+            most: 1,
+            writing: Mishap::Fails { at },
+            ..SMOOTH
+        },
+    )?;
+    let wrote = (at as usize).saturating_sub(1).min(replies.len());
+    let ending = if wrote < replies.len() {
+        UNWRITTEN
+    } else {
+        WELL
+    };
+    Ok(served.wrote(&replies[..wrote], ending) && served.receipts == 2)
 }
 
 /// Each byte of the replies is a write.
@@ -126,26 +168,24 @@ fn a_reader_that_fails(rt: HostRuntime) -> Result<(), Fail> {
 fn a_writer_that_fails(rt: HostRuntime) -> Result<(), Fail> {
     let replies = both(rt.alloc(), &REPLIES)?;
     for at in 1..=290 {
-        let devices = Devices {
-            most: 1,
-            writing: Mishap::Fails { at },
-            ..SMOOTH
-        };
-        let served = serve(&rt, devices)?;
-        let wrote = (at as usize - 1).min(replies.len());
-        let (end, faults) = if wrote < replies.len() {
-            (ServeEnd::WriteFault, (0, 1))
-        } else {
-            (ServeEnd::End, (0, 0))
-        };
-        assert!(rt; served.written.as_slice() == &replies[..wrote], "call {at}");
-        assert!(rt;
-            (served.end, (served.read_faults, served.write_faults)) == (end, faults),
-            "call {at}"
-        );
-        assert_eq!(rt; served.receipts, 2);
+        let right = writes_until(&rt, &replies, at)?;
+        assert!(rt; right, "call {at}");
     }
     Ok(())
+}
+
+/// Whether all is answered over devices that are interrupted.
+fn goes_on(rt: &HostRuntime, replies: &[u8], cut: Cut) -> Result<bool, Fail> {
+    let served = serve(
+        rt,
+        Devices {
+            cut,
+            reading: Mishap::Interrupts,
+            most: 7,
+            writing: Mishap::Interrupts,
+        },
+    )?;
+    Ok(served.wrote(replies, WELL) && served.is_flushed())
 }
 
 /// Interrupted calls are made again, however the stream is cut, and are no faults.
@@ -153,39 +193,25 @@ fn a_writer_that_fails(rt: HostRuntime) -> Result<(), Fail> {
 fn interrupted_devices(rt: HostRuntime) -> Result<(), Fail> {
     let replies = both(rt.alloc(), &REPLIES)?;
     for cut in CUTS {
-        let devices = Devices {
-            cut,
-            reading: Mishap::Interrupts,
-            most: 7,
-            writing: Mishap::Interrupts,
-        };
-        let served = serve(&rt, devices)?;
-        assert!(rt;
-            served.written == replies && served.flushed == replies.len(),
-            "cut {cut:?}"
-        );
-        assert!(rt;
-            (served.end, served.read_faults, served.write_faults) == (ServeEnd::End, 0, 0),
-            "cut {cut:?}"
-        );
+        let right = goes_on(&rt, &replies, cut)?;
+        assert!(rt; right, "cut {cut:?}");
     }
     Ok(())
+}
+
+/// Whether a writer that gives up has been given this, and ends the connection.
+fn gives_up(rt: &HostRuntime, writing: Mishap, given: &[u8]) -> Result<bool, Fail> {
+    let served = serve(rt, Devices { writing, ..SMOOTH })?;
+    Ok(served.wrote(given, UNWRITTEN))
 }
 
 /// A flush that fails, and a write that takes no byte, end the connection.
 #[test]
 fn writers_that_give_up(rt: HostRuntime) -> Result<(), Fail> {
     let replies = both(rt.alloc(), &REPLIES)?;
-    for (writing, length) in [
-        (Mishap::FlushFails, replies.len()),
-        (Mishap::TakesNothing, 0),
-    ] {
-        let served = serve(&rt, Devices { writing, ..SMOOTH })?;
-        assert!(rt; served.written.len() == length, "{writing:?}");
-        assert!(rt;
-            (served.end, served.read_faults, served.write_faults) == (ServeEnd::WriteFault, 0, 1),
-            "{writing:?}"
-        );
-    }
+    let unflushed = gives_up(&rt, Mishap::FlushFails, &replies)?;
+    assert!(rt; unflushed, "a flush");
+    let untaken = gives_up(&rt, Mishap::TakesNothing, b"")?;
+    assert!(rt; untaken, "a write");
     Ok(())
 }

@@ -1,22 +1,24 @@
-//! Books in which messages wait.
+//! Books in which messages wait, and what is done with them once they are shared.
 
-ghost use Rattle.std.specs.Prelude.{◌≡◌, ◌≤◌, ◌+◌, IfOk, IsTrue, length};
+ghost use Rattle.std.specs.Prelude.{◌≡◌, ◌+◌, IfSome, IsTrue, length};
 ghost use Rattle.judge_core.specs.Judging.{is_bookable};
 ghost use Rattle.event_log.specs.History.{next_place, plan_in_force};
 ghost use Rattle.event_log.specs.Counting.{counted};
 
-use book_core::{Book, EVENTS_MAX, Letter};
-use book_lock::{Closed, Desk, Opened, Opening, Shared, Station};
+use book_core::{Book, EVENTS_MAX, Letter, Receipt};
+use book_lock::{Closed, Desk, Opening, Shared, Station};
 use dest_queue::Addressed;
 use judge_core::{Judged, fits_block, judge};
 use plan_text::Plan;
-use row_store::PlainRows;
+use row_store::{PlainRows, RowStore};
 use std::alloc::Global;
 use std::hash::RandomState;
-use std::sync::Arc;
+use std::marker::Brand;
 use std::sync::ledger::{Blank, Ledger};
+use std::sync::{Arc, Wait};
 use std::test::Fail;
 
+/// The rows of the tests' books.
 pub type Rows = PlainRows<Addressed<Letter>>;
 
 /// A message with the control id M1, which asks for accept acknowledgments (HL7 v2.5.1, 2.9.3).
@@ -35,94 +37,206 @@ pub const UPDATE: &str =
 const FOUR: &str =
     "[[destination]]\nname = \"A\"\naddress = \"127.0.0.1:6671\"\n[[destination]]\nname = \"B\"\naddress = \"127.0.0.1:6672\"\n[[destination]]\nname = \"C\"\naddress = \"127.0.0.1:6673\"\n[[destination]]\nname = \"D\"\naddress = \"127.0.0.1:6674\"\n[[channel]]\nname = \"ADT\"\nlisten = \"127.0.0.1:6670\"\ntypes = [\"ADT\"]\nprocessing = [\"P\"]\nversions = [\"2.5.1\"]\n[[channel.route]]\nto = \"A\"\nfilter = { equals = [\"PV1-2\", \"I\"] }\n[[channel.route]]\nto = \"B\"\nfilter = { equals = [\"PV1-2\", \"O\"] }\n[[channel.route]]\nto = \"C\"\nfilter = { exists = \"PID-3.1\" }\n[[channel.route]]\nto = \"D\"\nfilter = { equals = [\"MSH-9.2\", \"A08\"] }\n";
 
-/// The built-in plan, or that of four destinations.
-pub fn plan(alloc: Global, four: bool) -> Result<Arc<Plan>, Fail> {
-    let plan = match four {
-        true => Plan::read(alloc, FOUR.as_bytes()),
-        false => Ok(Plan::built_in(alloc)?),
-    };
-    let Ok(plan) = plan else {
-        return Err("the plan".into());
-    };
-    Ok(Arc::new(alloc, plan)?)
+/// A plan by its text. None where it is no plan, or memory is refused.
+pub fn plan_of(alloc: Global, text: &str) -> Option<Arc<Plan>> {
+    let plan = Plan::read(alloc, text.as_bytes()).ok()?;
+    Arc::new(alloc, plan).ok()
 }
 
-/// A message on the first channel of a plan, judged by it.
-pub fn judged(alloc: Global, plan: &Arc<Plan>, text: &str) -> Result<Judged, Fail>
-    ensures { IfOk result (λ judged. IsTrue (is_bookable judged.raw)) }
+/// The built-in plan, or that of four destinations. None where memory is refused.
+pub fn plan(alloc: Global, four: bool) -> Option<Arc<Plan>> {
+    match four {
+        true => plan_of(alloc, FOUR),
+        false => Arc::new(alloc, Plan::built_in(alloc).ok()?).ok(),
+    }
+}
+
+/// A message on the first channel of a plan, judged by it. None where it is not bookable, or memory is refused.
+pub fn judged(alloc: Global, plan: &Arc<Plan>, text: &str) -> Option<Judged>
+    ensures { IfSome result (λ judged. IsTrue (is_bookable judged.raw)) }
 {
-    let raw = Vec::from_slice(alloc, text.as_bytes())?;
-    if !fits_block(&raw) {
-        return Err("a block".into());
+    let raw = Vec::from_slice(alloc, text.as_bytes()).ok()?;
+    if plan.channels() == 0 || !fits_block(&raw) {
+        return None;
     }
-    plan.rules();
-    let judged = judge(alloc, plan, 0, raw)?;
-    if !judged.bookable() {
-        return Err("a message".into());
+    let judged = judge(alloc, plan, 0, raw).ok()?;
+    if judged.bookable() {
+        Some(judged)
+    } else {
+        None
     }
-    Ok(judged)
 }
 
-/// An empty book of a plan with room for so many entries.
-fn empty_book(rt: &HostRuntime, four: bool, room: u32) -> Result<Book<Rows>, Fail> {
-    let alloc = rt.alloc();
-    let plan = plan(alloc, four)?;
+/// An empty book of a plan with room for so many entries. None where memory is refused.
+pub fn empty_book<S: RowStore<Addressed<Letter>> + Drop>(
+    rt: &HostRuntime,
+    plan: Arc<Plan>,
+    room: u32,
+) -> Option<Book<S>> {
+    let hasher = RandomState::new(rt).ok()?;
     let room = room.clamp(1, EVENTS_MAX);
-    Ok(Book::new(alloc, plan, room, RandomState::new(rt)?))
+    Some(Book::new(rt.alloc(), plan, room, hasher))
 }
 
-/// Books a message by connection 0.
-fn book_message(alloc: Global, book: &mut Book<Rows>, text: &str) -> Result<(), Fail> {
-    let judged = judged(alloc, book.plan(), text)?;
-    book.arrive(0, &judged)?;
-    Ok(())
+/// Books messages by connection 0. None where one is not booked.
+fn fill<S: RowStore<Addressed<Letter>>>(
+    alloc: Global,
+    book: &mut Book<S>,
+    messages: &[&str],
+) -> Option<()> {
+    for text in messages {
+        let judged = judged(alloc, book.plan(), text)?;
+        book.arrive(0, &judged).ok()?;
+    }
+    Some(())
 }
 
 /// A book of a plan with room for so many entries, in which these messages wait.
-pub fn waiting(
+pub fn waiting<S: RowStore<Addressed<Letter>> + Drop>(
     rt: &HostRuntime,
     four: bool,
     room: u32,
     messages: &[&str],
-) -> Result<Book<Rows>, Fail> {
-    let mut book = empty_book(rt, four, room)?;
-    for text in messages {
-        book_message(rt.alloc(), &mut book, text)?;
+) -> Result<Book<S>, Fail> {
+    let Some(plan) = plan(rt.alloc(), four) else {
+        return Err("a plan".into());
+    };
+    let Some(mut book) = empty_book(rt, plan, room) else {
+        return Err("a book".into());
+    };
+    if fill(rt.alloc(), &mut book, messages).is_none() {
+        return Err("a message".into());
     }
     Ok(book)
 }
 
-/// Shares a book among so many desks and stations.
-pub fn open<A: Opening, T: Ledger, U: Ledger>(
+/// A message judged by the plan in force of a shared book. None where it is not bookable, or memory is refused.
+pub fn judged_now<A: Opening, T: Ledger, U: Ledger, S: RowStore<Addressed<Letter>>, H: Wait>(
+    rt: &H,
     alloc: Global,
-    book: Book<Rows>,
-    desks: usize,
-    stations: usize,
+    shared: &Shared<A, T, U, S>,
+    text: &str,
+) -> Option<Judged>
+    ensures { IfSome result (λ judged. IsTrue (is_bookable judged.raw)) }
+{
+    let plan = shared.plan(rt).ok()?;
+    judged(alloc, &plan, text)
+}
+
+/// Books a message by a connection. None where it is not booked.
+pub fn bring<A: Opening, T: Ledger, U: Ledger, S: RowStore<Addressed<Letter>>, H: Wait>(
+    rt: &H,
+    alloc: Global,
+    shared: &Shared<A, T, U, S>,
+    desk: &mut Desk<A>,
+    conn: u32,
+    text: &str,
+) -> Option<Receipt> {
+    let judged = judged_now(rt, alloc, shared, text)?;
+    shared.arrive(rt, desk, conn, &judged).ok()
+}
+
+/// What is done with a shared book, and what is to come of it.
+pub trait Task {
+    /// What comes of it.
+    type Answer: Drop;
+
+    /// Does it, at the desks and the stations of the book. None where nothing comes of it.
+    fn work<A: Opening, T: Ledger, U: Ledger, S: RowStore<Addressed<Letter>>, H: Wait>(
+        &self,
+        rt: &H,
+        alloc: Global,
+        shared: &Shared<A, T, U, S>,
+        desks: &mut [Desk<A>],
+        stations: &mut [Station<T, U>],
+    ) -> Option<Self::Answer>;
+
+    /// Whether that, and the book after it, are as they are to be.
+    fn is_right<S: RowStore<Addressed<Letter>>>(&self, done: &Done<Self::Answer, S>) -> bool;
+}
+
+/// What came of a task, and the book after it.
+#[derive(Drop)]
+pub struct Done<X, S: RowStore<Addressed<Letter>>> {
+    pub answer: X,
+    pub closed: Closed<S>,
+}
+
+/// Why a task was not done.
+#[derive(Drop)]
+pub enum Undone {
+    /// The book was not shared, for want of memory.
+    NotShared,
+    /// Nothing came of the task.
+    Nothing,
+    /// A share was missing at the close.
+    NotClosed,
+}
+
+/// Shares a book between a desk and a station, does a task with it, and closes it.
+fn share_and_close<
+    A: Opening,
+    T: Ledger,
+    U: Ledger,
+    S: RowStore<Addressed<Letter>> + Drop,
+    K: Task,
+    H: Wait,
+>(
+    rt: &H,
+    alloc: Global,
+    book: Book<S>,
     arrivals: Blank,
     takes: Blank,
     settlements: Blank,
-) -> Result<Opened<A, T, U, Rows>, Fail>
+    task: &K,
+) -> Result<Done<K::Answer, S>, Undone>
     requires counts { counted book ≡ A.counts }
     requires first { next_place book ≡ A.first }
     requires channels { length (plan_in_force book).channels ≡ A.channels }
-    requires arrivals { (arrivals.name ≡ A.name) × (arrivals.parts ≡ A.parts) × (A.parts ≡ desks + 1) }
-    requires takes { (takes.name ≡ T.name) × (takes.parts ≡ T.parts) × (T.parts ≡ stations + 1) }
-    requires settlements { (settlements.name ≡ U.name) × (settlements.parts ≡ U.parts) × (U.parts ≡ stations + 1) }
+    requires arrivals { (arrivals.name ≡ A.name) × (arrivals.parts ≡ A.parts) × (A.parts ≡ 2) }
+    requires takes { (takes.name ≡ T.name) × (takes.parts ≡ T.parts) × (T.parts ≡ 2) }
+    requires settlements { (settlements.name ≡ U.name) × (settlements.parts ≡ U.parts) × (U.parts ≡ 2) }
 {
-    match Shared::new(alloc, book, desks, stations, arrivals, takes, settlements) {
-        Ok(opened) => Ok(opened),
-        Err(_) => Err("memory".into()),
+    let opened = Shared::<A, T, U, S>::new(alloc, book, 1, 1, arrivals, takes, settlements);
+    let Ok((shared, mut desks, mut stations)) = opened else {
+        return Err(Undone::NotShared);
+    };
+    let Some(answer) = task.work(rt, alloc, &shared, &mut desks, &mut stations) else {
+        return Err(Undone::Nothing);
+    };
+    match shared.close(desks, stations) {
+        Ok(closed) => Ok(Done { answer, closed }),
+        Err(_) => Err(Undone::NotClosed),
     }
 }
 
-/// Closes a book that was shared.
-pub fn close<A: Opening, T: Ledger, U: Ledger>(
-    shared: Shared<A, T, U, Rows>,
-    desks: Vec<Desk<A>>,
-    stations: Vec<Station<T, U>>,
-) -> Result<Closed<Rows>, Fail> {
-    match shared.close(desks, stations) {
-        Ok(closed) => Ok(closed),
-        Err(_) => Err("shares".into()),
+/// Does a task with a book that is shared between a desk and a station.
+pub fn share<S: RowStore<Addressed<Letter>> + Drop, K: Task, H: Wait>(
+    rt: &H,
+    alloc: Global,
+    book: Book<S>,
+    task: &K,
+) -> Result<Done<K::Answer, S>, Undone> {
+    share_and_close::<Brand, Brand, Brand, S, K, H>(
+        rt,
+        alloc,
+        book,
+        Blank::new(2),
+        Blank::new(2),
+        Blank::new(2),
+        task,
+    )
+}
+
+/// Whether a task with a shared book comes out as it is to.
+pub fn comes_out<S: RowStore<Addressed<Letter>> + Drop, K: Task, H: Wait>(
+    rt: &H,
+    alloc: Global,
+    book: Book<S>,
+    task: &K,
+) -> bool {
+    match share(rt, alloc, book, task) {
+        Ok(done) => task.is_right(&done),
+        Err(_) => false,
     }
 }

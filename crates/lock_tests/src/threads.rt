@@ -4,7 +4,7 @@ ghost use Rattle.std.specs.Prelude.{◌≡◌, ◌+◌, ◌<◌, length};
 ghost use Rattle.event_log.specs.History.{next_place, plan_in_force};
 ghost use Rattle.event_log.specs.Counting.{counted};
 
-use crate::stage::{Rows, UPDATE, close, open, waiting};
+use crate::stage::{Rows, UPDATE, waiting};
 use book_core::{Book, EVENTS_MAX, Letter};
 use book_lock::{Closed, Opening, Shared, Station};
 use conn_worker::nearest;
@@ -71,29 +71,28 @@ fn work_beside<
     A: Opening + Send + Sync,
     T: Ledger + Send + Sync,
     U: Ledger + Send + Sync,
+    S: RowStore<Addressed<Letter>> + Send,
     H: Threads + Wait + Sync,
->(rt: &H, shared: &Shared<A, T, U, Rows>, stations: &mut Vec<Station<T, U>>) -> Result<(), Fail> {
-    let Some(station) = stations.pop() else {
-        return Err("no station".into());
-    };
-    stations.push(beside(rt, shared, station))?;
-    Ok(())
+>(rt: &H, shared: &Shared<A, T, U, S>, stations: &mut Vec<Station<T, U>>) -> Option<()> {
+    let station = stations.pop()?;
+    stations.push(beside(rt, shared, station)).ok()
 }
 
-/// Shares a book, has its message 0 cancelled beside its deliveries, and closes it.
+/// Shares a book, has its message 0 cancelled beside its deliveries, and closes it. None where memory is refused.
 fn cancel_and_deliver<
     A: Opening + Send + Sync,
     T: Ledger + Send + Sync,
     U: Ledger + Send + Sync,
+    S: RowStore<Addressed<Letter>> + Drop + Send,
     H: Threads + Wait + Sync,
 >(
     rt: &H,
     alloc: Global,
-    book: Book<Rows>,
+    book: Book<S>,
     arrivals: Blank,
     takes: Blank,
     settlements: Blank,
-) -> Result<Closed<Rows>, Fail>
+) -> Option<Closed<S>>
     requires counts { counted book ≡ A.counts }
     requires first { next_place book ≡ A.first }
     requires channels { length (plan_in_force book).channels ≡ A.channels }
@@ -101,21 +100,14 @@ fn cancel_and_deliver<
     requires takes { (takes.name ≡ T.name) × (takes.parts ≡ T.parts) × (T.parts ≡ 2) }
     requires settlements { (settlements.name ≡ U.name) × (settlements.parts ≡ U.parts) × (U.parts ≡ 2) }
 {
-    let (shared, desks, mut stations) = open::<A, T, U>(
-        alloc,
-        book,
-        0,
-        1,
-        arrivals,
-        takes,
-        settlements,
-    )?;
+    let opened = Shared::<A, T, U, S>::new(alloc, book, 0, 1, arrivals, takes, settlements);
+    let (shared, desks, mut stations) = opened.ok()?;
     work_beside(rt, &shared, &mut stations)?;
-    close(shared, desks, stations)
+    shared.close(desks, stations).ok()
 }
 
 /// Whether the slot at a destination came to its end, and is counted there once.
-fn is_over(book: &Book<Rows>, d: u32) -> bool
+fn is_over<S: RowStore<Addressed<Letter>>>(book: &Book<S>, d: u32) -> bool
     requires { d < 32 }
 {
     let state = book.status(0, d);
@@ -125,23 +117,38 @@ fn is_over(book: &Book<Rows>, d: u32) -> bool
     ended && counts.delivered.saturating_add(counts.failed) == 1
 }
 
+/// Whether each slot of message 0 was delivered or cancelled, and the statistics count as many as there are.
+fn is_right<S: RowStore<Addressed<Letter>>>(book: &Book<S>) -> bool {
+    book.status(0, 0).is_none() && is_over(book, 1) && is_over(book, 2) && is_over(book, 3)
+}
+
+/// Whether a cancellation beside deliveries, in this book, comes out as it is to.
+fn comes_out<S: RowStore<Addressed<Letter>> + Drop + Send, H: Threads + Wait + Sync>(
+    rt: &H,
+    alloc: Global,
+    book: Book<S>,
+) -> bool {
+    let closed = cancel_and_deliver::<Brand, Brand, Brand, S, H>(
+        rt,
+        alloc,
+        book,
+        Blank::new(1),
+        Blank::new(2),
+        Blank::new(2),
+    );
+    match closed {
+        Some(closed) => is_right(closed.book()),
+        None => false,
+    }
+}
+
 /// Each slot is delivered or cancelled at the end, and the statistics count as many as there are.
 #[test]
 fn cancel_beside_deliveries(rt: HostRuntime) -> Result<(), Fail> {
     for _ in 0..ROUNDS {
-        let book = waiting(&rt, true, EVENTS_MAX, &[UPDATE])?;
-        let closed = cancel_and_deliver::<Brand, Brand, Brand, HostRuntime>(
-            &rt,
-            rt.alloc(),
-            book,
-            Blank::new(1),
-            Blank::new(2),
-            Blank::new(2),
-        )?;
-        let book = closed.book();
-        let none = book.status(0, 0).is_none();
-        let over = is_over(book, 1) && is_over(book, 2) && is_over(book, 3);
-        assert!(rt; none && over);
+        let book: Book<Rows> = waiting(&rt, true, EVENTS_MAX, &[UPDATE])?;
+        let right = comes_out(&rt, rt.alloc(), book);
+        assert!(rt; right);
     }
     Ok(())
 }
