@@ -6,12 +6,10 @@ ghost use Rattle.event_log.specs.History.{next_place, plan_in_force};
 ghost use Rattle.event_log.specs.Counting.{counted};
 
 use crate::desk::booked;
-use crate::message::ADMISSION;
-use book_core::{Book, Letter};
+use crate::message::{ADMISSION, Rows};
+use book_core::Book;
 use book_lock::{Desk, Opening, Shared};
-use dest_queue::Addressed;
 use plan_text::Plan;
-use row_store::RowStore;
 use std::alloc::Global;
 use std::marker::Brand;
 use std::ops::Range;
@@ -20,10 +18,10 @@ use std::sync::{Arc, Wait};
 use std::time::Clock;
 
 /// Books and cancels messages, two entries each, until there are as many entries as are told.
-fn fill<A: Opening, T: Ledger, U: Ledger, S: RowStore<Addressed<Letter>>, H: Wait + Clock>(
+fn fill<A: Opening, T: Ledger, U: Ledger, H: Wait + Clock>(
     rt: &H,
     alloc: Global,
-    shared: &Shared<A, T, U, S>,
+    shared: &Shared<A, T, U, Rows>,
     desk: &mut Desk<A>,
     plan: &Arc<Plan>,
     entries: u32,
@@ -36,10 +34,10 @@ fn fill<A: Opening, T: Ledger, U: Ledger, S: RowStore<Addressed<Letter>>, H: Wai
 }
 
 /// Books messages, and gives the nanoseconds that all calls took.
-fn book_all<A: Opening, T: Ledger, U: Ledger, S: RowStore<Addressed<Letter>>, H: Wait + Clock>(
+fn book_all<A: Opening, T: Ledger, U: Ledger, H: Wait + Clock>(
     rt: &H,
     alloc: Global,
-    shared: &Shared<A, T, U, S>,
+    shared: &Shared<A, T, U, Rows>,
     desk: &mut Desk<A>,
     plan: &Arc<Plan>,
     ids: Range<u32>,
@@ -53,10 +51,10 @@ fn book_all<A: Opening, T: Ledger, U: Ledger, S: RowStore<Addressed<Letter>>, H:
 }
 
 /// Fills a shared book with so many entries, and books so many messages more at its first desk.
-fn fill_and_book<A: Opening, T: Ledger, U: Ledger, S: RowStore<Addressed<Letter>>, H: Wait + Clock>(
+fn fill_and_book<A: Opening, T: Ledger, U: Ledger, H: Wait + Clock>(
     rt: &H,
     alloc: Global,
-    shared: &Shared<A, T, U, S>,
+    shared: &Shared<A, T, U, Rows>,
     desks: &mut Vec<Desk<A>>,
     entries: u32,
     calls: u32,
@@ -70,16 +68,10 @@ fn fill_and_book<A: Opening, T: Ledger, U: Ledger, S: RowStore<Addressed<Letter>
 }
 
 /// Shares a book, and books so many messages behind so many entries.
-fn time_calls<
-    A: Opening,
-    T: Ledger,
-    U: Ledger,
-    S: RowStore<Addressed<Letter>> + Drop,
-    H: Wait + Clock,
->(
+fn time_calls<A: Opening, T: Ledger, U: Ledger, H: Wait + Clock>(
     rt: &H,
     alloc: Global,
-    book: Book<S>,
+    book: Book<Rows>,
     arrivals: Blank,
     takes: Blank,
     settlements: Blank,
@@ -93,21 +85,21 @@ fn time_calls<
     requires takes { (takes.name ≡ T.name) × (takes.parts ≡ T.parts) × (T.parts ≡ 1) }
     requires settlements { (settlements.name ≡ U.name) × (settlements.parts ≡ U.parts) × (U.parts ≡ 1) }
 {
-    let opened = Shared::<A, T, U, S>::new(alloc, book, 1, 0, arrivals, takes, settlements);
+    let opened = Shared::<A, T, U, Rows>::new(alloc, book, 1, 0, arrivals, takes, settlements);
     let (shared, mut desks, _stations) = opened.ok()?;
     fill_and_book(rt, alloc, &shared, &mut desks, entries, calls)
 }
 
 /// The nanoseconds that so many arrivals take behind so many entries, at an empty book that is shared and filled. None where
 /// a message was not booked, or memory was refused.
-pub fn time_arrivals<S: RowStore<Addressed<Letter>> + Drop, H: Wait + Clock>(
+pub fn time_arrivals<H: Wait + Clock>(
     rt: &H,
     alloc: Global,
-    book: Option<Book<S>>,
+    book: Option<Book<Rows>>,
     entries: u32,
     calls: u32,
 ) -> Option<u64> {
-    time_calls::<Brand, Brand, Brand, S, H>(
+    time_calls::<Brand, Brand, Brand, H>(
         rt,
         alloc,
         book?,

@@ -5,12 +5,10 @@ ghost use Rattle.event_log.specs.History.{next_place, plan_in_force};
 ghost use Rattle.event_log.specs.Counting.{counted};
 
 use crate::desk::booked;
-use crate::message::{RESULT, nanoseconds_since};
-use book_core::{Book, Letter, Receipt};
+use crate::message::{RESULT, Rows, nanoseconds_since};
+use book_core::{Book, Receipt};
 use book_lock::{Closed, Desk, Opening, Shared, audit};
-use dest_queue::Addressed;
 use plan_text::Plan;
-use row_store::RowStore;
 use std::alloc::Global;
 use std::marker::Brand;
 use std::sync::ledger::{Blank, Ledger};
@@ -25,10 +23,10 @@ pub struct Audits {
 }
 
 /// Books so many messages, and appends their receipts.
-fn push_receipts<A: Opening, T: Ledger, U: Ledger, S: RowStore<Addressed<Letter>>, H: Wait + Clock>(
+fn push_receipts<A: Opening, T: Ledger, U: Ledger, H: Wait + Clock>(
     rt: &H,
     alloc: Global,
-    shared: &Shared<A, T, U, S>,
+    shared: &Shared<A, T, U, Rows>,
     desk: &mut Desk<A>,
     plan: &Arc<Plan>,
     receipts: &mut Vec<Receipt>,
@@ -42,10 +40,10 @@ fn push_receipts<A: Opening, T: Ledger, U: Ledger, S: RowStore<Addressed<Letter>
 }
 
 /// Books so many messages, and gives their receipts.
-fn receipts_of<A: Opening, T: Ledger, U: Ledger, S: RowStore<Addressed<Letter>>, H: Wait + Clock>(
+fn receipts_of<A: Opening, T: Ledger, U: Ledger, H: Wait + Clock>(
     rt: &H,
     alloc: Global,
-    shared: &Shared<A, T, U, S>,
+    shared: &Shared<A, T, U, Rows>,
     desk: &mut Desk<A>,
     plan: &Arc<Plan>,
     count: u32,
@@ -56,16 +54,10 @@ fn receipts_of<A: Opening, T: Ledger, U: Ledger, S: RowStore<Addressed<Letter>>,
 }
 
 /// Books so many messages at the first desk, and gives their receipts.
-fn first_receipts<
-    A: Opening,
-    T: Ledger,
-    U: Ledger,
-    S: RowStore<Addressed<Letter>>,
-    H: Wait + Clock,
->(
+fn first_receipts<A: Opening, T: Ledger, U: Ledger, H: Wait + Clock>(
     rt: &H,
     alloc: Global,
-    shared: &Shared<A, T, U, S>,
+    shared: &Shared<A, T, U, Rows>,
     desks: &mut Vec<Desk<A>>,
     count: u32,
 ) -> Option<Vec<Receipt>> {
@@ -75,11 +67,7 @@ fn first_receipts<
 }
 
 /// How long an audit takes, where the receipts are right.
-fn time_audit<S: RowStore<Addressed<Letter>>, H: Clock>(
-    rt: &H,
-    closed: &Closed<S>,
-    receipts: &[Receipt],
-) -> Option<u64> {
+fn time_audit<H: Clock>(rt: &H, closed: &Closed<Rows>, receipts: &[Receipt]) -> Option<u64> {
     let began = Instant::now(rt).ok();
     let answer = audit(closed, receipts);
     let took = nanoseconds_since(rt, began);
@@ -87,21 +75,15 @@ fn time_audit<S: RowStore<Addressed<Letter>>, H: Clock>(
 }
 
 /// Books so many messages at a shared book and closes it. Gives the closed book and the receipts.
-fn booked_and_closed<
-    A: Opening,
-    T: Ledger,
-    U: Ledger,
-    S: RowStore<Addressed<Letter>> + Drop,
-    H: Wait + Clock,
->(
+fn booked_and_closed<A: Opening, T: Ledger, U: Ledger, H: Wait + Clock>(
     rt: &H,
     alloc: Global,
-    book: Book<S>,
+    book: Book<Rows>,
     arrivals: Blank,
     takes: Blank,
     settlements: Blank,
     count: u32,
-) -> Option<(Closed<S>, Vec<Receipt>)>
+) -> Option<(Closed<Rows>, Vec<Receipt>)>
     requires counts { counted book ≡ A.counts }
     requires first { next_place book ≡ A.first }
     requires channels { length (plan_in_force book).channels ≡ A.channels }
@@ -109,16 +91,16 @@ fn booked_and_closed<
     requires takes { (takes.name ≡ T.name) × (takes.parts ≡ T.parts) × (T.parts ≡ 1) }
     requires settlements { (settlements.name ≡ U.name) × (settlements.parts ≡ U.parts) × (U.parts ≡ 1) }
 {
-    let opened = Shared::<A, T, U, S>::new(alloc, book, 1, 0, arrivals, takes, settlements);
+    let opened = Shared::<A, T, U, Rows>::new(alloc, book, 1, 0, arrivals, takes, settlements);
     let (shared, mut desks, stations) = opened.ok()?;
     let receipts = first_receipts(rt, alloc, &shared, &mut desks, count);
     shared.close(desks, stations).ok().zip(receipts)
 }
 
 /// Audits receipts in their order and in the other one.
-fn time_both<S: RowStore<Addressed<Letter>>, H: Clock>(
+fn time_both<H: Clock>(
     rt: &H,
-    closed: &Closed<S>,
+    closed: &Closed<Rows>,
     receipts: &mut Vec<Receipt>,
 ) -> Option<Audits> {
     let rising = time_audit(rt, closed, receipts)?;
@@ -129,13 +111,13 @@ fn time_both<S: RowStore<Addressed<Letter>>, H: Clock>(
 
 /// How long the audits of so many receipts take, at an empty book that is shared. None where a message was not booked, or
 /// memory was refused.
-pub fn time_audits<S: RowStore<Addressed<Letter>> + Drop, H: Wait + Clock>(
+pub fn time_audits<H: Wait + Clock>(
     rt: &H,
     alloc: Global,
-    book: Option<Book<S>>,
+    book: Option<Book<Rows>>,
     count: u32,
 ) -> Option<Audits> {
-    let (closed, mut receipts) = booked_and_closed::<Brand, Brand, Brand, S, H>(
+    let (closed, mut receipts) = booked_and_closed::<Brand, Brand, Brand, H>(
         rt,
         alloc,
         book?,

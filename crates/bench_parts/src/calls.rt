@@ -3,13 +3,12 @@
 ghost use Rattle.std.specs.Prelude.{IsTrue};
 ghost use Rattle.judge_core.specs.Judging.{is_bookable};
 
-use crate::message::{ADMISSION, FEW, MANY, judged, nanoseconds_since};
-use book_core::{Book, Letter, Told};
-use dest_queue::{Addressed, Outcome};
+use crate::message::{ADMISSION, FEW, MANY, Rows, judged, nanoseconds_since};
+use book_core::{Book, Told};
+use dest_queue::Outcome;
 use event_log::Ticket;
 use hl7_head::Moment;
 use judge_core::Judged;
-use row_store::RowStore;
 use std::ops::Range;
 use std::time::Instant;
 
@@ -29,11 +28,7 @@ pub struct Times {
 }
 
 /// Books a message, and gives how long that took.
-fn timed_arrival<S: RowStore<Addressed<Letter>>>(
-    rt: &HostRuntime,
-    book: &mut Book<S>,
-    message: &Judged,
-) -> Option<u64>
+fn timed_arrival(rt: &HostRuntime, book: &mut Book<Rows>, message: &Judged) -> Option<u64>
     requires { IsTrue (is_bookable message.now.raw) }
 {
     let began = Instant::now(rt).ok();
@@ -47,23 +42,13 @@ fn timed_arrival<S: RowStore<Addressed<Letter>>>(
 }
 
 /// Books an admission with this control id that comes by a channel, and gives how long that took.
-fn booked<S: RowStore<Addressed<Letter>>>(
-    rt: &HostRuntime,
-    book: &mut Book<S>,
-    channel: u32,
-    control_id: u32,
-) -> Option<u64> {
+fn booked(rt: &HostRuntime, book: &mut Book<Rows>, channel: u32, control_id: u32) -> Option<u64> {
     let message = judged(rt.alloc(), book.plan(), channel, ADMISSION, control_id)?;
     timed_arrival(rt, book, &message)
 }
 
 /// Books so many messages that were not booked yet, and gives how long that took.
-fn arrivals<S: RowStore<Addressed<Letter>>>(
-    rt: &HostRuntime,
-    book: &mut Book<S>,
-    channel: u32,
-    ids: Range<u32>,
-) -> Option<u64> {
+fn arrivals(rt: &HostRuntime, book: &mut Book<Rows>, channel: u32, ids: Range<u32>) -> Option<u64> {
     let mut took = 0_u64;
     for control_id in ids {
         took = took.saturating_add(booked(rt, book, channel, control_id)?);
@@ -72,12 +57,7 @@ fn arrivals<S: RowStore<Addressed<Letter>>>(
 }
 
 /// Takes the front of a queue, and gives its ticket and how long that took.
-fn taken<S: RowStore<Addressed<Letter>>>(
-    rt: &HostRuntime,
-    book: &mut Book<S>,
-    d: u32,
-    now: Moment,
-) -> Option<(Ticket, u64)> {
+fn taken(rt: &HostRuntime, book: &mut Book<Rows>, d: u32, now: Moment) -> Option<(Ticket, u64)> {
     let began = Instant::now(rt).ok();
     let job = book.take(d, now);
     let took = nanoseconds_since(rt, began);
@@ -86,12 +66,7 @@ fn taken<S: RowStore<Addressed<Letter>>>(
 }
 
 /// Settles an attempt as one that is to be made again, and gives how long that took.
-fn settled<S: RowStore<Addressed<Letter>>>(
-    rt: &HostRuntime,
-    book: &mut Book<S>,
-    ticket: &Ticket,
-    now: Moment,
-) -> Option<u64> {
+fn settled(rt: &HostRuntime, book: &mut Book<Rows>, ticket: &Ticket, now: Moment) -> Option<u64> {
     let began = Instant::now(rt).ok();
     let state = book.settle(ticket, Outcome::Again, now);
     let took = nanoseconds_since(rt, began);
@@ -99,12 +74,7 @@ fn settled<S: RowStore<Addressed<Letter>>>(
 }
 
 /// Sends the front of a queue so often, and gives how long the takes and the settlements took.
-fn sendings<S: RowStore<Addressed<Letter>>>(
-    rt: &HostRuntime,
-    book: &mut Book<S>,
-    d: u32,
-    times: u32,
-) -> Option<(u64, u64)> {
+fn sendings(rt: &HostRuntime, book: &mut Book<Rows>, d: u32, times: u32) -> Option<(u64, u64)> {
     let now = Moment::of_unix(1_700_000_000).ok()?;
     let mut takes = 0_u64;
     let mut settlements = 0_u64;
@@ -117,11 +87,7 @@ fn sendings<S: RowStore<Addressed<Letter>>>(
 }
 
 /// Cancels so many messages, and gives how long that took.
-fn cancellations<S: RowStore<Addressed<Letter>>>(
-    rt: &HostRuntime,
-    book: &mut Book<S>,
-    numbers: Range<u32>,
-) -> Option<u64> {
+fn cancellations(rt: &HostRuntime, book: &mut Book<Rows>, numbers: Range<u32>) -> Option<u64> {
     let mut took = 0_u64;
     for number in numbers {
         let began = Instant::now(rt).ok();
@@ -133,11 +99,7 @@ fn cancellations<S: RowStore<Addressed<Letter>>>(
 }
 
 /// Books so many messages, and cancels each at once.
-pub fn book_and_cancel<S: RowStore<Addressed<Letter>>>(
-    rt: &HostRuntime,
-    book: &mut Book<S>,
-    ids: Range<u32>,
-) -> Option<()> {
+pub fn book_and_cancel(rt: &HostRuntime, book: &mut Book<Rows>, ids: Range<u32>) -> Option<()> {
     for control_id in ids {
         let number = book.message_count();
         booked(rt, book, MANY, control_id)?;
@@ -147,19 +109,15 @@ pub fn book_and_cancel<S: RowStore<Addressed<Letter>>>(
 }
 
 /// Books messages that are sent often and left waiting, and then so many that are cancelled at once.
-pub fn fill<S: RowStore<Addressed<Letter>>>(
-    rt: &HostRuntime,
-    book: &mut Book<S>,
-    messages: u32,
-) -> Option<()> {
+pub fn fill(rt: &HostRuntime, book: &mut Book<Rows>, messages: u32) -> Option<()> {
     arrivals(rt, book, FEW, 0..SENT_OFTEN)?;
     book_and_cancel(rt, book, 0..messages)
 }
 
 /// Measures so many calls of each kind on a book that is filled with so many messages.
-pub fn measure<S: RowStore<Addressed<Letter>>>(
+pub fn measure(
     rt: &HostRuntime,
-    book: &mut Book<S>,
+    book: &mut Book<Rows>,
     messages: u32,
     calls: u32,
 ) -> Option<Times> {

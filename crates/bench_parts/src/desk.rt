@@ -3,22 +3,20 @@
 ghost use Rattle.std.specs.Prelude.{IsTrue};
 ghost use Rattle.judge_core.specs.Judging.{is_bookable};
 
-use crate::message::{MANY, judged, nanoseconds_since};
-use book_core::{Letter, Receipt};
+use crate::message::{MANY, Rows, judged, nanoseconds_since};
+use book_core::Receipt;
 use book_lock::{Desk, Opening, Shared};
-use dest_queue::Addressed;
 use judge_core::Judged;
 use plan_text::Plan;
-use row_store::RowStore;
 use std::alloc::Global;
 use std::sync::ledger::Ledger;
 use std::sync::{Arc, Wait};
 use std::time::{Clock, Instant};
 
 /// Books a message, and gives its receipt and the nanoseconds that the call took.
-fn timed_arrival<A: Opening, T: Ledger, U: Ledger, S: RowStore<Addressed<Letter>>, H: Wait + Clock>(
+fn timed_arrival<A: Opening, T: Ledger, U: Ledger, H: Wait + Clock>(
     rt: &H,
-    shared: &Shared<A, T, U, S>,
+    shared: &Shared<A, T, U, Rows>,
     desk: &mut Desk<A>,
     message: &Judged,
 ) -> Option<(Receipt, u64)>
@@ -31,10 +29,10 @@ fn timed_arrival<A: Opening, T: Ledger, U: Ledger, S: RowStore<Addressed<Letter>
 }
 
 /// Books a message of this type, with bytes of its own, and gives its receipt and the nanoseconds that the call took.
-pub fn booked<A: Opening, T: Ledger, U: Ledger, S: RowStore<Addressed<Letter>>, H: Wait + Clock>(
+pub fn booked<A: Opening, T: Ledger, U: Ledger, H: Wait + Clock>(
     rt: &H,
     alloc: Global,
-    shared: &Shared<A, T, U, S>,
+    shared: &Shared<A, T, U, Rows>,
     desk: &mut Desk<A>,
     plan: &Arc<Plan>,
     kind: &str,

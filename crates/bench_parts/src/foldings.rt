@@ -1,19 +1,13 @@
 //! The measured prunings.
 
 use crate::calls::book_and_cancel;
-use crate::message::nanoseconds_since;
+use crate::message::{Rows, nanoseconds_since};
 use crate::words::Request;
-use book_core::{Book, Letter};
-use dest_queue::Addressed;
-use row_store::RowStore;
+use book_core::Book;
 use std::time::Instant;
 
 /// Forgets the messages below a number, and gives how long that took.
-fn folded<S: RowStore<Addressed<Letter>>>(
-    rt: &HostRuntime,
-    book: &mut Book<S>,
-    before: u32,
-) -> Option<u64> {
+fn folded(rt: &HostRuntime, book: &mut Book<Rows>, before: u32) -> Option<u64> {
     let began = Instant::now(rt).ok();
     let pruned = book.prune(before);
     let took = nanoseconds_since(rt, began);
@@ -22,11 +16,7 @@ fn folded<S: RowStore<Addressed<Letter>>>(
 
 /// Fills a book with messages that are cancelled and forgets them, but for the last ones, as often as is asked. Gives the
 /// nanoseconds of the longest pruning.
-pub fn time_foldings<S: RowStore<Addressed<Letter>>>(
-    rt: &HostRuntime,
-    book: &mut Book<S>,
-    asked: Request,
-) -> Option<u64> {
+pub fn time_foldings(rt: &HostRuntime, book: &mut Book<Rows>, asked: Request) -> Option<u64> {
     let mut longest = 0_u64;
     for round in 0..asked.times {
         let first = round.saturating_mul(asked.count);

@@ -18,12 +18,10 @@ mod words;
 use anyhow::{Result, bail};
 use arrivals::time_arrivals;
 use audits::time_audits;
-use book_core::{Book, Letter};
+use book_core::Book;
 use calls::{Times, fill, measure};
-use dest_queue::Addressed;
 use foldings::time_foldings;
 use message::{Rows, empty_book};
-use row_store::RowStore;
 use std::env;
 use std::sync::Wait;
 use std::time::Clock;
@@ -37,11 +35,7 @@ const CALLS: u32 = 500;
 type Measured = (Times, usize, usize);
 
 /// Fills an empty book, and measures the calls on it. None where a call was refused.
-fn measured<S: RowStore<Addressed<Letter>>>(
-    rt: &HostRuntime,
-    book: &mut Book<S>,
-    count: u32,
-) -> Option<Measured> {
+fn measured(rt: &HostRuntime, book: &mut Book<Rows>, count: u32) -> Option<Measured> {
     fill(rt, book, count)?;
     let before = book.len();
     let times = measure(rt, book, count, CALLS)?;
@@ -49,17 +43,14 @@ fn measured<S: RowStore<Addressed<Letter>>>(
 }
 
 /// Measures the calls on a new book. None where one was refused, or there is no memory for the book.
-fn measured_anew<S: RowStore<Addressed<Letter>> + Drop>(
-    rt: &HostRuntime,
-    count: u32,
-) -> Option<Measured> {
-    let mut book: Book<S> = empty_book(rt)?;
+fn measured_anew(rt: &HostRuntime, count: u32) -> Option<Measured> {
+    let mut book = empty_book(rt)?;
     measured(rt, &mut book, count)
 }
 
 /// Fills a book, and measures the calls on it.
 fn tell_calls(rt: &HostRuntime, asked: Request) -> Result<()> {
-    let Some((times, before, after)) = measured_anew::<Rows>(rt, asked.count) else {
+    let Some((times, before, after)) = measured_anew(rt, asked.count) else {
         bail!("a call was refused, or there is no memory for a book");
     };
     println!(rt; "{before} entries before")?;
@@ -76,13 +67,7 @@ fn tell_calls(rt: &HostRuntime, asked: Request) -> Result<()> {
 
 /// Measures arrivals at a shared book.
 fn tell_arrivals<H: Wait + Clock>(rt: &H, host: &HostRuntime, asked: Request) -> Result<()> {
-    let Some(took) = time_arrivals(
-        rt,
-        host.alloc(),
-        empty_book::<Rows>(host),
-        asked.count,
-        CALLS,
-    ) else {
+    let Some(took) = time_arrivals(rt, host.alloc(), empty_book(host), asked.count, CALLS) else {
         bail!("a message was not booked");
     };
     println!(host; "{} arrivals behind {} entries", CALLS, asked.count)?;
@@ -94,7 +79,7 @@ fn tell_arrivals<H: Wait + Clock>(rt: &H, host: &HostRuntime, asked: Request) ->
 
 /// Measures the audit of receipts in both orders.
 fn tell_audits<H: Wait + Clock>(rt: &H, host: &HostRuntime, asked: Request) -> Result<()> {
-    let Some(audits) = time_audits(rt, host.alloc(), empty_book::<Rows>(host), asked.count) else {
+    let Some(audits) = time_audits(rt, host.alloc(), empty_book(host), asked.count) else {
         bail!("a message was not booked, or the receipts are not right");
     };
     println!(host; "{} receipts audited", asked.count)?;
@@ -108,27 +93,20 @@ fn tell_audits<H: Wait + Clock>(rt: &H, host: &HostRuntime, asked: Request) -> R
 type Folded = (u64, usize, u32);
 
 /// Fills an empty book and prunes it, time and again. None where a call was refused.
-fn folded<S: RowStore<Addressed<Letter>>>(
-    rt: &HostRuntime,
-    book: &mut Book<S>,
-    asked: Request,
-) -> Option<Folded> {
+fn folded(rt: &HostRuntime, book: &mut Book<Rows>, asked: Request) -> Option<Folded> {
     let longest = time_foldings(rt, book, asked)?;
     Some((longest, book.len(), book.message_count()))
 }
 
 /// Prunes a new book, time and again. None where a call was refused, or there is no memory for the book.
-fn folded_anew<S: RowStore<Addressed<Letter>> + Drop>(
-    rt: &HostRuntime,
-    asked: Request,
-) -> Option<Folded> {
-    let mut book: Book<S> = empty_book(rt)?;
+fn folded_anew(rt: &HostRuntime, asked: Request) -> Option<Folded> {
+    let mut book = empty_book(rt)?;
     folded(rt, &mut book, asked)
 }
 
 /// Fills a book and prunes it, time and again.
 fn tell_foldings(rt: &HostRuntime, asked: Request) -> Result<()> {
-    let Some((longest, place, message)) = folded_anew::<Rows>(rt, asked) else {
+    let Some((longest, place, message)) = folded_anew(rt, asked) else {
         bail!("a call was refused, or there is no memory for a book");
     };
     println!(rt;

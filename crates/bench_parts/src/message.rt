@@ -8,7 +8,6 @@ use dest_queue::Addressed;
 use judge_core::{Judged, fits_block, judge};
 use plan_text::Plan;
 use record_list::RecordList;
-use row_store::RowStore;
 use std::alloc::{AllocError, Global};
 use std::hash::RandomState;
 use std::sync::Arc;
@@ -62,7 +61,7 @@ pub const MANY: u32 = 0;
 pub const FEW: u32 = 1;
 
 /// An empty book of that plan. None where memory was refused.
-pub fn empty_book<S: RowStore<Addressed<Letter>>>(rt: &HostRuntime) -> Option<Book<S>> {
+pub fn empty_book(rt: &HostRuntime) -> Option<Book<Rows>> {
     let alloc = rt.alloc();
     let hasher = RandomState::new(rt).ok()?;
     let plan = Plan::read(alloc, TEXT.as_bytes()).ok()?;

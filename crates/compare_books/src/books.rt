@@ -14,7 +14,7 @@ use event_log::{TakeRefusal, Ticket, Told};
 use hl7_head::Moment;
 use judge_core::Judged;
 use plan_text::Plan;
-use row_store::{QUEUES, RowStore};
+use row_store::{PlainRows, QUEUES};
 use sequential_book::{NotBooked as OtherRefusal, NotSettled, SequentialBook};
 use std::alloc::Global;
 use std::hash::RandomState;
@@ -29,13 +29,15 @@ const MANY_ENTRIES: u32 = 1000;
 /// The number of the connection by which all messages come.
 const CONNECTION: u32 = 7;
 
+type Engine = Book<PlainRows<Addressed<Letter>>>;
+
 /// A book and the sequential engine, if it is asked, and a book of which the messages below a number are forgotten, all
 /// of one plan. The first of the control ids of messages, and the ticket that was taken last.
 #[derive(Drop)]
-pub struct Books<S: RowStore<Addressed<Letter>>> {
-    book: Box<Book<S>>,
+pub struct Books {
+    book: Box<Engine>,
     other: Option<Box<SequentialBook>>,
-    pruned: Box<Book<S>>,
+    pruned: Box<Engine>,
     forgotten: u32,
     keys: Keys,
     first_id: u32,
@@ -43,11 +45,7 @@ pub struct Books<S: RowStore<Addressed<Letter>>> {
 }
 
 /// A book of a plan in which nothing is booked.
-fn empty_book<S: RowStore<Addressed<Letter>> + Drop>(
-    rt: &HostRuntime,
-    plan: &Arc<Plan>,
-    room: u32,
-) -> Result<Box<Book<S>>> {
+fn empty_book(rt: &HostRuntime, plan: &Arc<Plan>, room: u32) -> Result<Box<Engine>> {
     let alloc = rt.alloc();
     let hasher = RandomState::new(rt)?;
     let plan = Arc::try_clone(plan)?;
@@ -62,10 +60,7 @@ fn other_engine(alloc: Global, plan: &Arc<Plan>) -> Result<Box<SequentialBook>> 
 }
 
 /// What a book tells a sender, and where that stands.
-fn told<S: RowStore<Addressed<Letter>>>(
-    book: &mut Book<S>,
-    judged: &Judged,
-) -> Result<(Told, usize), NotBooked>
+fn told(book: &mut Engine, judged: &Judged) -> Result<(Told, usize), NotBooked>
     requires { IsTrue (is_bookable judged.now.raw) }
 {
     let receipt = book.arrive(CONNECTION, judged)?;
@@ -73,25 +68,18 @@ fn told<S: RowStore<Addressed<Letter>>>(
 }
 
 /// The attempt that begins where a book takes the front of a queue.
-fn taken<S: RowStore<Addressed<Letter>>>(
-    book: &mut Book<S>,
-    d: u32,
-    now: Moment,
-) -> Result<Ticket, TakeRefusal> {
+fn taken(book: &mut Engine, d: u32, now: Moment) -> Result<Ticket, TakeRefusal> {
     Ok(book.take(d, now)?.ticket)
 }
 
 /// A book deploys a plan, of which it becomes another owner.
-fn deploy<S: RowStore<Addressed<Letter>>>(
-    book: &mut Book<S>,
-    plan: &Arc<Plan>,
-) -> Result<(), DeployRefusal> {
+fn deploy(book: &mut Engine, plan: &Arc<Plan>) -> Result<(), DeployRefusal> {
     book.deploy(Arc::try_clone(plan)?)
 }
 
-impl<S: RowStore<Addressed<Letter>> + Drop> Books<S> {
+impl Books {
     /// Engines in which nothing is booked.
-    pub fn new(rt: &HostRuntime, asked: bool) -> Result<Books<S>> {
+    pub fn new(rt: &HostRuntime, asked: bool) -> Result<Books> {
         let alloc = rt.alloc();
         let plan = plan_of(alloc, Said::FIRST)?;
         let room = if asked { ENTRIES } else { MANY_ENTRIES };

@@ -5,9 +5,6 @@
 use crate::books::Books;
 use crate::dice::Dice;
 use anyhow::{Result, bail};
-use book_core::Letter;
-use dest_queue::Addressed;
-use row_store::RowStore;
 
 /// How many runs there are, each with engines in which nothing is booked.
 const RUNS: u32 = 6;
@@ -84,12 +81,7 @@ impl Scores {
 }
 
 /// Makes a call at random.
-fn call<S: RowStore<Addressed<Letter>> + Drop>(
-    rt: &HostRuntime,
-    dice: &mut Dice,
-    books: &mut Books<S>,
-    scores: &mut Scores,
-) -> Result<()> {
+fn call(rt: &HostRuntime, dice: &mut Dice, books: &mut Books, scores: &mut Scores) -> Result<()> {
     match dice.roll(13) {
         0..4 => scores.arrivals.count(books.arrive(rt.alloc(), dice)?),
         4..8 => scores.takes.count(books.take(dice)?),
@@ -102,12 +94,7 @@ fn call<S: RowStore<Addressed<Letter>> + Drop>(
 }
 
 /// Makes so many calls.
-fn make_calls<S: RowStore<Addressed<Letter>> + Drop>(
-    rt: &HostRuntime,
-    seed: u32,
-    calls: u32,
-    books: &mut Books<S>,
-) -> Result<()> {
+fn make_calls(rt: &HostRuntime, seed: u32, calls: u32, books: &mut Books) -> Result<()> {
     let mut dice = Dice::new(seed);
     let mut scores = Scores::NONE;
     for _ in 0..calls {
@@ -118,21 +105,16 @@ fn make_calls<S: RowStore<Addressed<Letter>> + Drop>(
 }
 
 /// Makes the calls of one run.
-fn run<S: RowStore<Addressed<Letter>> + Drop>(
-    rt: &HostRuntime,
-    seed: u32,
-    calls: u32,
-    asked: bool,
-) -> Result<()> {
-    let mut books: Books<S> = Books::new(rt, asked)?;
+fn run(rt: &HostRuntime, seed: u32, calls: u32, asked: bool) -> Result<()> {
+    let mut books = Books::new(rt, asked)?;
     make_calls(rt, seed, calls, &mut books)
 }
 
 /// Makes the calls of all runs, and says how many they were.
-pub fn compare_calls<S: RowStore<Addressed<Letter>> + Drop>(rt: &HostRuntime) -> Result<()> {
+pub fn compare_calls(rt: &HostRuntime) -> Result<()> {
     for seed in 0..RUNS {
         let asked = seed < ASKED;
-        run::<S>(rt, seed, if asked { CALLS } else { LONG }, asked)?;
+        run(rt, seed, if asked { CALLS } else { LONG }, asked)?;
         println!(rt; "run {seed}: alike")?;
     }
     println!(rt; "calls of each kind were made, and were refused")?;

@@ -13,16 +13,10 @@ mod steps;
 mod worlds;
 
 use anyhow::Result;
-use book_core::Letter;
 use calls::compare_calls;
-use dest_queue::Addressed;
-use row_store::PlainRows;
 use steps::compare_steps;
 
-/// The rows of the books.
-type Rows = PlainRows<Addressed<Letter>>;
-
 fn main(rt: HostRuntime) -> Result<()> {
-    compare_calls::<Rows>(&rt)?;
-    compare_steps::<Rows>(&rt)
+    compare_calls(&rt)?;
+    compare_steps(&rt)
 }

@@ -5,9 +5,6 @@
 use crate::dice::Dice;
 use crate::worlds::Worlds;
 use anyhow::{Result, bail};
-use book_core::Letter;
-use dest_queue::Addressed;
-use row_store::RowStore;
 
 /// How many runs there are, each with engines in which nothing came.
 const RUNS: u32 = 24;
@@ -16,10 +13,7 @@ const RUNS: u32 = 24;
 const STEPS: u32 = 250;
 
 /// Takes a step at random.
-fn step<S: RowStore<Addressed<Letter>> + Drop>(
-    dice: &mut Dice,
-    worlds: &mut Worlds<S>,
-) -> Result<()> {
+fn step(dice: &mut Dice, worlds: &mut Worlds) -> Result<()> {
     match dice.roll(12) {
         0..7 => worlds.chunk(dice),
         7..9 => worlds.take(dice),
@@ -32,10 +26,7 @@ fn step<S: RowStore<Addressed<Letter>> + Drop>(
 }
 
 /// Compares what came of a run. An error where nothing was booked or sent.
-fn compare_ends<S: RowStore<Addressed<Letter>> + Drop>(
-    rt: &HostRuntime,
-    worlds: &Worlds<S>,
-) -> Result<()> {
+fn compare_ends(rt: &HostRuntime, worlds: &Worlds) -> Result<()> {
     worlds.compare_queues()?;
     let sent = worlds.compare_output()?;
     if worlds.compare_entries(rt)? == 0 || sent == 0 {
@@ -45,11 +36,7 @@ fn compare_ends<S: RowStore<Addressed<Letter>> + Drop>(
 }
 
 /// Takes the steps of one run, and compares what came of them.
-fn take_steps<S: RowStore<Addressed<Letter>> + Drop>(
-    rt: &HostRuntime,
-    seed: u32,
-    worlds: &mut Worlds<S>,
-) -> Result<()> {
+fn take_steps(rt: &HostRuntime, seed: u32, worlds: &mut Worlds) -> Result<()> {
     let mut dice = Dice::new(seed);
     for _ in 0..STEPS {
         step(&mut dice, worlds)?;
@@ -59,15 +46,15 @@ fn take_steps<S: RowStore<Addressed<Letter>> + Drop>(
 }
 
 /// Takes the steps of one run with engines in which nothing came.
-fn run<S: RowStore<Addressed<Letter>> + Drop>(rt: &HostRuntime, seed: u32) -> Result<()> {
-    let mut worlds: Worlds<S> = Worlds::new(rt)?;
+fn run(rt: &HostRuntime, seed: u32) -> Result<()> {
+    let mut worlds = Worlds::new(rt)?;
     take_steps(rt, seed, &mut worlds)
 }
 
 /// Takes the steps of all runs, and says how many they were.
-pub fn compare_steps<S: RowStore<Addressed<Letter>> + Drop>(rt: &HostRuntime) -> Result<()> {
+pub fn compare_steps(rt: &HostRuntime) -> Result<()> {
     for seed in 0..RUNS {
-        run::<S>(rt, seed)?;
+        run(rt, seed)?;
     }
     println!(rt; "{} steps, no difference", RUNS * STEPS)?;
     Ok(())

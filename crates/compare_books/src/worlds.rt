@@ -10,10 +10,12 @@ use dest_queue::Addressed;
 use engine_model::{Step, World, steps_of};
 use event_log::Ticket;
 use hl7_head::Moment;
-use row_store::RowStore;
+use row_store::PlainRows;
 use sequential_book::SequentialBook;
 use std::alloc::{AllocError, Global};
 use std::hash::RandomState;
+
+type Engine = World<PlainRows<Addressed<Letter>>>;
 
 /// How many entries the engines may hold.
 const ENTRIES: u32 = 60;
@@ -24,17 +26,17 @@ const CHANNELS: [u32; 4] = [0, 1, 0, 0];
 /// A world that hears pieces as they come, one that hears them byte by byte, and the sequential engine, which is handed
 /// each message when its block has ended. Further what comes on the connections, and the ticket that was taken last.
 #[derive(Drop)]
-pub struct Worlds<S: RowStore<Addressed<Letter>>> {
+pub struct Worlds {
     alloc: Global,
-    whole: Box<World<S>>,
-    bytewise: Box<World<S>>,
+    whole: Box<Engine>,
+    bytewise: Box<Engine>,
     other: Box<SequentialBook>,
     lines: Vec<Line>,
     last: Ticket,
 }
 
 /// A world in which nothing came.
-fn silent<S: RowStore<Addressed<Letter>> + Drop>(rt: &HostRuntime) -> Result<Box<World<S>>> {
+fn silent(rt: &HostRuntime) -> Result<Box<Engine>> {
     let alloc = rt.alloc();
     let hasher = RandomState::new(rt)?;
     let plan = plan_of(alloc, Said::FIRST)?;
@@ -61,9 +63,9 @@ fn lines(alloc: Global) -> Result<Vec<Line>, AllocError> {
 }
 
 /// Bytes come on a connection of a world.
-fn hear<S: RowStore<Addressed<Letter>>>(
+fn hear(
     alloc: Global,
-    world: &mut World<S>,
+    world: &mut Engine,
     conn: u32,
     bytes: &[u8],
     now: Moment,
@@ -74,20 +76,16 @@ fn hear<S: RowStore<Addressed<Letter>>>(
 }
 
 /// Whether an entry is there in a world and in the sequential engine, and is the same.
-fn is_entry_alike<S: RowStore<Addressed<Letter>>>(
-    world: &World<S>,
-    other: &SequentialBook,
-    place: usize,
-) -> bool {
+fn is_entry_alike(world: &Engine, other: &SequentialBook, place: usize) -> bool {
     match (world.book().entry(place), other.entries().get(place)) {
         (Some(entry), Some(due)) => is_same(entry, due),
         _ => false,
     }
 }
 
-impl<S: RowStore<Addressed<Letter>> + Drop> Worlds<S> {
+impl Worlds {
     /// Three engines in which nothing came.
-    pub fn new(rt: &HostRuntime) -> Result<Worlds<S>> {
+    pub fn new(rt: &HostRuntime) -> Result<Worlds> {
         let alloc = rt.alloc();
         Ok(Worlds {
             alloc,
@@ -226,7 +224,7 @@ impl<S: RowStore<Addressed<Letter>> + Drop> Worlds<S> {
     }
 
     /// How many entries a world has. An error where the sequential engine has others.
-    fn compare_history(&self, world: &World<S>) -> Result<usize> {
+    fn compare_history(&self, world: &Engine) -> Result<usize> {
         let len = world.book().len();
         if len != self.other.entries().len() {
             bail!("there are two numbers of entries");
@@ -240,7 +238,7 @@ impl<S: RowStore<Addressed<Letter>> + Drop> Worlds<S> {
     }
 
     /// How many entries a world has that takes the steps of the history. An error where the sequential engine has others.
-    fn compare_again(&self, again: &mut World<S>) -> Result<usize> {
+    fn compare_again(&self, again: &mut Engine) -> Result<usize> {
         again.run(&steps_of(self.alloc, self.whole.book())?);
         self.compare_history(again)
     }

@@ -7,17 +7,11 @@ mod shown;
 mod stage;
 
 use anyhow::Result;
-use book_core::{EVENTS_MAX, Letter};
-use dest_queue::Addressed;
-use row_store::{PlainRows, RowStore};
+use book_core::EVENTS_MAX;
 use stage::Stage;
 
 /// Writes a line, with the answer to its call.
-fn play_line<S: RowStore<Addressed<Letter>> + Drop>(
-    rt: &HostRuntime,
-    stage: &mut Stage<S>,
-    line: &str,
-) -> Result<()> {
+fn play_line(rt: &HostRuntime, stage: &mut Stage, line: &str) -> Result<()> {
     if line.is_empty() || line.starts_with('#') {
         println!(rt; "{line}")?;
         return Ok(());
@@ -28,10 +22,7 @@ fn play_line<S: RowStore<Addressed<Letter>> + Drop>(
 }
 
 /// Plays all lines of standard input.
-fn play_all<S: RowStore<Addressed<Letter>> + Drop>(
-    rt: &HostRuntime,
-    stage: &mut Stage<S>,
-) -> Result<()> {
+fn play_all(rt: &HostRuntime, stage: &mut Stage) -> Result<()> {
     for line in rt.lines(rt.alloc()) {
         play_line(rt, stage, line?.as_str())?;
     }
@@ -39,6 +30,6 @@ fn play_all<S: RowStore<Addressed<Letter>> + Drop>(
 }
 
 fn main(rt: HostRuntime) -> Result<()> {
-    let mut stage: Stage<PlainRows<Addressed<Letter>>> = Stage::open(&rt, "built-in", EVENTS_MAX)?;
+    let mut stage = Stage::open(&rt, "built-in", EVENTS_MAX)?;
     play_all(&rt, &mut stage)
 }

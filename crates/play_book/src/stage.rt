@@ -9,7 +9,7 @@ use event_log::{Ticket, Told};
 use hl7_head::Moment;
 use judge_core::{Judged, fits_block, judge};
 use plan_text::Plan;
-use row_store::RowStore;
+use row_store::{PlainRows, RowStore};
 use stat_count::{CHANNELS, DESTINATIONS};
 use std::alloc::{AllocError, Global};
 use std::fmt::Debug;
@@ -22,9 +22,9 @@ const CONNECTION: u32 = 3;
 
 /// The book, and the plan by which messages are judged.
 #[derive(Drop)]
-pub struct Stage<S: RowStore<Addressed<Letter>>> {
+pub struct Stage {
     alloc: Global,
-    book: Book<S>,
+    book: Book<PlainRows<Addressed<Letter>>>,
     plan: Arc<Plan>,
 }
 
@@ -47,9 +47,9 @@ fn refused<E: Debug>(alloc: Global, refusal: &E, code: u32) -> Result<String> {
     Ok(format!(in alloc; "{refusal:?}, code {code}")?)
 }
 
-impl<S: RowStore<Addressed<Letter>> + Drop> Stage<S> {
+impl Stage {
     /// An empty book of the plan of this name, which may hold so many entries.
-    pub fn open(rt: &HostRuntime, plan: &str, events_max: u32) -> Result<Stage<S>> {
+    pub fn open(rt: &HostRuntime, plan: &str, events_max: u32) -> Result<Stage> {
         if events_max == 0 || events_max > EVENTS_MAX {
             bail!("no book has {events_max} entries");
         }

@@ -29,17 +29,10 @@ mod stage;
 mod words;
 
 use anyhow::Result;
-use book_core::Letter;
-use dest_queue::Addressed;
-use row_store::{PlainRows, RowStore};
 use stage::Stage;
 
 /// Writes a line, and what comes of its call.
-fn play_line<S: RowStore<Addressed<Letter>> + Drop>(
-    rt: &HostRuntime,
-    stage: &mut Stage<S>,
-    line: &str,
-) -> Result<()> {
+fn play_line(rt: &HostRuntime, stage: &mut Stage, line: &str) -> Result<()> {
     println!(rt; "{line}")?;
     if line.is_empty() || line.starts_with('#') {
         return Ok(());
@@ -49,10 +42,7 @@ fn play_line<S: RowStore<Addressed<Letter>> + Drop>(
 }
 
 /// Plays all lines of standard input.
-fn play_all<S: RowStore<Addressed<Letter>> + Drop>(
-    rt: &HostRuntime,
-    stage: &mut Stage<S>,
-) -> Result<()> {
+fn play_all(rt: &HostRuntime, stage: &mut Stage) -> Result<()> {
     for line in rt.lines(rt.alloc()) {
         play_line(rt, stage, line?.as_str())?;
     }
@@ -60,6 +50,6 @@ fn play_all<S: RowStore<Addressed<Letter>> + Drop>(
 }
 
 fn main(rt: HostRuntime) -> Result<()> {
-    let mut stage: Stage<PlainRows<Addressed<Letter>>> = Stage::new(&rt)?;
+    let mut stage = Stage::new(&rt)?;
     play_all(&rt, &mut stage)
 }

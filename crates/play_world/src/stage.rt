@@ -11,7 +11,7 @@ use engine_model::{Step, World, steps_of};
 use hl7_head::Moment;
 use plan_text::Plan;
 use play_script::bytes_of;
-use row_store::RowStore;
+use row_store::PlainRows;
 use stat_count::{CHANNELS, DESTINATIONS};
 use std::alloc::{AllocError, Global};
 use std::fmt::Write;
@@ -22,9 +22,9 @@ use std::sync::Arc;
 
 /// A world, and how much of it was told: so many entries, and of each connection so many bytes that it was sent.
 #[derive(Drop)]
-pub struct Stage<S: RowStore<Addressed<Letter>>> {
+pub struct Stage {
     alloc: Global,
-    world: World<S>,
+    world: World<PlainRows<Addressed<Letter>>>,
     entries: usize,
     sent: Vec<usize>,
 }
@@ -50,12 +50,12 @@ fn are_known(channels: &[u32], count: u32) -> bool
 }
 
 /// A world of a plan that may book so many entries, with a connection on each of these channels.
-fn world_of<S: RowStore<Addressed<Letter>> + Drop>(
+fn world_of(
     rt: &HostRuntime,
     plan: Arc<Plan>,
     events_max: u32,
     channels: &[u32],
-) -> Result<World<S>> {
+) -> Result<World<PlainRows<Addressed<Letter>>>> {
     if events_max == 0 || events_max > EVENTS_MAX || !are_known(channels, plan.channels()) {
         bail!("there is no such world");
     }
@@ -89,14 +89,14 @@ fn push_steps(text: &mut String, steps: &[Step]) -> Result<(), AllocError> {
     Ok(())
 }
 
-impl<S: RowStore<Addressed<Letter>> + Drop> Stage<S> {
+impl Stage {
     /// A world of the built-in plan without connections.
-    pub fn new(rt: &HostRuntime) -> Result<Stage<S>> {
+    pub fn new(rt: &HostRuntime) -> Result<Stage> {
         Stage::on(rt, "built-in", EVENTS_MAX, &[])
     }
 
     /// A world of the plan of this name that may book so many entries, with a connection on each of these channels.
-    fn on(rt: &HostRuntime, name: &str, events_max: u32, channels: &[u32]) -> Result<Stage<S>> {
+    fn on(rt: &HostRuntime, name: &str, events_max: u32, channels: &[u32]) -> Result<Stage> {
         let alloc = rt.alloc();
         let sent = vec![in alloc; 0; channels.len()]?;
         let plan = Arc::new(alloc, plan_named(rt, name)?)?;
@@ -109,7 +109,7 @@ impl<S: RowStore<Addressed<Letter>> + Drop> Stage<S> {
     }
 
     /// A world that is named by words: its plan, how many entries it may book, and the channels of its connections.
-    fn named(rt: &HostRuntime, words: &mut SplitWhitespace<'_>) -> Result<Stage<S>> {
+    fn named(rt: &HostRuntime, words: &mut SplitWhitespace<'_>) -> Result<Stage> {
         let name = word(words)?;
         let events_max = number(words)?;
         let channels = numbers(rt.alloc(), words)?;
