@@ -1,7 +1,9 @@
 """The built program under `run`: its plan, its lines and its counts."""
 import os
+import re
 import subprocess
 import threading
+import time
 
 PROGRAM = os.path.join(os.path.dirname(os.path.abspath(__file__)), '..', 'crates', 'hl7_engine', 'out', 'hl7_engine')
 
@@ -61,8 +63,24 @@ class Engine:
         return sum(line.startswith('listening on ') for line in self.told)
 
     def warnings(self):
-        """What it told on standard error beside where it listens."""
-        return [line for line in self.told if not line.startswith('listening on ')]
+        """The lines at level WARN or above that it logged."""
+        return [line for line in self.told if re.match(r'(\S+Z )?\[?(WARN|ERROR)\b', line)]
+
+    def faults(self):
+        """Its warnings, those aside that are about a message or a text that came."""
+        own = ('message refused', 'message not booked', 'text unreadable', 'block broken', 'acknowledgment received', 'MSH holds')
+        return [line for line in self.warnings() if not any(words in line for words in own)]
+
+    def said(self, *texts):
+        """The lines on standard error that have all these texts."""
+        return [line for line in self.told if all(text in line for text in texts)]
+
+    def heard(self, *texts, limit=20):
+        """Waits for a line with all these texts. Whether it came in time."""
+        deadline = time.monotonic() + limit
+        while not self.said(*texts) and time.monotonic() < deadline:
+            time.sleep(0.02)
+        return bool(self.said(*texts))
 
     def resident(self):
         """Its resident memory, in bytes."""

@@ -1,8 +1,9 @@
 """The faults of `run` in their order, with their lines and statuses."""
+import ctypes
 import os
-import re
 import resource
 import socket
+import stat
 import struct
 import subprocess
 import time
@@ -13,7 +14,8 @@ from mllp import Destination, Sender, block, free_ports, message
 
 def called(program, words):
     ran = subprocess.run([program, 'run', *words], stdin=subprocess.DEVNULL, capture_output=True, timeout=30)
-    return ran.returncode, ran.stdout.decode(), ran.stderr.decode()
+    told = [line for line in ran.stderr.decode().splitlines(True) if not line.startswith(('note: ', 'warning: '))]
+    return ran.returncode, ran.stdout.decode(), ''.join(told)
 
 
 def connected(port):
@@ -34,6 +36,22 @@ def came(destination, number):
     deadline = time.monotonic() + 20
     while len(destination.came) < number and time.monotonic() < deadline:
         time.sleep(0.01)
+
+
+def break_listener(pid, port):
+    """Shuts a process's listener down, by a descriptor of the same socket: accepting fails from here on."""
+    process, get_descriptor = os.pidfd_open(pid), 438
+    for number in map(int, os.listdir(f'/proc/{pid}/fd')):
+        held = ctypes.CDLL(None, use_errno=True).syscall(get_descriptor, process, number, 0)
+        if held < 0:
+            raise OSError(ctypes.get_errno(), 'pidfd_getfd')
+        if not stat.S_ISSOCK(os.fstat(held).st_mode):
+            os.close(held)
+            continue
+        with socket.socket(fileno=held) as copy:
+            if copy.getsockopt(socket.SOL_SOCKET, socket.SO_ACCEPTCONN) and copy.getsockname()[1] == port:
+                copy.shutdown(socket.SHUT_RDWR)
+    os.close(process)
 
 
 def before_a_run(program, folder):
@@ -65,22 +83,17 @@ def before_a_run(program, folder):
 
 
 def failed_accept(program, folder):
-    """A channel for which no connection can be opened takes no more of them; those of the other go on. The counts come
-    first, then the fault."""
+    """A channel whose listener fails takes no more connections; those of the other go on. The counts come first, then the
+    fault."""
     lab, ports = Destination(lambda text, before: b'AA'), free_ports(2)
     text = plan([('A', ports[0], [('LAB', None, None)]), ('B', ports[1], [('LAB', None, None)])], [('LAB', lab.port, [])])
     with Engine(program, text, 3, folder) as engine, connected(ports[1]) as b0, connected(ports[1]) as b1, \
             connected(ports[1]) as b2, connected(ports[0]) as a0:
         replies = [speak(peer, message(b'M%d' % n)) for n, peer in enumerate((b0, b1, b2, a0))]
         came(lab, 4)
-        # From here on the program may open no further file. An accept that waits already has its own.
-        _, allowed = resource.prlimit(engine.process.pid, resource.RLIMIT_NOFILE)
-        resource.prlimit(engine.process.pid, resource.RLIMIT_NOFILE, (3, allowed))
-        with connected(ports[0]):
-            deadline = time.monotonic() + 10
-            while not engine.warnings() and time.monotonic() < deadline:
-                time.sleep(0.01)
-            replies += [speak(peer, message(b'N%d' % n)) for n, peer in enumerate((b0, b1, b2, a0))]
+        break_listener(engine.process.pid, ports[0])
+        engine.heard('no further one is taken', 'channel=A')
+        replies += [speak(peer, message(b'N%d' % n)) for n, peer in enumerate((b0, b1, b2, a0))]
         for peer in (b0, b1, b2, a0):
             peer.close()
         status, counts = engine.ended(30)
@@ -92,8 +105,8 @@ def failed_accept(program, folder):
 
 
 def refused_thread(program, folder):
-    """Where the system gives no further thread, no further worker is started; the others go on to their end. Then memory is
-    all that is told."""
+    """Where the system gives no further thread, no further worker is started, which is logged; the others go on to their end.
+    Then memory is the fault."""
     lab, port = Destination(lambda text, before: b'AA'), free_ports(1)[0]
     with Engine(program, one_channel(port, [('LAB', lab.port, [])]), 3, folder) as engine:
         pid, texts = engine.process.pid, [message(b'A%d' % n) for n in range(2)]
@@ -110,13 +123,14 @@ def refused_thread(program, folder):
                 coming.append(speak(first, texts[1]))
         status, counts = engine.ended(30)
     lab.close()
-    if (status, counts, engine.told[-1], len(coming), lab.came) != (3, {}, 'memory', 2, texts):
+    told = len(engine.said('WARN', 'no thread for a connection', 'channel=ADT'))
+    if (status, counts, engine.told[-1], told, len(coming), lab.came) != (3, {}, 'memory', 1, 2, texts):
         return [f'a refused thread: status {status}, {counts}, {engine.told}, {coming}, {lab.came}']
     return []
 
 
 def reset_connection(program, folder):
-    """A connection that its peer resets is told in one line, by its number, its channel and its peer."""
+    """A connection that its peer resets is one warning, by its number, its channel and its peer."""
     ports = free_ports(3)
     text = plan([(name, port, [('LAB', None, None)]) for name, port in zip('AB', ports)], [('LAB', ports[2], [])])
     with Engine(program, text, 1, folder) as engine, connected(ports[0]) as other:
@@ -128,24 +142,28 @@ def reset_connection(program, folder):
         peer.close()
         other.close()
         status, counts = engine.ended(30)
-    told, due = engine.warnings(), f'connection 1 of channel B from 127.0.0.1:{place}: read: .+'
-    if status != 0 or len(told) != 1 or not re.search(due, told[0]):
+    told, due = engine.warnings(), ('reading from the sender failed: ', 'channel=B', 'connection=1', f'peer=127.0.0.1:{place}')
+    if status != 0 or len(told) != 1 or engine.said(*due) != told:
         return [f'a reset connection: status {status}, {told}, {counts}']
     return []
 
 
 def full_disk(program, folder):
-    """Counts that can't be written are a fault of the device."""
+    """Counts that can't be written are a fault of the device. They are told on standard error before it."""
     port, = free_ports(1)
     path = os.path.join(folder, 'plan.toml')
     with open(path, 'w', encoding='utf-8') as file:
         file.write(one_channel(port, [('LAB', port, [])]))
     with open('/dev/full', 'wb') as full:
         process = subprocess.Popen([program, 'run', path, '--accept', '1'], stdout=full, stderr=subprocess.PIPE)
-        process.stderr.readline()
+        while not process.stderr.readline().startswith(b'listening on '):
+            if process.poll() is not None:
+                return [f'a full disk: it ended with {process.returncode} before it listened']
         Sender(port, []).run()
         _, told = process.communicate(timeout=30)
-    return [] if (process.returncode, told) == (3, b'device: write\n') else [f'a full disk: {process.returncode}, {told}']
+    due = [b'channel ADT received 0 filtered 0 accepted 0 refused 0 repeats 0',
+           b'destination LAB waiting 0 inflight 0 delivered 0 failed 0 attempts 0', b'device: write']
+    return [] if (process.returncode, told.splitlines()[-3:]) == (3, due) else [f'a full disk: {process.returncode}, {told}']
 
 
 def all_faults(program, folder):

@@ -63,7 +63,7 @@ def conversation(program, folder):
     if told != due or numbers != [b'0.%d' % (n + 1) for n in range(len(due))]:
         lines.append(f'a conversation: {list(zip(numbers, told))}, not {due}')
     accepted = [first, both, original, none, message(b'R9')]
-    if (status, lab.came, engine.warnings()) != (0, accepted, []):
+    if (status, lab.came, engine.faults()) != (0, accepted, []):
         lines.append(f'a conversation: status {status}, {lab.came} came, {engine.warnings()}')
     if counts != {('channel', 'ADT'): channel_counts(10, filtered=1, accepted=5, refused=4, repeats=2),
                   ('destination', 'LAB'): destination_counts(5)}:
@@ -93,7 +93,7 @@ def example(program, folder):
     due = {6661: [message(b'E0')], 6662: [text for _, text in spoken[:3]], 6663: [result.replace(b'|ENG|', b'|RECORD|', 1)]}
     codes = [field(reply, b'MSA', 1) for sender in senders for reply in sender.replies]
     lines = [f'the example: at {at} came {came[at]}, not {due[at]}' for at in due if came[at] != due[at]]
-    if (status, codes, engine.warnings()) != (0, [b'CA', b'CA', b'CA', b'CR'], []):
+    if (status, codes, engine.faults()) != (0, [b'CA', b'CA', b'CA', b'CR'], []):
         lines.append(f'the example: status {status}, {codes}, {counts}, {engine.warnings()}')
     for peer in peers.values():
         peer.close()

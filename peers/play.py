@@ -13,11 +13,14 @@ import sys
 import tempfile
 import time
 
+from channels import channels
 from crowd import many_senders
 from engine import PROGRAM
 from faults import all_faults
 from hostile import destinations, idle_connections, senders
+from lines import full_book, refused_messages
 from plain import conversation, example, stock_peers
+from receivers import all_receivers
 
 
 def main():
@@ -30,7 +33,9 @@ def main():
     asked = words.parse_args()
     program, lines = os.path.abspath(asked.program), []
     scenes = [('a conversation', conversation), ('an example', example), ('python3-hl7', stock_peers),
-              ('faults in their order', all_faults), ('hostile destinations', destinations), ('hostile senders', senders),
+              ('faults in their order', all_faults), ('receivers', all_receivers), ('channels', channels),
+              ('hostile destinations', destinations), ('hostile senders', senders),
+              ('lines of the log', refused_messages), ('a full book', full_book),
               ('idle connections', lambda program, folder: idle_connections(program, folder, asked.idle)),
               ('many senders', lambda program, folder: many_senders(program, folder, asked.senders, asked.messages))]
     for name, scene in scenes:

@@ -10,10 +10,12 @@ import ctypes
 import errno
 import os
 import platform
+import socket
 import struct
 import subprocess
 import sys
 import tempfile
+import time
 
 HERE = os.path.dirname(os.path.abspath(__file__))
 PROGRAM = os.path.join(HERE, '..', 'crates', 'hl7_engine', 'out', 'hl7_engine')
@@ -28,6 +30,11 @@ def accepted(moment):
     """The acknowledgment of the admission, with this MSH-7."""
     return (f'\x0bMSH|^~\\&|ENG|HUB|REG|HOSP|{moment}||ACK^A01^ACK|0.1|P|2.5.1|||NE|NE\r'
             'MSA|CA|M1\r\x1c\r').encode()
+
+
+def plain(told):
+    """Standard error without the notes and the warnings on plans, which tests/plan_notes.py compares."""
+    return b''.join(line for line in told.splitlines(True) if not line.startswith((b'note: ', b'warning: ')))
 
 
 def refuse_random_bytes():
@@ -62,14 +69,89 @@ def without_random_bytes(program, plan):
                 return []
             lines.append(f'{words} without random bytes: {error}')
             continue
-        if (got := (ran.returncode, ran.stdout, ran.stderr)) != wanted:
+        if (got := (ran.returncode, ran.stdout, plain(ran.stderr))) != wanted:
             lines.append(f'{words} without random bytes: {got}, not {wanted}')
     return lines
 
 
+def closing(*numbers):
+    """Closes descriptors of the program that is started next."""
+    def close():
+        for number in numbers:
+            os.close(number)
+    return close
+
+
+def answers_without(program, numbers, plan):
+    """What `answer` does where these standard descriptors are closed: its status, standard output and standard error."""
+    ran = subprocess.run([program, 'answer', plan, '--now', '951782400'], input=ADMISSION, capture_output=True, timeout=60,
+                         preexec_fn=closing(*numbers))
+    return ran.returncode, ran.stdout, ran.stderr
+
+
+def free_ports(count):
+    holders = [socket.create_server(('127.0.0.1', 0)) for _ in range(count)]
+    ports = [holder.getsockname()[1] for holder in holders]
+    for holder in holders:
+        holder.close()
+    return ports
+
+
+def runs_without(program, number, path, port):
+    """What is wrong with a run for which this standard descriptor is closed, a line each: it has to be open on the null
+    device, and a sender has to get its acknowledgment and nothing else."""
+    process = subprocess.Popen([program, 'run', path, '--accept', '1'], stdin=subprocess.DEVNULL, stdout=subprocess.PIPE,
+                               stderr=subprocess.PIPE, preexec_fn=closing(number))
+    deadline, place, got, out, err = time.monotonic() + 20, None, b'', b'', b''
+    try:
+        while time.monotonic() < deadline:
+            try:
+                with socket.create_connection(('127.0.0.1', port), timeout=5) as sender:
+                    place = os.readlink(f'/proc/{process.pid}/fd/{number}')
+                    sender.sendall(b'\x0bHELLO\x1c\r' + ADMISSION)
+                    sender.shutdown(socket.SHUT_WR)
+                    while piece := sender.recv(65_536):
+                        got += piece
+                    break
+            except ConnectionRefusedError:
+                time.sleep(0.05)
+        out, err = process.communicate(timeout=30)
+    except (OSError, subprocess.TimeoutExpired) as error:
+        err = repr(error).encode()
+    finally:
+        process.kill()
+    lines = []
+    if place != '/dev/null' or (got.count(b'\x0b'), got.count(b'MSA|CA|M1')) != (1, 1) or process.returncode != 0:
+        lines.append(f'run without descriptor {number}: it is {place}, the sender got {got}, status {process.returncode}, {err}')
+    if not out.startswith(b'channel ADT received 1 ') or (err == b'') != (number == 2):
+        lines.append(f'run without descriptor {number}: {out}, {err}')
+    return lines
+
+
+def without_standard_descriptors(program, folder):
+    """What is wrong, a line each, where the program is started with standard descriptors closed."""
+    one, path, (port, lab) = os.path.join(EXAMPLES, 'one_destination.toml'), os.path.join(folder, 'run.toml'), free_ports(2)
+    answer = accepted('20000229000000+0000')
+    lines = [f'answer without descriptors {numbers}: {got}, not {wanted}' for numbers, wanted in [
+        ((1,), (3, b'', b'device: write\n')), ((0,), (3, b'', b'device: read\n')), ((2,), (0, answer, b'')),
+        ((0, 1), (3, b'', b'device: write\n')), ((0, 2), (3, b'', b'')), ((1, 2), (3, b'', b'')), ((0, 1, 2), (3, b'', b''))]
+             if (got := answers_without(program, numbers, one)) != wanted]
+    with open(path, 'w', encoding='utf-8') as file:
+        # Nobody listens at the destination's address: its one attempt fails.
+        file.write(ONE.replace('6660', str(port)).replace('6661', str(lab)).replace('address = ', 'attempts = 1\naddress = '))
+    try:
+        ran = subprocess.run([program, 'run', path, '--accept', '1'], stdin=subprocess.DEVNULL, capture_output=True, timeout=20,
+                             preexec_fn=closing(1))
+        if (ran.returncode, ran.stdout, ran.stderr) != (3, b'', b'device: write\n'):
+            lines.append(f'run without descriptor 1: {ran}')
+    except subprocess.TimeoutExpired as error:
+        lines.append(f'run without descriptor 1: {error}')
+    return lines + runs_without(program, 0, path, port) + runs_without(program, 2, path, port)
+
+
 def called(program, words, given=b''):
     ran = subprocess.run([program, *words], input=given, capture_output=True, timeout=60)
-    return ran.returncode, ran.stdout, ran.stderr
+    return ran.returncode, ran.stdout, plain(ran.stderr)
 
 
 def wrong(program, folder):
@@ -151,7 +233,7 @@ def wrong(program, folder):
     os.close(unread)
     if (ran.returncode, ran.stdout, ran.stderr) != (3, b'', b'device: read\n'):
         lines.append(f'a folder as standard input: {ran}')
-    return lines + without_random_bytes(program, one)
+    return lines + without_standard_descriptors(program, folder) + without_random_bytes(program, one)
 
 
 def main():

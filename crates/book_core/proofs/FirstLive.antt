@@ -128,7 +128,7 @@ refused-live h bound n few is below =
     answer-from h bound few (Some n) is ∙ ap (λ b. option_map_or (λ n. Some (StillLive n)) (cond b (Some n) None) (many_or h)) yes
 
 -- where none below the bound is live, the prunings tell
-settled-below : (h : History) (bound : ℕ) → bound ≤ message_count h → (o : Option ℕ) → first_below h 32 ≡ o → ((n : ℕ) → o ≡ Some n → bound ≤ n) → prune_answer h bound ≡ many_or h
+pub settled-below : (h : History) (bound : ℕ) → bound ≤ message_count h → (o : Option ℕ) → first_below h 32 ≡ o → ((n : ℕ) → o ≡ Some n → bound ≤ n) → prune_answer h bound ≡ many_or h
 settled-below h bound few None is past = answer-from h bound few None is
 settled-below h bound few (Some n) is past =
     let beyond = past n refl in

@@ -109,7 +109,7 @@ module _ (h : History) (rows : List (Row (Addressed Letter))) (index : List Know
 
     -- the book is kept
     pub kept-arrived : (g : Gain) (rows' : List (Row (Addressed Letter))) (index' : List Known) (tally' : Statistics) (room' : ℕ) → channel < 64
-        → IsGain reply (control_id_of raw) (decided (plan_in_force h) channel raw) g → AddsGain g rows rows'
+        → IsGain reply (control_id_of raw) (decided (plan_in_force h) channel raw) g → AddsGain channel raw g rows rows'
         → KeysAgree (followed_by h (Arrival conn channel raw reply)) index'
         → CountsArrival channel reply (slots_added (plan_in_force h) channel raw reply) tally tally'
         → flights ≤ room' → IsKept (followed_by h (Arrival conn channel raw reply)) rows' index' tally' flights room'

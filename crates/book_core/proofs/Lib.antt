@@ -26,3 +26,4 @@ pub mod PrunedRows
 pub mod Remembering
 pub mod LeftOut
 pub mod Folded
+pub mod Asked

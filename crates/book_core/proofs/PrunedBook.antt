@@ -77,6 +77,7 @@ module _ (h : History) (sound : IsSound h) (bound : ℕ) (may : prune_answer h b
         queues = λ d within. told.queues d within ∙ sym (ap (λ o. option_map_or is_live o false) (slot-kept h sound bound may n d from));
         control_id = told.control_id ∙ sym (ap (λ m. option_map_or (λ m. control_id_of m.raw) m []) message);
         deliveries = told.deliveries ∙ sym goes;
+        came = message ∙ told.came;
       }
     where
       states : (n : ℕ) → deliveries (pruned bound h) n ≡ deliveries h n → (d : ℕ) → names d (deliveries h n) ≡ true

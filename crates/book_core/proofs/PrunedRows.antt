@@ -63,7 +63,7 @@ none-dropped {T} first n rows less all = none-below n rows (lower rows (recursio
 -- ---- the first that stays
 
 -- all of a range passes
-filter-whole : (p : ℕ → Bool) (a k : ℕ) → ((m : ℕ) → a ≤ m → m < a + k → p m ≡ true) → filter p (range_with_len a k) ≡ range_with_len a k
+pub filter-whole : (p : ℕ → Bool) (a k : ℕ) → ((m : ℕ) → a ≤ m → m < a + k → p m ≡ true) → filter p (range_with_len a k) ≡ range_with_len a k
 filter-whole p a zero each = refl
 filter-whole p a (suc k) each =
     let here = each a (omega arith) (omega arith) in
@@ -97,7 +97,7 @@ last-ones p a (suc k) turn = by (p a) refl (λ fewer. last-ones p (a + 1) k fewe
         (subst (λ e. AllByRecursion (λ n. e - length (filter p (range_with_len (a + 1) k)) ≤ n) (filter p (range_with_len (a + 1) k))) next
         (rest (λ n m less below passes. turn n m less (omega arith) passes)))
 
-length-numbers : {T : Type 0} (rows : List (Row T)) → length (numbers_of rows) ≡ length rows
+pub length-numbers : {T : Type 0} (rows : List (Row T)) → length (numbers_of rows) ≡ length rows
 length-numbers [] = refl
 length-numbers (row ∷ rows) = ap suc (length-numbers rows)
 

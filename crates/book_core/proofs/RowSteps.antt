@@ -27,6 +27,7 @@ same-row h g row message states told =
       queues = λ d within. told.queues d within ∙ (ap (λ s. option_map_or is_live (cond (names d (deliveries h row.number)) (Some s) None) false) (sym (states d)) ∙ ap (λ ds. option_map_or is_live (cond (names d ds) (Some (state g row.number d)) None) false) (sym goes));
       control_id = told.control_id ∙ ap (λ m. option_map_or (λ m. control_id_of m.raw) m []) (sym message);
       deliveries = told.deliveries ∙ sym goes;
+      came = message ∙ told.came;
     }
 
 -- an entry that changes the state of message n at d alone
@@ -57,6 +58,7 @@ module _ (h g : History) (opening : g.opening ≡ h.opening) (n d : ℕ) (after 
     queues = λ e within. rw same (queue-now e within);
     control_id = told.control_id ∙ rw same (ap (λ m. option_map_or (λ m. control_id_of m.raw) m []) (sym (message-same h g opening messages n)));
     deliveries = told.deliveries ∙ rw same (sym (goes n));
+    came = message-same h g opening messages row.number ∙ told.came;
   }
     where
       was : (e : ℕ) → e < 32 → stands_in e row ≡ is_queued h e n

@@ -85,9 +85,9 @@ module _ (h g : History) (opening : g.opening ≡ h.opening) (message : Accepted
   new-message : message_at g (message_count h) ≡ Some message
   new-message = message-newest h g opening message messages
 
-  new-row : (mask : ℕ) → ((d : ℕ) → d < 32 → (bit_at mask d == 1) ≡ names d message.deliveries)
-      → IsAsTold g (record { number = message_count h; item = record { content = record { control_id = control_id_of message.raw; deliveries = message.deliveries }; slots = slots_by (λ _. Waiting 0 0) (destinations_of message.deliveries) }; mask = mask })
-  new-row mask stands = record {
+  new-row : (place mask : ℕ) → ((d : ℕ) → d < 32 → (bit_at mask d == 1) ≡ names d message.deliveries)
+      → IsAsTold g (record { number = message_count h; item = record { content = record { place = place; channel = message.channel; raw = message.raw; control_id = control_id_of message.raw; deliveries = message.deliveries }; slots = slots_by (λ _. Waiting 0 0) (destinations_of message.deliveries) }; mask = mask })
+  new-row place mask stands = record {
     slots = ap (λ states. slots_by states (destinations_of message.deliveries)) (funext _ _ (λ d. sym (states (message_count h) d ∙ to_come (message_count h) d (omega arith))))
         ∙ ap (λ m. slots_by (state g (message_count h)) (destinations_of (option_map_or (λ m. m.deliveries) m []))) (sym new-message);
     queues = λ d within. stands d within ∙ (queued-first (names d message.deliveries)
@@ -95,22 +95,23 @@ module _ (h g : History) (opening : g.opening ≡ h.opening) (message : Accepted
         ∙ ap (λ m. option_map_or is_live (cond (names d (option_map_or (λ m. m.deliveries) m [])) (Some (state g (message_count h) d)) None) false) (sym new-message)));
     control_id = ap (λ m. option_map_or (λ m. control_id_of m.raw) m []) (sym new-message);
     deliveries = ap (λ m. option_map_or (λ m. m.deliveries) m []) (sym new-message);
+    came = new-message;
   }
 
-  pub rows-added : (old new : List (Row (Addressed Letter))) → RowsAgree h old → AddsRow (message_count h) (control_id_of message.raw) message.deliveries old new → RowsAgree g new
+  pub rows-added : (old new : List (Row (Addressed Letter))) → RowsAgree h old → AddsRow (message_count h) message.channel message.raw (control_id_of message.raw) message.deliveries old new → RowsAgree g new
   rows-added old new agree adds = rw adds.added (record {
     each_once = numbers-push old _ ∙ (ap (λ ns. ns ++ message_count h ∷ []) agree.each_once ∙ sym (remaining-longer h g opening message messages));
     as_told = all-push (IsAsTold g) old _
         (all-both (λ row. row.number < message_count h) (IsAsTold h) (IsAsTold g)
         (λ row below told. same-row h g row (message-older h g opening message messages row.number (λ same. omega arith)) (states row.number) told)
         old (numbers-below h old agree) agree.as_told)
-        (new-row adds.mask adds.stands);
+        (new-row adds.place adds.mask adds.stands);
   })
 
 -- the rows of a message that is accepted
 rows-accepted : (h : History) (conn channel number : ℕ) (raw : List ℕ) → IsSound h → ArrivalStep h conn channel raw (told.Accepted number) → (n : ℕ) (id : List ℕ) (deliveries : List Delivery) (old new : List (Row (Addressed Letter)))
     → n ≡ number → id ≡ control_id_of raw → deliveries ≡ deliveries_of (decided (plan_in_force h) channel raw)
-    → RowsAgree h old → AddsRow n id deliveries old new → RowsAgree (followed_by h (Arrival conn channel raw (told.Accepted number))) new
+    → RowsAgree h old → AddsRow n channel raw id deliveries old new → RowsAgree (followed_by h (Arrival conn channel raw (told.Accepted number))) new
 rows-accepted h conn channel number raw sound step n id deliveries old new number-is id-is goes agree adds =
     rows-added h (followed_by h (Arrival conn channel raw (told.Accepted number))) refl (accepted_under (plan_in_force h) channel raw) step.accepted step.state sound.to_come old new agree
     (rw (number-is, id-is, goes, step.numbered) at adds)
@@ -122,7 +123,7 @@ rows-unchanged h conn channel raw reply old new messages states agree same = rw 
 
 -- the rows follow an arrival
 pub rows-arrived : (h : History) (conn channel : ℕ) (raw : List ℕ) (reply : Told) (g : Gain) → IsSound h → ArrivalStep h conn channel raw reply → (old new : List (Row (Addressed Letter))) → RowsAgree h old
-    → IsGain reply (control_id_of raw) (decided (plan_in_force h) channel raw) g → AddsGain g old new → RowsAgree (followed_by h (Arrival conn channel raw reply)) new
+    → IsGain reply (control_id_of raw) (decided (plan_in_force h) channel raw) g → AddsGain channel raw g old new → RowsAgree (followed_by h (Arrival conn channel raw reply)) new
 rows-arrived h conn channel raw (told.Accepted number) (gain.Message n c ds) sound step old new agree is adds =
     rows-accepted h conn channel number raw sound step n c.now ds.now old new is.0 is.1 is.2 agree adds
 rows-arrived h conn channel raw (told.Accepted number) gain.Key sound step old new agree is adds = absurd is

@@ -68,6 +68,7 @@ module _ (h g : History) (opening : g.opening ≡ h.opening) (n mask : ℕ) (mes
     queues = λ e within. left-waiting_at row.item.slots row.mask e within ∙ (ap (λ b. b && not (waits_at e row.item.slots)) (was e within) ∙ (ap (λ b. is_queued h e n && not b) (waited e) ∙ (sym (queue-now e) ∙ ap (is_queued g e) (sym same))));
     control_id = told.control_id ∙ rw same (ap (λ m. option_map_or (λ m. control_id_of m.raw) m []) (sym (message-same h g opening messages n)));
     deliveries = told.deliveries ∙ rw same (sym (goes n));
+    came = message-same h g opening messages row.number ∙ told.came;
   }
     where
       was : (e : ℕ) → e < 32 → stands_in e row ≡ is_queued h e n

@@ -1,5 +1,5 @@
 -- What a book keeps beside its history, and how it agrees with it.
-use Rattle.std.specs.Prelude.{◌≡◌, ◌<◌, ◌≤◌, ℕ, List}
+use Rattle.std.specs.Prelude.{◌≡◌, ◌<◌, ◌≤◌, ℕ, List, Some}
 use Rattle.std.specs.List.{AllByRecursion}
 use Rattle.row_store.specs.declared.Row.{Row}
 use Rattle.row_store.specs.Rows.{numbers as numbers_of, stands_in}
@@ -7,7 +7,7 @@ use Rattle.dest_queue.specs.declared.slots.Addressed.{Addressed}
 use Rattle.dest_queue.specs.SlotsBy.{slots_by}
 use Rattle.dup_index.specs.Known.{Known, place_of}
 use Rattle.stat_count.specs.Statistics.{Statistics}
-use Rattle.event_log.specs.History.{History, control_id, deliveries, is_queued, named, remaining, state}
+use Rattle.event_log.specs.History.{History, control_id, deliveries, is_queued, message_at, named, remaining, state}
 use Rattle.event_log.specs.Answers.{known}
 use Rattle.event_log.specs.Room.{in_flight}
 use Rattle.event_log.specs.Legal.{IsSound}
@@ -20,6 +20,8 @@ pub record IsAsTold (h : History) (row : Row (Addressed Letter)) : Type 0 where
   pub queues : (d : ℕ) → d < 32 → stands_in d row ≡ is_queued h d row.number
   pub control_id : row.item.content.control_id ≡ control_id h row.number
   pub deliveries : row.item.content.deliveries ≡ deliveries h row.number
+  pub came : message_at h row.number
+      ≡ Some (record { channel = row.item.content.channel; raw = row.item.content.raw; deliveries = row.item.content.deliveries })
 
 -- the rows are the messages that are not forgotten, each once and in order of acceptance
 pub record RowsAgree (h : History) (rows : List (Row (Addressed Letter))) : Type 0 where

@@ -40,14 +40,15 @@ IsAccepting told.Filtered v = Unit {0}
 IsAccepting (told.Refused cause) v = Unit {0}
 IsAccepting (told.Repeat place) v = Unit {0}
 
--- a row was added for a message of this number, which waits wherever it goes
-pub record AddsRow (number : ℕ) (control_id : List ℕ) (deliveries : List Delivery) (old new : List (Row (Addressed Letter))) : Type 0 where
+-- a row was added for a message of this number, which came so and waits wherever it goes
+pub record AddsRow (number channel : ℕ) (raw control_id : List ℕ) (deliveries : List Delivery) (old new : List (Row (Addressed Letter))) : Type 0 where
+  pub place : ℕ
   pub mask : ℕ
   pub stands : (d : ℕ) → d < 32 → (bit_at mask d == 1) ≡ names d deliveries
   pub added : new ≡ old ++ record {
     number = number;
     item = record {
-      content = record { control_id = control_id; deliveries = deliveries };
+      content = record { place = place; channel = channel; raw = raw; control_id = control_id; deliveries = deliveries };
       slots = slots_by (λ _. Waiting 0 0) (destinations_of deliveries);
     };
     mask = mask;
@@ -74,11 +75,11 @@ has_key (gain.Message number control_id deliveries) = true
 has_key gain.Key = true
 has_key gain.Nothing = false
 
--- the rows gained that of an arrival
-abbrev pub AddsGain : Gain → List (Row (Addressed Letter)) → List (Row (Addressed Letter)) → Type 0
-AddsGain (gain.Message number control_id deliveries) old new = AddsRow number control_id.now deliveries.now old new
-AddsGain gain.Key old new = new ≡ old
-AddsGain gain.Nothing old new = new ≡ old
+-- the rows gained that of an arrival on a channel with these bytes
+abbrev pub AddsGain : ℕ → List ℕ → Gain → List (Row (Addressed Letter)) → List (Row (Addressed Letter)) → Type 0
+AddsGain channel raw (gain.Message number control_id deliveries) old new = AddsRow number channel raw control_id.now deliveries.now old new
+AddsGain channel raw gain.Key old new = new ≡ old
+AddsGain channel raw gain.Nothing old new = new ≡ old
 
 -- the rows have room for the number that is added
 abbrev pub HasRoomFor : Gain → List (Row (Addressed Letter)) → Type 0

@@ -19,7 +19,7 @@ use dest_queue::{Addressed, Slots};
 use dup_index::Keys;
 use event_log::{Log, Told, own_owed, told_first};
 use hl7_head::Cause;
-use judge_core::{Deliveries, Delivery, Judged, TextPiece, Verdict};
+use judge_core::{Deliveries, Delivery, Judged, Text, TextPiece, Verdict};
 use row_store::RowStore;
 use std::alloc::{AllocError, Global};
 
@@ -119,13 +119,17 @@ fn first_slots(alloc: Global, deliveries: &[Delivery]) -> Result<Slots, AllocErr
 /// What is kept of a message that waits for its first attempt wherever it goes.
 fn first_item(
     alloc: Global,
+    place: usize,
+    channel: u32,
+    raw: &Text,
     control_id: &TextPiece,
     deliveries: &Deliveries,
 ) -> Result<Addressed<Letter>, AllocError>
-    ensures content { IfOk result (λ item. item.content ≡ record { control_id = control_id.now; deliveries = deliveries.now }) }
+    ensures content { IfOk result (λ item. item.content
+        ≡ record { place = place; channel = channel; raw = raw.now; control_id = control_id.now; deliveries = deliveries.now }) }
     ensures slots { IfOk result (λ item. item.slots ≡ slots_by (λ _. SlotState.Waiting 0 0) (destinations_of deliveries.now)) }
 {
-    let content = Letter::share(control_id, deliveries)?;
+    let content = Letter::share(place, channel, raw, control_id, deliveries)?;
     let slots = first_slots(alloc, deliveries.as_slice())?;
     Ok(Addressed { content, slots })
 }
@@ -135,15 +139,18 @@ fn add_row<S: RowStore<Addressed<Letter>>>(
     alloc: Global,
     rows: &mut S,
     number: u32,
+    place: usize,
+    channel: u32,
+    raw: &Text,
     control_id: &TextPiece,
     deliveries: &Deliveries,
 ) -> Result<(), AllocError>
     requires { All (λ row. row.number < number) (S.rows rows.old) }
-    ensures ok { OnOk result (AddsRow number control_id.now deliveries.now (S.rows rows.old) (S.rows rows.new)) }
+    ensures ok { OnOk result (AddsRow number channel raw.now control_id.now deliveries.now (S.rows rows.old) (S.rows rows.new)) }
     ensures err { OnErr result (S.rows rows.new ≡ S.rows rows.old) }
 {
     let mask = mask_of(deliveries.as_slice());
-    let item = first_item(alloc, control_id, deliveries)?;
+    let item = first_item(alloc, place, channel, raw, control_id, deliveries)?;
     match rows.push(number, item, mask) {
         Ok(()) => Ok(()),
         Err(_) => Err(AllocError),
@@ -160,7 +167,7 @@ fn key_to_add(alloc: Global, keys: &mut Keys, key: &[u8]) -> Result<Vec<u8>, All
     Ok(Vec::from_slice(alloc, key)?)
 }
 
-/// Adds the row and the key that an arrival adds, the key at the place of its entry.
+/// Adds the row and the key that an arrival on a channel with these bytes adds, both with the index of its entry.
 pub fn add_gain<S: RowStore<Addressed<Letter>>>(
     alloc: Global,
     rows: &mut S,
@@ -168,10 +175,12 @@ pub fn add_gain<S: RowStore<Addressed<Letter>>>(
     gain: Gain<'_>,
     key: &[u8],
     place: usize,
+    channel: u32,
+    raw: &Text,
 ) -> Result<(), AllocError>
     requires next { HasRoomFor gain (S.rows rows.old) }
     requires unknown { has_key gain ≡ true → place_of key.now keys.old.known ≡ None }
-    ensures row { OnOk result (AddsGain gain.entry (S.rows rows.old) (S.rows rows.new)) }
+    ensures row { OnOk result (AddsGain channel raw.now gain.entry (S.rows rows.old) (S.rows rows.new)) }
     ensures key { OnOk result (has_key gain.entry ≡ true → keys.new.known ≡ keys.old.known ++ record { key = key.now; place = place } ∷ []) }
     ensures no_key { OnOk result (has_key gain.entry ≡ false → keys.new.known ≡ keys.old.known) }
     ensures no_row { OnErr result (S.rows rows.new ≡ S.rows rows.old) }
@@ -184,7 +193,9 @@ pub fn add_gain<S: RowStore<Addressed<Letter>>>(
             deliveries,
         } => {
             let key = key_to_add(alloc, keys, key)?;
-            add_row(alloc, rows, number, control_id, deliveries)?;
+            add_row(
+                alloc, rows, number, place, channel, raw, control_id, deliveries,
+            )?;
             keys.add(key, place);
         }
         Gain::Key => {

@@ -1,17 +1,20 @@
 //! The book itself.
 
-ghost use Rattle.std.specs.Prelude.{◌≡◌, ◌≢◌, ◌≤◌, ◌<◌, ◌==◌, ◌⊎◌, ◌↔◌, Ok, Err, IsOk, IfOk, IfErr, OnOk, OnErr, IsErrOf, IsTrue, None, Some, true, false, length, option_copied};
+ghost use Rattle.std.specs.Prelude.{◌≡◌, ◌≢◌, ◌≤◌, ◌<◌, ◌+◌, ◌-◌, ◌==◌, ◌⊎◌, ◌↔◌, ℕ, Ok, Err, IsOk, IfOk, IfErr, OnOk, OnErr, IsErrOf, IsTrue, None, Some, true, false, if◌then◌else◌, nat_lt, length, filter, IfSome, option_copied};
+ghost use Rattle.std.specs.List.{filter_map, range_with_len};
+ghost use Rattle.std.specs.Option.{option_map};
 ghost use Rattle.std.specs.Arc.{arc_value};
 ghost use Rattle.judge_core.specs.Delivering.{destinations_of};
 ghost use Rattle.judge_core.specs.Judging.{is_bookable, verdict};
-ghost use Rattle.event_log.specs.History.{control_id, control_id_of, deliveries, entry_at, followed_by, message_count, names, next_place, opened_by, payload, plan_in_force, queue, slot};
+ghost use Rattle.event_log.specs.History.{control_id, control_id_of, deliveries, entry_at, followed_by, message_at, message_count, names, next_place, opened_by, payload, plan_in_force, queue, remaining, slot};
 ghost use Rattle.event_log.specs.Answers.{answer, cancel_answer, settle_answer, take_answer};
-ghost use Rattle.event_log.specs.Deployment.{deploy_answer, first_lost, is_lost};
-ghost use Rattle.event_log.specs.Folding.{prune_answer, pruned};
+ghost use Rattle.event_log.specs.Deployment.{deploy_answer, deployments, first_lost, is_lost};
+ghost use Rattle.event_log.specs.Folding.{is_live_message, prune_answer, pruned};
 ghost use Rattle.event_log.specs.Legal.{IsSound, MayFollow};
-ghost use Rattle.event_log.specs.Room.{exceeds, is_full, own_owed};
+ghost use Rattle.event_log.specs.Room.{exceeds, is_full, owed, own_owed};
 ghost use Rattle.event_log.specs.Counting.{counted};
 ghost use Rattle.book_core.specs.Headline.{KeepsItsPromise};
+ghost use Rattle.book_core.specs.Questions.{CameBy, came_as, first_live, front_at, has_control_id, is_tight, live_at, queued_as, settled_before};
 ghost use Rattle.book_core.specs.Sending.{IsGain, awaits_ack, goes_to, owed_waiting};
 
 use crate::arrival::{Gain, add_gain, gain_of, own_of, told};
@@ -19,6 +22,7 @@ use crate::dispatch::{awaits_ack, owed_waiting, payload};
 use crate::event_counts::{count_arrival, count_cancelled, count_settled};
 use crate::letter::{Job, Letter};
 use crate::pruning::{first_kept, forget_rows, prune_refusal, recall_since, unremembered};
+use crate::questions::{Front, first_queued, is_tight};
 use crate::receipt::{NotBooked, Receipt};
 use dest_queue::{
     Addressed, Outcome, SettleRefusal, SlotState, begin_attempt, cancel_waiting, front_state,
@@ -111,6 +115,197 @@ impl<S: RowStore<Addressed<Letter>>> Book<S> {
         ensures { result ≡ message_count self.now }
     {
         self.log.message_count()
+    }
+
+    /// How many entries the book holds: those that were folded are not among them.
+    pub fn held(&self) -> usize
+        ensures value { result ≡ length self.now.entries }
+        ensures within { result + owed self.now ≤ self.now.opening.events_max }
+    {
+        let _owed = self.log.owed();
+        self.log.len() - self.log.first_place()
+    }
+
+    /// How many entries may still come of the deliveries of its messages. The book keeps room for them.
+    pub fn owed(&self) -> u32
+        ensures { result ≡ owed self.now }
+    {
+        self.log.owed()
+    }
+
+    /// The most entries that the book may hold, those owed included.
+    pub fn events_max(&self) -> u32
+        ensures { result ≡ self.now.opening.events_max }
+    {
+        self.log.events_max()
+    }
+
+    /// How many prunings were made, of `PRUNINGS_MAX`.
+    pub fn prunings(&self) -> u32
+        ensures { result ≡ self.now.opening.prunings }
+    {
+        self.log.prunings()
+    }
+
+    /// How many plans were deployed, of `DEPLOYMENTS_MAX`.
+    pub fn deployments(&self) -> u32
+        ensures { result ≡ deployments self.now }
+    {
+        self.log.deployments()
+    }
+
+    /// Whether more than three quarters of the bound are held or owed, and an eighth at least is held, so that a pruning
+    /// makes room.
+    pub fn is_tight(&self) -> bool
+        ensures { result ≡ is_tight self.now }
+    {
+        is_tight(self.held(), self.owed(), self.events_max())
+    }
+
+    /// How many of the accepted messages are not forgotten.
+    pub fn remembered(&self) -> usize
+        ensures { result ≡ length (remaining self.now) }
+    {
+        self.rows.len()
+    }
+
+    /// The number of the first message that is not forgotten, or of the next one where all are: the messages from this
+    /// number on are remembered.
+    pub fn first_remembered(&self) -> u32
+        ensures within { result ≤ message_count self.now }
+        ensures rest { remaining self.now ≡ range_with_len result (message_count self.now - result) }
+    {
+        first_kept(&self.log, &self.rows)
+    }
+
+    /// The first message that is still to be delivered to a destination, if there is one. No row is searched.
+    pub fn first_live(&mut self) -> Option<u32>
+        ensures first { result ≡ first_live self.old }
+        ensures unchanged { self.new ≡ self.old }
+    {
+        first_queued(&mut self.rows)
+    }
+
+    /// The first destination to which message `number` is still to be delivered, if there is one.
+    pub fn live_at(&self, number: u32) -> Option<u32>
+        ensures { result ≡ live_at self.now number }
+    {
+        for d in 0..QUEUES {
+            if self.queued(d, number).is_some() {
+                return Some(d);
+            }
+        }
+        None
+    }
+
+    /// The message at the front of queue `d` with its state there, if there is one.
+    pub fn front(&mut self, d: u32) -> Option<Front>
+        ensures front { result ≡ front_at self.old d }
+        ensures unchanged { self.new ≡ self.old }
+    {
+        let front = front_state(&mut self.rows, d);
+        if d >= QUEUES {
+            return None;
+        }
+        let (number, state) = front?;
+        Some(Front { number, state })
+    }
+
+    /// Message `number` with its state at destination `d`, if it waits or is in flight there.
+    pub fn queued(&self, d: u32, number: u32) -> Option<Front>
+        ensures { result ≡ queued_as self.now d number }
+    {
+        match self.status(number, d) {
+            Some(state) if state.is_live() => Some(Front { number, state }),
+            _ => None,
+        }
+    }
+
+    /// The messages numbered from `from` up to, and not with, `to` that are still to be delivered to destination `d`, in
+    /// their order. It looks at as many messages as there are numbers.
+    ///
+    /// # Errors
+    ///
+    /// Where memory for the answer is refused.
+    pub fn queued_among(&self, d: u32, from: u32, to: u32) -> Result<Vec<Front>, AllocError>
+        ensures { IfOk result (λ found. found.items ≡ filter_map (queued_as self.now d) (range_with_len from (to - from))) }
+    {
+        let mut found = Vec::new(self.alloc);
+        for number in from..to {
+            if let Some(front) = self.queued(d, number) {
+                found.push(front)?;
+            }
+        }
+        Ok(found)
+    }
+
+    /// What is kept of message `number`, if it is remembered.
+    pub fn message(&self, number: u32) -> Option<&Letter>
+        ensures came { option_map came_as (option_copied result) ≡ message_at self.now number }
+        ensures control_id { IfSome result (λ letter. letter.now.control_id ≡ control_id self.now number) }
+    {
+        let message = self.rows.get(number)?;
+        Some(&message.content)
+    }
+
+    /// The connection by which message `number` came, if the book still holds the entry of its arrival.
+    pub fn connection(&self, number: u32) -> Option<u32>
+        ensures { IfSome result (λ conn. CameBy self.now number conn) }
+    {
+        let place = self.message(number)?.place;
+        match self.log.entry(place) {
+            Some(
+                Entry::Arrival {
+                    conn,
+                    told: Told::Accepted(accepted),
+                    ..
+                },
+            ) if *accepted == number => Some(*conn),
+            _ => None,
+        }
+    }
+
+    /// Whether message `number` is remembered and its control id (MSH-10, raw) is `id`.
+    pub fn has_control_id(&self, id: &[u8], number: u32) -> bool
+        ensures { result ≡ has_control_id self.now id.now number }
+    {
+        match self.message(number) {
+            Some(letter) => letter.control_id.as_slice() == id,
+            None => false,
+        }
+    }
+
+    /// The numbers from `from` up to, and not with, `to` of the remembered messages whose control id (MSH-10, raw) is `id`,
+    /// in their order. It looks at as many messages as there are numbers.
+    ///
+    /// # Errors
+    ///
+    /// Where memory for the answer is refused.
+    pub fn found_among(&self, id: &[u8], from: u32, to: u32) -> Result<Vec<u32>, AllocError>
+        ensures { IfOk result (λ found. found.items ≡ filter (has_control_id self.now id.now) (range_with_len from (to - from))) }
+    {
+        let mut found = Vec::new(self.alloc);
+        for number in from..to {
+            if self.has_control_id(id, number) {
+                found.push(number)?;
+            }
+        }
+        Ok(found)
+    }
+
+    /// The number before which `prune` forgets all that is settled but for the last `keep` messages: that of the first
+    /// message still to be delivered, or of the next one where none is, and at most as many as were accepted less `keep`.
+    pub fn settled_before(&mut self, keep: u32) -> u32
+        ensures before { result ≡ settled_before keep self.old }
+        ensures kept { result ≤ message_count self.old - keep }
+        ensures settled { (n : ℕ) → n < result → is_live_message self.old n ≡ false }
+        ensures answer { prune_answer self.old result ≡ (if nat_lt self.old.opening.prunings 1000 then None else Some PruneRefusal.TooMany) }
+        ensures unchanged { self.new ≡ self.old }
+    {
+        let count = self.log.message_count();
+        let newest = count.saturating_sub(keep);
+        let settled = first_queued(&mut self.rows).unwrap_or(count);
+        if newest < settled { newest } else { settled }
     }
 
     /// Whether the book holds no entry.
@@ -261,6 +456,8 @@ impl<S: RowStore<Addressed<Letter>>> Book<S> {
             gain,
             judged.key(),
             place,
+            channel,
+            &raw,
         )?;
         // All growths are made: nothing below is refused.
         count_arrival(&mut self.counts, channel, told, gain.deliveries());

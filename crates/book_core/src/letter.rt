@@ -7,22 +7,36 @@ use event_log::Ticket;
 use judge_core::{Deliveries, Text, TextPiece};
 use std::alloc::AllocError;
 
-/// What is sent of an accepted message: its control id, and the text for each destination.
+/// What a book keeps of an accepted message: what came, its control id, and the text for each destination.
 #[derive(Drop)]
 pub struct Letter {
+    /// The index of its arrival in the history.
+    pub place: usize,
+    /// The channel on which it came, by its index in the plan.
+    pub channel: u32,
+    /// The bytes that came.
+    pub raw: Text,
+    /// Its control id (MSH-10, raw; HL7 v2.5.1, 2.15.9.10).
     pub control_id: TextPiece,
+    /// Where it goes, and the text for each destination.
     pub deliveries: Deliveries,
 }
 
 impl Letter {
     /// A letter that shares what is sent with its arrival.
     pub(crate) fn share(
+        place: usize,
+        channel: u32,
+        raw: &Text,
         control_id: &TextPiece,
         deliveries: &Deliveries,
     ) -> Result<Letter, AllocError>
-        ensures { IfOk result (λ letter. letter ≡ record { control_id = control_id.now; deliveries = deliveries.now }) }
+        ensures { IfOk result (λ letter. letter ≡ record { place = place; channel = channel; raw = raw.now; control_id = control_id.now; deliveries = deliveries.now }) }
     {
         Ok(Letter {
+            place,
+            channel,
+            raw: raw.share()?,
             control_id: control_id.share()?,
             deliveries: deliveries.share()?,
         })

@@ -8,13 +8,15 @@ mod event_counts;
 mod laws;
 mod letter;
 mod pruning;
+mod questions;
 mod receipt;
 
 pub use book::Book;
 pub use event_log::{
-    CancelRefusal, DEPLOYMENTS_MAX, DeployRefusal, DeployedPlan, EVENTS_MAX, Entry, PruneRefusal,
-    TakeRefusal, Ticket, Told,
+    CancelRefusal, DEPLOYMENTS_MAX, DeployRefusal, DeployedPlan, EVENTS_MAX, Entry, PRUNINGS_MAX,
+    PruneRefusal, TakeRefusal, Ticket, Told,
 };
 pub use laws::three_sums;
 pub use letter::{Job, Letter};
+pub use questions::{Front, is_tight};
 pub use receipt::{NotBooked, Receipt};

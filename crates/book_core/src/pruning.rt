@@ -12,15 +12,16 @@ ghost use Rattle.book_core.specs.Parts.{RowsAgree};
 ghost use Rattle.book_core.specs.Pruning.{LeavesOut, left_out, lesser, since};
 
 use crate::letter::Letter;
+use crate::questions::first_queued;
 use dest_queue::{Addressed, SlotState, Slots};
 use event_log::{Entry, Log, PRUNINGS_MAX, PruneRefusal, Remembered, Told};
 use judge_core::Text;
-use row_store::{QUEUES, RowStore};
+use row_store::RowStore;
 use stat_count::{Counts, DESTINATIONS};
 use std::alloc::{AllocError, Global};
 
 /// The lesser of two numbers, or the one that there is.
-fn lesser(a: Option<u32>, b: Option<u32>) -> Option<u32>
+pub fn lesser(a: Option<u32>, b: Option<u32>) -> Option<u32>
     ensures { result ≡ lesser a b }
 {
     match (a, b) {
@@ -30,8 +31,7 @@ fn lesser(a: Option<u32>, b: Option<u32>) -> Option<u32>
     }
 }
 
-/// Why the messages below `before` aren't forgotten, before memory is asked for. The first live message is the least at the front
-/// of a queue, so no row is searched.
+/// Why the messages below `before` aren't forgotten, before memory is asked for.
 pub fn prune_refusal<S: RowStore<Addressed<Letter>>>(
     log: &Log,
     rows: &mut S,
@@ -44,11 +44,7 @@ pub fn prune_refusal<S: RowStore<Addressed<Letter>>>(
     if before > log.message_count() {
         return Some(PruneRefusal::NoSuchMessage);
     }
-    let mut first = None;
-    for d in 0..QUEUES {
-        first = lesser(first, rows.front(d));
-    }
-    match first {
+    match first_queued(rows) {
         Some(number) if number < before => Some(PruneRefusal::StillLive(number)),
         _ if log.prunings() < PRUNINGS_MAX => None,
         _ => Some(PruneRefusal::TooMany),

@@ -102,7 +102,7 @@ none_yet now opening made a p q r = omega (arith, p, q, r)
 -- the book behind the lock at first
 pub opened_now : (book : History) (opening : Statistics) (at : ℕ) (counts : Statistics) (first channels m t s : ℕ) → opening ≡ counted book → at ≡ next_place book
     → counted book ≡ counts → next_place book ≡ first → length (plan_in_force book).channels ≡ channels → (m ≡ 0) × (t ≡ 0) × (s ≡ 0)
-    → IsOpened (record { book = book; opening = opening; first = at }) counts first channels × IsCounted (record { book = book; opening = opening; first = at }) m t s
+    → IsOpened (record { book = book; opening = opening; first = at; admitted = 0 }) counts first channels × IsCounted (record { book = book; opening = opening; first = at; admitted = 0 }) m t s
 opened_now book opening at counts first channels m t s is here known firsts are none = (
   record {
     opening = is ∙ known;
@@ -163,6 +163,44 @@ folded h bound new counts first channels m t s is sound may opened known =
       subst (λ (b : History). IsOpened (with_book h b) counts first channels) (sym is) there,
       subst (λ (b : History). IsCounted (with_book h b) m t s) (sym is) now,
     )
+
+-- the book behind the lock after a question, which leaves it as it was
+pub unchanged : (h : Held) (new : History) (counts : Statistics) (first channels m t s : ℕ) → new ≡ h.book
+    → IsOpened h counts first channels → IsCounted h m t s → IsOpened (with_book h new) counts first channels × IsCounted (with_book h new) m t s
+unchanged h new counts first channels m t s same opened known = (
+  subst (λ (b : History). IsOpened (with_book h b) counts first channels) (sym same) record {
+    opening = opened.opening;
+    all_channels = opened.all_channels;
+    all_destinations = opened.all_destinations;
+    first_is = opened.first_is;
+    channels_are = opened.channels_are;
+  },
+  subst (λ (b : History). IsCounted (with_book h b) m t s) (sym same) record {
+    arrivals_are = known.arrivals_are;
+    takes_are = known.takes_are;
+    settlements_are = known.settlements_are;
+    since = known.since;
+  },
+)
+
+-- and after a connection was admitted
+pub admitting : (h : Held) (n : ℕ) (counts : Statistics) (first channels m t s : ℕ) → IsOpened h counts first channels → IsCounted h m t s
+    → IsOpened (record h { admitted = n }) counts first channels × IsCounted (record h { admitted = n }) m t s
+admitting h n counts first channels m t s opened known = (
+  record {
+    opening = opened.opening;
+    all_channels = opened.all_channels;
+    all_destinations = opened.all_destinations;
+    first_is = opened.first_is;
+    channels_are = opened.channels_are;
+  },
+  record {
+    arrivals_are = known.arrivals_are;
+    takes_are = known.takes_are;
+    settlements_are = known.settlements_are;
+    since = known.since;
+  },
+)
 
 -- a desk made no more than is shown
 pub shown : (opening opened now result made total : ℕ) → opening ≡ opened → now ≡ result → now ≡ opening + total → made ≤ total → opened + made ≤ result

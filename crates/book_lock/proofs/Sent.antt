@@ -92,18 +92,21 @@ module _ (A T U S : RattleType) (o : Opening.Ghosts A.Denot) (a : Ledger.Ghosts 
           (
             search (sendable, crosses) depth 20,
             (
-              ledger_book.the_send A a,
+              search (sendable, crosses) depth 20,
               (
-                ledger_book.the_send T t,
+                ledger_book.the_send A a,
                 (
-                  ledger_book.the_send U u,
+                  ledger_book.the_send T t,
                   (
-                    share.the_send A a,
+                    ledger_book.the_send U u,
                     (
-                      share.the_send T t,
+                      share.the_send A a,
                       (
-                        share.the_send U u,
-                        (search (sendable, crosses) depth 20, tt),
+                        share.the_send T t,
+                        (
+                          share.the_send U u,
+                          (search (sendable, crosses) depth 20, tt),
+                        ),
                       ),
                     ),
                   ),

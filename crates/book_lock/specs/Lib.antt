@@ -4,3 +4,5 @@ pub mod Coding
 pub mod Closing
 pub mod Auditing
 pub mod Windows
+pub mod Showing
+pub mod Tidies

@@ -18,11 +18,12 @@ taken h = takes (counted h)
 unfoldable pub settled : History → ℕ
 settled h = settlements (counted h)
 
--- a shared book: the book, and the statistics and the next place that it had when it was shared
+-- a shared book: the book, the statistics and the next place that it had when it was shared, and how many connections were admitted since
 pub record Held : Type 0 where
   pub book : History
   pub opening : Statistics
   pub first : ℕ
+  pub admitted : ℕ
 
 -- the arrivals, the takes and the settlements since the book was shared
 abbrev pub arrivals_rise : Held → ℕ

@@ -3,12 +3,18 @@
 
 mod desks;
 mod locked;
+mod message;
 mod receipt_audit;
 mod shared;
+mod status;
 mod sums;
+mod tidying;
 mod windows;
 
 pub use desks::{Desk, Station};
 pub use locked::{Closed, Locked, Opening, add_up};
+pub use message::{Found, Message};
 pub use receipt_audit::{AuditFault, audit, rising};
 pub use shared::{NotClosed, Opened, Shared};
+pub use status::{Gauge, Status};
+pub use tidying::{Tidied, Tidying};

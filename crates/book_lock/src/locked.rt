@@ -1,32 +1,37 @@
 //! The value behind the lock.
 
-ghost use Rattle.std.specs.Prelude.{◌≡◌, ◌≢◌, ◌+◌, ◌<◌, ◌≤◌, ◌⊎◌, ◌↔◌, Ok, Err, IsOk, IfOk, IfErr, OnOk, OnErr, IsErrOf, IsTrue, None, Some, length};
+ghost use Rattle.std.specs.Prelude.{◌≡◌, ◌≢◌, ◌+◌, ◌-◌, ◌<◌, ◌≤◌, ◌⊎◌, ◌↔◌, ℕ, Ok, Err, IsOk, IfOk, IfErr, IfSome, OnOk, OnErr, OnSome, IsErrOf, IsNone, IsTrue, None, Some, false, if◌then◌else◌, nat_lt, length, slice_get};
 ghost use Rattle.std.specs.Arc.{arc_value};
 ghost use Rattle.judge_core.specs.Judging.{is_bookable};
 ghost use Rattle.stat_count.specs.Sums.{arrivals};
-ghost use Rattle.event_log.specs.History.{control_id, followed_by, next_place, payload, plan_in_force};
+ghost use Rattle.event_log.specs.History.{control_id, followed_by, message_count, next_place, payload, plan_in_force};
 ghost use Rattle.event_log.specs.Answers.{answer, cancel_answer, settle_answer, take_answer};
 ghost use Rattle.event_log.specs.Deployment.{deploy_answer};
-ghost use Rattle.event_log.specs.Folding.{prune_answer, pruned};
+ghost use Rattle.event_log.specs.Folding.{is_live_message, prune_answer, pruned};
 ghost use Rattle.event_log.specs.Legal.{MayFollow};
 ghost use Rattle.event_log.specs.Room.{exceeds, is_full};
 ghost use Rattle.event_log.specs.Counting.{counted};
 ghost use Rattle.book_core.specs.Headline.{KeepsItsPromise};
+ghost use Rattle.book_core.specs.Questions.{first_live, front_at, settled_before};
 ghost use Rattle.book_core.specs.Sending.{awaits_ack};
 ghost use Rattle.book_lock.specs.Rises.{AddsUp, arrivals_rise, settlements_rise, takes_rise, with_book};
 ghost use Rattle.book_lock.specs.Shares.{with_settlement, with_take};
+ghost use Rattle.book_lock.specs.Showing.{IsGauge, IsStatus};
+ghost use Rattle.book_lock.specs.Tidies.{IsSettledRefusal, IsTidying, left_by};
 
 use crate::desks::{Desk, Station, audit_desks, audit_stations, made_by, settled_at, taken_at};
+use crate::status::{Gauge, Status};
 use crate::sums::{arrivals, settlements, takes};
+use crate::tidying::{Tidied, Tidying};
 use book_core::{
-    Book, CancelRefusal, DeployRefusal, Entry, Job, Letter, NotBooked, PruneRefusal, Receipt,
-    TakeRefusal, Ticket, three_sums,
+    Book, CancelRefusal, DeployRefusal, Entry, Front, Job, Letter, NotBooked, PruneRefusal,
+    Receipt, TakeRefusal, Ticket, three_sums,
 };
 use dest_queue::{Addressed, Outcome, SettleRefusal, SlotState};
 use hl7_head::Moment;
 use judge_core::Judged;
 use plan_text::Plan;
-use row_store::RowStore;
+use row_store::{QUEUES, RowStore};
 use stat_count::Counts;
 use std::marker::{Brand, Model};
 use std::sync::ledger::{Ledger, Share};
@@ -63,6 +68,7 @@ pub struct Locked<A: Opening, T: Ledger, U: Ledger, S: RowStore<Addressed<Letter
     book: Book<S>,
     opening: Counts,
     first: usize,
+    admitted: u32,
     arrivals: ledger::Book<A>,
     takes: ledger::Book<T>,
     settlements: ledger::Book<U>,
@@ -81,11 +87,11 @@ impl<A: Opening, T: Ledger, U: Ledger, S: RowStore<Addressed<Letter>>> Model
 
     ghost coded = { held_code };
 
-    ghost view = { λ l. record { book = l.book; opening = l.opening; first = l.first } };
+    ghost view = { λ l. record { book = l.book; opening = l.opening; first = l.first; admitted = l.admitted } };
 
     ghost invariant = { λ l.
-        IsOpened (record { book = l.book; opening = l.opening; first = l.first }) A.counts A.first A.channels
-        × IsCounted (record { book = l.book; opening = l.opening; first = l.first }) l.arrivals.total l.takes.total l.settlements.total
+        IsOpened (record { book = l.book; opening = l.opening; first = l.first; admitted = l.admitted }) A.counts A.first A.channels
+        × IsCounted (record { book = l.book; opening = l.opening; first = l.first; admitted = l.admitted }) l.arrivals.total l.takes.total l.settlements.total
         × IsLeft l.left_arrivals.parts l.left_arrivals.amount
         × IsLeft l.left_takes.parts l.left_takes.amount
         × IsLeft l.left_settlements.parts l.left_settlements.amount };
@@ -97,6 +103,7 @@ pub struct Closed<S: RowStore<Addressed<Letter>>> {
     book: Book<S>,
     opening: Counts,
     first: usize,
+    admitted: u32,
 }
 
 impl<S: RowStore<Addressed<Letter>>> Model for Closed<S> {
@@ -109,7 +116,7 @@ impl<S: RowStore<Addressed<Letter>>> Model for Closed<S> {
 
     ghost coded = { held_code };
 
-    ghost view = { λ c. record { book = c.book; opening = c.opening; first = c.first } };
+    ghost view = { λ c. record { book = c.book; opening = c.opening; first = c.first; admitted = c.admitted } };
 
     ghost invariant = { λ c. c.first ≤ next_place c.book };
 }
@@ -135,6 +142,13 @@ impl<S: RowStore<Addressed<Letter>>> Closed<S> {
         ensures within { result ≤ next_place self.now.book }
     {
         self.first
+    }
+
+    /// How many connections were admitted since the book was shared.
+    pub fn admitted(&self) -> u32
+        ensures { result ≡ self.now.admitted }
+    {
+        self.admitted
     }
 
     /// The rows and the statistics of the book, which keeps its promise.
@@ -163,7 +177,7 @@ impl<A: Opening, T: Ledger, U: Ledger, S: RowStore<Addressed<Letter>>> Locked<A,
         requires left_arrivals { (left_arrivals.parts ≡ 1) × (left_arrivals.amount ≡ 0) }
         requires left_takes { (left_takes.parts ≡ 1) × (left_takes.amount ≡ 0) }
         requires left_settlements { (left_settlements.parts ≡ 1) × (left_settlements.amount ≡ 0) }
-        ensures { result ≡ record { book = book; opening = counted book; first = next_place book } }
+        ensures { result ≡ record { book = book; opening = counted book; first = next_place book; admitted = 0 } }
     {
         let opening = *book.counts();
         let first = book.len();
@@ -171,6 +185,7 @@ impl<A: Opening, T: Ledger, U: Ledger, S: RowStore<Addressed<Letter>>> Locked<A,
             book,
             opening,
             first,
+            admitted: 0,
             arrivals,
             takes,
             settlements,
@@ -359,6 +374,169 @@ impl<A: Opening, T: Ledger, U: Ledger, S: RowStore<Addressed<Letter>>> Locked<A,
         Ok(())
     }
 
+    /// The number before which `prune` forgets all that is settled but for the last `keep` messages.
+    fn settled_before(&mut self, keep: u32) -> u32
+        ensures before { result ≡ settled_before keep self.old.book }
+        ensures kept { result ≤ message_count self.old.book - keep }
+        ensures settled { (n : ℕ) → n < result → is_live_message self.old.book n ≡ false }
+        ensures answer { prune_answer self.old.book result ≡ (if nat_lt self.old.book.opening.prunings 1000 then None else Some PruneRefusal.TooMany) }
+        ensures same { self.new ≡ self.old }
+    {
+        self.book.settled_before(keep)
+    }
+
+    /// Forgets the messages that are settled at each of their destinations, but for the last `keep` messages and for all
+    /// from the first on that is still to be delivered, and folds all entries. It gives the number before which all is
+    /// forgotten.
+    ///
+    /// # Errors
+    ///
+    /// `TooMany` where `PRUNINGS_MAX` prunings were made, and then `NoMemory` where a growth was refused. A refusal leaves
+    /// the book as it was.
+    pub fn prune_settled(&mut self, keep: u32) -> Result<u32, PruneRefusal>
+        ensures before { IfOk result (λ before. before ≡ settled_before keep self.old.book) }
+        ensures folded { IfOk result (λ before. self.new ≡ with_book self.old (pruned before self.old.book)) }
+        ensures kept { IfOk result (λ before. before ≤ message_count self.old.book - keep) }
+        ensures settled { IfOk result (λ before. (n : ℕ) → n < before → is_live_message self.old.book n ≡ false) }
+        ensures left { OnOk result (self.old.book.opening.prunings < 1000) }
+        ensures refused { IfErr result (IsSettledRefusal self.old) }
+        ensures err { OnErr result (self.new ≡ self.old) }
+    {
+        let before = self.settled_before(keep);
+        self.prune(before)?;
+        Ok(before)
+    }
+
+    /// Prunes a tight book as `prune_settled` does, and once more with `keep` 0 where memory was refused for that.
+    fn tidy(&mut self, keep: u32) -> Tidying
+        ensures tidying { IsTidying keep self.old result }
+        ensures left { self.new ≡ left_by self.old result }
+    {
+        if !self.book.is_tight() {
+            return Tidying::NotTight;
+        }
+        match self.prune_settled(keep) {
+            Ok(before) => Tidying::Pruned { before },
+            Err(PruneRefusal::NoMemory) => Tidying::of(self.prune_settled(0)),
+            Err(refusal) => Tidying::Refused(refusal),
+        }
+    }
+
+    /// Books an arrival as `arrive` does, and counts it for the desk. A book that is tight is pruned before that as
+    /// `prune_settled` does, and once more with `keep` 0 where memory was refused for it; what was done stands beside the
+    /// answer, which is that of `arrive` on the book that this left.
+    ///
+    /// # Errors
+    ///
+    /// The book's, in its order. A refusal leaves the desk as it was, and the book as the pruning left it.
+    pub fn arrive_tidy(
+        &mut self,
+        desk: &mut Desk<A>,
+        conn: u32,
+        judged: &Judged,
+        keep: u32,
+    ) -> Tidied
+        requires { IsTrue (is_bookable judged.now.raw) }
+        ensures tidying { IsTidying keep self.old result.tidying }
+        ensures entry { IfOk result.receipt (λ receipt. receipt.entry ≡ next_place (left_by self.old result.tidying).book) }
+        ensures conn { IfOk result.receipt (λ receipt. receipt.conn ≡ conn) }
+        ensures channel { IfOk result.receipt (λ receipt. receipt.channel ≡ judged.now.channel) }
+        ensures raw { IfOk result.receipt (λ receipt. receipt.raw ≡ judged.now.raw) }
+        ensures told { IfOk result.receipt (λ receipt.
+            answer (left_by self.old result.tidying).book judged.now.channel judged.now.raw ≡ Some receipt.told) }
+        ensures booked { IfOk result.receipt (λ receipt.
+            self.new ≡ with_book (left_by self.old result.tidying)
+            (followed_by (left_by self.old result.tidying).book (Entry.Arrival conn judged.now.channel judged.now.raw receipt.told))) }
+        ensures counted { OnOk result.receipt (desk.new ≡ desk.old + 1) }
+        ensures plan { IsErrOf result.receipt NotBooked.PlanChanged ↔ judged.now.plan ≢ plan_in_force (left_by self.old result.tidying).book }
+        ensures full { IsErrOf result.receipt NotBooked.Full ↔
+            (judged.now.plan ≡ plan_in_force (left_by self.old result.tidying).book)
+            × IsTrue (is_full (left_by self.old result.tidying).book judged.now.channel judged.now.raw) }
+        ensures err { OnErr result.receipt ((self.new ≡ left_by self.old result.tidying) × (desk.new ≡ desk.old)) }
+    {
+        let tidying = self.tidy(keep);
+        let receipt = self.arrive(desk, conn, judged);
+        Tidied { receipt, tidying }
+    }
+
+    /// The number of the next connection, counted from 0. The numbers rise, so none comes twice.
+    ///
+    /// # Errors
+    ///
+    /// None after the number before the last of 32 bits, and nothing changes then.
+    pub fn admit(&mut self) -> Option<u32>
+        ensures number { IfSome result (λ number. number ≡ self.old.admitted) }
+        ensures next { OnSome result (self.new ≡ record self.old { admitted = self.old.admitted + 1 }) }
+        ensures last { IsNone result ↔ (self.old.admitted ≡ u32.MAX) }
+        ensures none { IsNone result → self.new ≡ self.old }
+    {
+        let number = self.admitted;
+        self.admitted = number.checked_add(1)?;
+        Some(number)
+    }
+
+    /// How full the book is.
+    pub fn gauge(&self) -> Gauge
+        ensures { IsGauge self.now result }
+    {
+        Gauge {
+            held: self.book.held(),
+            owed: self.book.owed(),
+            events_max: self.book.events_max(),
+            messages: self.book.message_count(),
+            first: self.book.first_remembered(),
+            prunings: self.book.prunings(),
+            deployments: self.book.deployments(),
+            admitted: self.admitted,
+        }
+    }
+
+    /// The front of each queue with its state there.
+    #[tactic(auto, using(crate::proofs::Filling::filled_more, crate::proofs::Filling::none_filled))]
+    fn fronts(&mut self) -> [Option<Front>; QUEUES as usize]
+        ensures fronts { (d : ℕ) → d < 32 → slice_get result d ≡ Some (front_at self.old.book d) }
+        ensures same { self.new ≡ self.old }
+    {
+        let mut fronts = [None; QUEUES as usize];
+        for d in 0..QUEUES {
+            fronts[d as usize] = self.front(d);
+        }
+        fronts
+    }
+
+    /// How full the book is, its statistics, the front of each queue and the first message that is still to be delivered.
+    pub fn status(&mut self) -> Status
+        ensures status { IsStatus self.old result }
+        ensures same { self.new ≡ self.old }
+    {
+        let gauge = self.gauge();
+        let counts = *self.book.counts();
+        let fronts = self.fronts();
+        let first_live = self.first_live();
+        Status {
+            gauge,
+            counts,
+            fronts,
+            first_live,
+        }
+    }
+
+    /// The message at the front of queue `d` with its state there, if there is one.
+    pub fn front(&mut self, d: u32) -> Option<Front>
+        ensures front { result ≡ front_at self.old.book d }
+        ensures same { self.new ≡ self.old }
+    {
+        self.book.front(d)
+    }
+
+    /// The first message that is still to be delivered to a destination, if there is one.
+    pub fn first_live(&mut self) -> Option<u32>
+        ensures first { result ≡ first_live self.old.book }
+        ensures same { self.new ≡ self.old }
+    {
+        self.book.first_live()
+    }
+
     /// Notes a change at the destinations of a mask, and answers those at which none was noted.
     pub fn ring(&mut self, mask: u32) -> u32
         ensures { self.new ≡ self.old }
@@ -426,12 +604,14 @@ impl<A: Opening, T: Ledger, U: Ledger, S: RowStore<Addressed<Letter>>> Locked<A,
             book,
             opening,
             first,
+            admitted,
             ..
         } = self;
         Closed {
             book,
             opening,
             first,
+            admitted,
         }
     }
 }

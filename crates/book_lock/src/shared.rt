@@ -1,10 +1,10 @@
 //! The book that threads share, and its end.
 
-ghost use Rattle.std.specs.Prelude.{◌≡◌, ◌+◌, ◌<◌, ◌≤◌, ◌↔◌, All, length, vec_len, IfOk, IfErr, IsOk, OnOk, OnErr, IsTrue};
+ghost use Rattle.std.specs.Prelude.{◌≡◌, ◌+◌, ◌<◌, ◌≤◌, ◌↔◌, ◌⊎◌, ℕ, Some, All, length, vec_len, slice_get, IfOk, IfErr, IfSome, IsOk, OnOk, OnErr, IsTrue};
 ghost use Rattle.std.specs.Arc.{arc_value};
 ghost use Rattle.judge_core.specs.Judging.{is_bookable};
 ghost use Rattle.stat_count.specs.Sums.{arrivals};
-ghost use Rattle.event_log.specs.History.{next_place, plan_in_force};
+ghost use Rattle.event_log.specs.History.{next_place, plan_in_force, slot};
 ghost use Rattle.event_log.specs.Counting.{counted};
 ghost use Rattle.book_lock.specs.Closing.{HandsBack};
 ghost use Rattle.book_lock.specs.Rises.{AddsUp};
@@ -12,9 +12,12 @@ ghost use Rattle.book_lock.specs.Shares.{no_calls, with_settlement, with_take};
 
 use crate::desks::{Desk, Station, open_desks, open_stations};
 use crate::locked::{Closed, Locked, Opening};
+use crate::message::{Found, Message};
+use crate::status::{Gauge, Status};
+use crate::tidying::Tidied;
 use book_core::{
-    Book, CancelRefusal, DeployRefusal, Job, Letter, NotBooked, PruneRefusal, Receipt, TakeRefusal,
-    Ticket, Told,
+    Book, CancelRefusal, DeployRefusal, Front, Job, Letter, NotBooked, PruneRefusal, Receipt,
+    TakeRefusal, Ticket, Told,
 };
 use dest_queue::{Addressed, Outcome, SettleRefusal, SlotState};
 use hl7_head::Moment;
@@ -59,6 +62,43 @@ fn waits_at(told: Told, verdict: &Verdict) -> u32 {
         (Told::Accepted(_), Verdict::Accept(deliveries)) => mask_of(deliveries.as_slice()),
         _ => 0,
     }
+}
+
+/// The destinations at which an arrival begins to wait, as a mask; none where it is not booked.
+fn waits_where(tidied: &Tidied, verdict: &Verdict) -> u32 {
+    match &tidied.receipt {
+        Ok(receipt) => waits_at(receipt.told, verdict),
+        Err(_) => 0,
+    }
+}
+
+/// What is said of a message that a book of so many messages doesn't remember.
+fn not_kept(number: u32, count: u32) -> Found {
+    if number < count {
+        Found::Forgotten
+    } else {
+        Found::ToCome
+    }
+}
+
+/// The end of the `most` numbers from `from` on, or of the numbers of all messages where that is less.
+fn end_of<S: RowStore<Addressed<Letter>>>(book: &Book<S>, from: u32, most: u32) -> u32 {
+    book.message_count().min(from.saturating_add(most))
+}
+
+/// The states of a message, by destination.
+#[tactic(auto, using(crate::proofs::Filling::filled_more, crate::proofs::Filling::none_filled))]
+fn states_of<S: RowStore<Addressed<Letter>>>(
+    book: &Book<S>,
+    number: u32,
+) -> [Option<SlotState>; QUEUES as usize]
+    ensures { (d : ℕ) → d < 32 → slice_get result d ≡ Some (slot book.now number d) }
+{
+    let mut states = [None; QUEUES as usize];
+    for d in 0..QUEUES {
+        states[d as usize] = book.status(number, d);
+    }
+    states
 }
 
 /// The destinations of deliveries as a mask.
@@ -128,16 +168,12 @@ impl<A: Opening, T: Ledger, U: Ledger, S: RowStore<Addressed<Letter>>> Shared<A,
             left_takes,
             left_settlements,
         );
-        Ok((Shared::of(locked, bells), desks, stations))
-    }
-
-    /// The locked value under its lock.
-    fn of(locked: Locked<A, T, U, S>, bells: Vec<Condvar>) -> Shared<A, T, U, S> {
-        Shared {
+        let shared = Shared {
             locked: Mutex::new(locked),
             bells,
             finished: AtomicBool::new(false),
-        }
+        };
+        Ok((shared, desks, stations))
     }
 
     /// The plan in force.
@@ -256,6 +292,148 @@ impl<A: Opening, T: Ledger, U: Ledger, S: RowStore<Addressed<Letter>>> Shared<A,
         self.locked.lock(rt).prune(before)
     }
 
+    /// Forgets the messages that are settled at each of their destinations, but for the last `keep` messages and for all
+    /// from the first on that is still to be delivered, and folds all entries. It gives the number before which all is
+    /// forgotten. It takes time for what is forgotten and for what is remembered, and holds the lock as long.
+    ///
+    /// # Errors
+    ///
+    /// `TooMany` where `PRUNINGS_MAX` prunings were made, and then `NoMemory`. A refusal leaves the book as it was.
+    pub fn prune_settled<H: Wait>(&self, rt: &H, keep: u32) -> Result<u32, PruneRefusal>
+        ensures refused { IfErr result (λ e. (e ≡ PruneRefusal.TooMany) ⊎ (e ≡ PruneRefusal.NoMemory)) }
+    {
+        self.locked.lock(rt).prune_settled(keep)
+    }
+
+    /// Books an arrival as `arrive` does, and counts it for the desk. A book that is tight is pruned before that, under the
+    /// same lock, as `prune_settled` does, and once more with `keep` 0 where memory was refused for it. The workers of its
+    /// destinations are woken.
+    ///
+    /// # Errors
+    ///
+    /// The receipt's are the book's. A refusal leaves the desk as it was.
+    pub fn arrive_tidy<H: Wait>(
+        &self,
+        rt: &H,
+        desk: &mut Desk<A>,
+        conn: u32,
+        judged: &Judged,
+        keep: u32,
+    ) -> Tidied
+        requires { IsTrue (is_bookable judged.now.raw) }
+        ensures conn { IfOk result.receipt (λ receipt. receipt.conn ≡ conn) }
+        ensures channel { IfOk result.receipt (λ receipt. receipt.channel ≡ judged.now.channel) }
+        ensures raw { IfOk result.receipt (λ receipt. receipt.raw ≡ judged.now.raw) }
+        ensures counted { OnOk result.receipt (desk.new ≡ desk.old + 1) }
+        ensures refused { OnErr result.receipt (desk.new ≡ desk.old) }
+    {
+        let mut locked = self.locked.lock(rt);
+        let tidied = locked.arrive_tidy(desk, conn, judged, keep);
+        let rung = locked.ring(waits_where(&tidied, judged.verdict()));
+        drop(locked);
+        self.wake(rung);
+        tidied
+    }
+
+    /// The number of the next connection, counted from 0. The numbers rise, so none comes twice. None after the number
+    /// before the last of 32 bits.
+    pub fn admit<H: Wait>(&self, rt: &H) -> Option<u32>
+        ensures { IfSome result (λ number. number < u32.MAX) }
+    {
+        self.locked.lock(rt).admit()
+    }
+
+    /// How full the book is.
+    pub fn gauge<H: Wait>(&self, rt: &H) -> Gauge
+        ensures room { result.held + result.owed ≤ result.events_max }
+        ensures first { result.first ≤ result.messages }
+    {
+        self.locked.lock(rt).gauge()
+    }
+
+    /// How full the book is, its statistics, the front of each queue, the first message that is still to be delivered and
+    /// the plan in force, all read under one lock.
+    ///
+    /// # Errors
+    ///
+    /// Where the plan has more owners than can be counted.
+    pub fn status<H: Wait>(&self, rt: &H) -> Result<(Status, Arc<Plan>), AllocError>
+        ensures room { IfOk result (λ shown. shown.0.gauge.held + shown.0.gauge.owed ≤ shown.0.gauge.events_max) }
+        ensures channels { IfOk result (λ shown. length (arc_value shown.1).channels ≡ A.channels) }
+    {
+        let mut locked = self.locked.lock(rt);
+        let plan = Arc::try_clone(locked.plan())?;
+        Ok((locked.status(), plan))
+    }
+
+    /// The message at the front of queue `d` with its state there, if there is one.
+    pub fn front<H: Wait>(&self, rt: &H, d: u32) -> Option<Front> {
+        self.locked.lock(rt).front(d)
+    }
+
+    /// The first message that is still to be delivered to a destination, with the first such destination, if there is one.
+    pub fn first_live<H: Wait>(&self, rt: &H) -> Option<(u32, u32)> {
+        let mut locked = self.locked.lock(rt);
+        let number = locked.first_live()?;
+        let d = locked.book().live_at(number)?;
+        Some((number, d))
+    }
+
+    /// What the book says of message `number`.
+    ///
+    /// # Errors
+    ///
+    /// Where its bytes have more owners than can be counted.
+    pub fn message<H: Wait>(&self, rt: &H, number: u32) -> Result<Found, AllocError> {
+        let locked = self.locked.lock(rt);
+        let book = locked.book();
+        let Some(letter) = book.message(number) else {
+            return Ok(not_kept(number, book.message_count()));
+        };
+        Ok(Found::Kept(Message {
+            channel: letter.channel,
+            conn: book.connection(number),
+            raw: letter.raw.share()?,
+            states: states_of(book, number),
+        }))
+    }
+
+    /// The messages that are still to be delivered to destination `d`, of the `most` numbers from `from` on, in order, with
+    /// their states there. It looks at no other message.
+    ///
+    /// # Errors
+    ///
+    /// Where memory for the answer is refused.
+    pub fn waiting<H: Wait>(
+        &self,
+        rt: &H,
+        d: u32,
+        from: u32,
+        most: u32,
+    ) -> Result<Vec<Front>, AllocError> {
+        let locked = self.locked.lock(rt);
+        let book = locked.book();
+        book.queued_among(d, from, end_of(book, from, most))
+    }
+
+    /// The numbers of the remembered messages with this control id (MSH-10, raw), of the `most` numbers from `from` on, in
+    /// order. It looks at no other message.
+    ///
+    /// # Errors
+    ///
+    /// Where memory for the answer is refused.
+    pub fn find<H: Wait>(
+        &self,
+        rt: &H,
+        id: &[u8],
+        from: u32,
+        most: u32,
+    ) -> Result<Vec<u32>, AllocError> {
+        let locked = self.locked.lock(rt);
+        let book = locked.book();
+        book.found_among(id, from, end_of(book, from, most))
+    }
+
     /// The statistics, with at least the arrivals that the desk made.
     pub fn counts<H: Wait>(&self, rt: &H, desk: &mut Desk<A>) -> Counts
         ensures shown { arrivals A.counts + desk.old ≤ arrivals result }
@@ -304,7 +482,8 @@ impl<A: Opening, T: Ledger, U: Ledger, S: RowStore<Addressed<Letter>>> Shared<A,
     ///
     /// # Errors
     ///
-    /// `SharesMissing` where they don't. All that was handed in comes back.
+    /// `SharesMissing` where they don't. All that was handed in comes back, and the shared book with the note of `finish`,
+    /// if that was made.
     pub fn close(
         self,
         mut desks: Vec<Desk<A>>,
@@ -313,15 +492,23 @@ impl<A: Opening, T: Ledger, U: Ledger, S: RowStore<Addressed<Letter>>> Shared<A,
         ensures adds_up { IfOk result (λ closed. AddsUp closed desks.items stations.items) }
         ensures opening { IfOk result (λ closed. (closed.opening ≡ A.counts) × (closed.first ≡ A.first)) }
         ensures whole { (vec_len desks + 1 ≡ A.parts) × (vec_len stations + 1 ≡ T.parts) × (vec_len stations + 1 ≡ U.parts) → IsOk result }
-        ensures back { IfErr result (HandsBack desks.items stations.items) }
+        ensures back { IfErr result (HandsBack self desks.items stations.items) }
     {
-        let Shared { locked, bells, .. } = self;
+        let Shared {
+            locked,
+            bells,
+            finished,
+        } = self;
         let mut locked = locked.into_inner();
         if locked.reckon(&mut desks, &mut stations) {
             return Ok(locked.close());
         }
         Err(NotClosed::SharesMissing {
-            shared: Shared::of(locked, bells),
+            shared: Shared {
+                locked: Mutex::new(locked),
+                bells,
+                finished,
+            },
             desks,
             stations,
         })

@@ -3,7 +3,7 @@
 ghost use Rattle.std.specs.Prelude.{◌≡◌, ◌+◌, ◌<◌, ◌≤◌, ◌∷◌, [], ◌++◌, IfOk, IfErr, OnErr, IsTrue, IsFalse, length};
 ghost use Rattle.judge_core.specs.Judging.{is_bookable};
 ghost use Rattle.mllp_frame.specs.Framing.{IsBlockData};
-ghost use Rattle.conn_core.specs.Outcomes.{AppendsFront, IsOutcome, MayBecome, dues_in, is_whole, receipts_in};
+ghost use Rattle.conn_core.specs.Outcomes.{AppendsInPart, IsOutcome, MayBecome, dues_in, is_whole, receipts_in};
 ghost use Rattle.conn_core.specs.Replies.{answer_to, dues_of, numbered, told_by};
 
 use crate::booking::Booking;
@@ -78,12 +78,12 @@ pub fn book_and_reply<B: Booking>(
     ensures told { IfOk result.outcome (λ receipt. B.outcomes book.old judged.now (Ok receipt.told)) }
     ensures refused { IfErr result.outcome (λ refusal. B.outcomes book.old judged.now (Err refusal)) }
 
-    // The replies that are due are appended, or the front of them where memory was refused.
+    // The replies that are due are appended, or the first of them where memory was refused.
     ensures replies { IsTrue result.whole → replies.new.bytes.items ≡ replies.old.bytes.items
         ++ numbered line.now.conn (replies.old.made + 1) (dues_of (answer_to judged.now.raw result.outcome now)) }
     ensures counted { IsTrue result.whole → replies.new.made ≡ replies.old.made + length (dues_of (answer_to judged.now.raw result.outcome now)) }
-    ensures front { IsFalse result.whole → AppendsFront replies.old.bytes.items replies.new.bytes.items
-        (numbered line.now.conn (replies.old.made + 1) (dues_of (answer_to judged.now.raw result.outcome now))) }
+    ensures in_part { IsFalse result.whole →
+        AppendsInPart line.now.conn (dues_of (answer_to judged.now.raw result.outcome now)) replies.old replies.new }
     ensures few { replies.new.made ≤ replies.old.made + 2 }
 {
     let Some(header) = judged.header() else {
@@ -99,7 +99,9 @@ pub fn book_and_reply<B: Booking>(
 fn judged_by<B: Booking>(line: &Line, book: &B, raw: Vec<u8>) -> Result<Judged, AllocError>
     requires channel { line.now.channel < B.channels book.now }
     requires data { IsBlockData raw.items }
-    ensures { IfOk result (λ judged. (judged.channel ≡ line.now.channel) × (judged.raw ≡ raw.items)) }
+    ensures for_channel { IfOk result (λ judged. judged.channel ≡ line.now.channel) }
+    ensures of_text { IfOk result (λ judged. judged.raw ≡ raw.items) }
+    ensures by_plan { IfOk result (λ judged. B.judges book.now judged.plan) }
 {
     let plan = book.plan()?;
     judge(line.alloc, &plan, line.channel, raw)
@@ -113,21 +115,24 @@ fn answer_judged<B: Booking>(
     now: Moment,
     replies: &mut Replies,
 ) -> BlockOutcome
-    requires { replies.old.made + 2 ≤ u32.MAX }
+    requires few { replies.old.made + 2 ≤ u32.MAX }
+    requires by_plan { B.judges book.old judged.now.plan }
     ensures kind { IsOutcome line.now.conn judged.now.channel judged.now.raw result }
     ensures booked { B.books book.old book.new (receipts_in result) }
-    ensures told { MayBecome (B.outcomes book.old) judged.now.channel judged.now.raw result }
+    ensures told { MayBecome (B.judges book.old) (B.outcomes book.old) judged.now.channel judged.now.raw result }
     ensures replies { IsTrue (is_whole result) → replies.new.bytes.items ≡ replies.old.bytes.items
         ++ numbered line.now.conn (replies.old.made + 1) (dues_in judged.now.raw now result) }
     ensures counted { IsTrue (is_whole result) → replies.new.made ≡ replies.old.made + length (dues_in judged.now.raw now result) }
-    ensures front { IsFalse (is_whole result) → AppendsFront replies.old.bytes.items replies.new.bytes.items
-        (numbered line.now.conn (replies.old.made + 1) (dues_in judged.now.raw now result)) }
+    ensures in_part { IsFalse (is_whole result) →
+        AppendsInPart line.now.conn (dues_in judged.now.raw now result) replies.old replies.new }
     ensures few { replies.new.made ≤ replies.old.made + 2 }
 {
     let Some(_header) = judged.header() else {
+        book.pass_over(line.conn, judged);
         return BlockOutcome::Unreadable;
     };
     if !judged.bookable() {
+        book.pass_over(line.conn, judged);
         return BlockOutcome::Stray;
     }
     BlockOutcome::Message(book_and_reply(line, book, judged, now, replies))
@@ -153,15 +158,15 @@ pub fn answer_block<B: Booking>(
 
     // A message is booked here, or nothing is; and what its sender is told is what may be told.
     ensures booked { IfOk result (λ outcome. B.books book.old book.new (receipts_in outcome)) }
-    ensures told { IfOk result (λ outcome. MayBecome (B.outcomes book.old) line.now.channel raw.items outcome) }
+    ensures told { IfOk result (λ outcome. MayBecome (B.judges book.old) (B.outcomes book.old) line.now.channel raw.items outcome) }
 
-    // The replies that it is due are appended, or the front of them where memory was refused.
+    // The replies that it is due are appended, or the first of them where memory was refused.
     ensures replies { IfOk result (λ outcome. IsTrue (is_whole outcome) → replies.new.bytes.items ≡ replies.old.bytes.items
         ++ numbered line.now.conn (replies.old.made + 1) (dues_in raw.items now outcome)) }
     ensures counted { IfOk result (λ outcome. IsTrue (is_whole outcome) →
         replies.new.made ≡ replies.old.made + length (dues_in raw.items now outcome)) }
-    ensures front { IfOk result (λ outcome. IsFalse (is_whole outcome) → AppendsFront replies.old.bytes.items replies.new.bytes.items
-        (numbered line.now.conn (replies.old.made + 1) (dues_in raw.items now outcome))) }
+    ensures in_part { IfOk result (λ outcome. IsFalse (is_whole outcome) →
+        AppendsInPart line.now.conn (dues_in raw.items now outcome) replies.old replies.new) }
     ensures few { replies.new.made ≤ replies.old.made + 2 }
 
     // Without an answer nothing changes.

@@ -4,7 +4,7 @@ ghost use Rattle.std.specs.Prelude.{◌≡◌, ◌+◌, ◌<◌, ◌≤◌, [], 
 ghost use Rattle.std.specs.Option.{option_to_list};
 ghost use Rattle.hl7_head.specs.Ack.{ack};
 ghost use Rattle.mllp_frame.specs.Framing.{block_bytes};
-ghost use Rattle.conn_core.specs.Outcomes.{AppendsFront};
+ghost use Rattle.conn_core.specs.Outcomes.{AppendsInPart};
 ghost use Rattle.conn_core.specs.Replies.{numbered, dues_by, told_of};
 
 use ack_rule::{AckMode, Verdictum, parts};
@@ -79,6 +79,8 @@ impl Replies {
         ensures counted { OnOk result (self.new.made ≡ self.old.made + length (option_to_list part)) }
         ensures few { self.new.made ≤ self.old.made + 1 }
         ensures err { OnErr result (self.new.bytes.items ≡ self.old.bytes.items) }
+        ensures not_counted { OnErr result (self.new.made ≡ self.old.made) }
+        ensures one { OnErr result (length (option_to_list part) ≡ 1) }
     {
         let Some(part) = part else {
             return Ok(());
@@ -94,7 +96,10 @@ impl Replies {
     }
 
     /// Appends the acknowledgments that a message with this header is due, two at most (HL7 v2.5.1, 2.9.2 and 2.9.3).
-    /// Where memory is refused, the first of them may be appended.
+    ///
+    /// # Errors
+    ///
+    /// Where memory is refused for one of them. It is not appended; the one before it may be, as a whole block.
     pub fn append(
         &mut self,
         conn: u32,
@@ -107,8 +112,7 @@ impl Replies {
             ++ numbered conn (self.old.made + 1) (dues_by header.now outcome now)) }
         ensures counted { OnOk result (self.new.made ≡ self.old.made + length (dues_by header.now outcome now)) }
         ensures few { self.new.made ≤ self.old.made + 2 }
-        ensures err { OnErr result (AppendsFront self.old.bytes.items self.new.bytes.items
-            (numbered conn (self.old.made + 1) (dues_by header.now outcome now))) }
+        ensures err { OnErr result (AppendsInPart conn (dues_by header.now outcome now) self.old self.new) }
     {
         let [first, second] = parts(AckMode::of(header), told_of(outcome));
         self.append_part(conn, header, first, now)?;

@@ -1,5 +1,5 @@
 -- Where a dialogue stands, after one more event.
-use Rattle.std.proofs.Common.{◌≡◌, ℕ, ◌+◌, Bool, true, false, cond, List, [], ◌∷◌, ◌++◌, length, drop, slice_get, map, None, Some, Result, Ok, Err, OnOk, OnErr, refl, sym, ap, ◌∙◌, append_assoc, append-nil, arith}
+use Rattle.std.proofs.Common.{◌≡◌, ℕ, ◌+◌, Bool, true, false, cond, List, [], ◌∷◌, ◌++◌, length, drop, take, take-append-drop, slice_get, map, None, Some, Result, Ok, Err, OnOk, OnErr, refl, sym, ap, ◌∙◌, append_assoc, append-nil, arith}
 use Rattle.std.specs.List.{filter_map, count_by, cons_option}
 use Rattle.std.specs.Result.{is_err}
 use mir.Val.{bool_byte}
@@ -17,7 +17,7 @@ use Rattle.conn_core.specs.Messages.{message_of, is_unreadable, is_stray, is_bre
 use Rattle.conn_core.specs.declared.block_outcome.Booked.{Booked}
 use Rattle.conn_core.specs.declared.block_outcome.BlockOutcome.{BlockOutcome}
 use Rattle.conn_core.specs.declared.block_outcome.BlockOutcome.TheVariants.{Unreadable, Stray, Message}
-use Rattle.conn_core.specs.Outcomes.{AppendsFront, IsOutcome, dues_in, is_whole, receipts_in}
+use Rattle.conn_core.specs.Outcomes.{AppendsInPart, IsOutcome, dues_in, is_whole, receipts_in}
 use Rattle.conn_worker.specs.Counting.{unbooked_in, unreadable_in, strays_in}
 use Rattle.conn_worker.specs.Serving.{Tells}
 use Rattle.conn_worker.specs.Handling.{Stands, StandsAmid, HandlesAll, HandlesFront}
@@ -194,9 +194,11 @@ module _ {B K : Type 0} {books : B → List Receipt → Type 0} {has : K → Lis
       }
 
   -- one whose replies are not all made
-  pub answered_in_part : AppendsFront old.replies.bytes.items new.replies.bytes.items (numbered conn (old.replies.made + 1) (dues_of a))
+  pub answered_in_part : AppendsInPart conn (dues_of a) old.replies new.replies
       → StandsAmid books has conn channel before (block a.raw ∷ []) text b' new
-  answered_in_part front =
+  answered_in_part part =
+      let whole : numbered conn (old.replies.made + 1) (dues_of a) ≡ numbered conn (old.replies.made + 1) (take part.count (dues_of a)) ++ numbered conn ((old.replies.made + 1) + length (take part.count (dues_of a))) (drop part.count (dues_of a)) =
+      ap (numbered conn (old.replies.made + 1)) (sym (take-append-drop part.count (dues_of a))) ∙ numbered-append conn (old.replies.made + 1) (take part.count (dues_of a)) (drop part.count (dues_of a)) in
       record {
         handled = block a.raw ∷ [];
         later = [];
@@ -206,10 +208,10 @@ module _ {B K : Type 0} {books : B → List Receipt → Type 0} {has : K → Lis
         kept = adds.kept s.receipts s.kept;
         answers = s.answers ++ a ∷ [];
         tells = tells_more a old.report new.report s.tells more;
-        missing = front.missing;
+        missing = numbered conn ((old.replies.made + 1) + length (take part.count (dues_of a))) (drop part.count (dues_of a));
         replies =
-            replies_more conn old.replies.made s.answers a text old.replies.bytes.items front.added front.missing s.replies s.made front.front
-            ∙ ap (λ l. text ++ (l ++ front.missing)) (sym front.grows);
+            replies_more conn old.replies.made s.answers a text old.replies.bytes.items _ _ s.replies s.made whole
+            ∙ ap (λ l. text ++ (l ++ numbered conn ((old.replies.made + 1) + length (take part.count (dues_of a))) (drop part.count (dues_of a)))) (sym part.bytes);
       }
 
 -- what the outcome of a block adds to the counters of a report
@@ -263,7 +265,7 @@ module _ {B K : Type 0} {books : B → List Receipt → Type 0} {has : K → Lis
 
   -- one whose replies are not all made
   pub block_answered_in_part : (o : BlockOutcome) → IsOutcome conn channel raw o → Adds books has (receipts_in o) b b' old.report.receipts new.report.receipts → Counts o old.report new.report
-      → is_whole o ≡ false → AppendsFront old.replies.bytes.items new.replies.bytes.items (numbered conn (old.replies.made + 1) (dues_in raw moment o))
+      → is_whole o ≡ false → AppendsInPart conn (dues_in raw moment o) old.replies new.replies
       → StandsAmid books has conn channel before (block raw ∷ []) text b' new
   block_answered_in_part Unreadable is adds counts part front = cc
   block_answered_in_part Stray is adds counts part front = cc
@@ -374,7 +376,3 @@ module _ {B K : Type 0} (books : B → B → List Receipt → Type 0) (has : K �
 pub first_event : (events : List Event) (e : Event) → Some e ≡ slice_get events 0 → events ≡ e ∷ drop 1 events
 first_event [] e h = cc
 first_event (x ∷ es) e h = cc
-
--- the front of a text that is the same
-pub appends_same : {old new a b : List ℕ} → AppendsFront old new a → a ≡ b → AppendsFront old new b
-appends_same front same = record { added = front.added; missing = front.missing; grows = front.grows; front = sym same ∙ front.front }

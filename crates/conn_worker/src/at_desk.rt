@@ -6,6 +6,7 @@ ghost use Rattle.conn_worker.specs.Faults.{Rose};
 
 use crate::clock::Clock;
 use crate::counted::Counted;
+use crate::lines::{log_arrival, log_break, log_fill, log_passed_over};
 use crate::report::{ServeEnd, ServeReport};
 use crate::session::serve_within;
 use book_core::{Letter, NotBooked, Receipt};
@@ -14,6 +15,8 @@ use conn_core::{Booking, Line};
 use dest_queue::Addressed;
 use fixed_numbers::TURNS_MAX;
 use judge_core::Judged;
+use log::Log;
+use mllp_frame::Break;
 use plan_text::Plan;
 use row_store::RowStore;
 use std::alloc::{AllocError, Global};
@@ -21,15 +24,19 @@ use std::io::{Read, Write};
 use std::sync::ledger::Ledger;
 use std::sync::{Arc, Wait};
 
+/// How many entries lie between two looks at how full the book is, for the log.
+const FILL_STEP: usize = 16;
+
 /// A desk of a shared book, as the place where messages are booked. Each call takes the book's lock for a moment.
 #[derive(Drop)]
 pub struct AtDesk<'a, A: Opening, T: Ledger, U: Ledger, S: RowStore<Addressed<Letter>>, H> {
     pub rt: &'a H,
+    pub alloc: Global,
     pub shared: &'a Shared<A, T, U, S>,
     pub desk: &'a mut Desk<A>,
 }
 
-impl<'a, A: Opening, T: Ledger, U: Ledger, S: RowStore<Addressed<Letter>>, H: Wait> Booking
+impl<'a, A: Opening, T: Ledger, U: Ledger, S: RowStore<Addressed<Letter>>, H: Wait + Log> Booking
     for AtDesk<'a, A, T, U, S, H> {
     ghost use Rattle.std.specs.Prelude.{◌≡◌, ◌+◌, length, refl, ⊤};
     ghost use Rattle.std.proofs.Common.{◌∙◌, arith, length-append};
@@ -39,6 +46,8 @@ impl<'a, A: Opening, T: Ledger, U: Ledger, S: RowStore<Addressed<Letter>>, H: Wa
 
     ghost channels = { λ _. A.channels };
 
+    ghost judges = { λ _ _. ⊤ };
+
     ghost outcomes = { λ _ _ _. ⊤ };
 
     fn plan(&self) -> Result<Arc<Plan>, AllocError> {
@@ -46,7 +55,25 @@ impl<'a, A: Opening, T: Ledger, U: Ledger, S: RowStore<Addressed<Letter>>, H: Wa
     }
 
     fn arrive(&mut self, conn: u32, judged: &Judged) -> Result<Receipt, NotBooked> {
-        self.shared.arrive(self.rt, self.desk, conn, judged)
+        let outcome = self.shared.arrive(self.rt, self.desk, conn, judged);
+        log_arrival(self.rt, self.alloc, conn, judged, &outcome);
+        if outcome
+            .as_ref()
+            .is_ok_and(|receipt| receipt.entry % FILL_STEP == 0)
+        {
+            log_fill(self.rt, self.shared.gauge(self.rt));
+        }
+        outcome
+    }
+
+    fn pass_over(&mut self, conn: u32, judged: &Judged) {
+        log_passed_over(self.rt, self.alloc, conn, judged);
+    }
+
+    fn note_break(&mut self, conn: u32, channel: u32, cause: Break) {
+        if let Ok(plan) = self.shared.plan(self.rt) {
+            log_break(self.rt, &plan, conn, channel, cause);
+        }
     }
 
     ghost nothing = { λ x. (Prim.omega arith, refl) };
@@ -68,7 +95,7 @@ pub fn serve<
     R: Read,
     W: Write,
     C: Clock,
-    H: Wait,
+    H: Wait + Log,
 >(
     rt: &H,
     alloc: Global,
@@ -101,6 +128,11 @@ pub fn serve<
         conn,
         channel,
     };
-    let mut place = AtDesk { rt, shared, desk };
+    let mut place = AtDesk {
+        rt,
+        alloc,
+        shared,
+        desk,
+    };
     serve_within(&line, &mut place, reader, writer, clock, TURNS_MAX)
 }

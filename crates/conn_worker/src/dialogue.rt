@@ -95,8 +95,9 @@ impl<K: Keeping> Dialogue<K> {
     {
         self.events += 1;
         match event {
-            FrameEvent::Broken(_) => {
+            FrameEvent::Broken(cause) => {
                 self.report.breaks += 1;
+                book.note_break(line.conn, line.channel, cause);
                 Ok(())
             }
             FrameEvent::Block(raw) => self.answer(line, book, raw, clock.now()),

@@ -7,12 +7,13 @@ mod clock;
 mod counted;
 mod dialogue;
 mod keeping;
+mod lines;
 mod report;
 mod session;
 mod stream;
 
 pub use at_desk::{AtDesk, serve};
-pub use clock::{Clock, Running, Still, nearest};
+pub use clock::{Clock, Running, Steady, Still, nearest};
 pub use counted::Counted;
 pub use fixed_numbers::TURNS_MAX;
 pub use keeping::{Keeping, Unkept};

@@ -10,4 +10,6 @@ mod refused_delivering;
 #[cfg(test)]
 mod stage;
 #[cfg(test)]
+mod steady;
+#[cfg(test)]
 mod tcp;

@@ -3,10 +3,15 @@
 ghost use Rattle.std.specs.Prelude.{◌≡◌, true, Some};
 ghost use Rattle.conn_worker.specs.Faults.{with_fault};
 
+use book_core::Job;
 use conn_worker::{Clock, nearest};
-use delivery_worker::{Link, LinkFault};
+use delivery_worker::{Link, LinkFault, Reply};
+use dest_queue::{Outcome, SlotState};
 use hl7_head::Moment;
 use std::alloc::Global;
+use std::cell::Cell;
+use std::time::Duration;
+use std::{io, time};
 
 /// What a destination does at one attempt.
 #[derive(Clone, Copy, Debug)]
@@ -15,8 +20,16 @@ pub enum Play {
     Down,
     /// It takes the message, and sends this before it is at its end.
     Says(&'static str),
+    /// It takes the message, and sends this a byte at a time before it is at its end.
+    Drips(&'static str),
     /// It takes the message, and sends this byte for ever.
     Hums(u8),
+    /// It takes the message, and then nothing can be received.
+    Breaks,
+    /// It takes no message.
+    Unsent,
+    /// It takes the message, and ends the connection, of which it tells.
+    Ends,
 }
 
 /// A link to a destination that does one thing after another.
@@ -25,10 +38,19 @@ pub struct Played<'a> {
     plays: &'a [Play],
     saying: &'static [u8],
     humming: Option<u8>,
+    dripping: bool,
+    breaking: bool,
+    ending: bool,
+    /// Whether a connection that is kept for a further message is seen to have ended.
+    pub closes_when_kept: bool,
     /// What was sent.
     pub sent: Vec<u8>,
     /// How many connections were opened.
     pub connections: u32,
+    /// How often bytes were asked for.
+    pub receives: u64,
+    /// What the answers to the last attempt said, and the state of its message then.
+    pub told: Option<(Reply, Option<SlotState>)>,
     faults: u64,
 }
 
@@ -39,8 +61,14 @@ impl<'a> Played<'a> {
             plays,
             saying: b"",
             humming: None,
+            dripping: false,
+            breaking: false,
+            ending: false,
+            closes_when_kept: false,
             sent: Vec::new(alloc),
             connections: 0,
+            receives: 0,
+            told: None,
             faults: 0,
         }
     }
@@ -71,6 +99,9 @@ impl Link for Played<'_> {
     fn connect(&mut self) -> Result<(), LinkFault> {
         self.saying = b"";
         self.humming = None;
+        self.dripping = false;
+        self.breaking = false;
+        self.ending = false;
         if let Some(Play::Down) = self.plays.first() {
             let _down = self.next();
             return Err(self.fault());
@@ -79,11 +110,29 @@ impl Link for Played<'_> {
         Ok(())
     }
 
+    fn is_open(&mut self) -> bool {
+        !self.closes_when_kept
+    }
+
+    fn was_ended(&self) -> bool {
+        self.ending
+    }
+
+    fn settled(&mut self, _job: &Job, reply: Reply, _outcome: Outcome, state: Option<SlotState>) {
+        self.told = Some((reply, state));
+    }
+
     fn send(&mut self, bytes: &[u8]) -> Result<(), LinkFault> {
         match self.next() {
             Some(Play::Says(text)) => self.saying = text.as_bytes(),
+            Some(Play::Drips(text)) => {
+                self.saying = text.as_bytes();
+                self.dripping = true;
+            }
+            Some(Play::Breaks) => self.breaking = true,
             Some(Play::Hums(byte)) => self.humming = Some(byte),
-            Some(Play::Down) | None => return Err(self.fault()),
+            Some(Play::Ends) => self.ending = true,
+            Some(Play::Down | Play::Unsent) | None => return Err(self.fault()),
         }
         match self.sent.extend_from_slice(bytes) {
             Ok(()) => Ok(()),
@@ -92,13 +141,18 @@ impl Link for Played<'_> {
     }
 
     fn receive(&mut self, buffer: &mut [u8]) -> Result<usize, LinkFault> {
+        self.receives = self.receives.saturating_add(1);
+        if self.breaking {
+            return Err(self.fault());
+        }
         if let Some(byte) = self.humming
             && let Some(first) = buffer.first_mut()
         {
             *first = byte;
             return Ok(1);
         }
-        let len = self.saying.len().min(buffer.len());
+        let most = if self.dripping { 1 } else { buffer.len() };
+        let len = self.saying.len().min(buffer.len()).min(most);
         let (piece, rest) = self.saying.split_at(len);
         buffer[..len].copy_from_slice(piece);
         self.saying = rest;
@@ -122,5 +176,39 @@ impl Clock for Leaping {
         let moment = nearest(self.seconds);
         self.seconds = self.seconds.saturating_add(self.leap);
         moment
+    }
+}
+
+/// A system whose clock is set back by an hour each time it is read, while the monotonic clock goes on by twenty and a half
+/// seconds each time.
+#[derive(Drop)]
+pub struct SetBack {
+    looks: Cell<u32>,
+}
+
+impl SetBack {
+    /// With no clock read yet.
+    pub fn new() -> SetBack {
+        SetBack {
+            looks: Cell::new(0),
+        }
+    }
+
+    /// Counts a look.
+    fn look(&self) -> u32 {
+        let looks = self.looks.get().saturating_add(1);
+        self.looks.set(looks);
+        looks
+    }
+}
+
+impl time::Clock for SetBack {
+    fn monotonic(&self) -> io::Result<Duration> {
+        Ok(Duration::from_millis(20_500).saturating_mul(self.look()))
+    }
+
+    fn since_1970(&self) -> io::Result<Duration> {
+        let back = Duration::from_secs(3_600).saturating_mul(self.look());
+        Ok(Duration::from_secs(1_000_000).saturating_sub(back))
     }
 }

@@ -8,6 +8,7 @@ ghost use Rattle.event_log.specs.Counting.{counted};
 use crate::played::{Leaping, Played};
 use book_core::{Book, EVENTS_MAX, Letter};
 use book_lock::{Closed, Opening, Shared, Station};
+use conn_worker::Clock;
 use delivery_worker::{DeliverReport, deliver};
 use dest_queue::Addressed;
 use judge_core::{Judged, fits_block, judge};
@@ -96,21 +97,19 @@ fn deliver_at<
     U: Ledger,
     S: RowStore<Addressed<Letter>>,
     H: Wait + time::Clock,
+    C: Clock,
 >(
     rt: &H,
     alloc: Global,
     shared: &Shared<A, T, U, S>,
     stations: &mut [Station<T, U>],
     link: &mut Played<'_>,
+    clock: &mut C,
     turns: u64,
 ) -> Option<DeliverReport> {
     let station = stations.last_mut()?;
-    let mut clock = Leaping {
-        seconds: 0,
-        leap: 20,
-    };
     shared.finish(rt);
-    Some(deliver(rt, alloc, shared, station, link, 0, &mut clock, turns))
+    Some(deliver(rt, alloc, shared, station, link, 0, clock, turns))
 }
 
 /// Shares a book, delivers what waits in it, and closes it. None where memory was refused for sharing it.
@@ -120,6 +119,7 @@ fn deliver_and_close<
     U: Ledger,
     S: RowStore<Addressed<Letter>> + Drop,
     H: Wait + time::Clock,
+    C: Clock,
 >(
     rt: &H,
     alloc: Global,
@@ -128,6 +128,7 @@ fn deliver_and_close<
     takes: Blank,
     settlements: Blank,
     link: &mut Played<'_>,
+    clock: &mut C,
     turns: u64,
 ) -> Option<Delivered<S>>
     requires counts { counted book ≡ A.counts }
@@ -139,21 +140,22 @@ fn deliver_and_close<
 {
     let opened = Shared::<A, T, U, S>::new(alloc, book, 0, 1, arrivals, takes, settlements);
     let (shared, desks, mut stations) = opened.ok()?;
-    let report = deliver_at(rt, alloc, &shared, &mut stations, link, turns)?;
+    let report = deliver_at(rt, alloc, &shared, &mut stations, link, clock, turns)?;
     let closed = shared.close(desks, stations).ok()?;
     Some(Delivered { report, closed })
 }
 
-/// Delivers what waits in a book over a link, in so many turns at most. None where there is no book, or memory was refused for
-/// sharing it.
-pub fn deliver_all<S: RowStore<Addressed<Letter>> + Drop, H: Wait + time::Clock>(
+/// Delivers what waits in a book over a link by a clock, in so many turns at most. None where there is no book, or memory was
+/// refused for sharing it.
+pub fn deliver_by<S: RowStore<Addressed<Letter>> + Drop, H: Wait + time::Clock, C: Clock>(
     rt: &H,
     alloc: Global,
     book: Option<Book<S>>,
     link: &mut Played<'_>,
+    clock: &mut C,
     turns: u64,
 ) -> Option<Delivered<S>> {
-    deliver_and_close::<Brand, Brand, Brand, S, H>(
+    deliver_and_close::<Brand, Brand, Brand, S, H, C>(
         rt,
         alloc,
         book?,
@@ -161,6 +163,23 @@ pub fn deliver_all<S: RowStore<Addressed<Letter>> + Drop, H: Wait + time::Clock>
         Blank::new(2),
         Blank::new(2),
         link,
+        clock,
         turns,
     )
+}
+
+/// Delivers what waits in a book over a link, in so many turns at most, by a clock that leaps by twenty seconds at each look.
+/// None where there is no book, or memory was refused for sharing it.
+pub fn deliver_all<S: RowStore<Addressed<Letter>> + Drop, H: Wait + time::Clock>(
+    rt: &H,
+    alloc: Global,
+    book: Option<Book<S>>,
+    link: &mut Played<'_>,
+    turns: u64,
+) -> Option<Delivered<S>> {
+    let mut clock = Leaping {
+        seconds: 0,
+        leap: 20,
+    };
+    deliver_by(rt, alloc, book, link, &mut clock, turns)
 }

@@ -1,8 +1,8 @@
 -- One attempt after another.
-use Rattle.std.proofs.Common.{◌≡◌, ◌≤◌, ℕ, ◌+◌, Bool, true, false, cond, map, List, [], ◌∷◌, ◌++◌, All, Option, None, Some, refl, sym, ap, subst, ◌∙◌, append_assoc, append-nil, length-append, arith}
+use Rattle.std.proofs.Common.{◌≡◌, ◌⊎◌, inl, inr, ◌≤◌, ℕ, ◌+◌, Bool, true, false, cond, if◌then◌else◌, map, List, [], ◌∷◌, ◌++◌, All, Option, None, Some, refl, sym, ap, subst, is_some, ◌∙◌, append_assoc, append-nil, length-append, arith}
 use Rattle.std.specs.List.{count_by, flat_map}
 use Rattle.std.specs.Io.KnownBytes.{Appends, Keeps}
-use Rattle.std.proofs.KnownBytes.{Appends-kept, Appends-nil, Appends-trans}
+use Rattle.std.proofs.KnownBytes.{Appends-kept, Appends-nil, Appends-trans, Keeps-trans}
 use Rattle.std.proofs.lemmas.List.Elements.{All-nil, All-push}
 use Rattle.std.proofs.lemmas.List.Concat.{flat_map-append}
 use Rattle.std.proofs.lemmas.List.Sums.{sum_by-append}
@@ -11,13 +11,15 @@ use Rattle.dest_queue.specs.declared.Outcome.{Outcome}
 use Rattle.dest_queue.specs.declared.Outcome.TheVariants.{Delivered, Again, Rejected}
 use Rattle.delivery_worker.specs.declared.report.DeliverReport.{DeliverReport}
 use Rattle.mllp_frame.specs.Event.{Event}
-use Rattle.mllp_frame.specs.Framed.{Framed}
+use Rattle.mllp_frame.specs.Framed.{Framed, blank}
 use Rattle.mllp_frame.specs.Framing.{block_bytes}
 use Rattle.hl7_head.specs.Msa.{MsaFields}
 use Rattle.delivery_worker.specs.Answers.{answer_in, outcome_of}
-use Rattle.delivery_worker.specs.Stream.{Before, Goes, Opens, Receives, Stands}
+use Rattle.delivery_worker.specs.Calls.{CallsMore}
+use Rattle.delivery_worker.proofs.Calls.{calls_then}
+use Rattle.delivery_worker.specs.Stream.{Before, Goes, Receives, Stands}
 use Rattle.delivery_worker.proofs.Streams.{goes_nowhere, goes_opened, goes_stays}
-use Rattle.delivery_worker.specs.Delivering.{Attempt, Delivers, ReadsInOrder, Tells, Tries, Visit, attempt_outcome, attempts_in, counted, is_again, is_delivered, is_rejected, no_attempts, read_in, received_in, sent_by}
+use Rattle.delivery_worker.specs.Delivering.{Attempt, Begins, Delivers, InTurn, IsOf, IsOnward, ReadsInOrder, Sends, Spends, Tells, Tries, Visit, block_if, way_of, attempt_outcome, attempts_in, counted, is_again, is_delivered, is_rejected, is_used, no_attempts, read_in, received_in, sent_by}
 
 abbrev one_where : Bool → ℕ
 one_where b = cond b 1 0
@@ -68,65 +70,217 @@ none_sent None new q = tt
 none_sent (Some xs) None q = absurd q
 none_sent (Some xs) (Some ys) q = q ∙ sym (append-nil xs)
 
--- an attempt whose text was not sent
+-- a sending whose text was not sent
 pub tried_nothing : (old new : Option Framed) (sent sends log logs : Option (List ℕ)) (control_id payload : List ℕ) (ack : Bool) → new ≡ None → Keeps sent sends → Keeps log logs
-    → (t : Tries old new sent sends log logs Again) × (t.attempt.control_id ≡ control_id) × (t.attempt.payload ≡ payload) × (t.attempt.ack ≡ ack)
+    → (s : Sends old new sent sends log logs Again) × IsOf s.sending control_id payload ack
 tried_nothing old new sent sends log logs control_id payload ack none same_sent same_log = (
   record {
-    attempt = record { control_id = control_id; payload = payload; ack = ack; sent = false; read = [] };
+    sending = record { control_id = control_id; payload = payload; ack = ack; sent = false; read = [] };
     outcome = refl;
     sends_block = none_sent sent sends same_sent;
     got = [];
     logged = none_sent log logs same_log;
     goes = subst (λ (n : Option Framed). Goes old n [] []) (sym none) (goes_nowhere old);
   },
-  refl,
-  refl,
-  refl,
+  (refl, refl, refl),
 )
 
--- an attempt whose text was sent to a destination that doesn't acknowledge
-pub tried_sending : (old : Option Framed) (f : Framed) (sent sends log logs : Option (List ℕ)) (control_id payload text : List ℕ) (ack : Bool) → Opens old f
+-- a sending of a text to a destination that doesn't acknowledge
+pub tried_sending : (f : Framed) (sent sends log logs : Option (List ℕ)) (control_id payload text : List ℕ) (ack : Bool)
     → Appends sent sends (block_bytes text) → text ≡ payload → Keeps log logs → ack ≡ false
-    → (t : Tries old (Some f) sent sends log logs Delivered) × (t.attempt.control_id ≡ control_id) × (t.attempt.payload ≡ payload) × (t.attempt.ack ≡ ack)
-tried_sending old f sent sends log logs control_id payload text ack opens wrote same_text same_log no_ack = (
+    → (s : Sends (Some f) (Some f) sent sends log logs Delivered) × IsOf s.sending control_id payload ack
+tried_sending f sent sends log logs control_id payload text ack wrote same_text same_log no_ack = (
   record {
-    attempt = record { control_id = control_id; payload = payload; ack = false; sent = true; read = [] };
+    sending = record { control_id = control_id; payload = payload; ack = false; sent = true; read = [] };
     outcome = refl;
     sends_block = subst (λ (l : List ℕ). Appends sent sends (block_bytes l)) same_text wrote;
     got = [];
     logged = none_sent log logs same_log;
-    goes = goes_stays old f opens;
+    goes = goes_stays f;
   },
-  refl,
-  refl,
-  sym no_ack,
+  (refl, refl, sym no_ack),
 )
 
--- an attempt whose text was sent, and whose answers were read
-pub tried_reading : (old : Option Framed) (f : Framed) (new after : Option Framed) (sent wrote sends log mid logs : Option (List ℕ)) (control_id payload text : List ℕ) (ack : Bool)
-    (had has : List (Option MsaFields)) (o : Outcome) → Opens old f → Appends sent wrote (block_bytes text) → text ≡ payload → Keeps wrote sends → Keeps log mid
-    → Receives f new mid logs had has → had ≡ [] → after ≡ new → o ≡ outcome_of control_id has → ack ≡ true
-    → (t : Tries old after sent sends log logs o) × (t.attempt.control_id ≡ control_id) × (t.attempt.payload ≡ payload) × (t.attempt.ack ≡ ack)
-tried_reading old f new after sent wrote sends log mid logs control_id payload text ack had has o opens writes same_text same_sent same_log r none is decides acks = (
+-- a sending of a text over a connection that was ended before a byte came
+pub tried_in_vain : (old : Option Framed) (sent wrote sends log mid logs : Option (List ℕ)) (control_id payload text : List ℕ) (ack : Bool)
+    → Appends sent wrote (block_bytes text) → text ≡ payload → Keeps wrote sends → Keeps log mid → Keeps mid logs → ack ≡ true
+    → (s : Sends old None sent sends log logs Again) × IsOf s.sending control_id payload ack
+tried_in_vain old sent wrote sends log mid logs control_id payload text ack writes same_text same_sent same_log no_more acks = (
   record {
-    attempt = record { control_id = control_id; payload = payload; ack = true; sent = true; read = r.read };
+    sending = record { control_id = control_id; payload = payload; ack = true; sent = true; read = [] };
+    outcome = refl;
+    sends_block = Appends-kept sent wrote sends _ (subst (λ (l : List ℕ). Appends sent wrote (block_bytes l)) same_text writes) same_sent;
+    got = [];
+    logged = none_sent log logs (Keeps-trans log mid logs same_log no_more);
+    goes = goes_nowhere old;
+  },
+  (refl, refl, sym acks),
+)
+
+-- a sending of a text whose answers were read
+pub tried_reading : (f : Framed) (new after : Option Framed) (sent wrote sends log mid logs : Option (List ℕ)) (control_id payload text : List ℕ) (ack : Bool)
+    (had has : List (Option MsaFields)) (o : Outcome) → Appends sent wrote (block_bytes text) → text ≡ payload → Keeps wrote sends → Keeps log mid
+    → Receives f new mid logs had has → had ≡ [] → after ≡ new → o ≡ outcome_of control_id has → ack ≡ true
+    → (s : Sends (Some f) after sent sends log logs o) × IsOf s.sending control_id payload ack
+tried_reading f new after sent wrote sends log mid logs control_id payload text ack had has o writes same_text same_sent same_log r none is decides acks = (
+  record {
+    sending = record { control_id = control_id; payload = payload; ack = true; sent = true; read = r.read };
     outcome = ap (outcome_of control_id) (sym (r.answers ∙ ap (λ (l : List (Option MsaFields)). l ++ map answer_in r.read) none)) ∙ sym decides;
     sends_block = Appends-kept sent wrote sends _ (subst (λ (l : List ℕ). Appends sent wrote (block_bytes l)) same_text writes) same_sent;
     got = r.got;
     logged = Appends-trans log mid logs [] r.got (none_sent log mid same_log) r.logged;
-    goes = subst (λ (n : Option Framed). Goes old n r.got r.read) (sym is) (goes_opened old f new r.got r.read opens r.goes);
+    goes = subst (λ (n : Option Framed). Goes (Some f) n r.got r.read) (sym is) r.goes;
   },
-  refl,
-  refl,
-  sym acks,
+  (refl, refl, sym acks),
 )
+
+-- a sending over a new connection
+pub sends_anew : (f : Framed) (new : Option Framed) (sent begin sends log first logs : Option (List ℕ)) (control_id payload : List ℕ) (ack : Bool) (o : Outcome)
+    → f ≡ blank → Keeps sent begin → Keeps log first → (s : Sends (Some f) new begin sends first logs o) × IsOf s.sending control_id payload ack
+    → (s : Sends None new sent sends log logs o) × IsOf s.sending control_id payload ack
+sends_anew f new sent begin sends log first logs control_id payload ack o is same_sent same_log s = (
+  record {
+    sending = s.0.sending;
+    outcome = s.0.outcome;
+    sends_block = Appends-trans sent begin sends [] _ (none_sent sent begin same_sent) s.0.sends_block;
+    got = s.0.got;
+    logged = Appends-trans log first logs [] _ (none_sent log first same_log) s.0.logged;
+    goes = goes_opened f new s.0.got s.0.sending.read is s.0.goes;
+  },
+  s.1,
+)
+
+-- before an attempt nothing is sent
+pub sends_after : (old : Option Framed) (f : Framed) (new : Option Framed) (sent begin sends log first logs : Option (List ℕ)) (control_id payload : List ℕ) (ack : Bool) (o : Outcome)
+    → old ≡ Some f → Keeps sent begin → Keeps log first → (s : Sends (Some f) new begin sends first logs o) × IsOf s.sending control_id payload ack
+    → (s : Sends old new sent sends log logs o) × IsOf s.sending control_id payload ack
+sends_after old f new sent begin sends log first logs control_id payload ack o is same_sent same_log s = (
+  record {
+    sending = s.0.sending;
+    outcome = s.0.outcome;
+    sends_block = Appends-trans sent begin sends [] _ (none_sent sent begin same_sent) s.0.sends_block;
+    got = s.0.got;
+    logged = Appends-trans log first logs [] _ (none_sent log first same_log) s.0.logged;
+    goes = subst (λ (n : Option Framed). Goes n new s.0.got s.0.sending.read) (sym is) s.0.goes;
+  },
+  s.1,
+)
+
+-- no connection was kept
+pub spends_none : (old : Option Framed) (sent sends log logs : Option (List ℕ)) (calls call : Option ℕ) (payload : List ℕ) → Keeps sent sends → Keeps log logs
+    → Spends old sent sends log logs calls call payload
+spends_none old sent sends log logs calls call payload same_sent same_log =
+    record { spent = false; sends_block = none_sent sent sends same_sent; nothing_came = same_log; asked = λ is. cc; was_kept = λ is. cc }
+
+-- the text went over a connection that was kept, or did not, and not a byte came
+pub spends_sending : (old : Option Framed) (f : Framed) (new : Option Framed) (sent begin sends log first logs : Option (List ℕ)) (calls mid call : Option ℕ) (control_id payload : List ℕ) (ack : Bool) (o : Outcome) (n : ℕ)
+    → old ≡ Some f → Keeps sent begin → Keeps log first → CallsMore calls mid 0 → (s : Sends (Some f) new begin sends first logs o) × IsOf s.sending control_id payload ack
+    → Keeps first logs → CallsMore mid call n → Keeps begin sends ⊎ (n ≡ 1) → Spends old sent sends log logs calls call payload
+spends_sending old f new sent begin sends log first logs calls mid call control_id payload ack o n is same_sent same_log no_call s nothing asked (inl unsent) =
+    spends_none old sent sends log logs calls call payload (Keeps-trans sent begin sends same_sent unsent) (Keeps-trans log first logs same_log nothing)
+spends_sending old f new sent begin sends log first logs calls mid call control_id payload ack o n is same_sent same_log no_call s nothing asked (inr one) =
+    record {
+      spent = s.0.sending.sent;
+      sends_block = subst (λ (l : List ℕ). Appends sent sends (block_if s.0.sending.sent l)) s.1.1
+          (Appends-trans sent begin sends [] _ (none_sent sent begin same_sent) s.0.sends_block);
+      nothing_came = Keeps-trans log first logs same_log nothing;
+      asked = λ _. calls_then calls mid call 0 n 1 no_call asked (omega (arith, one));
+      was_kept = λ _. ap is_some is;
+    }
+
+-- an attempt over the connection that was open
+pub tries_kept : (old new : Option Framed) (sent begin sends log first logs : Option (List ℕ)) (control_id payload : List ℕ) (ack : Bool) (o : Outcome)
+    → Keeps sent begin → Keeps log first → is_some old ≡ true → (s : Sends old new begin sends first logs o) × IsOf s.sending control_id payload ack
+    → (t : Tries old new sent sends log logs o) × IsOf t.attempt.last control_id payload ack
+tries_kept old new sent begin sends log first logs control_id payload ack o same_sent same_log is_open s = (
+  record {
+    attempt = record { last = s.0.sending; anew = false; spent = false };
+    outcome = s.0.outcome;
+    sends_block = Appends-trans sent begin sends [] _ (none_sent sent begin same_sent) s.0.sends_block;
+    was_kept = λ is. cc;
+    is_anew = λ is. cc;
+    is_open = λ _. is_open;
+    got = s.0.got;
+    logged = Appends-trans log first logs [] _ (none_sent log first same_log) s.0.logged;
+    goes = s.0.goes;
+  },
+  s.1,
+)
+
+-- an attempt over a new connection, after the open one was of no use
+pub tries_anew : (old new : Option Framed) (sent begin mid sends log first between logs : Option (List ℕ)) (calls call : Option ℕ) (control_id payload : List ℕ) (ack : Bool) (o : Outcome)
+    → Keeps sent begin → Keeps log first → Spends old begin mid first between calls call payload → (s : Sends None new mid sends between logs o) × IsOf s.sending control_id payload ack
+    → (t : Tries old new sent sends log logs o) × IsOf t.attempt.last control_id payload ack
+tries_anew old new sent begin mid sends log first between logs calls call control_id payload ack o same_sent same_log spent s = (
+  record {
+    attempt = record { last = s.0.sending; anew = true; spent = spent.spent };
+    outcome = s.0.outcome;
+    sends_block = Appends-trans sent mid sends _ _
+        (subst (λ (l : List ℕ). Appends sent mid (block_if spent.spent l)) (sym s.1.1)
+        (Appends-trans sent begin mid [] _ (none_sent sent begin same_sent) spent.sends_block))
+        s.0.sends_block;
+    was_kept = spent.was_kept;
+    is_anew = λ _. refl;
+    is_open = λ is. cc;
+    got = s.0.got;
+    logged = Appends-trans log between logs [] _ (none_sent log between (Keeps-trans log first between same_log spent.nothing_came)) s.0.logged;
+    goes = s.0.goes;
+  },
+  s.1,
+)
+
+-- nothing was sent or received after an attempt
+pub tries_told : (old new : Option Framed) (sent sends after log logs later : Option (List ℕ)) (o : Outcome) → Tries old new sent sends log logs o
+    → Keeps sends after → Keeps logs later → Tries old new sent after log later o
+tries_told old new sent sends after log logs later o t same_sent same_log =
+    record {
+      attempt = t.attempt;
+      outcome = t.outcome;
+      sends_block = Appends-kept sent sends after _ t.sends_block same_sent;
+      was_kept = t.was_kept;
+      is_anew = t.is_anew;
+      is_open = t.is_open;
+      got = t.got;
+      logged = Appends-kept log logs later _ t.logged same_log;
+      goes = t.goes;
+    }
+
+-- whether the last of these connections had an attempt
+abbrev pub last_used : Bool → List Visit → Bool
+last_used was_kept [] = was_kept
+last_used was_kept (v ∷ rest) = last_used (is_used v.attempts) rest
+
+-- one more connection
+turn_push : (was_kept : Bool) (visits : List Visit) (v : Visit) → InTurn was_kept visits → Begins (last_used was_kept visits) v.attempts → InTurn was_kept (visits ++ v ∷ [])
+turn_push was_kept [] v turn begins = (begins, tt)
+turn_push was_kept (w ∷ rest) v turn begins = (turn.0, turn_push (is_used w.attempts) rest v turn.1 begins)
+
+last_push : (was_kept : Bool) (visits : List Visit) (v : Visit) → last_used was_kept (visits ++ v ∷ []) ≡ is_used v.attempts
+last_push was_kept [] v = refl
+last_push was_kept (w ∷ rest) v = last_push (is_used w.attempts) rest v
+
+-- one more attempt over the connection that is kept
+begins_push : (was_kept : Bool) (attempts : List Attempt) (a : Attempt) → is_used attempts ≡ true → Begins was_kept attempts → IsOnward a → Begins was_kept (attempts ++ a ∷ [])
+begins_push was_kept [] a used begins onward = absurd (cc)
+begins_push was_kept (b ∷ rest) a used begins onward = (begins.0, begins.1, All-push IsOnward rest a begins.2 onward)
+
+used_push : (attempts : List Attempt) (a : Attempt) → is_used (attempts ++ a ∷ []) ≡ true
+used_push [] a = refl
+used_push (b ∷ rest) a = refl
+
+-- a connection is open after an attempt over it, and there is none before one
+abbrev pub UsedAs : Option Framed → List Attempt → Type 0
+UsedAs None attempts = attempts ≡ []
+UsedAs (Some f) attempts = is_used attempts ≡ true
 
 -- The connections so far, of which the last may be open: they had these attempts, and read what was received.
 pub record Going (framer : Option Framed) (log logs : Option (List ℕ)) (all : List Attempt) : Type 0 where
   pub visits : List Visit
   pub in_order : All ReadsInOrder visits
+  pub in_turn : InTurn false visits
   pub attempts : List Attempt
+  pub begins : Begins (last_used false visits) attempts
+  pub used : UsedAs framer attempts
   pub received : List ℕ
   pub open_one : Before framer received (read_in attempts)
   pub all_are : all ≡ attempts_in visits ++ attempts
@@ -137,24 +291,79 @@ going_start log =
     record {
       visits = [];
       in_order = All-nil ReadsInOrder;
+      in_turn = tt;
       attempts = [];
+      begins = tt;
+      used = refl;
       received = [];
       open_one = (refl, refl);
       all_are = refl;
       logged = Appends-nil log;
     }
 
+-- what was read of the last connection
+last_reads : (framer : Option Framed) (received : List ℕ) (attempts : List Attempt) → Before framer received (read_in attempts)
+    → ReadsInOrder (record { attempts = attempts; received = received })
+last_reads None received attempts b = ([], rw (b.0, b.1) refl)
+last_reads (Some f) received attempts b = (f.to_come, b.events)
+
+-- the connection that was open is not used any more
+going_close : (framer : Option Framed) (log logs : Option (List ℕ)) (all : List Attempt) → Going framer log logs all → Going None log logs all
+going_close framer log logs all g =
+    let last : Visit = record { attempts = g.attempts; received = g.received } in
+    record {
+      visits = g.visits ++ last ∷ [];
+      in_order = All-push ReadsInOrder g.visits last g.in_order (last_reads framer g.received g.attempts g.open_one);
+      in_turn = turn_push false g.visits last g.in_turn g.begins;
+      attempts = [];
+      begins = tt;
+      used = refl;
+      received = [];
+      open_one = (refl, refl);
+      all_are = g.all_are ∙ sym (flat_one (λ (v : Visit). v.attempts) g.visits last) ∙ sym (append-nil _);
+      logged = subst (λ (l : List ℕ). Appends log logs l) (sym (flat_one (λ (v : Visit). v.received) g.visits last) ∙ sym (append-nil _)) g.logged;
+    }
+
+not_true : (b : Bool) → ¬ (b ≡ true) → b ≡ false
+not_true false never = refl
+not_true true never = absurd (never refl)
+
+not_spent : (a : Attempt) → a.anew ≡ false → (a.spent ≡ true → a.anew ≡ true) → a.spent ≡ false
+not_spent a way is_anew = not_true a.spent (λ is. let anew = is_anew is in cc)
+
+-- The connections before an attempt, which goes over the last.
+record Ready (framer : Option Framed) (log logs : Option (List ℕ)) (all : List Attempt) (a : Attempt) : Type 0 where
+  pub going : Going framer log logs all
+  pub begins : Begins (last_used false going.visits) (going.attempts ++ a ∷ [])
+
+-- the connection that an attempt's last sending goes over
+going_over : (a : Attempt) (anew : Bool) (old : Option Framed) (log logs : Option (List ℕ)) (all : List Attempt) → a.anew ≡ anew
+    → (a.spent ≡ true → is_some old ≡ true) → (a.spent ≡ true → a.anew ≡ true) → (a.anew ≡ false → is_some old ≡ true) → Going old log logs all
+    → Ready (if anew then None else old) log logs all a
+unfolding going_close
+going_over a false None log logs all way was_kept is_anew is_open g = absurd (let none = is_open way in cc)
+going_over a false (Some f) log logs all way was_kept is_anew is_open g =
+    record { going = g; begins = begins_push _ g.attempts a g.used g.begins (way, not_spent a way is_anew) }
+going_over a true None log logs all way was_kept is_anew is_open g =
+    record { going = g; begins = subst (λ (l : List Attempt). Begins (last_used false g.visits) (l ++ a ∷ [])) (sym g.used) (way, λ is. absurd (let kept = was_kept is in cc), All-nil IsOnward) }
+going_over a true (Some f) log logs all way was_kept is_anew is_open g =
+    record { going = going_close (Some f) log logs all g; begins = (way, λ _. last_push false g.visits _ ∙ g.used, All-nil IsOnward) }
+
 -- one more attempt
-going_one : (old new : Option Framed) (log mid logs : Option (List ℕ)) (all : List Attempt) (a : Attempt) (got : List ℕ) → Going old log mid all → Goes old new got a.read
+going_one : (old new : Option Framed) (log mid logs : Option (List ℕ)) (all : List Attempt) (a : Attempt) (got : List ℕ) → Ready old log mid all a → Goes old new got a.last.read
     → Appends mid logs got → Going new log logs (all ++ a ∷ [])
-going_one old None log mid logs all a got g goes more =
+going_one old None log mid logs all a got ready goes more =
+    let g = ready.going in
     let last : Visit = record { attempts = g.attempts ++ a ∷ []; received = g.received ++ got } in
     let after = goes g.received (read_in g.attempts) g.open_one in
     record {
       visits = g.visits ++ last ∷ [];
       in_order = All-push ReadsInOrder g.visits last g.in_order
-          (after.0, after.1 ∙ ap (λ (l : List Event). l ++ after.0) (sym (flat_one (λ (b : Attempt). b.read) g.attempts a)));
+          (after.0, after.1 ∙ ap (λ (l : List Event). l ++ after.0) (sym (flat_one (λ (b : Attempt). b.last.read) g.attempts a)));
+      in_turn = turn_push false g.visits last g.in_turn ready.begins;
       attempts = [];
+      begins = tt;
+      used = refl;
       received = [];
       open_one = (refl, refl);
       all_are = ap (λ (l : List Attempt). l ++ a ∷ []) g.all_are ∙ append_assoc (attempts_in g.visits) g.attempts (a ∷ [])
@@ -163,22 +372,20 @@ going_one old None log mid logs all a got g goes more =
           (append_assoc (received_in g.visits) g.received got ∙ sym (flat_one (λ (v : Visit). v.received) g.visits last) ∙ sym (append-nil _))
           (Appends-trans log mid logs _ _ g.logged more);
     }
-going_one old (Some f) log mid logs all a got g goes more =
+going_one old (Some f) log mid logs all a got ready goes more =
+    let g = ready.going in
     record {
       visits = g.visits;
       in_order = g.in_order;
+      in_turn = g.in_turn;
       attempts = g.attempts ++ a ∷ [];
+      begins = ready.begins;
+      used = used_push g.attempts a;
       received = g.received ++ got;
-      open_one = subst (λ (l : List Event). Stands (g.received ++ got) l f) (sym (flat_one (λ (b : Attempt). b.read) g.attempts a)) (goes g.received (read_in g.attempts) g.open_one);
+      open_one = subst (λ (l : List Event). Stands (g.received ++ got) l f) (sym (flat_one (λ (b : Attempt). b.last.read) g.attempts a)) (goes g.received (read_in g.attempts) g.open_one);
       all_are = ap (λ (l : List Attempt). l ++ a ∷ []) g.all_are ∙ append_assoc (attempts_in g.visits) g.attempts (a ∷ []);
       logged = subst (λ (l : List ℕ). Appends log logs l) (append_assoc (received_in g.visits) g.received got) (Appends-trans log mid logs _ _ g.logged more);
     }
-
--- what was read of the last connection
-last_reads : (framer : Option Framed) (received : List ℕ) (attempts : List Attempt) → Before framer received (read_in attempts)
-    → ReadsInOrder (record { attempts = attempts; received = received })
-last_reads None received attempts b = ([], rw (b.0, b.1) refl)
-last_reads (Some f) received attempts b = (f.to_come, b.events)
 
 -- From the start of delivering on: the attempts are counted, they are the takes of the station, and they sent what was sent.
 pub record SoFar (framer : Option Framed) (begin now log logs : Option (List ℕ)) (first made : Made) (turns : ℕ) (r : DeliverReport) : Type 0 where
@@ -216,7 +423,7 @@ counted_sum Delivered r is = omega (arith, is)
 counted_sum Again r is = omega (arith, is)
 counted_sum Rejected r is = omega (arith, is)
 
-counted_taken : (o : Outcome) (r : DeliverReport) → (counted o r).taken ≡ r.taken + 1
+pub counted_taken : (o : Outcome) (r : DeliverReport) → (counted o r).taken ≡ r.taken + 1
 counted_taken Delivered r = refl
 counted_taken Again r = refl
 counted_taken Rejected r = refl
@@ -228,7 +435,8 @@ pub attempted : (old new : Option Framed) (begin mid now log between logs : Opti
 attempted old new begin mid now log between logs first made more turns r s o f one takes settled is =
     subst (λ (t : DeliverReport). SoFar new begin now log logs first more (turns + 1) t) (sym is) (record {
       attempts = f.attempts ++ one.attempt ∷ [];
-      going = going_one old new log between logs f.attempts one.attempt one.got f.going one.goes one.logged;
+      going = going_one (way_of one.attempt old) new log between logs f.attempts one.attempt one.got
+          (going_over one.attempt one.attempt.anew old log between f.attempts refl one.was_kept one.is_anew one.is_open f.going) one.goes one.logged;
       tells = tells_more f.attempts r one.attempt o one.outcome f.tells;
       sent = subst (λ (l : List ℕ). Appends begin now l) (sym (flat_one sent_by f.attempts one.attempt)) (Appends-trans begin mid now _ _ f.sent one.sends_block);
       sum = counted_sum o r f.sum;
@@ -250,7 +458,10 @@ refused old new begin mid now log between logs first made more turns r s f same 
       going = record {
         visits = f.going.visits;
         in_order = f.going.in_order;
+        in_turn = f.going.in_turn;
         attempts = f.going.attempts;
+        begins = f.going.begins;
+        used = f.going.used;
         received = f.going.received;
         open_one = f.going.open_one;
         all_are = f.going.all_are;
@@ -276,6 +487,7 @@ delivers framer begin mid now log between logs first made turns r s f same_sent 
     record {
       visits = g.visits ++ last ∷ [];
       in_order = All-push ReadsInOrder g.visits last g.in_order (last_reads framer g.received g.attempts g.open_one);
+      in_turn = turn_push false g.visits last g.in_turn g.begins;
       tells = subst (λ (l : List Attempt). Tells l s) all
           (record { taken = taken ∙ f.tells.taken; delivered = delivered ∙ f.tells.delivered; again = again ∙ f.tells.again; rejected = rejected ∙ f.tells.rejected });
       sends_blocks = subst (λ (l : List Attempt). Appends begin now (flat_map sent_by l)) all (Appends-kept begin mid now _ f.sent same_sent);

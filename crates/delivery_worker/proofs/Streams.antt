@@ -5,12 +5,12 @@ use Rattle.std.proofs.KnownBytes.{Appends-nil, Appends-trans}
 use Rattle.std.proofs.lemmas.List.{map-append}
 use Rattle.hl7_head.specs.Msa.{MsaFields}
 use Rattle.mllp_frame.specs.Event.{Event}
-use Rattle.mllp_frame.specs.Framed.{Framed, fed}
+use Rattle.mllp_frame.specs.Framed.{Framed, blank, fed}
 use Rattle.mllp_frame.specs.Framing.{blocks, open_end}
 use Rattle.conn_worker.proofs.Pieces.{StreamLaws}
 use Rattle.conn_worker.proofs.Standing.{first_event}
 use Rattle.delivery_worker.specs.Answers.{answer_in}
-use Rattle.delivery_worker.specs.Stream.{Goes, Opens, ReadsFront, ReadsOn, Receives, Stands}
+use Rattle.delivery_worker.specs.Stream.{Goes, ReadsFront, ReadsOn, Receives}
 
 -- no event was read yet
 pub reads_none : (f : Framed) (had : List (Option MsaFields)) → ReadsOn f f had had
@@ -143,12 +143,11 @@ goes_nowhere None received passed b = ([], rw (b.0, b.1) refl)
 goes_nowhere (Some f) received passed b =
     (f.to_come, ap blocks (append-nil received) ∙ b.events ∙ ap (λ (l : List Event). l ++ f.to_come) (sym (append-nil passed)))
 
--- from the connection that was open, or from a new one
-pub goes_opened : (old : Option Framed) (f : Framed) (new : Option Framed) (got : List ℕ) (read : List Event) → Opens old f → Goes (Some f) new got read → Goes old new got read
-goes_opened None f new got read is goes received passed b =
+-- from a new connection
+pub goes_opened : (f : Framed) (new : Option Framed) (got : List ℕ) (read : List Event) → f ≡ blank → Goes (Some f) new got read → Goes None new got read
+goes_opened f new got read is goes received passed b =
     goes received passed (record { events = rw (b.0, b.1, is) refl; left_open = rw (is, b.0) refl })
-goes_opened (Some g) f new got read is goes received passed b = goes received passed (subst (λ (h : Framed). Stands received passed h) (sym is) b)
 
 -- the connection stays open, and nothing came
-pub goes_stays : (old : Option Framed) (f : Framed) → Opens old f → Goes old (Some f) [] []
-goes_stays old f is = goes_opened old f (Some f) [] [] is (stays f)
+pub goes_stays : (f : Framed) → Goes (Some f) (Some f) [] []
+goes_stays f = stays f

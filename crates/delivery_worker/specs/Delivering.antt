@@ -1,19 +1,20 @@
 -- What an attempt to deliver a message comes to, and what a report tells of attempts.
-use Rattle.std.specs.Prelude.{◌≡◌, ℕ, ◌+◌, Bool, true, false, if◌then◌else◌, List, [], Option, All, length, count_by, flat_map, map}
-use Rattle.std.specs.Io.KnownBytes.{Appends}
+use Rattle.std.specs.Prelude.{◌≡◌, ℕ, ◌+◌, Bool, true, false, if◌then◌else◌, List, [], ◌∷◌, ◌++◌, ⊤, Option, None, All, is_some, length, count_by, flat_map, map}
+use Rattle.std.specs.Io.KnownBytes.{Appends, Keeps}
 use Rattle.dest_queue.specs.declared.Outcome.{Outcome}
 use Rattle.dest_queue.specs.declared.Outcome.TheVariants.{Delivered, Again, Rejected}
 use Rattle.mllp_frame.specs.Event.{Event}
 use Rattle.mllp_frame.specs.Framed.{Framed}
 use Rattle.mllp_frame.specs.Framing.{block_bytes}
 use Rattle.delivery_worker.specs.Answers.{answer_in, outcome_of}
+use Rattle.delivery_worker.specs.Calls.{CallsMore}
 use Rattle.delivery_worker.specs.Stream.{Goes, IsFrontOf}
 use Rattle.delivery_worker.specs.declared.report.DeliverReport.{DeliverReport}
 use Rattle.delivery_worker.specs.declared.report.DeliverEnd.TheVariants.{TurnsSpent}
 
--- an attempt to deliver a message: its raw control id (MSH-10), the text to send, whether the destination acknowledges,
--- whether the text was sent, and the events that were read afterwards
-pub record Attempt : Type 0 where
+-- the sending of a message over one connection: its raw control id (MSH-10), the text to send, whether the destination
+-- acknowledges, whether the text was sent, and the events that were read afterwards
+pub record Sending : Type 0 where
   pub control_id : List ℕ
   pub payload : List ℕ
   pub ack : Bool
@@ -21,16 +22,43 @@ pub record Attempt : Type 0 where
   pub read : List Event
 
 -- what is not sent is sent again; what is sent is delivered, and where the destination acknowledges, the answers decide
-abbrev pub attempt_outcome : Attempt → Outcome
-attempt_outcome a = if a.sent then (if a.ack then outcome_of a.control_id (map answer_in a.read) else Delivered) else Again
+abbrev pub sending_outcome : Sending → Outcome
+sending_outcome s = if s.sent then (if s.ack then outcome_of s.control_id (map answer_in s.read) else Delivered) else Again
 
--- the bytes that an attempt sent: one block, or none
+-- the bytes that a sending sent: one block, or none
+abbrev pub sent_in : Sending → List ℕ
+sent_in s = if s.sent then block_bytes s.payload else []
+
+-- an attempt to deliver a message: its last sending, whether that went over a new connection, and whether the block went
+-- over the connection that was kept before, of which nothing came then
+pub record Attempt : Type 0 where
+  pub last : Sending
+  pub anew : Bool
+  pub spent : Bool
+
+-- the last sending decides
+abbrev pub attempt_outcome : Attempt → Outcome
+attempt_outcome a = sending_outcome a.last
+
+-- the block that went over a connection of which nothing came, or none
+abbrev pub block_if : Bool → List ℕ → List ℕ
+block_if spent payload = if spent then block_bytes payload else []
+
+-- the bytes that an attempt sent: none, one block, or the same block twice
 abbrev pub sent_by : Attempt → List ℕ
-sent_by a = if a.sent then block_bytes a.payload else []
+sent_by a = block_if a.spent a.last.payload ++ sent_in a.last
+
+-- An attempt that was made over the connection that was kept, and sent its block once at most.
+abbrev pub IsOnward : Attempt → Type 0
+IsOnward a = (a.anew ≡ false) × (a.spent ≡ false)
 
 -- the events that attempts read, one after another
 abbrev pub read_in : List Attempt → List Event
-read_in attempts = flat_map (λ a. a.read) attempts
+read_in attempts = flat_map (λ a. a.last.read) attempts
+
+-- the connection that the last sending went over, by that which was open before: a new one has no framer yet
+abbrev pub way_of : Attempt → Option Framed → Option Framed
+way_of a old = if a.anew then None else old
 
 -- what went over one connection: the attempts, and the bytes that were received
 pub record Visit : Type 0 where
@@ -41,6 +69,22 @@ pub record Visit : Type 0 where
 abbrev pub ReadsInOrder : Visit → Type 0
 ReadsInOrder v = IsFrontOf v.received (read_in v.attempts)
 
+-- The first of these attempts opened their connection, and the others went over it as it was kept. Where the first had sent
+-- its block before, it did so over a connection that was kept until then.
+abbrev pub Begins : Bool → List Attempt → Type 0
+Begins was_kept [] = ⊤
+Begins was_kept (a ∷ rest) = (a.anew ≡ true) × (a.spent ≡ true → was_kept ≡ true) × All IsOnward rest
+
+-- whether there was an attempt
+abbrev pub is_used : List Attempt → Bool
+is_used [] = false
+is_used (a ∷ rest) = true
+
+-- Each connection was opened by its first attempt, and the connection that was kept until then is the one before.
+abbrev pub InTurn : Bool → List Visit → Type 0
+InTurn was_kept [] = ⊤
+InTurn was_kept (v ∷ rest) = Begins was_kept v.attempts × InTurn (is_used v.attempts) rest
+
 -- all attempts
 abbrev pub attempts_in : List Visit → List Attempt
 attempts_in visits = flat_map (λ v. v.attempts) visits
@@ -49,14 +93,40 @@ attempts_in visits = flat_map (λ v. v.attempts) visits
 abbrev pub received_in : List Visit → List ℕ
 received_in visits = flat_map (λ v. v.received) visits
 
--- One attempt, over the connection that was open, a new one, or none: what it came to, sent, received and read.
+-- One sending, over the connection that was open, a new one, or none: what it came to, sent, received and read.
+pub record Sends (old new : Option Framed) (sent sends log logs : Option (List ℕ)) (o : Outcome) : Type 0 where
+  pub sending : Sending
+  pub outcome : sending_outcome sending ≡ o
+  pub sends_block : Appends sent sends (sent_in sending)
+  pub got : List ℕ
+  pub logged : Appends log logs got
+  pub goes : Goes old new got sending.read
+
+-- A sending of this message.
+abbrev pub IsOf : Sending → List ℕ → List ℕ → Bool → Type 0
+IsOf s control_id payload ack = (s.control_id ≡ control_id) × (s.payload ≡ payload) × (s.ack ≡ ack)
+
+-- The connection that was open is of no use any more, or there was none: the text may have gone over it, and then bytes were
+-- asked for once, but not one came.
+pub record Spends (old : Option Framed) (sent sends log logs : Option (List ℕ)) (calls call : Option ℕ) (payload : List ℕ) : Type 0 where
+  pub spent : Bool
+  pub sends_block : Appends sent sends (block_if spent payload)
+  pub nothing_came : Keeps log logs
+  pub asked : spent ≡ true → CallsMore calls call 1
+  pub was_kept : spent ≡ true → is_some old ≡ true
+
+-- One attempt, over the connection that was open, a new one, none, or first the one that was open and then, since not a byte
+-- came of it, a new one: what it came to, sent, received and read.
 pub record Tries (old new : Option Framed) (sent sends log logs : Option (List ℕ)) (o : Outcome) : Type 0 where
   pub attempt : Attempt
   pub outcome : attempt_outcome attempt ≡ o
   pub sends_block : Appends sent sends (sent_by attempt)
+  pub was_kept : attempt.spent ≡ true → is_some old ≡ true
+  pub is_anew : attempt.spent ≡ true → attempt.anew ≡ true
+  pub is_open : attempt.anew ≡ false → is_some old ≡ true
   pub got : List ℕ
   pub logged : Appends log logs got
-  pub goes : Goes old new got attempt.read
+  pub goes : Goes (way_of attempt old) new got attempt.last.read
 
 abbrev pub is_delivered : Outcome → Bool
 is_delivered Delivered = true
@@ -82,6 +152,7 @@ pub record Tells (attempts : List Attempt) (r : DeliverReport) : Type 0 where
 pub record Delivers (sent sends log logs : Option (List ℕ)) (r : DeliverReport) : Type 0 where
   pub visits : List Visit
   pub in_order : All ReadsInOrder visits
+  pub in_turn : InTurn false visits
   pub tells : Tells (attempts_in visits) r
   pub sends_blocks : Appends sent sends (flat_map sent_by (attempts_in visits))
   pub logged : Appends log logs (received_in visits)

@@ -3,7 +3,7 @@ use Rattle.std.specs.Prelude.{◌≡◌, ℕ, List, [], ◌++◌, map, Option, N
 use Rattle.std.specs.Io.KnownBytes.{Appends}
 use Rattle.hl7_head.specs.Msa.{MsaFields}
 use Rattle.mllp_frame.specs.Event.{Event}
-use Rattle.mllp_frame.specs.Framed.{Framed, blank}
+use Rattle.mllp_frame.specs.Framed.{Framed}
 use Rattle.mllp_frame.specs.Framing.{blocks, open_end}
 use Rattle.delivery_worker.specs.Answers.{answer_in}
 
@@ -29,11 +29,6 @@ After (Some f) received passed = Stands received passed f
 -- From one state of a connection to another these bytes were received, and these events read.
 abbrev pub Goes : Option Framed → Option Framed → List ℕ → List Event → Type 0
 Goes old new got read = (received : List ℕ) (passed : List Event) → Before old received passed → After new (received ++ got) (passed ++ read)
-
--- the framer of the open connection, or of a new one
-abbrev pub Opens : Option Framed → Framed → Type 0
-Opens None f = f ≡ blank
-Opens (Some g) f = f ≡ g
 
 -- The answers to a message were read, the first of the events to come, and nothing of the stream is lost.
 pub record ReadsOn (old new : Framed) (had has : List (Option MsaFields)) : Type 0 where

@@ -5,7 +5,20 @@ ghost use Rattle.delivery_worker.specs.Answers.{answers_to, code_outcome, outcom
 
 use dest_queue::Outcome;
 use fixed_numbers::MAX_ANSWERS;
-use hl7_head::Msa;
+use hl7_head::{AckCode, Msa};
+
+/// What the answers after a send say of the message. It is for the log: [`outcome_of`] decides.
+#[derive(Clone, Copy, Debug, PartialEq, Eq)]
+pub enum Reply {
+    /// Nothing was read.
+    Nothing,
+    /// What was read is no acknowledgment.
+    NoAcknowledgment,
+    /// All acknowledgments name other messages.
+    OfOthers,
+    /// The code of the first acknowledgment of the message, MSA-1; none where table 0008 has no such code.
+    Code(Option<AckCode>),
+}
 
 /// What an acknowledgment code, MSA-1, comes to (table 0008).
 fn code_outcome(code: &[u8]) -> Outcome
@@ -42,5 +55,29 @@ pub fn outcome_of(control_id: &[u8], answers: &[Option<Msa>]) -> Outcome
     match acknowledgment(control_id, read) {
         Some(msa) => code_outcome(&msa.code),
         None => Outcome::Again,
+    }
+}
+
+/// The code of table 0008 that MSA-1 bears.
+fn known_code(code: &[u8]) -> Option<AckCode> {
+    match code {
+        b"AA" => Some(AckCode::AA),
+        b"AE" => Some(AckCode::AE),
+        b"AR" => Some(AckCode::AR),
+        b"CA" => Some(AckCode::CA),
+        b"CE" => Some(AckCode::CE),
+        b"CR" => Some(AckCode::CR),
+        _ => None,
+    }
+}
+
+/// What the answers that [`outcome_of`] looks at say of the message with this raw control id.
+pub fn reply_to(control_id: &[u8], answers: &[Option<Msa>]) -> Reply {
+    let read = &answers[..MAX_ANSWERS.min(answers.len())];
+    match acknowledgment(control_id, read) {
+        Some(msa) => Reply::Code(known_code(&msa.code)),
+        None if read.iter().any(|answer| answer.is_some()) => Reply::OfOthers,
+        None if read.is_empty() => Reply::Nothing,
+        None => Reply::NoAcknowledgment,
     }
 }

@@ -1,16 +1,19 @@
 //! One attempt after another over a link's connection.
 
-ghost use Rattle.std.specs.Prelude.{◌≡◌, ◌↔◌, ℕ, List, [], false, None, Some, IfOk, IsFalse, IsTrue, OnOk, OnErr};
+ghost use Rattle.std.specs.Prelude.{◌≡◌, ◌↔◌, ◌⊎◌, ℕ, List, [], false, true, None, Some, is_some, IfOk, IfErr, IsFalse, IsTrue, OnOk, OnErr, ◌≤◌};
 ghost use Rattle.std.specs.Option.{option_map_or};
 ghost use Rattle.std.specs.Io.KnownBytes.{Appends, Keeps};
+ghost use Rattle.dest_queue.specs.declared.Outcome.TheVariants.{Again};
+ghost use Rattle.fixed_numbers.specs.declared.serving.TheConstants.{RECEIVES_MAX};
 ghost use Rattle.mllp_frame.specs.Event.{event_of};
 ghost use Rattle.mllp_frame.specs.Framing.{IsData, block_bytes};
 ghost use Rattle.mllp_frame.specs.Framed.{fed};
 ghost use Rattle.delivery_worker.specs.Answers.{answer_in, answers_to};
-ghost use Rattle.delivery_worker.specs.Stream.{Opens, ReadsFront, ReadsOn, Receives};
-ghost use Rattle.delivery_worker.specs.Delivering.{Tries};
+ghost use Rattle.delivery_worker.specs.Calls.{CallsMore, CallsUpTo};
+ghost use Rattle.delivery_worker.specs.Stream.{ReadsFront, ReadsOn, Receives};
+ghost use Rattle.delivery_worker.specs.Delivering.{IsOf, Sends, Spends, Tries};
 
-use crate::answers::outcome_of;
+use crate::answers::{Reply, outcome_of, reply_to};
 use crate::link::{Link, LinkFault};
 use book_core::Job;
 use dest_queue::Outcome;
@@ -23,20 +26,28 @@ use std::alloc::{AllocError, Global};
 /// The most bytes that one receive asks for.
 const PIECE: usize = 4_096;
 
-/// A connection can't be used any more: the link failed, its input is at its end, too much came with no answer in it, or
-/// memory was refused.
-#[derive(Drop)]
-struct Lost;
-
-impl From<LinkFault> for Lost {
-    fn from(_: LinkFault) -> Self {
-        Lost
-    }
+/// A connection can't be used any more.
+#[derive(Clone, Copy)]
+enum Lost {
+    /// Its peer had ended it before a byte of an answer came.
+    Unanswered,
+    /// The link failed otherwise, its input is at its end, too much came with no answer in it, or memory was refused.
+    Failed,
 }
 
-impl From<AllocError> for Lost {
-    fn from(_: AllocError) -> Self {
-        Lost
+/// Of a connection nothing came any more, since its peer had ended it.
+#[derive(Clone, Copy)]
+struct Unanswered {
+    /// How often bytes were asked for after the send: once, where it went well.
+    receives: u32,
+}
+
+/// How a connection was lost at the link's last call.
+fn lost_by<L: Link>(link: &L) -> Lost {
+    if link.was_ended() {
+        Lost::Unanswered
+    } else {
+        Lost::Failed
     }
 }
 
@@ -47,6 +58,8 @@ pub struct Connection {
     alloc: Global,
     /// What came by the open connection; none while there is none.
     framer: Option<Framer>,
+    /// What the answers to the last sending said.
+    reply: Reply,
 }
 
 /// Whether a text can be framed: it holds neither of the two framing bytes.
@@ -115,49 +128,79 @@ fn receive_piece<L: Link>(link: &mut L, framer: &mut Framer, buffer: &mut [u8]) 
     ensures ok { OnOk result (
         (piece : List ℕ) × (framer.new ≡ fed framer.old piece) × Appends (L.received link.old) (L.received link.new) piece) }
     ensures lost { OnErr result ((piece : List ℕ) × Appends (L.received link.old) (L.received link.new) piece) }
+    ensures unanswered { IfErr result (λ lost. lost ≡ Lost.Unanswered → Keeps (L.received link.old) (L.received link.new)) }
     ensures kept { Keeps (L.sent link.old) (L.sent link.new) }
+    ensures receives { CallsMore (L.receives link.old) (L.receives link.new) 1 }
 {
     let len = match link.receive(buffer) {
         Ok(len) => len,
-        Err(LinkFault) => return Err(Lost),
+        Err(LinkFault) => return Err(lost_by(link)),
     };
     if len == 0 {
-        return Err(Lost);
+        return Err(lost_by(link));
     }
     match framer.feed(&buffer[..len]) {
         Ok(()) => Ok(()),
-        Err(_) => Err(Lost),
+        Err(_) => Err(Lost::Failed),
     }
 }
 
-/// Receives until the answers decide, or nine blocks have come.
+/// Receives until the answers decide, or nine blocks have come, in so many receives at most.
 fn receive_answers<L: Link>(
     alloc: Global,
     link: &mut L,
     framer: &mut Framer,
     control_id: &[u8],
     answers: &mut Vec<Option<Msa>>,
+    limit: u32,
 ) -> Result<(), Lost>
     ensures ok { OnOk result (Receives framer.old (Some framer.new) (L.received link.old) (L.received link.new) answers.old.items answers.new.items) }
-    ensures lost { OnErr result (Receives framer.old None (L.received link.old) (L.received link.new) answers.old.items answers.new.items) }
+    ensures failed { IfErr result (λ lost.
+        lost ≡ Lost.Failed → Receives framer.old None (L.received link.old) (L.received link.new) answers.old.items answers.new.items) }
+    ensures unanswered { IfErr result (λ lost. lost ≡ Lost.Unanswered
+        → Keeps (L.received link.old) (L.received link.new) × CallsMore (L.receives link.old) (L.receives link.new) 1) }
     ensures kept { Keeps (L.sent link.old) (L.sent link.new) }
+    ensures receives { CallsUpTo (L.receives link.old) (L.receives link.new) limit }
 {
     longer_streams();
     let mut buffer = [0; PIECE];
-    'receives: for _ in 0..RECEIVES_MAX {
+    'receives: for n in 0..limit {
         match take_answers(alloc, framer, control_id, answers) {
             Ok(true) => return Ok(()),
             Ok(false) => {}
-            Err(_) => return Err(Lost),
+            Err(_) => return Err(Lost::Failed),
         }
         match receive_piece(link, framer, &mut buffer) {
             Ok(()) => {}
-            Err(Lost) => return Err(Lost),
+            Err(Lost::Unanswered) if n == 0 => return Err(Lost::Unanswered),
+            Err(_) => return Err(Lost::Failed),
         }
     }
     match take_answers(alloc, framer, control_id, answers) {
         Ok(true) => Ok(()),
-        _ => Err(Lost),
+        _ => Err(Lost::Failed),
+    }
+}
+
+/// Sends a text as one block over the open connection.
+fn send_block<L: Link>(alloc: Global, link: &mut L, payload: &[u8]) -> Result<(), Lost>
+    ensures sent { OnOk result (Appends (L.sent link.old) (L.sent link.new) (block_bytes payload.now)) }
+    ensures unsent { OnErr result (Keeps (L.sent link.old) (L.sent link.new)) }
+    ensures received { Keeps (L.received link.old) (L.received link.new) }
+    ensures receives { CallsMore (L.receives link.old) (L.receives link.new) 0 }
+{
+    // A shared book hands out what its type says and no more, so this is looked at here.
+    if !is_data(payload) {
+        return Err(Lost::Failed);
+    }
+    let mut block = Vec::new(alloc);
+    match write_block(payload, &mut block) {
+        Ok(()) => {}
+        Err(_) => return Err(Lost::Failed),
+    }
+    match link.send(&block) {
+        Ok(()) => Ok(()),
+        Err(LinkFault) => Err(lost_by(link)),
     }
 }
 
@@ -169,55 +212,130 @@ impl Connection {
         Connection {
             alloc,
             framer: None,
+            reply: Reply::Nothing,
         }
     }
 
-    /// Sends a text as one block, over a new connection where none is open. The framer of the connection is handed out: it
-    /// is put back where the connection can still be used after the attempt.
-    fn send<L: Link>(&mut self, link: &mut L, payload: &[u8]) -> Result<Framer, Lost>
-        ensures framer { IfOk result (λ framer. Opens self.old.framer framer) }
-        ensures none { self.new.framer ≡ None }
-        ensures sent { OnOk result (Appends (L.sent link.old) (L.sent link.new) (block_bytes payload.now)) }
-        ensures unsent { OnErr result (Keeps (L.sent link.old) (L.sent link.new)) }
-        ensures received { Keeps (L.received link.old) (L.received link.new) }
-    {
-        let framer = match self.framer.take() {
-            Some(framer) => framer,
-            None => {
-                link.connect()?;
-                Framer::new(self.alloc)
-            }
-        };
-        // A shared book hands out what its type says and no more, so this is looked at here.
-        if !is_data(payload) {
-            return Err(Lost);
-        }
-        let mut block = Vec::new(self.alloc);
-        write_block(payload, &mut block)?;
-        link.send(&block)?;
-        Ok(framer)
+    /// What the answers to the last sending of the last attempt said of its message.
+    pub fn reply(&self) -> Reply {
+        self.reply
     }
 
-    /// Sends a message, and reads the answers where the destination acknowledges. After a fault of the link, the end of its
-    /// input, too many receives or want of memory the next attempt connects anew.
-    pub fn attempt<L: Link>(&mut self, link: &mut L, job: &Job) -> Outcome
-        ensures { (t : Tries self.old.framer self.new.framer (L.sent link.old) (L.sent link.new) (L.received link.old) (L.received link.new) result)
-            × (t.attempt.control_id ≡ job.now.control_id) × (t.attempt.payload ≡ job.now.payload) × (t.attempt.ack ≡ job.now.ack) }
+    /// Sends a message over the open connection, whose framer this is, and reads the answers where the destination
+    /// acknowledges, in so many receives at most. The framer is put back where the connection can still be used.
+    ///
+    /// # Errors
+    ///
+    /// Where the connection had been ended, and nothing came of it after the message.
+    fn exchange<L: Link>(
+        &mut self,
+        link: &mut L,
+        framer: Framer,
+        job: &Job,
+        limit: u32,
+    ) -> Result<Outcome, Unanswered>
+        requires none { self.old.framer ≡ None }
+        ensures ok { IfOk result (λ o.
+            (s : Sends (Some framer) self.new.framer (L.sent link.old) (L.sent link.new) (L.received link.old) (L.received link.new) o)
+            × IsOf s.sending job.now.control_id job.now.payload job.now.ack) }
+        ensures err { OnErr result (
+            (s : Sends (Some framer) None (L.sent link.old) (L.sent link.new) (L.received link.old) (L.received link.new) Again)
+            × IsOf s.sending job.now.control_id job.now.payload job.now.ack) }
+        ensures unanswered { OnErr result (Keeps (L.received link.old) (L.received link.new) × (self.new.framer ≡ None)) }
+
+        // Where the text was sent, bytes were asked for once.
+        ensures asked { IfErr result (λ lost. (lost.receives ≤ 1) × CallsMore (L.receives link.old) (L.receives link.new) lost.receives) }
+        ensures listened { IfErr result (λ lost. Keeps (L.sent link.old) (L.sent link.new) ⊎ (lost.receives ≡ 1)) }
+        ensures receives { CallsUpTo (L.receives link.old) (L.receives link.new) limit }
     {
-        let mut framer = match self.send(link, job.payload.as_slice()) {
-            Ok(framer) => framer,
-            Err(Lost) => return Outcome::Again,
-        };
+        match send_block(self.alloc, link, job.payload.as_slice()) {
+            Ok(()) => {}
+            Err(Lost::Unanswered) => return Err(Unanswered { receives: 0 }),
+            Err(Lost::Failed) => return Ok(Outcome::Again),
+        }
+        let mut framer = framer;
         if !job.ack {
             self.framer = Some(framer);
-            return Outcome::Delivered;
+            return Ok(Outcome::Delivered);
         }
         let control_id = job.control_id.as_slice();
         let mut answers = Vec::new(self.alloc);
-        match receive_answers(self.alloc, link, &mut framer, control_id, &mut answers) {
+        match receive_answers(
+            self.alloc,
+            link,
+            &mut framer,
+            control_id,
+            &mut answers,
+            limit,
+        ) {
             Ok(()) => self.framer = Some(framer),
-            Err(Lost) => {}
+            Err(Lost::Failed) => {}
+            Err(Lost::Unanswered) => return Err(Unanswered { receives: 1 }),
         }
-        outcome_of(control_id, &answers)
+        self.reply = reply_to(control_id, &answers);
+        Ok(outcome_of(control_id, &answers))
+    }
+
+    /// Sends a message over the connection that is open, and is still so by a look at it.
+    ///
+    /// # Errors
+    ///
+    /// Where it is not, or was ended before a byte came.
+    fn exchange_kept<L: Link>(&mut self, link: &mut L, job: &Job) -> Result<Outcome, Unanswered>
+        ensures ok { IfOk result (λ o.
+            (s : Sends self.old.framer self.new.framer (L.sent link.old) (L.sent link.new) (L.received link.old) (L.received link.new) o)
+            × IsOf s.sending job.now.control_id job.now.payload job.now.ack) }
+        ensures open { OnOk result (is_some self.old.framer ≡ true) }
+        ensures err { OnErr result (
+            Spends self.old.framer (L.sent link.old) (L.sent link.new) (L.received link.old) (L.received link.new)
+            (L.receives link.old) (L.receives link.new) job.now.payload) }
+        ensures over { OnErr result (self.new.framer ≡ None) }
+        ensures asked { IfErr result (λ lost. (lost.receives ≤ 1) × CallsUpTo (L.receives link.old) (L.receives link.new) lost.receives) }
+        ensures receives { CallsUpTo (L.receives link.old) (L.receives link.new) RECEIVES_MAX }
+    {
+        let framer = match self.framer.take() {
+            Some(framer) => framer,
+            None => return Err(Unanswered { receives: 0 }),
+        };
+        if !link.is_open() {
+            return Err(Unanswered { receives: 0 });
+        }
+        match self.exchange(link, framer, job, RECEIVES_MAX) {
+            Ok(outcome) => Ok(outcome),
+            Err(lost) => Err(lost),
+        }
+    }
+
+    /// Sends a message over a new connection.
+    fn exchange_anew<L: Link>(&mut self, link: &mut L, job: &Job, limit: u32) -> Outcome
+        requires none { self.old.framer ≡ None }
+        ensures sends { (s : Sends None self.new.framer (L.sent link.old) (L.sent link.new) (L.received link.old) (L.received link.new) result)
+            × IsOf s.sending job.now.control_id job.now.payload job.now.ack }
+        ensures receives { CallsUpTo (L.receives link.old) (L.receives link.new) limit }
+    {
+        match link.connect() {
+            Ok(()) => {}
+            Err(LinkFault) => return Outcome::Again,
+        }
+        match self.exchange(link, Framer::new(self.alloc), job, limit) {
+            Ok(outcome) => outcome,
+            Err(_) => Outcome::Again,
+        }
+    }
+
+    /// Sends a message, and reads the answers where the destination acknowledges. Where the connection that was kept has
+    /// ended before a byte of an answer came, the message is sent over a new one, in the same attempt. After a fault of the
+    /// link, the end of its input, too many receives or want of memory the next attempt connects anew.
+    pub fn attempt<L: Link>(&mut self, link: &mut L, job: &Job) -> Outcome
+        ensures tries { (t : Tries self.old.framer self.new.framer (L.sent link.old) (L.sent link.new) (L.received link.old) (L.received link.new) result)
+            × IsOf t.attempt.last job.now.control_id job.now.payload job.now.ack }
+        ensures receives { CallsUpTo (L.receives link.old) (L.receives link.new) RECEIVES_MAX }
+    {
+        link.begin();
+        self.reply = Reply::Nothing;
+        match self.exchange_kept(link, job) {
+            Ok(outcome) => outcome,
+            Err(lost) => self.exchange_anew(link, job, RECEIVES_MAX - lost.receives),
+        }
     }
 }

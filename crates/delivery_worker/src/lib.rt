@@ -5,10 +5,12 @@ mod answers;
 mod connection;
 mod link;
 mod report;
+mod socket;
 mod tcp_link;
+mod words;
 mod worker;
 
-pub use answers::outcome_of;
+pub use answers::{Reply, outcome_of};
 pub use link::{Link, LinkFault};
 pub use report::{DeliverEnd, DeliverReport};
 pub use tcp_link::TcpLink;

@@ -1,5 +1,8 @@
 //! What messages are sent by.
 
+use crate::answers::Reply;
+use book_core::Job;
+use dest_queue::{Outcome, SlotState};
 use thiserror::Error;
 
 /// A link failed: no connection could be opened, or the open one can't be used any more.
@@ -13,6 +16,7 @@ pub trait Link {
     ghost use Rattle.std.specs.Result.{is_err};
     ghost use Rattle.std.specs.Io.KnownBytes.{Appends, Keeps};
     ghost use Rattle.conn_worker.specs.Faults.{with_fault};
+    ghost use Rattle.delivery_worker.specs.Calls.{CallsMore};
 
     /// How many calls failed so far. The number stays at its greatest value.
     ghost fault_count: { Self → ℕ };
@@ -23,6 +27,55 @@ pub trait Link {
     /// The bytes that were received, over all connections, one behind the other, where the link tells them.
     ghost received: { Self → Option (List ℕ) } = { λ _. None };
 
+    /// How many times bytes were asked for, over all connections, where the link tells it.
+    ghost receives: { Self → Option ℕ } = { λ _. None };
+
+    /// Begins an attempt: what is asked of the link until the next call of this is to come to an end in time.
+    fn begin(&mut self)
+        ensures faults { fault_count self.new ≡ fault_count self.old }
+        ensures sent { Keeps (sent self.old) (sent self.new) }
+        ensures received { Keeps (received self.old) (received self.new) }
+        ensures receives { CallsMore (receives self.old) (receives self.new) 0 }
+    {}
+
+    /// Looks, without waiting, whether the connection can still be used, as far as is known: its peer has not ended it.
+    fn is_open(&mut self) -> bool
+        ensures faults { fault_count self.new ≡ fault_count self.old }
+        ensures sent { Keeps (sent self.old) (sent self.new) }
+        ensures received { Keeps (received self.old) (received self.new) }
+        ensures receives { CallsMore (receives self.old) (receives self.new) 0 }
+    {
+        true
+    }
+
+    /// Whether the last call met the end of the connection, by its peer. A time that was too long is no such end.
+    fn was_ended(&self) -> bool {
+        false
+    }
+
+    /// Whether a message whose attempt failed waits before it is sent again: the destination's interval is not zero.
+    fn has_interval(&self) -> bool {
+        true
+    }
+
+    /// Is told what an attempt came to, once it is settled: what the answers said, the outcome, and the state of the message
+    /// at its destination, none where the settlement was refused.
+    fn settled(&mut self, _job: &Job, _reply: Reply, _outcome: Outcome, _state: Option<SlotState>)
+        ensures faults { fault_count self.new ≡ fault_count self.old }
+        ensures sent { Keeps (sent self.old) (sent self.new) }
+        ensures received { Keeps (received self.old) (received self.new) }
+        ensures receives { CallsMore (receives self.old) (receives self.new) 0 }
+    {}
+
+    /// Ends the connection in order, if there is one: nothing more is sent, and what still comes is dropped, up to the end
+    /// of the input and for a bounded time.
+    fn finish(&mut self)
+        ensures faults { fault_count self.new ≡ fault_count self.old }
+        ensures sent { Keeps (sent self.old) (sent self.new) }
+        ensures received { Keeps (received self.old) (received self.new) }
+        ensures receives { CallsMore (receives self.old) (receives self.new) 0 }
+    {}
+
     /// Opens a new connection, and drops what was left of an earlier one.
     ///
     /// # Errors
@@ -31,7 +84,8 @@ pub trait Link {
     fn connect(&mut self) -> Result<(), LinkFault>
         ensures faults { fault_count self.new ≡ with_fault (is_err result) (fault_count self.old) }
         ensures sent { Keeps (sent self.old) (sent self.new) }
-        ensures received { Keeps (received self.old) (received self.new) };
+        ensures received { Keeps (received self.old) (received self.new) }
+        ensures receives { CallsMore (receives self.old) (receives self.new) 0 };
 
     /// Writes all of these bytes and flushes them.
     ///
@@ -42,7 +96,8 @@ pub trait Link {
         ensures faults { fault_count self.new ≡ with_fault (is_err result) (fault_count self.old) }
         ensures sent { OnOk result (Appends (sent self.old) (sent self.new) bytes.now) }
         ensures unsent { OnErr result (Keeps (sent self.old) (sent self.new)) }
-        ensures received { Keeps (received self.old) (received self.new) };
+        ensures received { Keeps (received self.old) (received self.new) }
+        ensures receives { CallsMore (receives self.old) (receives self.new) 0 };
 
     /// Waits for the next bytes, puts them to the front of the buffer, and answers how many they are: none at the end of
     /// the input.
@@ -55,7 +110,8 @@ pub trait Link {
         ensures faults { fault_count self.new ≡ with_fault (is_err result) (fault_count self.old) }
         ensures received { IfOk result (λ len. Appends (received self.old) (received self.new) (take len buffer.new)) }
         ensures unreceived { OnErr result (Keeps (received self.old) (received self.new)) }
-        ensures sent { Keeps (sent self.old) (sent self.new) };
+        ensures sent { Keeps (sent self.old) (sent self.new) }
+        ensures receives { CallsMore (receives self.old) (receives self.new) 1 };
 
     /// How many calls failed so far.
     fn faults(&self) -> u64

@@ -1,7 +1,9 @@
 //! Delivering the messages of a destination's queue.
 
-ghost use Rattle.std.specs.Prelude.{◌≡◌, ◌+◌, ◌≤◌, IfOk, OnOk, OnErr};
+ghost use Rattle.std.specs.Prelude.{◌≡◌, ◌+◌, ◌*◌, ◌≤◌, IfOk, OnOk, OnErr};
 ghost use Rattle.std.specs.Io.KnownBytes.{Keeps};
+ghost use Rattle.fixed_numbers.specs.declared.serving.TheConstants.{RECEIVES_MAX};
+ghost use Rattle.delivery_worker.specs.Calls.{CallsUpTo};
 ghost use Rattle.delivery_worker.specs.Delivering.{Delivers, Tries};
 
 use crate::connection::Connection;
@@ -41,12 +43,21 @@ fn take_turn<
         (station.old.settlements ≤ station.new.settlements) × (station.new.settlements ≤ station.old.settlements + 1)) }
     ensures attempt { IfOk result (λ outcome.
         Tries connection.old.framer connection.new.framer (L.sent link.old) (L.sent link.new) (L.received link.old) (L.received link.new) outcome) }
+    ensures receives { OnOk result (CallsUpTo (L.receives link.old) (L.receives link.new) RECEIVES_MAX) }
     ensures refused { OnErr result ((station.new ≡ station.old) × (connection.new.framer ≡ connection.old.framer)) }
     ensures unused { OnErr result (Keeps (L.sent link.old) (L.sent link.new) × Keeps (L.received link.old) (L.received link.new)) }
+    ensures uncalled { OnErr result (CallsUpTo (L.receives link.old) (L.receives link.new) 0) }
 {
-    let job = shared.take(rt, station, d, clock.now())?;
+    let job = shared.take(rt, station, d, clock.at_take())?;
     let outcome = connection.attempt(link, &job);
-    let _settled = shared.settle(rt, station, &job.ticket, outcome, clock.now());
+    // Where there is no interval, none can be cut short.
+    let now = if link.has_interval() {
+        clock.at_settlement()
+    } else {
+        clock.at_take()
+    };
+    let state = shared.settle(rt, station, &job.ticket, outcome, now).ok();
+    link.settled(&job, connection.reply(), outcome, state);
     Ok(outcome)
 }
 
@@ -81,6 +92,9 @@ pub fn deliver<
     // Each attempt is counted by what it came to: where it was sent, by the answers that were read next of its connection.
     ensures sum { result.taken ≡ result.delivered + result.again + result.rejected }
     ensures attempts { Delivers (L.sent link.old) (L.sent link.new) (L.received link.old) (L.received link.new) result }
+
+    // An attempt asks for bytes 1,000,000 times at most.
+    ensures receives { CallsUpTo (L.receives link.old) (L.receives link.new) (RECEIVES_MAX * result.taken) }
 {
     let mut connection = Connection::new(alloc);
     let mut report = DeliverReport::new();
@@ -91,10 +105,12 @@ pub fn deliver<
             Ok(outcome) => report.count(outcome),
             Err(TakeRefusal::Idle) if is_finished => {
                 report.end = DeliverEnd::Drained;
+                link.finish();
                 return report;
             }
             Err(_) => shared.bell(rt, d),
         }
     }
+    link.finish();
     report
 }

@@ -1,5 +1,5 @@
 -- What handling one event does.
-use Rattle.std.proofs.Common.{◌≡◌, ℕ, ◌+◌, Bool, true, false, List, [], ◌∷◌, ◌++◌, length, map, take, drop, None, Some, Result, Ok, Err, OnOk, OnErr, IfOk, IfErr, refl, sym, ap, ◌∙◌, subst, append_assoc, append-nil, length-append, arith}
+use Rattle.std.proofs.Common.{◌≡◌, ℕ, ◌+◌, Bool, true, false, List, [], ◌∷◌, ◌++◌, length, map, take, drop, take-append-drop, None, Some, Result, Ok, Err, OnOk, OnErr, IfOk, IfErr, refl, sym, ap, ◌∙◌, subst, append_assoc, append-nil, length-append, arith}
 use Rattle.std.specs.Prelude.{slice_get}
 use Rattle.std.proofs.lemmas.List.{map-append}
 use Rattle.book_core.specs.declared.receipt.NotBooked.{NotBooked}
@@ -56,14 +56,15 @@ module _ (conn channel now : ℕ) (raw : List ℕ) (outcome : Result Told NotBoo
       (amid-answered conn now handled from h c (said channel stream false w) amid (block raw) raw outcome (brings raw bookable) may (said channel stream false w')
       refl books.kept (output ∙ ap (λ n. w.replies.bytes.items ++ numbered conn n (dues_of a)) (next_made w counted)) refl)
 
-  -- or without a reply, as the connection has to end
-  pub handles-cut : w'.replies.bytes.items ≡ w.replies.bytes.items → HandlesFront conn channel now (block raw ∷ []) h h' w w'
-  handles-cut output handled later from c bytes same amid are =
+  -- or with the first of its acknowledgments, as the connection has to end
+  pub handles-cut : (count : ℕ) → w'.replies.bytes.items ≡ w.replies.bytes.items ++ numbered conn (w.replies.made + 1) (take count (dues_of a)) → HandlesFront conn channel now (block raw ∷ []) h h' w w'
+  handles-cut count output handled later from c bytes same amid are =
       let may : MayBeTold h c.channel raw outcome = subst (λ n. MayBeTold h n raw outcome) (sym same) books.may in
       let is : history_with conn c.channel h raw outcome ≡ h' = ap (λ n. history_with conn n h raw outcome) same ∙ sym books.booked in
       subst (λ g. EndsWithin conn bytes now from g c (said channel (c.stream ++ bytes) true w')) is
-      (amid-cut conn now handled from h c (said channel (c.stream ++ bytes) false w) amid (block raw) raw outcome (brings raw bookable) may bytes later [] (dues_of a) (said channel (c.stream ++ bytes) true w')
-      refl refl books.kept refl (output ∙ sym (append-nil w.replies.bytes.items)) refl are)
+      (amid-cut conn now handled from h c (said channel (c.stream ++ bytes) false w) amid (block raw) raw outcome (brings raw bookable) may bytes later
+      (take count (dues_of a)) (drop count (dues_of a)) (said channel (c.stream ++ bytes) true w') refl refl books.kept (sym (take-append-drop count (dues_of a)))
+      (output ∙ ap (λ n. w.replies.bytes.items ++ numbered conn n (take count (dues_of a))) (next_made w counted)) refl are)
 
 -- ---- for the two ways in which a call returns
 
@@ -162,14 +163,6 @@ kept-on old reserved new a raw outcome now same grown one two three =
     let is : answer_of a ≡ answer_with raw outcome now =
     ap (λ l. record { raw = l; outcome = a.outcome; moment = a.moment }) one ∙ ap (λ o. record { raw = raw; outcome = o; moment = a.moment }) two ∙ ap (λ m. record { raw = raw; outcome = outcome; moment = m }) three in
     ap (map answer_of) (grown ∙ ap (λ l. l ++ a ∷ []) same) ∙ map-append answer_of old (a ∷ []) ∙ ap (λ x. map answer_of old ++ x ∷ []) is
-
--- what stood before is left when the rest is cut off
-pub cut-back : (old new added : List ℕ) → new ≡ old ++ added → take (length old) new ≡ old
-cut-back old new added grown = ap (take (length old)) grown ∙ back old added
-  where
-    back : (xs ys : List ℕ) → take (length xs) (xs ++ ys) ≡ xs
-    back [] ys = refl
-    back (x ∷ xs) ys = ap (λ l. x ∷ l) (back xs ys)
 
 -- the plan in force stays
 pub plan-kept : (h h' : History) (o : Result Receipt NotBooked) → IfOk o (λ r. Books h h' (r ∷ [])) → OnErr o (Books h h' []) → plan_in_force h' ≡ plan_in_force h

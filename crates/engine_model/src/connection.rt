@@ -69,7 +69,7 @@ fn told_by(outcome: &Result<Receipt, NotBooked>) -> Result<Told, NotBooked>
 }
 
 /// Books a message that was judged by the plan in force, keeps its answer, for which room is made first, and sends its
-/// acknowledgments: whole, or none of them where one was refused memory.
+/// acknowledgments, each as a whole block; where memory is refused for one of them, those before it.
 fn answer_message<S: RowStore<Addressed<Letter>>>(
     line: &Line,
     book: &mut Book<S>,
@@ -89,7 +89,6 @@ fn answer_message<S: RowStore<Addressed<Letter>>>(
 {
     words.answers.reserve(1)?;
     let raw = judged.raw().share()?;
-    let sent = words.replies.bytes.len();
     let booked = book_and_reply(line, book, judged, now, &mut words.replies);
     words.answers.push_reserved(Answered {
         raw,
@@ -97,7 +96,6 @@ fn answer_message<S: RowStore<Addressed<Letter>>>(
         moment: now,
     });
     if !booked.whole {
-        words.replies.bytes.truncate(sent);
         return Err(AllocError);
     }
     Ok(())

@@ -1,5 +1,11 @@
 -- How the program ends.
-use Rattle.std.specs.Prelude.{ℕ}
+use Rattle.std.specs.Prelude.{◌≡◌, ◌≢◌, ◌⊎◌, ℕ, Result, Ok, Err}
+use Rattle.clap.specs.Words.{kind_of}
+use Rattle.clap.specs.declared.error.Error.{Error}
+use Rattle.clap.specs.declared.error.kind.ErrorKind.TheVariants as kind
+use Rattle.plan_text.specs.Entries.{PlanEntry}
+use Rattle.plan_text.specs.declared.fault.FaultName.TheVariants as name
+use Rattle.plan_text.specs.declared.fault.PlanFault.{PlanFault}
 use Rattle.engine_report.specs.declared.fault.Fault.{Fault}
 use Rattle.engine_report.specs.declared.fault.Fault.TheVariants as fault
 use Rattle.conn_worker.specs.declared.report.ServeEnd.{ServeEnd}
@@ -20,3 +26,19 @@ abbrev pub fault_at : ServeEnd → Fault
 fault_at end.WriteFault = fault.Write
 fault_at end.NoMemory = fault.Memory
 fault_at _ = fault.Read
+
+-- what comes of the words of the command line that were not taken: memory, exactly where the parser lacked it
+pub record IsFaultOfWords (error : Error) (told : Fault) : Type 0 where
+  pub memory : kind_of error ≡ kind.OutOfMemory → told ≡ fault.Memory
+  pub words : kind_of error ≢ kind.OutOfMemory → told ≡ fault.Words error
+
+-- what comes of a plan that was not read: memory, exactly where it was refused
+pub record IsFaultOfPlan (error : PlanFault) (told : Fault) : Type 0 where
+  pub memory : error.name ≡ name.NoMemory → told ≡ fault.Memory
+  pub plan : error.name ≢ name.NoMemory → told ≡ fault.Plan error
+
+-- what comes of reading a plan: the plan, or the fault that is told of its first fault; memory may be refused in place of
+-- any
+abbrev pub TellsRead : Result PlanEntry PlanFault → Result PlanEntry Fault → Type 0
+TellsRead read (Ok plan) = read ≡ Ok plan
+TellsRead read (Err told) = (told ≡ fault.Memory) ⊎ ((error : PlanFault) × (read ≡ Err error) × IsFaultOfPlan error told)

@@ -4,6 +4,7 @@ ghost use Rattle.std.specs.Prelude.{◌≡◌, ◌≤◌};
 ghost use Rattle.engine_report.specs.Ending.{status_of};
 
 use clap::error::ErrorKind;
+use plan_notes::ShownFault;
 use plan_text::{FaultName, PlanFault};
 use std::alloc::AllocError;
 use thiserror::Error;
@@ -20,8 +21,8 @@ pub enum Fault<'a> {
     /// The file of the plan can't be read.
     #[error("file: {0}")]
     File(&'a str),
-    /// The plan has a fault.
-    #[error("plan: {0}")]
+    /// The plan has a fault. The line shows its path with control characters escaped and a key with a dot quoted.
+    #[error("plan: {}", ShownFault(.0))]
     Plan(PlanFault),
     /// The plan's channels would take more connections than the engine can number.
     #[error("limit: connections")]
@@ -87,7 +88,12 @@ impl Fault<'_> {
     }
 }
 
+/// `Memory` where the parser of the command line lacked memory, else `Words`.
 impl From<clap::Error> for Fault<'_> {
+    ghost use Rattle.engine_report.specs.Ending.{IsFaultOfWords};
+
+    ghost from_gives = { IsFaultOfWords };
+
     fn from(error: clap::Error) -> Self {
         if error.kind() == ErrorKind::OutOfMemory {
             Fault::Memory
@@ -97,7 +103,12 @@ impl From<clap::Error> for Fault<'_> {
     }
 }
 
+/// `Memory` where memory was refused while the plan was read, else `Plan`.
 impl From<PlanFault> for Fault<'_> {
+    ghost use Rattle.engine_report.specs.Ending.{IsFaultOfPlan};
+
+    ghost from_gives = { IsFaultOfPlan };
+
     fn from(fault: PlanFault) -> Self {
         if fault.name == FaultName::NoMemory {
             Fault::Memory

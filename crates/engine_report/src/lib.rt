@@ -9,13 +9,15 @@ mod hashing;
 mod limits;
 mod listening;
 mod plan_size;
+mod reading;
 mod statistics;
 
 pub use answering::{answer_stream, outcome};
 pub use fault::{Fault, Finding};
 pub use findings::{add_finding, find};
 pub use hashing::hasher;
-pub use limits::connections_of;
+pub use limits::{connections_of, descriptors_of};
 pub use listening::add_listen_fault;
 pub use plan_size::PlanSize;
+pub use reading::{explained_plan, tell_lines};
 pub use statistics::statistics_text;

@@ -10,7 +10,9 @@ use book_lock::{Closed, Desk, Opening, Shared, audit, rising};
 use conn_worker::{ServeEnd, ServeReport, Still, nearest};
 use delivery_worker::{DeliverEnd, DeliverReport};
 use dest_queue::Addressed;
-use engine_workers::{Staff, Worked, run_workers};
+use engine_workers::{
+    Staff, Understaffed, Worked, desks_and_reports, run_workers, stations_and_reports,
+};
 use log::Log;
 use plan_text::Plan;
 use row_store::PlainRows;
@@ -84,19 +86,13 @@ fn shown_at<A: Opening, T: Ledger, U: Ledger, H: Wait>(
 /// Takes the book out of its lock, once the workers have ended. None where a share is missing.
 fn close<A: Opening, T: Ledger, U: Ledger, H: Wait, D: Drop, L: Drop>(
     rt: &H,
+    alloc: Global,
     shared: Shared<A, T, U, Rows>,
     worked: Worked<A, T, U, D, L>,
 ) -> Option<Ended> {
-    let Worked {
-        staff,
-        served,
-        delivered,
-    } = worked;
-    let Staff {
-        mut desks,
-        stations,
-        ..
-    } = staff;
+    let Worked { seats, outlets, .. } = worked;
+    let (mut desks, served) = desks_and_reports(alloc, seats).ok()?;
+    let (stations, delivered) = stations_and_reports(alloc, outlets).ok()?;
     let shown = shown_at(rt, &shared, &mut desks)?;
     let closed = shared.close(desks, stations).ok()?;
     Some(Ended {
@@ -107,8 +103,8 @@ fn close<A: Opening, T: Ledger, U: Ledger, H: Wait, D: Drop, L: Drop>(
     })
 }
 
-/// Runs the workers of a book with two connections on its one channel, and closes it. None where memory is refused, or
-/// something is missing at the end.
+/// Runs the workers of a book with two connections on its one channel, and closes it. None where memory is refused to all but
+/// the door, or something is missing at the end.
 fn run<
     'a,
     A: Opening + Send + Sync,
@@ -124,7 +120,7 @@ fn run<
     settlements: Blank,
     doors: Vec<Gate<'a>>,
     links: Vec<Partner<'a>>,
-) -> Option<Ended>
+) -> Option<Result<Ended, Understaffed>>
     requires counts { counted book ≡ A.counts }
     requires first { next_place book ≡ A.first }
     requires channels { length (plan_in_force book).channels ≡ A.channels }
@@ -140,17 +136,20 @@ fn run<
         stations,
         links,
     };
-    let worked = run_workers(rt, alloc, &shared, staff, 2, Still(nearest(0))).ok()?;
-    close(rt, shared, worked)
+    match run_workers(rt, alloc, &shared, staff, 2, Still(nearest(0))) {
+        Ok(worked) => Some(Ok(close(rt, alloc, shared, worked)?)),
+        Err(fault) => Some(Err(fault)),
+    }
 }
 
-/// Runs the workers of a book on a stage. None where there is no book, memory is refused, or something is missing at the end.
+/// Runs the workers of a book on a stage. None where there is no book, memory is refused to all but the door, or something is
+/// missing at the end.
 fn run_on<H: Wait + Threads + time::Clock + Log + Sync>(
     rt: &H,
     alloc: Global,
     stage: &Stage,
     book: Option<Book<Rows>>,
-) -> Option<Ended> {
+) -> Option<Result<Ended, Understaffed>> {
     let (doors, links) = (doors_of(alloc, stage)?, links_of(alloc, stage)?);
     run::<Brand, Brand, Brand, H>(
         rt,
@@ -225,20 +224,32 @@ fn comes_out<H: Wait + Threads + time::Clock + Log + Sync>(
     book: Option<Book<Rows>>,
 ) -> bool {
     match run_on(rt, alloc, stage, book) {
-        Some(ended) => is_right(alloc, ended),
-        None => false,
+        Some(Ok(ended)) => is_right(alloc, ended),
+        _ => false,
     }
 }
 
 /// Connection 1 comes once connection 0 is read, and connection 0 brings its message once connection 1 has its reply.
 /// Connection 1 ends once its message is answered by destination 1. The first send to each destination ends once that to the
 /// other was begun, and the first receive likewise. All get on, and both messages are delivered to both destinations. The
-/// desks made an arrival each, and the statistics shown before the close are those of the closed book.
+/// desks made an arrival each, and the statistics shown before the close are those of the closed book. The door is closed.
 #[test]
 fn workers_wait_for_one_another(rt: HostRuntime) -> Result<(), Fail> {
-    let stage = Stage::new(1_000_000);
+    let stage = Stage::new(1_000_000, false);
     let right = comes_out(&rt, rt.alloc(), &stage, empty_book(&rt));
     assert!(rt; !stage.is_stuck(), "a worker waited in vain");
     assert!(rt; right);
+    assert!(rt; stage.is_closed());
+    Ok(())
+}
+
+/// Where memory is refused to a door, the run ends as it does where memory is refused to the workers, and not with a door
+/// that failed.
+#[test]
+fn a_door_without_memory_is_no_failed_door(rt: HostRuntime) -> Result<(), Fail> {
+    let stage = Stage::new(1_000_000, true);
+    let ended = run_on(&rt, rt.alloc(), &stage, empty_book(&rt));
+    assert!(rt; matches!(ended, Some(Err(Understaffed))));
+    assert!(rt; stage.is_closed());
     Ok(())
 }

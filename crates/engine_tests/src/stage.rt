@@ -4,7 +4,7 @@ ghost use Rattle.std.specs.Prelude.{◌≡◌, true};
 ghost use Rattle.conn_worker.specs.Faults.{with_fault};
 
 use delivery_worker::{Link, LinkFault};
-use engine_workers::{Door, DoorFault};
+use engine_workers::{Door, DoorFault, Incoming};
 use std::io::{ErrorKind, Read, Write};
 use std::sync::atomic::{AtomicBool, Ordering};
 use std::{io, thread};
@@ -65,15 +65,21 @@ pub struct Stage {
     sends: (Event, Event),
     /// The first receive from each destination was asked for.
     receives: (Event, Event),
+    /// The door was closed.
+    closed: Event,
+    /// Memory is refused to the door.
+    lacks_memory: bool,
     /// A worker gave up.
     gave_up: Event,
 }
 
 impl Stage {
-    /// With nothing happened. A worker gives up after so many turns.
-    pub fn new(turns: u64) -> Stage {
+    /// With nothing happened. A worker gives up after so many turns. Whether memory is refused to the door.
+    pub fn new(turns: u64, lacks_memory: bool) -> Stage {
         Stage {
             turns,
+            lacks_memory,
+            closed: Event::new(),
             asked: Event::new(),
             replied: Event::new(),
             answered: Event::new(),
@@ -86,6 +92,11 @@ impl Stage {
     /// Whether a worker waited in vain.
     pub fn is_stuck(&self) -> bool {
         self.gave_up.is_past()
+    }
+
+    /// Whether the door was closed.
+    pub fn is_closed(&self) -> bool {
+        self.closed.is_past()
     }
 
     /// Waits for an event. Whether it happened.
@@ -140,11 +151,14 @@ impl<'a> Door for Gate<'a> {
     ghost fault_count = { λ door. door.faults };
 
     fn open(&mut self) -> Result<(Source<'a>, Sink<'a>), DoorFault> {
+        if self.stage.lacks_memory {
+            return Err(DoorFault::NoMemory);
+        }
         let conn = self.opened;
         self.opened = self.opened.saturating_add(1);
         if conn > 0 && !self.stage.wait(&self.stage.asked) {
             self.faults = self.faults.saturating_add(1);
-            return Err(DoorFault);
+            return Err(DoorFault::Device);
         }
         let block = if conn == 0 { FIRST } else { SECOND };
         let stage = self.stage;
@@ -154,6 +168,10 @@ impl<'a> Door for Gate<'a> {
             rest: block.as_bytes(),
         };
         Ok((source, Sink { stage, conn }))
+    }
+
+    fn close(&mut self) {
+        self.stage.closed.happen();
     }
 
     fn faults(&self) -> u64 {
@@ -197,6 +215,8 @@ impl Read for Source<'_> {
         Ok(len)
     }
 }
+
+impl Incoming for Source<'_> {}
 
 /// What a connection is written by.
 #[derive(Drop)]

@@ -14,7 +14,8 @@ use Rattle.dest_queue.specs.declared.slots.Addressed as Addressed
 use Rattle.book_core.specs.declared.letter.Letter as Letter
 use Rattle.book_lock.specs.declared.locked.Opening as Opening
 use Rattle.book_lock.specs.contracts.shared.Shared as Shared
-use Rattle.book_lock.proofs.Sent.{shared_sync, tuple_send}
+use Rattle.book_lock.proofs.Sent.{plan_sync, shared_sync, tuple_send}
+use Rattle.plan_text.specs.contracts.plan.Plan as Plan
 use Rattle.engine_workers.specs.contracts.site.Site as Site
 
 module _ (A T U S C H : RattleType) (o : Opening.Ghosts A.Denot) (a : Ledger.Ghosts A.Denot) (t : Ledger.Ghosts T.Denot)
@@ -29,7 +30,7 @@ module _ (A T U S C H : RattleType) (o : Opening.Ghosts A.Denot) (a : Ledger.Gho
           search (sendable, crosses) depth 20,
           (
             shr_sync _ _ (Shared.the_row A T U S o a t u g) (shared_sync A T U S o a t u g s),
-            (c, (search (sendable, crosses) depth 20, tt)),
+            (shr_sync _ _ Plan.the_row plan_sync, (c, (search (sendable, crosses) depth 20, tt))),
           ),
         ),
       ))

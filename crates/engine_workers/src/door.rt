@@ -3,35 +3,53 @@
 use std::io::{Read, Write};
 use thiserror::Error;
 
-/// A door failed: no connection could be opened.
+/// Why no connection could be opened.
 #[derive(Clone, Copy, Debug, PartialEq, Eq, Error)]
-#[error("no connection could be opened")]
-pub struct DoorFault;
+pub enum DoorFault {
+    /// The door failed, and brings no further connection.
+    #[error("no connection could be opened")]
+    Device,
+    /// Memory was refused.
+    #[error("out of memory")]
+    NoMemory,
+}
+
+/// What a connection is read by.
+pub trait Incoming: Read {
+    /// Ends the connection in order, where it is not the peer that ended it: no more is sent, and what still comes is read
+    /// and dropped, for a bounded time, so that what was written is not lost to a peer that is still sending.
+    fn drain(&mut self) {}
+}
 
 /// A door, by which connections of a channel come.
 pub trait Door {
     ghost use Rattle.std.specs.Prelude.{◌≡◌, ℕ};
-    ghost use Rattle.std.specs.Result.{is_err};
     ghost use Rattle.conn_worker.specs.Faults.{with_fault};
+    ghost use Rattle.engine_workers.specs.Doors.{is_device_fault};
 
     /// What a connection is read by.
-    type Reader: Read + Drop;
+    type Reader: Incoming + Drop;
 
     /// What it is written by.
     type Writer: Write + Drop;
 
-    /// How many calls failed so far. The number stays at its greatest value.
+    /// How many calls failed so far, other than for want of memory. The number stays at its greatest value.
     ghost fault_count: { Self → ℕ };
 
     /// Waits for the next connection.
     ///
     /// # Errors
     ///
-    /// Where none can be opened.
+    /// `Device` where none can be opened, `NoMemory` where memory is refused.
     fn open(&mut self) -> Result<(Self::Reader, Self::Writer), DoorFault>
-        ensures { fault_count self.new ≡ with_fault (is_err result) (fault_count self.old) };
+        ensures { fault_count self.new ≡ with_fault (is_device_fault result) (fault_count self.old) };
 
-    /// How many calls failed so far.
+    /// Closes the door, so that who comes afterwards is refused and doesn't wait.
+    fn close(&mut self)
+        ensures { fault_count self.new ≡ fault_count self.old }
+    {}
+
+    /// How many calls failed so far, other than for want of memory.
     fn faults(&self) -> u64
         ensures { result ≡ fault_count self.now };
 }

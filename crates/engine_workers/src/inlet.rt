@@ -1,16 +1,16 @@
 //! Opening the doors of the channels, and serving the connections that come.
 
-use crate::door::Door;
+use crate::door::{Door, DoorFault, Incoming};
 use crate::loan::Loan;
 use crate::seat::Seat;
 use crate::site::Site;
 use book_core::Letter;
 use book_lock::Opening;
-use conn_worker::{Clock, Counted, ServeEnd, serve};
+use conn_worker::{Clock, Counted, ServeEnd, ServeReport, serve};
 use dest_queue::Addressed;
-use log::{Log, warn};
+use log::{Log, info, warn};
 use row_store::RowStore;
-use std::io::{Read, Write};
+use std::io::Write;
 use std::sync::Wait;
 use std::sync::ledger::Ledger;
 use std::thread;
@@ -19,14 +19,33 @@ use std::thread::{Builder, Scope, Threads};
 /// The stack of a thread that serves a connection, in bytes. The system gives memory to the part that is used alone.
 const SERVING_STACK: usize = 262_144;
 
-/// Logs why serving a connection ended, where no device told it.
-fn log_end<H: Log>(rt: &H, conn: u32, end: ServeEnd) {
-    match end {
-        ServeEnd::End | ServeEnd::ReadFault | ServeEnd::WriteFault => {}
-        ServeEnd::NoMemory => warn!(rt; "connection {conn}: memory was refused"),
+/// Logs that a connection ended, why, and what it brought.
+fn log_end<H: Log>(rt: &H, channel: &str, connection: u32, report: &ServeReport) {
+    let booked = report.receipts.len();
+    let ServeReport {
+        unbooked,
+        unreadable,
+        strays,
+        breaks,
+        ..
+    } = *report;
+    match report.end {
+        ServeEnd::End =>
+            info!(rt; channel, connection, booked, unbooked, unreadable, strays, breaks; "connection ended: closed by the sender"),
+        ServeEnd::ReadFault =>
+            info!(rt; channel, connection, booked, unbooked, unreadable, strays, breaks; "connection ended: reading from the sender failed"),
+        ServeEnd::WriteFault =>
+            info!(rt; channel, connection, booked, unbooked, unreadable, strays, breaks; "connection ended: writing to the sender failed"),
+        ServeEnd::NoMemory =>
+            warn!(rt; channel, connection, booked, unbooked, unreadable, strays, breaks; "connection ended: out of memory"),
         ServeEnd::TurnBound =>
-            warn!(rt; "connection {conn}: it brought more than one connection may"),
+            warn!(rt; channel, connection, booked, unbooked, unreadable, strays, breaks; "connection ended: it brought more than one connection may"),
     }
+}
+
+/// Whether it is the engine that ends a connection which serving ended so, while its sender may still be sending.
+fn is_ended_here(end: ServeEnd) -> bool {
+    matches!(end, ServeEnd::NoMemory | ServeEnd::TurnBound)
 }
 
 /// Serves the connection of a seat, and leaves the report there.
@@ -37,28 +56,46 @@ fn serve_seat<
     S: RowStore<Addressed<Letter>>,
     C: Clock + Copy,
     H: Wait + Log,
-    R: Read + Drop,
+    R: Incoming + Drop,
     W: Write + Drop,
 >(site: &Site<'_, A, T, U, S, C, H>, place: &Loan<Seat<A>>, reader: R, writer: W) {
-    let Some(mut seat) = place.take(site.rt) else {
+    let Some(seat) = place.take(site.rt) else {
         return;
     };
-    let (conn, channel) = (seat.conn, seat.channel);
+    let Seat {
+        connection,
+        channel,
+        mut desk,
+        ..
+    } = seat;
+    let before = desk.made();
     let mut clock = site.clock;
+    let (mut reader, mut writer) = (Counted::new(reader), Counted::new(writer));
     let report = serve(
         site.rt,
         site.alloc,
         site.shared,
-        &mut seat.desk,
-        conn,
+        &mut desk,
+        connection,
         channel,
-        &mut Counted::new(reader),
-        &mut Counted::new(writer),
+        &mut reader,
+        &mut writer,
         &mut clock,
     );
-    log_end(site.rt, conn, report.end);
-    seat.report = Some(report);
-    place.give_back(site.rt, seat);
+    if is_ended_here(report.end) {
+        reader.into_inner().drain();
+    }
+    log_end(site.rt, site.channel_name(channel), connection, &report);
+    place.give_back(
+        site.rt,
+        Seat {
+            connection,
+            channel,
+            before,
+            desk,
+            report: Some(report),
+        },
+    );
 }
 
 /// Starts a thread that serves the connection of a seat. Whether it was started.
@@ -72,11 +109,12 @@ fn start_serving<
     S: RowStore<Addressed<Letter>> + Send + 's,
     C: Clock + Copy + Sync + 's,
     H: Wait + Log + Sync + 's,
-    R: Read + Send + Drop + 's,
+    R: Incoming + Send + Drop + 's,
     W: Write + Send + Drop + 's,
 >(
     scope: &Scope<'s, E>,
     site: &'s Site<'x, A, T, U, S, C, H>,
+    channel: u32,
     place: &'s Loan<Seat<A>>,
     reader: R,
     writer: W,
@@ -87,6 +125,7 @@ fn start_serving<
         .is_ok();
     if !started {
         site.stop();
+        warn!(site.rt; channel = site.channel_name(channel); "no thread for a connection, no further one is taken");
     }
     started
 }
@@ -102,26 +141,43 @@ fn admit<
     S: RowStore<Addressed<Letter>> + Send + 's,
     C: Clock + Copy + Sync + 's,
     H: Wait + Log + Sync + 's,
-    R: Read + Send + Drop + 's,
+    R: Incoming + Send + Drop + 's,
     W: Write + Send + Drop + 's,
     D: Door<Reader = R, Writer = W>,
 >(
     scope: &Scope<'s, E>,
     site: &'s Site<'x, A, T, U, S, C, H>,
+    channel: u32,
     door: &mut D,
     place: &'s Loan<Seat<A>>,
 ) -> bool {
     if site.is_stopped() {
         return false;
     }
-    let Ok((reader, writer)) = door.open() else {
-        return false;
-    };
-    !site.is_stopped() && start_serving(scope, site, place, reader, writer)
+    match door.open() {
+        Ok((reader, writer)) => !site.is_stopped()
+            && start_serving(scope, site, channel, place, reader, writer),
+        Err(DoorFault::Device) => false,
+        Err(DoorFault::NoMemory) => {
+            site.stop();
+            false
+        }
+    }
+}
+
+/// Logs that few of a channel's connections are left, where `taken` of `all` is the first of the last tenth, and that none
+/// is.
+fn log_taken<H: Log>(rt: &H, channel: &str, taken: usize, all: usize) {
+    let left = all.saturating_sub(taken);
+    if left == 0 {
+        info!(rt; channel, taken; "all connections of the channel are taken, its listener is closed");
+    } else if left == all / 10 {
+        warn!(rt; channel, taken, left; "few connections of the channel are left");
+    }
 }
 
 /// Opens a door for one connection after another, one for each seat, and starts to serve each. A door that fails is not
-/// opened again.
+/// opened again. Then it is closed.
 fn admit_all<
     's,
     'x: 's,
@@ -132,20 +188,28 @@ fn admit_all<
     S: RowStore<Addressed<Letter>> + Send + 's,
     C: Clock + Copy + Sync + 's,
     H: Wait + Log + Sync + 's,
-    R: Read + Send + Drop + 's,
+    R: Incoming + Send + Drop + 's,
     W: Write + Send + Drop + 's,
     D: Door<Reader = R, Writer = W>,
 >(
     scope: &Scope<'s, E>,
     site: &'s Site<'x, A, T, U, S, C, H>,
+    channel: u32,
     seats: &'s [Loan<Seat<A>>],
     door: &mut D,
 ) {
-    for place in seats {
-        if !admit(scope, site, door, place) {
+    for (before, place) in seats.iter().enumerate() {
+        if !admit(scope, site, channel, door, place) {
             break;
         }
+        log_taken(
+            site.rt,
+            site.channel_name(channel),
+            before.saturating_add(1),
+            seats.len(),
+        );
     }
+    door.close();
 }
 
 /// Opens a door for one connection after another, and serves each on a thread of its own. It returns once all that came
@@ -159,14 +223,14 @@ fn open_all<
     S: RowStore<Addressed<Letter>> + Send,
     C: Clock + Copy + Sync,
     H: Wait + Threads + Log + Sync,
-    R: Read + Send + Drop,
+    R: Incoming + Send + Drop,
     W: Write + Send + Drop,
     D: Door<Reader = R, Writer = W>,
->(site: &'y Site<'x, A, T, U, S, C, H>, seats: &'y [Loan<Seat<A>>], door: &'y mut D) {
+>(site: &'y Site<'x, A, T, U, S, C, H>, channel: u32, seats: &'y [Loan<Seat<A>>], door: &'y mut D) {
     thread::scope(
         thread::scope_env(),
         site.rt,
-        |scope| admit_all(scope, site, seats, door),
+        |scope| admit_all(scope, site, channel, seats, door),
     );
 }
 
@@ -178,20 +242,21 @@ fn work_door<
     S: RowStore<Addressed<Letter>> + Send,
     C: Clock + Copy + Sync,
     H: Wait + Threads + Log + Sync,
-    R: Read + Send + Drop,
+    R: Incoming + Send + Drop,
     W: Write + Send + Drop,
     D: Door<Reader = R, Writer = W> + Drop,
 >(site: &Site<'_, A, T, U, S, C, H>, inlet: &Inlet<A, D>) {
     let Some(mut door) = inlet.door.take(site.rt) else {
         return;
     };
-    open_all(&*site, &inlet.seats, &mut door);
+    open_all(&*site, inlet.channel, &inlet.seats, &mut door);
     inlet.door.give_back(site.rt, door);
 }
 
-/// A channel's door, and the seats of the connections that it is opened for.
+/// The index of a channel in the plan, its door, and the seats of the connections that it is opened for.
 #[derive(Drop)]
 pub struct Inlet<A: Opening, D> {
+    pub channel: u32,
     pub door: Loan<D>,
     pub seats: Vec<Loan<Seat<A>>>,
 }
@@ -207,13 +272,14 @@ fn start_opening<
     S: RowStore<Addressed<Letter>> + Send + 's,
     C: Clock + Copy + Sync + 's,
     H: Wait + Threads + Log + Sync + 's,
-    R: Read + Send + Drop + 's,
+    R: Incoming + Send + Drop + 's,
     W: Write + Send + Drop + 's,
     D: Door<Reader = R, Writer = W> + Send + Drop + 's,
 >(scope: &Scope<'s, E>, site: &'s Site<'x, A, T, U, S, C, H>, inlet: &'s Inlet<A, D>) -> bool {
     let started = scope.spawn(move || work_door(site, inlet)).is_ok();
     if !started {
         site.stop();
+        warn!(site.rt; channel = site.channel_name(inlet.channel); "no thread for the channel, it takes no connection");
     }
     started
 }
@@ -229,7 +295,7 @@ fn start_opening_all<
     S: RowStore<Addressed<Letter>> + Send + 's,
     C: Clock + Copy + Sync + 's,
     H: Wait + Threads + Log + Sync + 's,
-    R: Read + Send + Drop + 's,
+    R: Incoming + Send + Drop + 's,
     W: Write + Send + Drop + 's,
     D: Door<Reader = R, Writer = W> + Send + Drop + 's,
 >(scope: &Scope<'s, E>, site: &'s Site<'x, A, T, U, S, C, H>, inlets: &'s [Inlet<A, D>]) {
@@ -250,7 +316,7 @@ pub fn open_doors<
     S: RowStore<Addressed<Letter>> + Send,
     C: Clock + Copy + Sync,
     H: Wait + Threads + Log + Sync,
-    R: Read + Send + Drop,
+    R: Incoming + Send + Drop,
     W: Write + Send + Drop,
     D: Door<Reader = R, Writer = W> + Send + Drop,
 >(site: &'y Site<'x, A, T, U, S, C, H>, inlets: &'y [Inlet<A, D>]) {

@@ -4,14 +4,16 @@
 //! The threads share the book under its lock, a clock that each has a copy of, and the runtime. What a worker works with is
 //! its own while it works: it takes a desk, a door or a station off its place, and puts it back with its report. So what
 //! the contracts of serving and of delivering say of a connection and of a destination is so on every thread, and each
-//! report that comes back is of a desk or of a station that comes back too.
+//! report comes back with the desk or the station that it is of.
 //!
 //! No contract says that a thread is started, gets on or ends, so none says that a connection is served, that a message is
 //! delivered or that `run_workers` returns, nor in which order the threads come by the book.
 #![tactic(auto)]
 
 mod door;
+mod half;
 mod inlet;
+mod lacks;
 mod loan;
 mod outlet;
 mod seat;
@@ -19,6 +21,9 @@ mod site;
 mod tcp_door;
 mod workers;
 
-pub use door::{Door, DoorFault};
-pub use tcp_door::{Half, TcpDoor};
+pub use door::{Door, DoorFault, Incoming};
+pub use half::Half;
+pub use outlet::{Outlet, stations_and_reports};
+pub use seat::{Seat, desks_and_reports};
+pub use tcp_door::TcpDoor;
 pub use workers::{Staff, Understaffed, Worked, run_workers};

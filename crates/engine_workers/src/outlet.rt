@@ -1,6 +1,10 @@
 //! Delivering the messages of the destinations.
 
-use crate::door::Door;
+ghost use Rattle.std.specs.Prelude.{◌≡◌, ◌+◌, ◌++◌, ◌∷◌, [], IfOk, OnOk, map};
+ghost use Rattle.std.specs.List.{filter_map};
+ghost use Rattle.std.specs.Option.{ForSome};
+
+use crate::door::{Door, Incoming};
 use crate::inlet::{Inlet, open_doors};
 use crate::loan::Loan;
 use crate::site::Site;
@@ -9,22 +13,85 @@ use book_lock::{Opening, Station};
 use conn_worker::Clock;
 use delivery_worker::{DeliverReport, Link, deliver};
 use dest_queue::Addressed;
-use log::Log;
+use log::{Log, warn};
 use row_store::RowStore;
-use std::io::{Read, Write};
+use std::alloc::{AllocError, Global};
+use std::io::Write;
 use std::sync::Wait;
 use std::sync::ledger::Ledger;
 use std::thread::{Scope, Threads};
 use std::{thread, time};
 
-/// What delivers the messages of a destination: its place in the plan, its link, the station of its takes and
-/// settlements, and what delivering came to, once it ended.
+/// What delivers the messages of a destination: its index in the plan, its link, the station of its takes and settlements,
+/// how many takes the station had counted before, and what delivering came to, once it ended. The report is of this station:
+/// the station has counted as many takes since as the report has attempts.
 #[derive(Drop)]
 pub struct Outlet<T: Ledger, U: Ledger, L> {
     pub destination: u32,
     pub link: L,
+    pub before: u64,
     pub station: Station<T, U>,
     pub report: Option<DeliverReport>,
+    ghost counted: { ForSome report (λ r. station.takes ≡ before + r.taken) },
+}
+
+impl<T: Ledger, U: Ledger, L> Outlet<T, U, L> {
+    /// With nothing delivered yet.
+    pub fn new(destination: u32, link: L, station: Station<T, U>) -> Self
+        ensures destination { result.destination ≡ destination }
+        ensures link { result.link ≡ link }
+        ensures station { result.station ≡ station }
+    {
+        Outlet {
+            destination,
+            link,
+            before: station.taken(),
+            station,
+            report: None,
+        }
+    }
+}
+
+/// Adds the station of an outlet to others, and its report, if it has one. The link is dropped.
+fn add_outlet<T: Ledger, U: Ledger, L: Drop>(
+    stations: &mut Vec<Station<T, U>>,
+    reports: &mut Vec<DeliverReport>,
+    outlet: Outlet<T, U, L>,
+) -> Result<(), AllocError>
+    ensures stations { OnOk result (stations.new.items ≡ stations.old.items ++ outlet.station ∷ []) }
+    ensures reports { OnOk result (reports.new.items ≡ reports.old.items ++ filter_map (λ o. o.report) (outlet ∷ [])) }
+{
+    let Outlet {
+        station,
+        report,
+        ..
+    } = outlet;
+    stations.push(station)?;
+    if let Some(report) = report {
+        reports.push(report)?;
+    }
+    Ok(())
+}
+
+/// The stations of all outlets, and the reports of those that delivered, both in the order of the outlets. The links are
+/// dropped.
+///
+/// # Errors
+///
+/// Where memory is refused.
+#[tactic(auto, using(crate::proofs::Parts::map_more, crate::proofs::Parts::filter_map_more))]
+pub fn stations_and_reports<T: Ledger, U: Ledger, L: Drop>(
+    alloc: Global,
+    outlets: Vec<Outlet<T, U, L>>,
+) -> Result<(Vec<Station<T, U>>, Vec<DeliverReport>), AllocError>
+    ensures stations { IfOk result (λ r. r.0.items ≡ map (λ o. o.station) outlets.items) }
+    ensures reports { IfOk result (λ r. r.1.items ≡ filter_map (λ o. o.report) outlets.items) }
+{
+    let (mut stations, mut reports) = (Vec::new(alloc), Vec::new(alloc));
+    for outlet in outlets {
+        add_outlet(&mut stations, &mut reports, outlet)?;
+    }
+    Ok((stations, reports))
 }
 
 /// Delivers the messages of a destination, and leaves the report with it.
@@ -34,26 +101,40 @@ fn deliver_all<
     U: Ledger,
     S: RowStore<Addressed<Letter>>,
     C: Clock + Copy,
-    H: Wait + time::Clock,
+    H: Wait + time::Clock + Log,
     L: Link + Drop,
 >(site: &Site<'_, A, T, U, S, C, H>, place: &Loan<Outlet<T, U, L>>) {
-    let Some(mut outlet) = place.take(site.rt) else {
+    let Some(outlet) = place.take(site.rt) else {
         return;
     };
-    let destination = outlet.destination;
+    let Outlet {
+        destination,
+        mut link,
+        mut station,
+        ..
+    } = outlet;
+    let before = station.taken();
     let mut clock = site.clock;
     let report = deliver(
         site.rt,
         site.alloc,
         site.shared,
-        &mut outlet.station,
-        &mut outlet.link,
+        &mut station,
+        &mut link,
         destination,
         &mut clock,
         u64::MAX,
     );
-    outlet.report = Some(report);
-    place.give_back(site.rt, outlet);
+    place.give_back(
+        site.rt,
+        Outlet {
+            destination,
+            link,
+            before,
+            station,
+            report: Some(report),
+        },
+    );
 }
 
 /// Starts a thread that delivers the messages of a destination. Whether it was started.
@@ -66,16 +147,18 @@ fn start_delivering<
     U: Ledger + Sync + 's,
     S: RowStore<Addressed<Letter>> + Send + 's,
     C: Clock + Copy + Sync + 's,
-    H: Wait + time::Clock + Sync + 's,
+    H: Wait + time::Clock + Log + Sync + 's,
     L: Link + Send + Drop + 's,
 >(
     scope: &Scope<'s, E>,
     site: &'s Site<'x, A, T, U, S, C, H>,
+    destination: u32,
     outlet: &'s Loan<Outlet<T, U, L>>,
 ) -> bool {
     let started = scope.spawn(move || deliver_all(site, outlet)).is_ok();
     if !started {
         site.stop();
+        warn!(site.rt; destination = site.destination_name(destination); "no thread for the destination, nothing is delivered to it");
     }
     started
 }
@@ -90,15 +173,15 @@ fn start_delivering_all<
     U: Ledger + Sync + 's,
     S: RowStore<Addressed<Letter>> + Send + 's,
     C: Clock + Copy + Sync + 's,
-    H: Wait + time::Clock + Sync + 's,
+    H: Wait + time::Clock + Log + Sync + 's,
     L: Link + Send + Drop + 's,
 >(
     scope: &Scope<'s, E>,
     site: &'s Site<'x, A, T, U, S, C, H>,
     outlets: &'s [Loan<Outlet<T, U, L>>],
 ) {
-    for outlet in outlets {
-        if !start_delivering(scope, site, outlet) {
+    for (destination, outlet) in (0..u32::MAX).zip(outlets) {
+        if !start_delivering(scope, site, destination, outlet) {
             break;
         }
     }
@@ -115,7 +198,7 @@ pub fn work_all<
     S: RowStore<Addressed<Letter>> + Send,
     C: Clock + Copy + Sync,
     H: Wait + Threads + time::Clock + Log + Sync,
-    R: Read + Send + Drop,
+    R: Incoming + Send + Drop,
     W: Write + Send + Drop,
     D: Door<Reader = R, Writer = W> + Send + Drop,
     L: Link + Send + Drop,

@@ -1,31 +1,78 @@
-//! The places of connections.
+//! The seats of connections.
 
-ghost use Rattle.std.specs.Prelude.{◌<◌};
+ghost use Rattle.std.specs.Prelude.{◌≡◌, ◌+◌, ◌<◌, ◌++◌, ◌∷◌, [], IfOk, OnOk, map, vec_len};
+ghost use Rattle.std.specs.List.{filter_map};
+ghost use Rattle.std.specs.Option.{ForSome};
 
 use book_lock::{Desk, Opening};
 use conn_worker::ServeReport;
+use std::alloc::{AllocError, Global};
 
-/// The place of a connection: its number, its channel by its place in the plan, the desk that its messages are booked at,
-/// and what serving it came to, once it was served.
+/// The seat of a connection: its number, the index of its channel in the plan, the desk that its messages are booked at, how
+/// many arrivals the desk had counted before, and what serving the connection came to, once it was served. The report is of
+/// this desk: the desk has counted as many arrivals since as the report has receipts.
 #[derive(Drop)]
 pub struct Seat<A: Opening> {
-    pub conn: u32,
+    pub connection: u32,
     pub channel: u32,
+    pub before: u64,
     pub desk: Desk<A>,
     pub report: Option<ServeReport>,
     ghost known: { channel < A.channels },
+    ghost counted: { ForSome report (λ r. desk ≡ before + vec_len r.receipts) },
 }
 
 impl<A: Opening> Seat<A> {
-    /// The place of a connection that was not served yet.
-    pub fn new(conn: u32, channel: u32, desk: Desk<A>) -> Self
+    /// The seat of a connection that was not served yet.
+    pub fn new(connection: u32, channel: u32, desk: Desk<A>) -> Self
         requires { channel < A.channels }
+        ensures connection { result.connection ≡ connection }
+        ensures channel { result.channel ≡ channel }
+        ensures desk { result.desk ≡ desk }
     {
         Seat {
-            conn,
+            connection,
             channel,
+            before: desk.made(),
             desk,
             report: None,
         }
     }
+}
+
+/// Adds the desk of a seat to others, and its report, if it has one.
+fn add_seat<A: Opening>(
+    desks: &mut Vec<Desk<A>>,
+    reports: &mut Vec<ServeReport>,
+    seat: Seat<A>,
+) -> Result<(), AllocError>
+    ensures desks { OnOk result (desks.new.items ≡ desks.old.items ++ seat.desk ∷ []) }
+    ensures reports { OnOk result (reports.new.items ≡ reports.old.items ++ filter_map (λ s. s.report) (seat ∷ [])) }
+{
+    let Seat { desk, report, .. } = seat;
+    desks.push(desk)?;
+    if let Some(report) = report {
+        reports.push(report)?;
+    }
+    Ok(())
+}
+
+/// The desks of all seats, and the reports of the connections that were served, both in the order of the seats.
+///
+/// # Errors
+///
+/// Where memory is refused.
+#[tactic(auto, using(crate::proofs::Parts::map_more, crate::proofs::Parts::filter_map_more))]
+pub fn desks_and_reports<A: Opening>(
+    alloc: Global,
+    seats: Vec<Seat<A>>,
+) -> Result<(Vec<Desk<A>>, Vec<ServeReport>), AllocError>
+    ensures desks { IfOk result (λ r. r.0.items ≡ map (λ s. s.desk) seats.items) }
+    ensures reports { IfOk result (λ r. r.1.items ≡ filter_map (λ s. s.report) seats.items) }
+{
+    let (mut desks, mut reports) = (Vec::new(alloc), Vec::new(alloc));
+    for seat in seats {
+        add_seat(&mut desks, &mut reports, seat)?;
+    }
+    Ok((desks, reports))
 }

@@ -3,18 +3,20 @@
 use book_core::Letter;
 use book_lock::{Opening, Shared};
 use dest_queue::Addressed;
+use plan_text::Plan;
 use row_store::RowStore;
 use std::alloc::Global;
 use std::sync::atomic::{AtomicBool, Ordering};
 use std::sync::ledger::Ledger;
 
-/// What all workers share: the runtime, the book, the clock that each has a copy of, and whether a thread was refused, after
-/// which no further worker is started.
+/// What all workers share: the runtime, the book, the plan, which names channels and destinations in the log, the clock that
+/// each has a copy of, and whether a thread or memory was refused, after which no further worker is started.
 #[derive(Drop)]
 pub struct Site<'x, A: Opening, T: Ledger, U: Ledger, S: RowStore<Addressed<Letter>>, C, H> {
     pub rt: &'x H,
     pub alloc: Global,
     pub shared: &'x Shared<A, T, U, S>,
+    pub plan: &'x Plan,
     pub clock: C,
     stopped: AtomicBool,
 }
@@ -28,23 +30,46 @@ impl<'x, A: Opening, T: Ledger, U: Ledger, S: RowStore<Addressed<Letter>>, C, H>
     C,
     H,
 > {
-    /// With no thread refused.
-    pub fn new(rt: &'x H, alloc: Global, shared: &'x Shared<A, T, U, S>, clock: C) -> Self {
+    /// With nothing refused.
+    pub fn new(
+        rt: &'x H,
+        alloc: Global,
+        shared: &'x Shared<A, T, U, S>,
+        plan: &'x Plan,
+        clock: C,
+    ) -> Self {
         Site {
             rt,
             alloc,
             shared,
+            plan,
             clock,
             stopped: AtomicBool::new(false),
         }
     }
 
-    /// Notes that a thread was refused.
+    /// The name of a channel, by its index in the plan, for the log.
+    pub fn channel_name(&self, channel: u32) -> &str {
+        match self.plan.channel(channel) {
+            Some(channel) => channel.name(),
+            None => "",
+        }
+    }
+
+    /// The name of a destination, by its index in the plan, for the log.
+    pub fn destination_name(&self, destination: u32) -> &str {
+        match self.plan.destination(destination) {
+            Some(destination) => destination.name(),
+            None => "",
+        }
+    }
+
+    /// Notes that a thread or memory was refused.
     pub fn stop(&self) {
         self.stopped.store(true, Ordering::SeqCst);
     }
 
-    /// Whether a thread was refused.
+    /// Whether a thread or memory was refused.
     pub fn is_stopped(&self) -> bool {
         self.stopped.load(Ordering::SeqCst)
     }

@@ -4,78 +4,18 @@ ghost use Rattle.std.specs.Prelude.{◌≡◌, true, IfOk};
 ghost use Rattle.conn_worker.specs.Faults.{with_fault};
 
 use crate::door::{Door, DoorFault};
-use log::{Log, debug, warn};
+use crate::half::{Half, Label, bound_writes};
+use crate::lacks::{PAUSE, WAITS_MAX, accept_once, is_passing};
+use log::{Log, info, warn};
 use plan_text::Channel;
+use socket_options::keep_alive;
 use std::alloc::{AllocError, Global};
-use std::io::{ErrorKind, Read, Write};
+use std::io::ErrorKind;
 use std::marker::Model;
 use std::net::{Net, SocketAddr, TcpListener, TcpStream};
 use std::sync::Arc;
-use std::{fmt, io};
-
-/// How often one call may be interrupted before that is a fault.
-const INTERRUPTIONS_MAX: u32 = 1_000;
-
-/// Which connection it is, for the log.
-#[derive(Clone, Copy)]
-struct Label<'a> {
-    conn: u32,
-    channel: &'a str,
-    peer: SocketAddr,
-}
-
-impl fmt::Display for Label<'_> {
-    fn fmt<W: fmt::Write>(&self, f: &mut fmt::Formatter<W>) -> fmt::Result {
-        write!(
-            f,
-            "connection {} of channel {} from {}",
-            self.conn, self.channel, self.peer
-        )
-    }
-}
-
-/// One of the two halves of a connection: what is read by, or what is written by. Each fault is one line of the log.
-#[derive(Drop)]
-pub struct Half<'a, H> {
-    rt: &'a H,
-    stream: Arc<TcpStream>,
-    label: Label<'a>,
-}
-
-impl<'a, H: Log> Half<'a, H> {
-    /// Logs a fault, if it is one.
-    fn log<X>(&self, call: &str, answer: &io::Result<X>) {
-        let Err(error) = answer else {
-            return;
-        };
-        if !is_interruption(error) {
-            let label = self.label;
-            warn!(self.rt; "{label}: {call}: {error}");
-        }
-    }
-}
-
-impl<'a, H: Log> Read for Half<'a, H> {
-    fn read(&mut self, buf: &mut [u8]) -> io::Result<usize> {
-        let mut stream: &TcpStream = &self.stream;
-        let answer = stream.read(buf);
-        self.log("read", &answer);
-        answer
-    }
-}
-
-impl<'a, H: Log> Write for Half<'a, H> {
-    fn write(&mut self, buf: &[u8]) -> io::Result<usize> {
-        let mut stream: &TcpStream = &self.stream;
-        let answer = stream.write(buf);
-        self.log("write", &answer);
-        answer
-    }
-
-    fn flush(&mut self) -> io::Result<()> {
-        Ok(())
-    }
-}
+use std::time::{Clock, Duration};
+use std::{io, thread};
 
 /// The door of a channel of the plan: it listens at the channel's address.
 #[derive(Drop)]
@@ -83,7 +23,8 @@ pub struct TcpDoor<'a, H> {
     rt: &'a H,
     alloc: Global,
     channel: &'a Channel,
-    listener: TcpListener,
+    /// None once it is closed.
+    listener: Option<TcpListener>,
     /// The number of the next connection.
     next: u32,
     faults: u64,
@@ -92,29 +33,18 @@ pub struct TcpDoor<'a, H> {
 impl<'a, H> Model for TcpDoor<'a, H> {
     ghost use Rattle.std.specs.Prelude.{ℕ};
 
-    /// How many calls failed.
+    /// How many calls failed, other than for want of memory.
     ghost Value = { ℕ };
 
     ghost view = { λ door. door.faults };
 }
 
-/// Whether a call was interrupted, so that it is to be made again.
-fn is_interruption(error: &io::Error) -> bool {
-    matches!(error.kind(), ErrorKind::Interrupted)
+/// The error of a call on a listener that is closed.
+fn is_closed() -> io::Error {
+    io::Error::from(ErrorKind::NotConnected)
 }
 
-/// Waits for the next connection, again where that was interrupted.
-fn accept(listener: &TcpListener) -> io::Result<(TcpStream, SocketAddr)> {
-    for _ in 0..INTERRUPTIONS_MAX {
-        match listener.accept() {
-            Err(error) if is_interruption(&error) => {}
-            answer => return answer,
-        }
-    }
-    Err(io::Error::from(ErrorKind::Interrupted))
-}
-
-impl<'a, H: Net<Listener = TcpListener, Stream = TcpStream> + Log> TcpDoor<'a, H> {
+impl<'a, H: Net<Listener = TcpListener, Stream = TcpStream> + Clock + Log> TcpDoor<'a, H> {
     /// Listens at the channel's address. No call failed so far, and the first connection will have number `first`.
     ///
     /// # Errors
@@ -128,7 +58,7 @@ impl<'a, H: Net<Listener = TcpListener, Stream = TcpStream> + Log> TcpDoor<'a, H
             rt,
             alloc,
             channel,
-            listener,
+            listener: Some(listener),
             next: first,
             faults: 0,
         })
@@ -138,9 +68,50 @@ impl<'a, H: Net<Listener = TcpListener, Stream = TcpStream> + Log> TcpDoor<'a, H
     ///
     /// # Errors
     ///
-    /// Where the system doesn't tell it.
+    /// Where the system doesn't tell it, or the door is closed.
     pub fn address(&self) -> io::Result<SocketAddr> {
-        self.listener.local_addr()
+        match &self.listener {
+            Some(listener) => listener.local_addr(),
+            None => Err(is_closed()),
+        }
+    }
+
+    /// Logs that an accept failed, where it is the first of a row.
+    fn log_lack(&self, failures: u32, error: &io::Error) {
+        if failures == 0 {
+            let channel = self.channel.name();
+            warn!(self.rt; channel; "accepting a connection failed, trying again for up to 60 s: {error}");
+        }
+    }
+
+    /// Logs that connections are accepted again, where accepting failed before.
+    fn log_recovery(&self, failures: u32) {
+        if failures > 0 {
+            let channel = self.channel.name();
+            info!(self.rt; channel, failures; "accepting connections again");
+        }
+    }
+
+    /// Waits for the next connection. Where an accept fails for what passes, it is tried again 100 ms later, until it has
+    /// failed for 60 seconds.
+    fn accept(&self) -> io::Result<(TcpStream, SocketAddr)> {
+        let Some(listener) = &self.listener else {
+            return Err(is_closed());
+        };
+        for failures in 0..WAITS_MAX {
+            match accept_once(listener) {
+                Ok(came) => {
+                    self.log_recovery(failures);
+                    return Ok(came);
+                }
+                Err(error) if is_passing(&error) => {
+                    self.log_lack(failures, &error);
+                    thread::sleep(self.rt, Duration::from_millis(PAUSE));
+                }
+                Err(error) => return Err(error),
+            }
+        }
+        accept_once(listener)
     }
 
     /// Both halves of a connection that came.
@@ -151,39 +122,36 @@ impl<'a, H: Net<Listener = TcpListener, Stream = TcpStream> + Log> TcpDoor<'a, H
     ) -> Result<(Half<'a, H>, Half<'a, H>), AllocError>
         ensures { self.new ≡ self.old }
     {
-        // Where blocks can't be sent as soon as they are written, they are sent somewhat later.
+        // Where the system refuses one of these, the connection is served without it.
         let _ = stream.set_nodelay(true);
+        let _ = keep_alive(&stream);
+        let _ = bound_writes(&stream);
+        let (channel, connection) = (self.channel.name(), self.next);
+        self.next = self.next.saturating_add(1);
+        info!(self.rt; channel, connection, peer:% = peer; "connection opened");
         let label = Label {
-            conn: self.next,
-            channel: self.channel.name(),
+            channel,
+            connection,
             peer,
         };
-        self.next = self.next.saturating_add(1);
-        debug!(self.rt; "{label}: opened");
         let stream = Arc::new(self.alloc, stream).map_err(AllocError::from)?;
-        let reader = Half {
-            rt: self.rt,
-            stream: Arc::try_clone(&stream)?,
-            label,
-        };
-        let writer = Half {
-            rt: self.rt,
-            stream,
-            label,
-        };
-        Ok((reader, writer))
+        let reader = Half::new(self.rt, Arc::try_clone(&stream)?, label);
+        Ok((reader, Half::new(self.rt, stream, label)))
     }
 
-    /// Counts a fault.
-    fn fault(&mut self) -> DoorFault
-        ensures { self.new ≡ with_fault true self.old }
+    /// Logs that no further connection is taken, and counts the fault.
+    fn fault(&mut self, error: io::Error) -> DoorFault
+        ensures counted { self.new ≡ with_fault true self.old }
+        ensures device { result ≡ DoorFault.Device }
     {
+        let channel = self.channel.name();
+        warn!(self.rt; channel; "accepting a connection failed, no further one is taken: {error}");
         self.faults = self.faults.saturating_add(1);
-        DoorFault
+        DoorFault::Device
     }
 }
 
-impl<'a, H: Net<Listener = TcpListener, Stream = TcpStream> + Log> Door for TcpDoor<'a, H> {
+impl<'a, H: Net<Listener = TcpListener, Stream = TcpStream> + Clock + Log> Door for TcpDoor<'a, H> {
     type Reader = Half<'a, H>;
 
     type Writer = Half<'a, H>;
@@ -191,20 +159,22 @@ impl<'a, H: Net<Listener = TcpListener, Stream = TcpStream> + Log> Door for TcpD
     ghost fault_count = { λ faults. faults };
 
     fn open(&mut self) -> Result<(Half<'a, H>, Half<'a, H>), DoorFault> {
-        let name = self.channel.name();
-        match accept(&self.listener) {
-            Ok((stream, peer)) => match self.halves(stream, peer) {
-                Ok(halves) => Ok(halves),
-                Err(AllocError) => {
-                    warn!(self.rt; "channel {name}: memory was refused for a connection");
-                    Err(self.fault())
-                }
-            },
-            Err(error) => {
-                warn!(self.rt; "channel {name}: accept: {error}");
-                Err(self.fault())
+        let (stream, peer) = match self.accept() {
+            Ok(came) => came,
+            Err(error) => return Err(self.fault(error)),
+        };
+        match self.halves(stream, peer) {
+            Ok(halves) => Ok(halves),
+            Err(AllocError) => {
+                let channel = self.channel.name();
+                warn!(self.rt; channel; "out of memory for a connection");
+                Err(DoorFault::NoMemory)
             }
         }
+    }
+
+    fn close(&mut self) {
+        self.listener = None;
     }
 
     fn faults(&self) -> u64 {

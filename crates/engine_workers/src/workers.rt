@@ -1,8 +1,8 @@
 //! Running all workers.
 
-ghost use Rattle.std.specs.Prelude.{◌≡◌, ◌<◌, ◌≤◌, vec_len, IfOk, OnOk};
+ghost use Rattle.std.specs.Prelude.{◌≡◌, ◌<◌};
 
-use crate::door::Door;
+use crate::door::{Door, Incoming};
 use crate::inlet::Inlet;
 use crate::loan::Loan;
 use crate::outlet::{Outlet, work_all};
@@ -10,13 +10,14 @@ use crate::seat::Seat;
 use crate::site::Site;
 use book_core::Letter;
 use book_lock::{Desk, Opening, Shared, Station};
-use conn_worker::{Clock, ServeReport};
-use delivery_worker::{DeliverReport, Link};
+use conn_worker::Clock;
+use delivery_worker::Link;
 use dest_queue::Addressed;
 use log::Log;
+use plan_text::Plan;
 use row_store::RowStore;
 use std::alloc::{AllocError, Global};
-use std::io::{Read, Write};
+use std::io::Write;
 use std::sync::Wait;
 use std::sync::ledger::Ledger;
 use std::thread::Threads;
@@ -48,15 +49,15 @@ pub struct Staff<A: Opening, T: Ledger, U: Ledger, D, L> {
     pub links: Vec<L>,
 }
 
-/// What came of the work.
+/// What came of the work: what the workers worked with, each report with the desk or the station that it is of.
 #[derive(Drop)]
 pub struct Worked<A: Opening, T: Ledger, U: Ledger, D, L> {
-    /// What the workers worked with.
-    pub staff: Staff<A, T, U, D, L>,
-    /// What serving came to, for each connection that was served, in the order of their numbers.
-    pub served: Vec<ServeReport>,
-    /// What delivering came to, for each destination, in the order of the plan.
-    pub delivered: Vec<DeliverReport>,
+    /// In the order of the numbers of the connections.
+    pub seats: Vec<Seat<A>>,
+    /// In the order of the plan's channels.
+    pub doors: Vec<D>,
+    /// In the order of the plan's destinations.
+    pub outlets: Vec<Outlet<T, U, L>>,
 }
 
 /// Where the workers work.
@@ -107,6 +108,7 @@ fn inlets_of<A: Opening, D: Drop>(
         };
         let seats = seats_at(alloc, &mut desks, channel, accept)?;
         inlets.push(Inlet {
+            channel,
             door: Loan::new(door),
             seats,
         })?;
@@ -122,12 +124,7 @@ fn outlets_of<T: Ledger, U: Ledger, L: Drop>(
 ) -> Result<Vec<Loan<Outlet<T, U, L>>>, AllocError> {
     let mut outlets = Vec::new(alloc);
     for ((station, link), destination) in stations.into_iter().zip(links).zip(0..u32::MAX) {
-        outlets.push(Loan::new(Outlet {
-            destination,
-            link,
-            station,
-            report: None,
-        }))?;
+        outlets.push(Loan::new(Outlet::new(destination, link, station)))?;
     }
     Ok(outlets)
 }
@@ -152,132 +149,53 @@ fn posts_of<A: Opening, T: Ledger, U: Ledger, D: Drop, L: Drop>(
     Ok(Posts { inlets, outlets })
 }
 
-impl<A: Opening, T: Ledger, U: Ledger, D: Drop, L: Drop> Worked<A, T, U, D, L> {
-    /// With nothing handed in yet.
-    fn new(alloc: Global) -> Self
-        ensures served { vec_len result.served ≤ vec_len result.staff.desks }
-        ensures delivered { vec_len result.delivered ≤ vec_len result.staff.stations }
-        ensures links { vec_len result.staff.links ≡ vec_len result.staff.stations }
-    {
-        Worked {
-            staff: Staff {
-                desks: Vec::new(alloc),
-                doors: Vec::new(alloc),
-                stations: Vec::new(alloc),
-                links: Vec::new(alloc),
-            },
-            served: Vec::new(alloc),
-            delivered: Vec::new(alloc),
+/// Takes in the door of a channel, and the seats of its connections.
+fn take_inlet<A: Opening, D: Drop>(
+    seats: &mut Vec<Seat<A>>,
+    doors: &mut Vec<D>,
+    inlet: Inlet<A, D>,
+) -> Result<(), AllocError> {
+    if let Some(door) = inlet.door.into_inner() {
+        doors.push(door)?;
+    }
+    for place in inlet.seats {
+        if let Some(seat) = place.into_inner() {
+            seats.push(seat)?;
         }
     }
+    Ok(())
+}
 
-    /// Takes in a seat.
-    fn take_seat(&mut self, place: Loan<Seat<A>>) -> Result<(), AllocError>
-        requires { vec_len self.old.served ≤ vec_len self.old.staff.desks }
-        ensures served { OnOk result (vec_len self.new.served ≤ vec_len self.new.staff.desks) }
-        ensures delivered { self.new.delivered ≡ self.old.delivered }
-        ensures links { self.new.staff.links ≡ self.old.staff.links }
-        ensures stations { self.new.staff.stations ≡ self.old.staff.stations }
-    {
-        let Some(seat) = place.into_inner() else {
-            return Ok(());
-        };
-        let Seat { desk, report, .. } = seat;
-        self.staff.desks.push(desk)?;
-        if let Some(report) = report {
-            self.served.push(report)?;
+/// Takes in what delivered to all destinations.
+fn outlets_back<T: Ledger, U: Ledger, L: Drop>(
+    alloc: Global,
+    places: Vec<Loan<Outlet<T, U, L>>>,
+) -> Result<Vec<Outlet<T, U, L>>, AllocError> {
+    let mut outlets = Vec::new(alloc);
+    for place in places {
+        if let Some(outlet) = place.into_inner() {
+            outlets.push(outlet)?;
         }
-        Ok(())
     }
-
-    /// Takes in what a channel's door brought.
-    fn take_inlet(&mut self, inlet: Inlet<A, D>) -> Result<(), AllocError>
-        requires { vec_len self.old.served ≤ vec_len self.old.staff.desks }
-        ensures served { OnOk result (vec_len self.new.served ≤ vec_len self.new.staff.desks) }
-        ensures delivered { self.new.delivered ≡ self.old.delivered }
-        ensures links { self.new.staff.links ≡ self.old.staff.links }
-        ensures stations { self.new.staff.stations ≡ self.old.staff.stations }
-    {
-        let Inlet { door, seats } = inlet;
-        if let Some(door) = door.into_inner() {
-            self.staff.doors.push(door)?;
-        }
-        for place in seats {
-            self.take_seat(place)?;
-        }
-        Ok(())
-    }
-
-    /// Takes in what delivered to a destination.
-    fn take_outlet(&mut self, place: Loan<Outlet<T, U, L>>) -> Result<(), AllocError>
-        requires delivered { vec_len self.old.delivered ≤ vec_len self.old.staff.stations }
-        requires links { vec_len self.old.staff.links ≡ vec_len self.old.staff.stations }
-        ensures delivered { OnOk result (vec_len self.new.delivered ≤ vec_len self.new.staff.stations) }
-        ensures links { OnOk result (vec_len self.new.staff.links ≡ vec_len self.new.staff.stations) }
-        ensures served { self.new.served ≡ self.old.served }
-        ensures desks { self.new.staff.desks ≡ self.old.staff.desks }
-    {
-        let Some(outlet) = place.into_inner() else {
-            return Ok(());
-        };
-        let Outlet {
-            link,
-            station,
-            report,
-            ..
-        } = outlet;
-        self.staff.links.push(link)?;
-        self.staff.stations.push(station)?;
-        if let Some(report) = report {
-            self.delivered.push(report)?;
-        }
-        Ok(())
-    }
-
-    /// Takes in what the doors of all channels brought.
-    fn take_inlets(&mut self, inlets: Vec<Inlet<A, D>>) -> Result<(), AllocError>
-        requires { vec_len self.old.served ≤ vec_len self.old.staff.desks }
-        ensures served { OnOk result (vec_len self.new.served ≤ vec_len self.new.staff.desks) }
-        ensures delivered { self.new.delivered ≡ self.old.delivered }
-        ensures links { self.new.staff.links ≡ self.old.staff.links }
-        ensures stations { self.new.staff.stations ≡ self.old.staff.stations }
-    {
-        for inlet in inlets {
-            self.take_inlet(inlet)?;
-        }
-        Ok(())
-    }
-
-    /// Takes in what delivered to all destinations.
-    fn take_outlets(&mut self, outlets: Vec<Loan<Outlet<T, U, L>>>) -> Result<(), AllocError>
-        requires delivered { vec_len self.old.delivered ≤ vec_len self.old.staff.stations }
-        requires links { vec_len self.old.staff.links ≡ vec_len self.old.staff.stations }
-        ensures delivered { OnOk result (vec_len self.new.delivered ≤ vec_len self.new.staff.stations) }
-        ensures links { OnOk result (vec_len self.new.staff.links ≡ vec_len self.new.staff.stations) }
-        ensures served { self.new.served ≡ self.old.served }
-        ensures desks { self.new.staff.desks ≡ self.old.staff.desks }
-    {
-        for outlet in outlets {
-            self.take_outlet(outlet)?;
-        }
-        Ok(())
-    }
+    Ok(outlets)
 }
 
 /// What came of the work at these posts.
 fn gather<A: Opening, T: Ledger, U: Ledger, D: Drop, L: Drop>(
     alloc: Global,
     posts: Posts<A, T, U, D, L>,
-) -> Result<Worked<A, T, U, D, L>, AllocError>
-    ensures served { IfOk result (λ w. vec_len w.served ≤ vec_len w.staff.desks) }
-    ensures delivered { IfOk result (λ w. vec_len w.delivered ≤ vec_len w.staff.stations) }
-    ensures links { IfOk result (λ w. vec_len w.staff.links ≡ vec_len w.staff.stations) }
-{
+) -> Result<Worked<A, T, U, D, L>, AllocError> {
     let Posts { inlets, outlets } = posts;
-    let mut worked = Worked::new(alloc);
-    worked.take_inlets(inlets)?;
-    worked.take_outlets(outlets)?;
-    Ok(worked)
+    let (mut seats, mut doors) = (Vec::new(alloc), Vec::new(alloc));
+    for inlet in inlets {
+        take_inlet(&mut seats, &mut doors, inlet)?;
+    }
+    let outlets = outlets_back(alloc, outlets)?;
+    Ok(Worked {
+        seats,
+        doors,
+        outlets,
+    })
 }
 
 /// Has each worker work at its post. Whether all could be started.
@@ -288,7 +206,7 @@ fn work_at<
     S: RowStore<Addressed<Letter>> + Send,
     C: Clock + Copy + Sync,
     H: Wait + Threads + time::Clock + Log + Sync,
-    R: Read + Send + Drop,
+    R: Incoming + Send + Drop,
     W: Write + Send + Drop,
     D: Door<Reader = R, Writer = W> + Send + Drop,
     L: Link + Send + Drop,
@@ -296,10 +214,11 @@ fn work_at<
     rt: &H,
     alloc: Global,
     shared: &Shared<A, T, U, S>,
+    plan: &Plan,
     posts: &Posts<A, T, U, D, L>,
     clock: C,
 ) -> bool {
-    let site = Site::new(rt, alloc, shared, clock);
+    let site = Site::new(rt, alloc, shared, plan, clock);
     work_all(&site, &posts.inlets, &posts.outlets);
     !site.is_stopped()
 }
@@ -309,8 +228,11 @@ fn work_at<
 /// destination one that delivers from the start on. Connection `k` of channel `c`, both from 0, has number
 /// `c * accept + k`. The moments are those of copies of the clock.
 ///
-/// What the workers worked with comes back, each report beside the desk or the station that it is of. Whether all desks and
-/// stations came back is told by closing the book.
+/// A door is closed after the last connection was taken, and after it failed: who comes then is refused.
+///
+/// What the workers worked with comes back, each report in one value with the desk or the station that it is of, which has
+/// counted as many arrivals as the report has receipts, or as many takes as it has attempts. A connection that never came has
+/// a seat without a report. Whether all desks and stations came back is told by closing the book.
 ///
 /// # Errors
 ///
@@ -323,7 +245,7 @@ pub fn run_workers<
     S: RowStore<Addressed<Letter>> + Send,
     C: Clock + Copy + Sync,
     H: Wait + Threads + time::Clock + Log + Sync,
-    R: Read + Send + Drop,
+    R: Incoming + Send + Drop,
     W: Write + Send + Drop,
     D: Door<Reader = R, Writer = W> + Send + Drop,
     L: Link + Send + Drop,
@@ -334,14 +256,10 @@ pub fn run_workers<
     staff: Staff<A, T, U, D, L>,
     accept: u32,
     clock: C,
-) -> Result<Worked<A, T, U, D, L>, Understaffed>
-    ensures served { IfOk result (λ w. vec_len w.served ≤ vec_len w.staff.desks) }
-    ensures delivered { IfOk result (λ w. vec_len w.delivered ≤ vec_len w.staff.stations) }
-    ensures links { IfOk result (λ w. vec_len w.staff.links ≡ vec_len w.staff.stations) }
-{
-    let channels = shared.plan(rt)?.channels();
-    let posts = posts_of(alloc, channels, accept, staff)?;
-    if !work_at(rt, alloc, shared, &posts, clock) {
+) -> Result<Worked<A, T, U, D, L>, Understaffed> {
+    let plan = shared.plan(rt)?;
+    let posts = posts_of(alloc, plan.channels(), accept, staff)?;
+    if !work_at(rt, alloc, shared, &plan, &posts, clock) {
         return Err(Understaffed);
     }
     Ok(gather(alloc, posts)?)

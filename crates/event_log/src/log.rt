@@ -109,6 +109,14 @@ impl Log {
         self.opening.prunings
     }
 
+    /// The most entries that the history may hold, those owed included.
+    pub fn events_max(&self) -> u32
+        ensures value { result ≡ self.now.history.opening.events_max }
+        ensures few { result ≤ EVENTS_MAX }
+    {
+        self.opening.events_max
+    }
+
     /// How many entries were booked in all: the place of the next.
     pub fn len(&self) -> usize
         ensures { result ≡ next_place self.now.history }

@@ -12,8 +12,9 @@ use answer::answer;
 use book_core::{Book, Letter};
 use check::check;
 use dest_queue::Addressed;
-use engine_report::Fault;
+use engine_report::{Fault, explained_plan, tell_lines};
 use engine_words::Request;
+use plan_notes::{file_note, room_notes, warnings};
 use plan_text::Plan;
 use record_list::RecordList;
 use run::run;
@@ -28,14 +29,41 @@ type EngineRows = RecordList<Addressed<Letter>>;
 /// The book of the program.
 type EngineBook = Book<EngineRows>;
 
+/// The bytes of a plan's file. A note tells why it can't be read.
+fn plan_file<'a>(rt: &HostRuntime, path: &'a str) -> Result<Vec<u8>, Fault<'a>> {
+    match fs::read(rt, path) {
+        Ok(text) => Ok(text),
+        Err(error) if error.kind() == ErrorKind::OutOfMemory => Err(Fault::Memory),
+        Err(error) => {
+            tell_lines(rt, file_note(rt.alloc(), path, &error));
+            Err(Fault::File(path))
+        }
+    }
+}
+
 /// The plan in a file.
 fn read_plan<'a>(rt: &HostRuntime, path: &'a str) -> Result<Plan, Fault<'a>> {
-    let text = match fs::read(rt, path) {
-        Ok(text) => text,
-        Err(error) if error.kind() == ErrorKind::OutOfMemory => return Err(Fault::Memory),
-        Err(_) => return Err(Fault::File(path)),
-    };
-    Ok(Plan::read(rt.alloc(), &text)?)
+    explained_plan(rt, &plan_file(rt, path)?)
+}
+
+/// The plan in a file, with warnings of what it is unlikely to mean, and how many messages of each channel a book of
+/// `events` entries takes.
+fn warned_plan<'a>(rt: &HostRuntime, path: &'a str, events: u32) -> Result<Plan, Fault<'a>> {
+    let text = plan_file(rt, path)?;
+    let plan = explained_plan(rt, &text)?;
+    tell_lines(rt, warnings(rt.alloc(), &text, &plan));
+    tell_lines(rt, room_notes(rt.alloc(), &plan, events));
+    Ok(plan)
+}
+
+/// The plan in a file, to be shared, with the warnings of [`warned_plan`].
+fn warned_shared_plan<'a>(
+    rt: &HostRuntime,
+    path: &'a str,
+    events: u32,
+) -> Result<Arc<Plan>, Fault<'a>> {
+    let plan = warned_plan(rt, path, events)?;
+    Ok(Arc::new(rt.alloc(), plan).map_err(AllocError::from)?)
 }
 
 /// A plan to be shared: that in a file, or the built-in one.
@@ -48,7 +76,7 @@ fn shared_plan<'a>(rt: &HostRuntime, path: Option<&'a str>) -> Result<Arc<Plan>,
 }
 
 /// Does what is asked. The fault is the first that was found. Threads are started, and waited for, by `handle`.
-pub fn obey<'a, H: Handle>(
+pub fn obey<'a, H: Handle + Eprint>(
     rt: &HostRuntime,
     handle: &H,
     request: &Request<'a>,

@@ -10,6 +10,7 @@ use book_lock::{AuditFault, Closed, Desk, NotClosed, Opening, Shared, Station, a
 use conn_worker::nearest;
 use dest_queue::Addressed;
 use judge_core::Text;
+use log::Log;
 use row_store::RowStore;
 use std::alloc::Global;
 use std::marker::Brand;
@@ -243,7 +244,7 @@ fn keep<A: Opening, T: Ledger, U: Ledger>(
 }
 
 /// Whether a message is booked by connection 5.
-fn books<A: Opening, T: Ledger, U: Ledger, S: RowStore<Addressed<Letter>>, H: Wait>(
+fn books<A: Opening, T: Ledger, U: Ledger, S: RowStore<Addressed<Letter>>, H: Wait + Log>(
     rt: &H,
     alloc: Global,
     shared: &Shared<A, T, U, S>,
@@ -254,7 +255,7 @@ fn books<A: Opening, T: Ledger, U: Ledger, S: RowStore<Addressed<Letter>>, H: Wa
 }
 
 /// Books a message at the first desk, takes it at the first station, and books another. Whether all of that was done.
-fn work<A: Opening, T: Ledger, U: Ledger, S: RowStore<Addressed<Letter>>, H: Wait>(
+fn work<A: Opening, T: Ledger, U: Ledger, S: RowStore<Addressed<Letter>>, H: Wait + Log>(
     rt: &H,
     alloc: Global,
     shared: &Shared<A, T, U, S>,
@@ -269,7 +270,7 @@ fn work<A: Opening, T: Ledger, U: Ledger, S: RowStore<Addressed<Letter>>, H: Wai
 }
 
 /// Works at one of two desks and at a station, and keeps back the shares that are not given.
-fn work_and_keep<A: Opening, T: Ledger, U: Ledger, S: RowStore<Addressed<Letter>>, H: Wait>(
+fn work_and_keep<A: Opening, T: Ledger, U: Ledger, S: RowStore<Addressed<Letter>>, H: Wait + Log>(
     rt: &H,
     alloc: Global,
     shared: &Shared<A, T, U, S>,
@@ -285,7 +286,7 @@ fn work_and_keep<A: Opening, T: Ledger, U: Ledger, S: RowStore<Addressed<Letter>
 
 /// Works at the first desk and the station, and closes the book, a second time with all shares where the first close was
 /// refused.
-fn end_with<A: Opening, T: Ledger, U: Ledger, S: RowStore<Addressed<Letter>> + Drop, H: Wait>(
+fn end_with<A: Opening, T: Ledger, U: Ledger, S: RowStore<Addressed<Letter>> + Drop, H: Wait + Log>(
     rt: &H,
     alloc: Global,
     shared: Shared<A, T, U, S>,
@@ -298,7 +299,7 @@ fn end_with<A: Opening, T: Ledger, U: Ledger, S: RowStore<Addressed<Letter>> + D
 }
 
 /// Shares a book between two desks and a station, works at one desk and the station, and closes it.
-fn end_day<A: Opening, T: Ledger, U: Ledger, S: RowStore<Addressed<Letter>> + Drop, H: Wait>(
+fn end_day<A: Opening, T: Ledger, U: Ledger, S: RowStore<Addressed<Letter>> + Drop, H: Wait + Log>(
     rt: &H,
     alloc: Global,
     book: Book<S>,
@@ -353,7 +354,7 @@ fn unmet<S: RowStore<Addressed<Letter>>>(
 }
 
 /// A day at a book, of which these shares are handed in.
-fn day_at<S: RowStore<Addressed<Letter>> + Drop, H: Wait>(
+fn day_at<S: RowStore<Addressed<Letter>> + Drop, H: Wait + Log>(
     rt: &H,
     alloc: Global,
     book: Book<S>,
@@ -380,7 +381,7 @@ fn is_right<S: RowStore<Addressed<Letter>>>(
 }
 
 /// Whether a day at a book, of which these shares are handed in, comes out as it is to.
-fn comes_out<S: RowStore<Addressed<Letter>> + Drop, H: Wait>(
+fn comes_out<S: RowStore<Addressed<Letter>> + Drop, H: Wait + Log>(
     rt: &H,
     alloc: Global,
     book: Book<S>,

@@ -5,6 +5,7 @@ use book_core::{Book, CancelRefusal, EVENTS_MAX, Letter, TakeRefusal, Ticket};
 use book_lock::{Desk, Opening, Shared, Station};
 use conn_worker::nearest;
 use dest_queue::{Addressed, FailCause, Outcome, SettleRefusal, SlotState};
+use log::Log;
 use plan_text::Plan;
 use row_store::RowStore;
 use stat_count::Counts;
@@ -175,7 +176,7 @@ const CASES: [Case; 3] = [
 ];
 
 /// Whether a take gives a job with this control id and this text.
-fn sends<A: Opening, T: Ledger, U: Ledger, S: RowStore<Addressed<Letter>>, H: Wait>(
+fn sends<A: Opening, T: Ledger, U: Ledger, S: RowStore<Addressed<Letter>>, H: Wait + Log>(
     rt: &H,
     shared: &Shared<A, T, U, S>,
     station: &mut Station<T, U>,
@@ -193,7 +194,7 @@ fn sends<A: Opening, T: Ledger, U: Ledger, S: RowStore<Addressed<Letter>>, H: Wa
 }
 
 /// Whether a take gives this ticket, or is refused so.
-fn takes<A: Opening, T: Ledger, U: Ledger, S: RowStore<Addressed<Letter>>, H: Wait>(
+fn takes<A: Opening, T: Ledger, U: Ledger, S: RowStore<Addressed<Letter>>, H: Wait + Log>(
     rt: &H,
     shared: &Shared<A, T, U, S>,
     station: &mut Station<T, U>,
@@ -208,7 +209,7 @@ fn takes<A: Opening, T: Ledger, U: Ledger, S: RowStore<Addressed<Letter>>, H: Wa
 }
 
 /// Whether a call is answered as is due.
-fn is_met<A: Opening, T: Ledger, U: Ledger, S: RowStore<Addressed<Letter>>, H: Wait>(
+fn is_met<A: Opening, T: Ledger, U: Ledger, S: RowStore<Addressed<Letter>>, H: Wait + Log>(
     rt: &H,
     shared: &Shared<A, T, U, S>,
     station: &mut Station<T, U>,
@@ -227,7 +228,7 @@ fn is_met<A: Opening, T: Ledger, U: Ledger, S: RowStore<Addressed<Letter>>, H: W
 }
 
 /// The first of these calls that is answered otherwise than is due; those behind it aren't made.
-fn first_unmet<A: Opening, T: Ledger, U: Ledger, S: RowStore<Addressed<Letter>>, H: Wait>(
+fn first_unmet<A: Opening, T: Ledger, U: Ledger, S: RowStore<Addressed<Letter>>, H: Wait + Log>(
     rt: &H,
     shared: &Shared<A, T, U, S>,
     station: &mut Station<T, U>,
@@ -253,7 +254,7 @@ struct Answers {
 impl Task for Case {
     type Answer = Answers;
 
-    fn work<A: Opening, T: Ledger, U: Ledger, S: RowStore<Addressed<Letter>>, H: Wait>(
+    fn work<A: Opening, T: Ledger, U: Ledger, S: RowStore<Addressed<Letter>>, H: Wait + Log>(
         &self,
         rt: &H,
         _: Global,

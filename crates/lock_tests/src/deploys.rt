@@ -4,6 +4,7 @@ use crate::stage::{Done, M1, Rows, Task, comes_out, plan, plan_of, waiting};
 use book_core::{Book, DeployRefusal, EVENTS_MAX, Letter};
 use book_lock::{Desk, Opening, Shared, Station};
 use dest_queue::Addressed;
+use log::Log;
 use plan_text::Plan;
 use row_store::RowStore;
 use std::alloc::Global;
@@ -32,7 +33,7 @@ struct Deployments {
 impl Task for Deployments {
     type Answer = Answers;
 
-    fn work<A: Opening, T: Ledger, U: Ledger, S: RowStore<Addressed<Letter>>, H: Wait>(
+    fn work<A: Opening, T: Ledger, U: Ledger, S: RowStore<Addressed<Letter>>, H: Wait + Log>(
         &self,
         rt: &H,
         alloc: Global,

@@ -11,6 +11,8 @@ mod deploys;
 #[cfg(test)]
 mod devices;
 #[cfg(test)]
+mod handed_back;
+#[cfg(test)]
 mod prunings;
 #[cfg(test)]
 mod refusals;
@@ -24,3 +26,5 @@ mod serving;
 mod stage;
 #[cfg(test)]
 mod threads;
+#[cfg(test)]
+mod tidying;

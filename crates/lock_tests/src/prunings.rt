@@ -5,6 +5,7 @@ use book_core::{Book, CancelRefusal, EVENTS_MAX, Letter, PruneRefusal, Receipt, 
 use book_lock::{Desk, Opening, Shared, Station, audit};
 use conn_worker::nearest;
 use dest_queue::{Addressed, Outcome, SlotState};
+use log::Log;
 use row_store::RowStore;
 use std::alloc::Global;
 use std::slice;
@@ -27,7 +28,7 @@ struct Prunings;
 impl Task for Prunings {
     type Answer = Answers;
 
-    fn work<A: Opening, T: Ledger, U: Ledger, S: RowStore<Addressed<Letter>>, H: Wait>(
+    fn work<A: Opening, T: Ledger, U: Ledger, S: RowStore<Addressed<Letter>>, H: Wait + Log>(
         &self,
         rt: &H,
         alloc: Global,

@@ -10,6 +10,7 @@ use conn_core::{Booked, Line, Replies, book_and_reply};
 use conn_worker::{AtDesk, nearest};
 use dest_queue::Addressed;
 use judge_core::Judged;
+use log::Log;
 use row_store::RowStore;
 use stat_count::Counts;
 use std::alloc::Global;
@@ -52,7 +53,7 @@ struct Answers {
 }
 
 /// Books a message that came by connection 0, and appends its replies, the first of that connection.
-fn answer<A: Opening, T: Ledger, U: Ledger, S: RowStore<Addressed<Letter>>, H: Wait>(
+fn answer<A: Opening, T: Ledger, U: Ledger, S: RowStore<Addressed<Letter>>, H: Wait + Log>(
     rt: &H,
     alloc: Global,
     shared: &Shared<A, T, U, S>,
@@ -68,12 +69,17 @@ fn answer<A: Opening, T: Ledger, U: Ledger, S: RowStore<Addressed<Letter>>, H: W
         conn: 0,
         channel: 0,
     };
-    let mut place = AtDesk { rt, shared, desk };
+    let mut place = AtDesk {
+        rt,
+        alloc,
+        shared,
+        desk,
+    };
     book_and_reply(&line, &mut place, judged, nearest(1_700_000_000), replies)
 }
 
 /// Brings a message to a desk of a shared book, twice.
-fn bring_twice<A: Opening, T: Ledger, U: Ledger, S: RowStore<Addressed<Letter>>, H: Wait>(
+fn bring_twice<A: Opening, T: Ledger, U: Ledger, S: RowStore<Addressed<Letter>>, H: Wait + Log>(
     rt: &H,
     alloc: Global,
     shared: &Shared<A, T, U, S>,
@@ -108,7 +114,7 @@ fn judged_in(alloc: Global, case: &Case) -> Option<Judged>
 impl Task for Case {
     type Answer = Answers;
 
-    fn work<A: Opening, T: Ledger, U: Ledger, S: RowStore<Addressed<Letter>>, H: Wait>(
+    fn work<A: Opening, T: Ledger, U: Ledger, S: RowStore<Addressed<Letter>>, H: Wait + Log>(
         &self,
         rt: &H,
         alloc: Global,

@@ -13,6 +13,7 @@ use book_lock::{Closed, Desk, Opening, Shared, Station, audit};
 use conn_worker::nearest;
 use dest_queue::{Addressed, Outcome, SlotState};
 use judge_core::Judged;
+use log::Log;
 use plan_text::Plan;
 use row_store::RowStore;
 use stat_count::{Counts, DestinationCounts};
@@ -120,7 +121,7 @@ fn first_attempt(destination: u32) -> Ticket {
 }
 
 /// Books the message, and keeps its receipt.
-fn arrive<A: Opening, T: Ledger, U: Ledger, S: RowStore<Addressed<Letter>>, H: Wait>(
+fn arrive<A: Opening, T: Ledger, U: Ledger, S: RowStore<Addressed<Letter>>, H: Wait + Log>(
     rt: &H,
     shared: &Shared<A, T, U, S>,
     desk: &mut Desk<A>,
@@ -140,7 +141,7 @@ fn arrive<A: Opening, T: Ledger, U: Ledger, S: RowStore<Addressed<Letter>>, H: W
 }
 
 /// Takes the front of queue `d` at the moment 0.
-fn take<A: Opening, T: Ledger, U: Ledger, S: RowStore<Addressed<Letter>>, H: Wait>(
+fn take<A: Opening, T: Ledger, U: Ledger, S: RowStore<Addressed<Letter>>, H: Wait + Log>(
     rt: &H,
     shared: &Shared<A, T, U, S>,
     station: &mut Station<T, U>,
@@ -154,7 +155,7 @@ fn take<A: Opening, T: Ledger, U: Ledger, S: RowStore<Addressed<Letter>>, H: Wai
 }
 
 /// Cancels message 0.
-fn cancel<A: Opening, T: Ledger, U: Ledger, S: RowStore<Addressed<Letter>>, H: Wait>(
+fn cancel<A: Opening, T: Ledger, U: Ledger, S: RowStore<Addressed<Letter>>, H: Wait + Log>(
     rt: &H,
     shared: &Shared<A, T, U, S>,
 ) -> Answer {
@@ -166,7 +167,7 @@ fn cancel<A: Opening, T: Ledger, U: Ledger, S: RowStore<Addressed<Letter>>, H: W
 }
 
 /// Puts a plan in force.
-fn deploy<A: Opening, T: Ledger, U: Ledger, S: RowStore<Addressed<Letter>>, H: Wait>(
+fn deploy<A: Opening, T: Ledger, U: Ledger, S: RowStore<Addressed<Letter>>, H: Wait + Log>(
     rt: &H,
     shared: &Shared<A, T, U, S>,
     plan: &Arc<Plan>,
@@ -182,7 +183,7 @@ fn deploy<A: Opening, T: Ledger, U: Ledger, S: RowStore<Addressed<Letter>>, H: W
 }
 
 /// Forgets message 0.
-fn prune<A: Opening, T: Ledger, U: Ledger, S: RowStore<Addressed<Letter>>, H: Wait>(
+fn prune<A: Opening, T: Ledger, U: Ledger, S: RowStore<Addressed<Letter>>, H: Wait + Log>(
     rt: &H,
     shared: &Shared<A, T, U, S>,
 ) -> Answer {
@@ -194,7 +195,7 @@ fn prune<A: Opening, T: Ledger, U: Ledger, S: RowStore<Addressed<Letter>>, H: Wa
 }
 
 /// Makes a call.
-fn make<A: Opening, T: Ledger, U: Ledger, S: RowStore<Addressed<Letter>>, H: Wait>(
+fn make<A: Opening, T: Ledger, U: Ledger, S: RowStore<Addressed<Letter>>, H: Wait + Log>(
     rt: &H,
     shared: &Shared<A, T, U, S>,
     desk: &mut Desk<A>,
@@ -218,7 +219,7 @@ fn make<A: Opening, T: Ledger, U: Ledger, S: RowStore<Addressed<Letter>>, H: Wai
 
 /// Makes a call, and makes it again where memory was refused. How often that was; none where the call was answered otherwise
 /// than it is to be, or a refusal changed the statistics.
-fn make_surely<A: Opening, T: Ledger, U: Ledger, S: RowStore<Addressed<Letter>>, H: Wait>(
+fn make_surely<A: Opening, T: Ledger, U: Ledger, S: RowStore<Addressed<Letter>>, H: Wait + Log>(
     rt: &H,
     shared: &Shared<A, T, U, S>,
     desk: &mut Desk<A>,
@@ -243,7 +244,7 @@ fn make_surely<A: Opening, T: Ledger, U: Ledger, S: RowStore<Addressed<Letter>>,
 }
 
 /// Makes all calls. How many were refused memory; none where one was answered otherwise than it is to be.
-fn make_all<A: Opening, T: Ledger, U: Ledger, S: RowStore<Addressed<Letter>>, H: Wait>(
+fn make_all<A: Opening, T: Ledger, U: Ledger, S: RowStore<Addressed<Letter>>, H: Wait + Log>(
     rt: &H,
     shared: &Shared<A, T, U, S>,
     desk: &mut Desk<A>,
@@ -260,7 +261,7 @@ fn make_all<A: Opening, T: Ledger, U: Ledger, S: RowStore<Addressed<Letter>>, H:
 }
 
 /// What came of all calls, with what is shown after them.
-fn answers_of<A: Opening, T: Ledger, U: Ledger, S: RowStore<Addressed<Letter>>, H: Wait>(
+fn answers_of<A: Opening, T: Ledger, U: Ledger, S: RowStore<Addressed<Letter>>, H: Wait + Log>(
     rt: &H,
     shared: &Shared<A, T, U, S>,
     desk: &mut Desk<A>,
@@ -315,7 +316,7 @@ impl Task for Parts {
     type Answer = Answers;
 
     /// Makes the calls. The plan and the statistics are shown with no further memory.
-    fn work<A: Opening, T: Ledger, U: Ledger, S: RowStore<Addressed<Letter>>, H: Wait>(
+    fn work<A: Opening, T: Ledger, U: Ledger, S: RowStore<Addressed<Letter>>, H: Wait + Log>(
         &self,
         rt: &H,
         _: Global,
@@ -356,7 +357,7 @@ enum CallsEnd {
 }
 
 /// Makes the calls of a book.
-fn make_calls<S: RowStore<Addressed<Letter>> + Drop, H: Wait>(
+fn make_calls<S: RowStore<Addressed<Letter>> + Drop, H: Wait + Log>(
     rt: &H,
     alloc: Global,
     book: Book<S>,
@@ -373,7 +374,7 @@ fn make_calls<S: RowStore<Addressed<Letter>> + Drop, H: Wait>(
 }
 
 /// Makes the calls of a book, where there is one.
-fn end_of_calls<S: RowStore<Addressed<Letter>> + Drop, H: Wait>(
+fn end_of_calls<S: RowStore<Addressed<Letter>> + Drop, H: Wait + Log>(
     rt: &H,
     alloc: Global,
     prepared: Option<(Book<S>, Parts)>,

@@ -9,6 +9,7 @@ use book_core::{Book, EVENTS_MAX, Letter};
 use book_lock::{Closed, Desk, Opening, Shared, Station, audit, rising};
 use conn_worker::{Counted, ServeEnd, ServeReport, Still, nearest, serve};
 use dest_queue::Addressed;
+use log::Log;
 use row_store::RowStore;
 use stat_count::Counts;
 use std::alloc::Global;
@@ -61,7 +62,7 @@ fn roomy_sink(alloc: Global, devices: Devices) -> Option<Sink> {
 }
 
 /// Serves the two messages at a desk, over these devices.
-fn serve_at<A: Opening, T: Ledger, U: Ledger, S: RowStore<Addressed<Letter>>, H: Wait>(
+fn serve_at<A: Opening, T: Ledger, U: Ledger, S: RowStore<Addressed<Letter>>, H: Wait + Log>(
     rt: &H,
     alloc: Global,
     shared: &Shared<A, T, U, S>,
@@ -144,7 +145,7 @@ impl Task for Serving {
     type Answer = Course;
 
     /// None where memory was refused before.
-    fn work<A: Opening, T: Ledger, U: Ledger, S: RowStore<Addressed<Letter>>, H: Wait>(
+    fn work<A: Opening, T: Ledger, U: Ledger, S: RowStore<Addressed<Letter>>, H: Wait + Log>(
         &self,
         rt: &H,
         alloc: Global,
@@ -199,7 +200,7 @@ fn told_of<S: RowStore<Addressed<Letter>>>(serving: &Serving, served: &Done<Cour
 }
 
 /// Serves the two messages by a book, and tells how that came out. None where memory was refused before.
-fn serve_by<S: RowStore<Addressed<Letter>> + Drop, H: Wait>(
+fn serve_by<S: RowStore<Addressed<Letter>> + Drop, H: Wait + Log>(
     rt: &H,
     alloc: Global,
     book: Option<Book<S>>,

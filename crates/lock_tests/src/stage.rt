@@ -9,6 +9,7 @@ use book_core::{Book, EVENTS_MAX, Letter, Receipt};
 use book_lock::{Closed, Desk, Opening, Shared, Station};
 use dest_queue::Addressed;
 use judge_core::{Judged, fits_block, judge};
+use log::Log;
 use plan_text::Plan;
 use row_store::{PlainRows, RowStore};
 use std::alloc::Global;
@@ -111,7 +112,7 @@ pub fn waiting<S: RowStore<Addressed<Letter>> + Drop>(
 }
 
 /// A message judged by the plan in force of a shared book. None where it is not bookable, or memory is refused.
-pub fn judged_now<A: Opening, T: Ledger, U: Ledger, S: RowStore<Addressed<Letter>>, H: Wait>(
+pub fn judged_now<A: Opening, T: Ledger, U: Ledger, S: RowStore<Addressed<Letter>>, H: Wait + Log>(
     rt: &H,
     alloc: Global,
     shared: &Shared<A, T, U, S>,
@@ -124,7 +125,7 @@ pub fn judged_now<A: Opening, T: Ledger, U: Ledger, S: RowStore<Addressed<Letter
 }
 
 /// Books a message by a connection. None where it is not booked.
-pub fn bring<A: Opening, T: Ledger, U: Ledger, S: RowStore<Addressed<Letter>>, H: Wait>(
+pub fn bring<A: Opening, T: Ledger, U: Ledger, S: RowStore<Addressed<Letter>>, H: Wait + Log>(
     rt: &H,
     alloc: Global,
     shared: &Shared<A, T, U, S>,
@@ -142,7 +143,7 @@ pub trait Task {
     type Answer: Drop;
 
     /// Does it, at the desks and the stations of the book. None where nothing comes of it.
-    fn work<A: Opening, T: Ledger, U: Ledger, S: RowStore<Addressed<Letter>>, H: Wait>(
+    fn work<A: Opening, T: Ledger, U: Ledger, S: RowStore<Addressed<Letter>>, H: Wait + Log>(
         &self,
         rt: &H,
         alloc: Global,
@@ -180,7 +181,7 @@ fn share_and_close<
     U: Ledger,
     S: RowStore<Addressed<Letter>> + Drop,
     K: Task,
-    H: Wait,
+    H: Wait + Log,
 >(
     rt: &H,
     alloc: Global,
@@ -211,7 +212,7 @@ fn share_and_close<
 }
 
 /// Does a task with a book that is shared between a desk and a station.
-pub fn share<S: RowStore<Addressed<Letter>> + Drop, K: Task, H: Wait>(
+pub fn share<S: RowStore<Addressed<Letter>> + Drop, K: Task, H: Wait + Log>(
     rt: &H,
     alloc: Global,
     book: Book<S>,
@@ -229,7 +230,7 @@ pub fn share<S: RowStore<Addressed<Letter>> + Drop, K: Task, H: Wait>(
 }
 
 /// Whether a task with a shared book comes out as it is to.
-pub fn comes_out<S: RowStore<Addressed<Letter>> + Drop, K: Task, H: Wait>(
+pub fn comes_out<S: RowStore<Addressed<Letter>> + Drop, K: Task, H: Wait + Log>(
     rt: &H,
     alloc: Global,
     book: Book<S>,

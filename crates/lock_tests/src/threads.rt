@@ -9,6 +9,7 @@ use book_core::{Book, EVENTS_MAX, Letter};
 use book_lock::{Closed, Opening, Shared, Station};
 use conn_worker::nearest;
 use dest_queue::{Addressed, FailCause, Outcome, SlotState};
+use log::Log;
 use row_store::RowStore;
 use std::alloc::Global;
 use std::marker::Brand;
@@ -22,7 +23,7 @@ use std::thread::Threads;
 const ROUNDS: u32 = 200;
 
 /// Takes the front of each of four queues, and has it delivered.
-fn deliver_all<A: Opening, T: Ledger, U: Ledger, S: RowStore<Addressed<Letter>>, H: Wait>(
+fn deliver_all<A: Opening, T: Ledger, U: Ledger, S: RowStore<Addressed<Letter>>, H: Wait + Log>(
     rt: &H,
     shared: &Shared<A, T, U, S>,
     station: Station<T, U>,
@@ -43,7 +44,7 @@ fn deliver_all<A: Opening, T: Ledger, U: Ledger, S: RowStore<Addressed<Letter>>,
 }
 
 /// Cancels message 0. Whether a slot of it waited.
-fn cancel<A: Opening, T: Ledger, U: Ledger, S: RowStore<Addressed<Letter>>, H: Wait>(
+fn cancel<A: Opening, T: Ledger, U: Ledger, S: RowStore<Addressed<Letter>>, H: Wait + Log>(
     rt: &H,
     shared: &Shared<A, T, U, S>,
 ) -> bool {
@@ -56,7 +57,7 @@ fn beside<
     T: Ledger + Send + Sync,
     U: Ledger + Send + Sync,
     S: RowStore<Addressed<Letter>> + Send,
-    H: Threads + Wait + Sync,
+    H: Log + Threads + Wait + Sync,
 >(rt: &H, shared: &Shared<A, T, U, S>, station: Station<T, U>) -> Station<T, U> {
     let (_, station) = thread::join(
         rt,
@@ -72,7 +73,7 @@ fn work_beside<
     T: Ledger + Send + Sync,
     U: Ledger + Send + Sync,
     S: RowStore<Addressed<Letter>> + Send,
-    H: Threads + Wait + Sync,
+    H: Log + Threads + Wait + Sync,
 >(rt: &H, shared: &Shared<A, T, U, S>, stations: &mut Vec<Station<T, U>>) -> Option<()> {
     let station = stations.pop()?;
     stations.push(beside(rt, shared, station)).ok()
@@ -84,7 +85,7 @@ fn cancel_and_deliver<
     T: Ledger + Send + Sync,
     U: Ledger + Send + Sync,
     S: RowStore<Addressed<Letter>> + Drop + Send,
-    H: Threads + Wait + Sync,
+    H: Log + Threads + Wait + Sync,
 >(
     rt: &H,
     alloc: Global,
@@ -123,7 +124,7 @@ fn is_right<S: RowStore<Addressed<Letter>>>(book: &Book<S>) -> bool {
 }
 
 /// Whether a cancellation beside deliveries, in this book, comes out as it is to.
-fn comes_out<S: RowStore<Addressed<Letter>> + Drop + Send, H: Threads + Wait + Sync>(
+fn comes_out<S: RowStore<Addressed<Letter>> + Drop + Send, H: Log + Threads + Wait + Sync>(
     rt: &H,
     alloc: Global,
     book: Book<S>,

@@ -87,6 +87,34 @@ pub enum Call<'a> {
     Entry {
         place: u32,
     },
+    /// How full the book is.
+    Gauge,
+    /// The first message that is still to be delivered, and where.
+    Live,
+    /// The front of a queue.
+    Front {
+        d: u32,
+    },
+    /// The number before which all is settled but for so many messages.
+    Settled {
+        keep: u32,
+    },
+    /// What is kept of a message.
+    Message {
+        number: u32,
+    },
+    /// The messages of a queue, of the numbers from one up to, and not with, another.
+    Queued {
+        d: u32,
+        from: u32,
+        to: u32,
+    },
+    /// The messages with this control id, of the numbers from one up to, and not with, another.
+    Find {
+        id: &'a str,
+        from: u32,
+        to: u32,
+    },
     /// How many entries there are.
     Entries,
     /// The rows and the statistics that a book lends with its promise.
@@ -197,6 +225,24 @@ fn status<'a>(words: &mut SplitWhitespace<'a>) -> Option<Call<'a>> {
     })
 }
 
+/// A part of a queue.
+fn queued<'a>(words: &mut SplitWhitespace<'a>) -> Option<Call<'a>> {
+    Some(Call::Queued {
+        d: number(words)?,
+        from: number(words)?,
+        to: number(words)?,
+    })
+}
+
+/// Messages that are looked for.
+fn find<'a>(words: &mut SplitWhitespace<'a>) -> Option<Call<'a>> {
+    Some(Call::Find {
+        id: words.next()?,
+        from: number(words)?,
+        to: number(words)?,
+    })
+}
+
 /// The call of a name that changes the book or its plan, if the name is of one.
 fn changing<'a>(name: &str, words: &mut SplitWhitespace<'a>) -> Option<Call<'a>> {
     match name {
@@ -237,6 +283,24 @@ fn asking<'a>(name: &str, words: &mut SplitWhitespace<'a>) -> Option<Call<'a>> {
         "destination" => Some(Call::Destination { d: number(words)? }),
         "entry" => Some(Call::Entry {
             place: number(words)?,
+        }),
+        _ => showing(name, words),
+    }
+}
+
+/// The call of a name that asks how full the book is, or what is kept of messages, if the name is of one.
+fn showing<'a>(name: &str, words: &mut SplitWhitespace<'a>) -> Option<Call<'a>> {
+    match name {
+        "gauge" => Some(Call::Gauge),
+        "live" => Some(Call::Live),
+        "queued" => queued(words),
+        "find" => find(words),
+        "front" => Some(Call::Front { d: number(words)? }),
+        "settled" => Some(Call::Settled {
+            keep: number(words)?,
+        }),
+        "message" => Some(Call::Message {
+            number: number(words)?,
         }),
         _ => None,
     }

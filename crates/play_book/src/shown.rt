@@ -1,10 +1,11 @@
 //! How messages, receipts, jobs and entries are written.
 
-use book_core::{Job, Receipt};
-use dest_queue::{Outcome, SlotState};
+use book_core::{Book, Front, Job, Letter, Receipt};
+use dest_queue::{Addressed, Outcome, SlotState};
 use event_log::{Entry, Ticket, Told};
 use hl7_head::Moment;
 use plan_text::Plan;
+use row_store::RowStore;
 use std::alloc::{AllocError, Global};
 
 /// The bytes 0x0D of a message, as a script writes them.
@@ -43,6 +44,60 @@ pub fn job_shown(alloc: Global, job: &Job) -> Result<String, AllocError> {
         "message {} to {}, attempt {}, control id {id}, answered {}, {payload}",
         ticket.number, ticket.destination, ticket.attempt, job.ack
     )
+}
+
+/// What is kept of a message, and the connection by which it came, if that is known.
+pub fn letter_shown(
+    alloc: Global,
+    letter: &Letter,
+    conn: Option<u32>,
+) -> Result<String, AllocError> {
+    let id = shown(alloc, letter.control_id.as_slice())?;
+    let text = shown(alloc, letter.raw.as_slice())?;
+    format!(in alloc;
+        "entry {}, connection {conn:?}, channel {}, control id {id}, {text}",
+        letter.place, letter.channel
+    )
+}
+
+/// How full a book is.
+pub fn gauge_shown<S: RowStore<Addressed<Letter>>>(
+    alloc: Global,
+    book: &Book<S>,
+) -> Result<String, AllocError> {
+    let tight = if book.is_tight() {
+        "tight"
+    } else {
+        "not tight"
+    };
+    format!(in alloc;
+        "holds {}, owes {} of {}, remembers {} from {}, {} prunings, {} deployments, {tight}",
+        book.held(),
+        book.owed(),
+        book.events_max(),
+        book.remembered(),
+        book.first_remembered(),
+        book.prunings(),
+        book.deployments()
+    )
+}
+
+/// Numbers, each after a space.
+pub fn numbers_shown(alloc: Global, numbers: &[u32]) -> Result<String, AllocError> {
+    let mut line = format!(in alloc; "{} found:", numbers.len())?;
+    for number in numbers {
+        line = format!(in alloc; "{line} {number}")?;
+    }
+    Ok(line)
+}
+
+/// Messages of a queue with their states, each after a space.
+pub fn fronts_shown(alloc: Global, fronts: &[Front]) -> Result<String, AllocError> {
+    let mut line = format!(in alloc; "{} found:", fronts.len())?;
+    for front in fronts {
+        line = format!(in alloc; "{line} {} {:?}", front.number, front.state)?;
+    }
+    Ok(line)
 }
 
 /// The arrival of bytes.

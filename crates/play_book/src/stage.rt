@@ -1,7 +1,10 @@
 //! The book of a script, and the answers to its calls.
 
 use crate::call::Call;
-use crate::shown::{bytes_of, entry_shown, job_shown, receipt_shown};
+use crate::shown::{
+    bytes_of, entry_shown, fronts_shown, gauge_shown, job_shown, letter_shown, numbers_shown,
+    receipt_shown,
+};
 use anyhow::{Result, bail};
 use book_core::{Book, EVENTS_MAX, Letter, NotBooked, Receipt};
 use dest_queue::{Addressed, Outcome};
@@ -96,6 +99,13 @@ impl Stage {
             Call::Channel { channel } => self.channel(channel),
             Call::Destination { d } => self.destination(d),
             Call::Entry { place } => self.entry(place),
+            Call::Gauge => Ok(gauge_shown(self.alloc, &self.book)?),
+            Call::Live => self.live(),
+            Call::Front { d } => self.front(d),
+            Call::Settled { keep } => self.settled(keep),
+            Call::Message { number } => self.message(number),
+            Call::Queued { d, from, to } => self.queued(d, from, to),
+            Call::Find { id, from, to } => self.find(id, from, to),
             Call::Entries => self.entries(),
             Call::Promise => self.promise(),
         }
@@ -186,6 +196,52 @@ impl Stage {
             Some(state) => Ok(format!(in self.alloc; "{state:?}")?),
             None => Ok(format!(in self.alloc; "no slot")?),
         }
+    }
+
+    /// The first message that is still to be delivered, and where.
+    fn live(&mut self) -> Result<String> {
+        match self.book.first_live() {
+            Some(number) => {
+                let d = self.book.live_at(number);
+                Ok(format!(in self.alloc; "message {number} at {d:?}")?)
+            }
+            None => Ok(format!(in self.alloc; "none")?),
+        }
+    }
+
+    /// The front of a queue.
+    fn front(&mut self, d: u32) -> Result<String> {
+        let front = self.book.front(d);
+        Ok(format!(in self.alloc; "{front:?}")?)
+    }
+
+    /// The number before which all is settled but for so many messages.
+    fn settled(&mut self, keep: u32) -> Result<String> {
+        let before = self.book.settled_before(keep);
+        Ok(format!(in self.alloc; "before {before}")?)
+    }
+
+    /// What is kept of a message.
+    fn message(&self, number: u32) -> Result<String> {
+        match self.book.message(number) {
+            Some(letter) => {
+                let conn = self.book.connection(number);
+                Ok(letter_shown(self.alloc, letter, conn)?)
+            }
+            None => Ok(format!(in self.alloc; "none")?),
+        }
+    }
+
+    /// A part of a queue.
+    fn queued(&self, d: u32, from: u32, to: u32) -> Result<String> {
+        let found = self.book.queued_among(d, from, to)?;
+        Ok(fronts_shown(self.alloc, &found)?)
+    }
+
+    /// The messages with a control id, of some numbers.
+    fn find(&self, id: &str, from: u32, to: u32) -> Result<String> {
+        let found = self.book.found_among(id.as_bytes(), from, to)?;
+        Ok(numbers_shown(self.alloc, &found)?)
     }
 
     /// How many entries there are.

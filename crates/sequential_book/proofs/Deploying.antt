@@ -6,7 +6,7 @@ use Rattle.std.specs.Option.{option_map_or}
 use Rattle.std.proofs.lemmas.Bool.Decides.{nat_tests}
 use Rattle.plan_text.specs.Entries.{PlanEntry}
 use Rattle.event_log.specs.declared.refusal.DeployRefusal.{DeployRefusal}
-use Rattle.event_log.specs.declared.refusal.DeployRefusal.TheVariants.{ChannelsDiffer, DestinationInUse, TooMany}
+use Rattle.event_log.specs.declared.refusal.DeployRefusal.TheVariants.{ChannelsDiffer, DestinationInUse, Full, TooMany}
 use Rattle.event_log.specs.Deployment.{deploy_answer, deployments, first_lost, same_channels}
 use Rattle.event_log.specs.History.{History, plan_in_force}
 
@@ -51,3 +51,14 @@ found-later p d inside fails = sym (next-found p d inside ∙ ap (λ b. cond b (
 
 pub none-left : (p : ℕ → Bool) (d : ℕ) → 32 ≤ d → find p (range_with_len d (32 - d)) ≡ None
 none-left p d past = let none : 32 - d ≡ 0 = omega arith in ap (λ k. find p (range_with_len d k)) none
+
+-- no plan is refused so for room
+never-full : (same few : Bool) (lost : Option ℕ) → said_by same lost few ≡ Some Full → ⊥
+never-full true true None is = cc
+never-full true false None is = cc
+never-full true few (Some d) is = cc
+never-full false few lost is = cc
+
+pub other-than-full : {P : Type 0} (h : History) (plan : PlanEntry) (r : DeployRefusal) → deploy_answer h plan ≡ Some r → r ≡ Full → P
+other-than-full h plan r said full =
+    absurd (never-full (same_channels (plan_in_force h) plan) (nat_lt (deployments h) 1000) (first_lost h plan) (sym (deploy-said h plan) ∙ (said ∙ ap (λ r. Some r) full)))

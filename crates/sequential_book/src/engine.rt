@@ -1,6 +1,6 @@
 //! The plain engine itself.
 
-ghost use Rattle.std.specs.Prelude.{◌≡◌, ◌≤◌, ◌⊎◌, Ok, Err, IfOk, IfErr, OnOk, OnErr, IsErrOf, IsTrue, Some, false, length};
+ghost use Rattle.std.specs.Prelude.{◌≡◌, ◌≤◌, ◌⊎◌, Ok, Err, IfOk, IfErr, OnOk, OnErr, IsErrOf, IsTrue, None, Some, false, length};
 ghost use Rattle.std.specs.Arc.{arc_value};
 ghost use Rattle.judge_core.specs.Judging.{is_bookable};
 ghost use Rattle.dest_queue.specs.declared.SettleRefusal.{SettleRefusal};
@@ -8,7 +8,7 @@ ghost use Rattle.event_log.specs.History.{followed_by, opened_by, plan_in_force,
 ghost use Rattle.event_log.specs.Answers.{answer, cancel_answer, settle_answer, take_answer};
 ghost use Rattle.event_log.specs.Deployment.{deploy_answer};
 ghost use Rattle.event_log.specs.Legal.{MayFollow};
-ghost use Rattle.event_log.specs.Room.{is_full};
+ghost use Rattle.event_log.specs.Room.{exceeds, is_full};
 ghost use Rattle.sequential_book.specs.Reading.{IsJudgeable};
 
 mod answers;
@@ -196,6 +196,7 @@ impl SequentialBook {
         ensures booked { OnOk result (self.new ≡ followed_by self.old (Entry.Deploy (arc_value plan))) }
         ensures refused { IfErr result (λ e.
             (deploy_answer self.old (arc_value plan) ≡ Some e) ⊎ (e ≡ DeployRefusal.Full) ⊎ (e ≡ DeployRefusal.NoMemory)) }
+        ensures full { IsErrOf result DeployRefusal.Full → (deploy_answer self.old (arc_value plan) ≡ None) × IsTrue (exceeds self.old 0) }
         ensures err { OnErr result (self.new ≡ self.old) }
     {
         self.rules();

@@ -1,10 +1,12 @@
 //! `check`: whether a plan can be read, and its size.
 
-use crate::commands::read_plan;
+use crate::commands::warned_plan;
+use book_core::EVENTS_MAX;
 use engine_report::{Fault, PlanSize};
 
-/// Prints the size of the plan in a file.
+/// Prints the size of the plan in a file. What the plan is unlikely to mean, and how many messages the largest book takes, is
+/// told on standard error.
 pub fn check<'a>(rt: &HostRuntime, path: &'a str) -> Result<(), Fault<'a>> {
-    let size = PlanSize::of(&read_plan(rt, path)?);
+    let size = PlanSize::of(&warned_plan(rt, path, EVENTS_MAX)?);
     println!(rt; "{size}").map_err(|_| Fault::Write)
 }

@@ -4,12 +4,14 @@ ghost use Rattle.std.specs.Prelude.{◌≡◌, ◌⊎◌, Some, IfErr, IfOk, len
 ghost use Rattle.engine_report.specs.Findings.{NamesChannel, failed_channels, listening};
 
 use delivery_worker::TcpLink;
-use engine_report::{Fault, add_listen_fault};
+use engine_report::{Fault, add_listen_fault, tell_lines};
 use engine_workers::{Door, TcpDoor};
 use log::Log;
+use plan_notes::listen_note;
 use plan_text::Plan;
 use std::alloc::{AllocError, Global};
 use std::net::{Net, TcpListener, TcpStream};
+use std::time::Clock;
 
 /// What an engine meets the world by.
 #[derive(Drop)]
@@ -20,11 +22,12 @@ pub struct Devices<'a, H> {
     pub links: Vec<TcpLink<'a, H>>,
 }
 
-/// The doors of all channels, each with room for so many connections.
+/// The doors of all channels, the first connection of each with the number that follows from `accept`.
 ///
-/// The fault names the first channel of the plan that can't listen.
-fn open_doors<'a, 'f, H: Net<Listener = TcpListener, Stream = TcpStream> + Log>(
-    rt: &'a H,
+/// The fault names the first channel of the plan that can't listen. A note on standard error says why.
+fn open_doors<'a, 'f, H: Net<Listener = TcpListener, Stream = TcpStream> + Clock + Log>(
+    rt: &HostRuntime,
+    handle: &'a H,
     alloc: Global,
     plan: &'a Plan,
     accept: u32,
@@ -38,16 +41,19 @@ fn open_doors<'a, 'f, H: Net<Listener = TcpListener, Stream = TcpStream> + Log>(
             break;
         };
         let first = place.saturating_mul(accept);
-        match TcpDoor::bind(rt, alloc, channel, first) {
+        match TcpDoor::bind(handle, alloc, channel, first) {
             Ok(door) => doors.push(door).map_err(AllocError::from)?,
-            Err(_) => return Err(Fault::Listen(channel.name().to_string(alloc)?)),
+            Err(error) => {
+                tell_lines(rt, listen_note(alloc, channel, &error));
+                return Err(Fault::Listen(channel.name().to_string(alloc)?));
+            }
         }
     }
     Ok(doors)
 }
 
 /// The links of all destinations, none of which is connected yet.
-fn make_links<'a, H: Net<Listener = TcpListener, Stream = TcpStream> + Log>(
+fn make_links<'a, H: Net<Listener = TcpListener, Stream = TcpStream> + Clock + Log>(
     rt: &'a H,
     alloc: Global,
     plan: &'a Plan,
@@ -65,7 +71,7 @@ fn make_links<'a, H: Net<Listener = TcpListener, Stream = TcpStream> + Log>(
 }
 
 /// Tells where each channel listens.
-fn tell_doors<H: Net<Listener = TcpListener, Stream = TcpStream> + Log>(
+fn tell_doors<H: Net<Listener = TcpListener, Stream = TcpStream> + Clock + Log>(
     rt: &HostRuntime,
     plan: &Plan,
     doors: &[TcpDoor<'_, H>],
@@ -81,7 +87,7 @@ fn tell_doors<H: Net<Listener = TcpListener, Stream = TcpStream> + Log>(
 /// Opens the doors of all channels, tells where they listen, and makes the links of all destinations.
 ///
 /// The fault names the first channel of the plan that can't listen.
-pub fn open_devices<'a, 'f, H: Net<Listener = TcpListener, Stream = TcpStream> + Log>(
+pub fn open_devices<'a, 'f, H: Net<Listener = TcpListener, Stream = TcpStream> + Clock + Log>(
     rt: &HostRuntime,
     handle: &'a H,
     alloc: Global,
@@ -93,7 +99,7 @@ pub fn open_devices<'a, 'f, H: Net<Listener = TcpListener, Stream = TcpStream> +
     ensures fault { IfErr result (λ fault. (fault ≡ Fault.Memory) ⊎ NamesChannel plan.now.channels fault) }
 {
     let links = make_links(handle, alloc, plan)?;
-    let doors = open_doors(handle, alloc, plan, accept)?;
+    let doors = open_doors(rt, handle, alloc, plan, accept)?;
     tell_doors(rt, plan, &doors);
     Ok(Devices { doors, links })
 }

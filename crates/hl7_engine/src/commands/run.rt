@@ -8,19 +8,26 @@ ghost use Rattle.engine_report.specs.Findings.{Concludes, last_told};
 ghost use Rattle.engine_report.specs.Lines.{lines_of_closed};
 
 use crate::commands::devices::{Devices, listen_faults, open_devices};
-use crate::commands::{EngineBook, EngineRows, shared_plan};
+use crate::commands::{EngineBook, EngineRows, warned_shared_plan};
 use crate::handle::Handle;
 use book_core::EVENTS_MAX;
 use book_lock::{Closed, Opening, Shared};
-use conn_worker::{Running, ServeReport};
+use conn_worker::{ServeReport, Steady};
 use delivery_worker::TcpLink;
-use engine_report::{Fault, add_finding, connections_of, find, hasher, statistics_text};
-use engine_workers::{Door, Staff, TcpDoor, Worked, run_workers};
+use descriptors::allowed;
+use engine_journal::{Journal, Repeats};
+use engine_report::{
+    Fault, add_finding, connections_of, descriptors_of, find, hasher, statistics_text,
+};
+use engine_workers::{
+    Door, Staff, TcpDoor, Worked, desks_and_reports, run_workers, stations_and_reports,
+};
+use log::{Log, warn};
 use plan_text::Plan;
 use std::alloc::{AllocError, Global};
 use std::marker::Brand;
-use std::sync::Arc;
 use std::sync::ledger::{Blank, Ledger};
+use std::sync::{Arc, Mutex};
 
 /// How the work ended: the book, unless shares of it are missing, what serving each connection came to, and a fault for
 /// each channel whose door failed.
@@ -40,14 +47,14 @@ fn close<'f, A: Opening, T: Ledger, U: Ledger, D: Door + Drop, L: Drop>(
 ) -> Result<Ended<'f>, AllocError>
     ensures opening { IfOk result (λ ended. IfSome ended.closed (λ closed. (closed.opening ≡ A.counts) × (closed.first ≡ A.first))) }
 {
-    let Worked { staff, served, .. } = worked;
-    let Staff {
-        desks,
+    let Worked {
+        seats,
         doors,
-        stations,
-        ..
-    } = staff;
+        outlets,
+    } = worked;
     let failed = listen_faults(alloc, plan, &doors)?;
+    let (desks, served) = desks_and_reports(alloc, seats)?;
+    let (stations, _) = stations_and_reports(alloc, outlets)?;
     let closed = shared.close(desks, stations).ok();
     Ok(Ended {
         closed,
@@ -67,7 +74,7 @@ fn work_at<'a, 'f, A: Opening + Sync, T: Ledger + Sync, U: Ledger + Sync, H: Han
 ) -> Result<Ended<'f>, AllocError>
     ensures opening { IfOk result (λ ended. IfSome ended.closed (λ closed. (closed.opening ≡ A.counts) × (closed.first ≡ A.first))) }
 {
-    match run_workers(rt, alloc, &shared, staff, accept, Running(rt)) {
+    match run_workers(rt, alloc, &shared, staff, accept, Steady::new(rt)) {
         Ok(worked) => close(alloc, plan, shared, worked),
         Err(_) => Err(AllocError),
     }
@@ -153,11 +160,15 @@ fn tell_all<'f>(
     last
 }
 
-/// Prints a text as it is.
+/// Prints a text as it is, on standard error as well where standard output can't be written.
 fn print_text<'f>(rt: &HostRuntime, text: &str) -> Result<(), Fault<'f>>
     ensures { (result ≡ Ok tt) ⊎ (result ≡ Err Fault.Write) }
 {
-    print!(rt; "{text}").map_err(|_| Fault::Write)
+    let Err(_) = print!(rt; "{text}") else {
+        return Ok(());
+    };
+    let _ = eprint!(rt; "{text}");
+    Err(Fault::Write)
 }
 
 /// Tells what came of a run whose book was closed so: the statistics, then each fault. The last one is given.
@@ -197,6 +208,15 @@ fn conclude<'f>(
     tell(rt, alloc, plan, closed.as_ref(), served, failed)
 }
 
+/// Logs that the process may have fewer descriptors open than a run needs, where that is so.
+fn log_descriptors<H: Log>(rt: &H, needed: u64) {
+    if let Some(allowed) = allowed()
+        && allowed < needed
+    {
+        warn!(rt; allowed, needed; "the limit of open files is below what all connections and destinations need");
+    }
+}
+
 /// Listens for all channels of a plan, takes `accept` connections on each, serves them, and delivers what they bring, in a
 /// book of at most so many entries.
 fn run_by<'a, 'f, H: Handle>(
@@ -213,6 +233,7 @@ fn run_by<'a, 'f, H: Handle>(
 {
     let alloc = rt.alloc();
     let connections = connections_of(plan, accept)?;
+    log_descriptors(handle, descriptors_of(plan, connections));
     let hasher = hasher(rt)?;
     let shared_plan = Arc::try_clone(plan)?;
     let devices = open_devices(rt, handle, alloc, plan, accept)?;
@@ -233,9 +254,9 @@ fn run_by<'a, 'f, H: Handle>(
 }
 
 /// Listens for all channels of the plan in a file, takes `accept` connections on each, serves them, and delivers what they
-/// bring, in a book of at most so many entries. It ends after the last connection, once the queues are empty, and prints
-/// the statistics.
-pub fn run<'a, H: Handle>(
+/// bring, in a book of at most `events` entries. It ends after the last connection, once the queues are empty, and prints
+/// the statistics. What its workers log goes through a journal: a line each, with UTC time and level.
+pub fn run<'a, H: Handle + Eprint>(
     rt: &HostRuntime,
     handle: &H,
     path: &'a str,
@@ -248,7 +269,10 @@ pub fn run<'a, H: Handle>(
     requires few { events ≤ EVENTS_MAX }
 {
     let alloc = rt.alloc();
-    let plan = shared_plan(rt, Some(path))?;
-    let ended = run_by(rt, handle, &plan, accept, events)?;
-    conclude(rt, alloc, &plan, ended)
+    let plan = warned_shared_plan(rt, path, events)?;
+    let repeats = Mutex::new(Repeats::new(alloc)?);
+    let journal = Journal::new(*handle, &repeats);
+    let ended = run_by(rt, &journal, &plan, accept, events);
+    journal.finish();
+    conclude(rt, alloc, &plan, ended?)
 }

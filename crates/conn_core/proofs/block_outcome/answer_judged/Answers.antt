@@ -18,6 +18,7 @@ pub returns-clause-told : goal.returns-clause-told
 returns-clause-told g c =
     record {
       judged = c.args.judged.now;
+      by_plan = c.requires.by_plan;
       for_channel = refl;
       of_text = refl;
       may =
@@ -31,8 +32,8 @@ returns-clause-replies g c = c.book_and_reply.ensures.replies
 pub returns-clause-counted : goal.returns-clause-counted
 returns-clause-counted g c = c.book_and_reply.ensures.counted
 
-pub returns-clause-front : goal.returns-clause-front
-returns-clause-front g c = c.book_and_reply.ensures.front
+pub returns-clause-in_part : goal.returns-clause-in_part
+returns-clause-in_part g c = c.book_and_reply.ensures.in_part
 
 pub returns-clause-few : goal.returns-clause-few
 returns-clause-few g c = c.book_and_reply.ensures.few

@@ -1,7 +1,7 @@
-use Rattle.std.proofs.Common.{◌≡◌, take, true, false, refl, ap, ◌∙◌, subst}
+use Rattle.std.proofs.Common.{◌≡◌, true, false, refl, ◌∙◌, subst}
 use Rattle.mllp_frame.specs.Framing.{IsBlockData}
 use Rattle.conn_core.specs.Replies.{told_by}
-use Rattle.engine_model.proofs.Handled.{cut-back, handles-cut, handles-left, handles-message, is_booked, kept-on, on_err_always, plan-kept}
+use Rattle.engine_model.proofs.Handled.{handles-cut, handles-left, handles-message, is_booked, kept-on, on_err_always, plan-kept}
 use Rattle.engine_model.proofs.connection.answer_message.Goals as goal
 
 pub returns-in_err-reserve-clause-err : goal.returns-in_err-reserve-clause-err
@@ -31,17 +31,15 @@ pub returns-then-not-booked-clause-err : goal.returns-then-not-booked-clause-err
 returns-then-not-booked-clause-err g c =
     let outcome = c.book_and_reply-booked.result.outcome in
     let part : c.book_and_reply-booked.result.whole ≡ false = c.if-not-booked.true in
-    let front = c.book_and_reply-booked.ensures.front part in
+    let some = c.book_and_reply-booked.ensures.in_part part in
     handles-cut c.args.line.now.conn c.args.judged.now.channel c.args.now c.args.judged.now.raw (told_by outcome) c.args.book.now c.book_and_reply-booked.new.book c.args.words.now
-    (record { answers = c.push_reserved.new.self; replies = record c.book_and_reply-booked.new.replies { bytes = c.truncate.new.self } }) c.requires.bookable
+    (record { answers = c.push_reserved.new.self; replies = c.book_and_reply-booked.new.replies }) c.requires.bookable
     (is_booked c.args.line.now.conn c.args.now c.args.judged.now c.args.book.now c.book_and_reply-booked.new.book c.args.words.now.answers.items c.push_reserved.new.self.items c.requires.same_plan
     (subst IsBlockData c.raw.ensures.value c.raw.ensures.fits) outcome c.book_and_reply-booked.ensures.receipt c.book_and_reply-booked.ensures.booked c.book_and_reply-booked.ensures.unbooked
     c.book_and_reply-booked.ensures.told c.book_and_reply-booked.ensures.refused
     (kept-on c.args.words.now.answers.items c.reserve.new.self.items c.push_reserved.new.self.items (record { raw = c.in_ok-raw.raw; outcome = c.told_by.result; moment = c.args.now }) c.args.judged.now.raw (told_by outcome) c.args.now
     c.reserve.ensures.items c.push_reserved.ensures.items (c.in_ok-raw.ensures ∙ c.raw.ensures.value) c.told_by.ensures refl))
-    c.requires.counted
-    (c.truncate.ensures.items ∙ ap (λ n. take n c.book_and_reply-booked.new.replies.bytes.items) (c.len-sent.ensures ∙ c.args.words.now.replies.bytes.ok.0)
-    ∙ cut-back c.args.words.now.replies.bytes.items c.book_and_reply-booked.new.replies.bytes.items front.added front.grows)
+    c.requires.counted some.count some.bytes
 
 pub returns-then-not-booked-clause-plan : goal.returns-then-not-booked-clause-plan
 returns-then-not-booked-clause-plan g c =

@@ -95,7 +95,7 @@ invariant_of-self-2 g c =
     let added = gain-added h c.args.judged.now.plan channel raw c.args.told (control_id_of raw) c.args.gain plan c.requires.gain in
     let few : channel < 64 = let known = rw plan at c.channel-channel.ensures.known in omega (arith, known, c.channel-channel.ensures.value, c.self.invariant.sound.plan.few_channels) in
     rw (c.push.ensures.history, c.reserve.ensures.history, c.channel-channel.ensures.value, c.in_ok-kept.ensures ∙ c.raw-2.ensures.value)
-    (kept-arrived _ _ _ _ _ _ c.self.invariant c.args.conn channel raw c.args.told fits enough told c.args.gain _ _ _ _ few (rw plan at c.requires.gain) c.in_ok-add_gain.ensures.row
+    (kept-arrived _ _ _ _ _ _ c.self.invariant c.args.conn channel raw c.args.told fits enough told c.args.gain _ _ _ _ few (rw plan at c.requires.gain) (rw (c.channel-channel.ensures.value, c.in_ok-raw.ensures ∙ c.raw.ensures.value) at c.in_ok-add_gain.ensures.row)
     (keys-arrived _ _ _ _ _ _ c.self.invariant c.args.conn channel raw c.args.told fits enough told c.key.result.now (has_key c.args.gain) c.len-place.result _
     (key-kept c.args.told (control_id_of raw) (decided c.args.judged.now.plan channel raw) c.args.gain c.requires.gain) c.key.ensures (c.len-place.ensures ∙ ap next_place c.reserve.ensures.history) c.in_ok-add_gain.ensures.key c.in_ok-add_gain.ensures.no_key)
     (rw (c.channel-channel.ensures.value, c.deliveries.ensures.value, added) at c.count_arrival.ensures)

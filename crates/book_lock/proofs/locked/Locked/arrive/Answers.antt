@@ -10,13 +10,13 @@ use Rattle.book_lock.proofs.locked.Locked.arrive.Goals as goal
 
 pub count-requires : goal.count-requires
 count-requires g c =
-    let h : Held = record { book = c.self.inside.book; opening = c.self.inside.opening; first = c.self.inside.first } in
+    let h : Held = record { book = c.self.inside.book; opening = c.self.inside.opening; first = c.self.inside.first; admitted = c.self.inside.admitted } in
     arrivals_fit h c.self.inside.arrivals.total c.self.inside.takes.total c.self.inside.settlements.total c.self.invariant.1
     (c.three_sums.ensures.few_arrivals h.book c.rules.ensures.sound (few_entries h.book c.rules.ensures.sound c.rules.ensures.few))
 
 pub invariant_of-self-2 : goal.invariant_of-self-2
 invariant_of-self-2 g c =
-    let h : Held = record { book = c.self.inside.book; opening = c.self.inside.opening; first = c.self.inside.first } in
+    let h : Held = record { book = c.self.inside.book; opening = c.self.inside.opening; first = c.self.inside.first; admitted = c.self.inside.admitted } in
     let judged = c.args.judged.now in
     let told = c.in_ok-receipt.receipt.told in
     let known = known_channel judged.plan (plan_in_force h.book) judged.channel (λ other. let w = c.in_ok-receipt.ensures.plan.1 other in cc) (omega (arith, c.channel-channel.ensures.value, c.channel-channel.ensures.known)) in

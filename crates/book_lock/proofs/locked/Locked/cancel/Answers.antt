@@ -11,7 +11,7 @@ use Rattle.book_lock.proofs.locked.Locked.cancel.Goals as goal
 
 pub invariant_of-self-2 : goal.invariant_of-self-2
 invariant_of-self-2 g c =
-    let h : Held = record { book = c.self.inside.book; opening = c.self.inside.opening; first = c.self.inside.first } in
+    let h : Held = record { book = c.self.inside.book; opening = c.self.inside.opening; first = c.self.inside.first; admitted = c.self.inside.admitted } in
     let mask = c.in_ok-mask.mask in
     let rise = c.three_sums.ensures.cancellation h.book c.args.number mask c.rules.ensures.sound c.in_ok-mask.ensures.answer in
     let n = next h (Cancel c.args.number mask) c.cancel.new.self g.A.Opening.counts g.A.Opening.first g.A.Opening.channels

@@ -15,7 +15,7 @@ use Rattle.book_lock.proofs.locked.Locked.deploy.Goals as goal
 
 pub invariant_of-self-2 : goal.invariant_of-self-2
 invariant_of-self-2 g c =
-    let h : Held = record { book = c.self.inside.book; opening = c.self.inside.opening; first = c.self.inside.first } in
+    let h : Held = record { book = c.self.inside.book; opening = c.self.inside.opening; first = c.self.inside.first; admitted = c.self.inside.admitted } in
     let plan : PlanEntry = arc_value c.args.plan in
     let rise = c.three_sums.ensures.deployment h.book plan c.rules.ensures.sound c.in_ok-deploy.ensures.answer in
     let same : length (plan_in_force (followed_by h.book (Deploy plan))).channels ≡ length (plan_in_force h.book).channels =

@@ -13,4 +13,4 @@ invariant_of-result g c =
     )
 
 pub returns : goal.returns
-returns g c = λ i. record { book = c.args.book; opening = c.counts-opening.ensures i; first = c.len-first.ensures i }
+returns g c = λ i. record { book = c.args.book; opening = c.counts-opening.ensures i; first = c.len-first.ensures i; admitted = 0 }

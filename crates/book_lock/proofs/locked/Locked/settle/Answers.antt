@@ -9,13 +9,13 @@ use Rattle.book_lock.proofs.locked.Locked.settle.Goals as goal
 
 pub count_settlement-requires : goal.count_settlement-requires
 count_settlement-requires g c =
-    let h : Held = record { book = c.self.inside.book; opening = c.self.inside.opening; first = c.self.inside.first } in
+    let h : Held = record { book = c.self.inside.book; opening = c.self.inside.opening; first = c.self.inside.first; admitted = c.self.inside.admitted } in
     settlements_fit h c.self.inside.arrivals.total c.self.inside.takes.total c.self.inside.settlements.total c.self.invariant.1
     (c.three_sums.ensures.few_settlements h.book c.rules.ensures.sound (few_entries h.book c.rules.ensures.sound c.rules.ensures.few))
 
 pub invariant_of-self-2 : goal.invariant_of-self-2
 invariant_of-self-2 g c =
-    let h : Held = record { book = c.self.inside.book; opening = c.self.inside.opening; first = c.self.inside.first } in
+    let h : Held = record { book = c.self.inside.book; opening = c.self.inside.opening; first = c.self.inside.first; admitted = c.self.inside.admitted } in
     let ticket = c.args.ticket.now in
     let state = c.in_ok-state.state in
     let rise = c.three_sums.ensures.settlement h.book ticket c.args.outcome c.args.now state c.rules.ensures.sound (sym c.in_ok-state.ensures.answer) in

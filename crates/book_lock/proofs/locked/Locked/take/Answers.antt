@@ -11,13 +11,13 @@ use Rattle.book_lock.proofs.locked.Locked.take.Goals as goal
 
 pub count_take-requires : goal.count_take-requires
 count_take-requires g c =
-    let h : Held = record { book = c.self.inside.book; opening = c.self.inside.opening; first = c.self.inside.first } in
+    let h : Held = record { book = c.self.inside.book; opening = c.self.inside.opening; first = c.self.inside.first; admitted = c.self.inside.admitted } in
     takes_fit h c.self.inside.arrivals.total c.self.inside.takes.total c.self.inside.settlements.total c.self.invariant.1
     (c.three_sums.ensures.few_takes h.book c.rules.ensures.sound (few_entries h.book c.rules.ensures.sound c.rules.ensures.few))
 
 pub invariant_of-self-2 : goal.invariant_of-self-2
 invariant_of-self-2 g c =
-    let h : Held = record { book = c.self.inside.book; opening = c.self.inside.opening; first = c.self.inside.first } in
+    let h : Held = record { book = c.self.inside.book; opening = c.self.inside.opening; first = c.self.inside.first; admitted = c.self.inside.admitted } in
     let rise = c.three_sums.ensures.take h.book c.args.d c.args.now c.in_ok-job.job.ticket c.rules.ensures.sound c.in_ok-job.ensures.answer in
     let n = next h (Take c.in_ok-job.job.ticket c.args.now) c.take.new.self g.A.Opening.counts g.A.Opening.first g.A.Opening.channels
     c.self.inside.arrivals.total c.self.inside.takes.total c.self.inside.settlements.total 0 1 0 c.self.inside.arrivals.total c.count_take.new.book.total c.self.inside.settlements.total

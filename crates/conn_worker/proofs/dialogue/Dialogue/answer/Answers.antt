@@ -70,4 +70,4 @@ returns-else-whole-clause-err g c first before text s =
       strays = c.count.ensures.stray_ones;
       breaks = c.count.ensures.broken_ones;
     })
-    part (c.in_ok-outcome.ensures.front part)
+    part (c.in_ok-outcome.ensures.in_part part)

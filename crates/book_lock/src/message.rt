@@ -1,0 +1,30 @@
+//! What a shared book says of a message.
+
+use dest_queue::SlotState;
+use judge_core::Text;
+use row_store::QUEUES;
+
+/// A message that a book remembers.
+#[derive(Drop)]
+pub struct Message {
+    /// The channel on which it came, by its index in the plan.
+    pub channel: u32,
+    /// The connection by which it came, if the book still holds the entry of its arrival: what a pruning remembers of an
+    /// arrival has no connection.
+    pub conn: Option<u32>,
+    /// The bytes that came, which the book shares.
+    pub raw: Text,
+    /// By destination, its state there, if it goes there.
+    pub states: [Option<SlotState>; QUEUES as usize],
+}
+
+/// What a book says of a message number.
+#[derive(Drop)]
+pub enum Found {
+    /// So many messages were not accepted yet.
+    ToCome,
+    /// The message is forgotten.
+    Forgotten,
+    /// The message is remembered.
+    Kept(Message),
+}

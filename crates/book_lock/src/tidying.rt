@@ -1,0 +1,38 @@
+//! What an arrival does about a tight book.
+
+ghost use Rattle.std.specs.Prelude.{◌≡◌};
+ghost use Rattle.book_lock.specs.Tidies.{tidying_of};
+
+use book_core::{NotBooked, PruneRefusal, Receipt};
+
+/// What an arrival did about a tight book before it was booked.
+#[derive(Clone, Copy, Debug, PartialEq, Eq)]
+pub enum Tidying {
+    /// The book was not tight, and nothing was done.
+    NotTight,
+    /// All entries were folded and the messages numbered below `before` forgotten.
+    Pruned { before: u32 },
+    /// It was to be pruned, which was refused: it is as it was.
+    Refused(PruneRefusal),
+}
+
+impl Tidying {
+    /// What a pruning came to.
+    pub fn of(answer: Result<u32, PruneRefusal>) -> Tidying
+        ensures { result ≡ tidying_of answer }
+    {
+        match answer {
+            Ok(before) => Tidying::Pruned { before },
+            Err(refusal) => Tidying::Refused(refusal),
+        }
+    }
+}
+
+/// The answer to an arrival, and what was done about a tight book before it.
+#[derive(Drop)]
+pub struct Tidied {
+    /// The receipt, or why it was not booked.
+    pub receipt: Result<Receipt, NotBooked>,
+    /// What was done about a tight book before.
+    pub tidying: Tidying,
+}

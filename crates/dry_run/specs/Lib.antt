@@ -1,0 +1,4 @@
+pub mod Lines
+pub mod Segments
+pub mod Trying
+pub mod Ways

@@ -1,0 +1,11 @@
+-- What a call that opens a door counts as.
+use Rattle.std.specs.Prelude.{Result, Ok, Err}
+use Rattle.std.specs.Prelude.{Bool, true, false}
+use Rattle.engine_workers.specs.declared.door.DoorFault.{DoorFault}
+use Rattle.engine_workers.specs.declared.door.DoorFault.TheVariants.{Device, NoMemory}
+
+-- Whether the device failed: want of memory is no fault of the device's.
+abbrev pub is_device_fault : {X : Type 0} → Result X DoorFault → Bool
+is_device_fault (Ok _) = false
+is_device_fault (Err Device) = true
+is_device_fault (Err NoMemory) = false

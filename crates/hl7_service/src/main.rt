@@ -1,0 +1,12 @@
+//! An HL7 v2.5.1 interface engine as a service.
+#![tactic(auto)]
+
+use service_main::{finish, perform, words_given};
+use std::process::ExitCode;
+
+fn main(rt: HostRuntime) -> ExitCode {
+    match words_given(&rt) {
+        Ok(words) => finish(&rt, perform(&rt, &words)),
+        Err(trouble) => finish(&rt, Err(trouble)),
+    }
+}

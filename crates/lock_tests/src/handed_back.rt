@@ -1,0 +1,83 @@
+//! A shared book that comes back from a close that was refused.
+
+ghost use Rattle.std.specs.Prelude.{◌≡◌, ◌+◌, length};
+ghost use Rattle.event_log.specs.History.{next_place, plan_in_force};
+ghost use Rattle.event_log.specs.Counting.{counted};
+
+use crate::stage::{M1, Rows, bring, waiting};
+use book_core::{Book, EVENTS_MAX, Letter};
+use book_lock::{NotClosed, Opening, Shared};
+use dest_queue::Addressed;
+use log::Log;
+use row_store::RowStore;
+use std::alloc::Global;
+use std::marker::Brand;
+use std::sync::Wait;
+use std::sync::ledger::{Blank, Ledger};
+use std::test::Fail;
+
+/// Books a message, notes that none will follow where that is asked for, and closes the book without its desk. Whether the
+/// shared book that comes back has the note; None where the close is not refused.
+fn noted_after_close<
+    A: Opening,
+    T: Ledger,
+    U: Ledger,
+    S: RowStore<Addressed<Letter>> + Drop,
+    H: Wait + Log,
+>(
+    rt: &H,
+    alloc: Global,
+    book: Book<S>,
+    arrivals: Blank,
+    takes: Blank,
+    settlements: Blank,
+    finish: bool,
+) -> Option<bool>
+    requires counts { counted book ≡ A.counts }
+    requires first { next_place book ≡ A.first }
+    requires channels { length (plan_in_force book).channels ≡ A.channels }
+    requires arrivals { (arrivals.name ≡ A.name) × (arrivals.parts ≡ A.parts) × (A.parts ≡ 2) }
+    requires takes { (takes.name ≡ T.name) × (takes.parts ≡ T.parts) × (T.parts ≡ 1) }
+    requires settlements { (settlements.name ≡ U.name) × (settlements.parts ≡ U.parts) × (U.parts ≡ 1) }
+{
+    let opened = Shared::<A, T, U, S>::new(alloc, book, 1, 0, arrivals, takes, settlements);
+    let (shared, mut desks, stations) = opened.ok()?;
+    bring(rt, alloc, &shared, desks.first_mut()?, 0, M1)?;
+    if finish {
+        shared.finish(rt);
+    }
+    match shared.close(Vec::new(alloc), stations) {
+        Ok(_) => None,
+        Err(NotClosed::SharesMissing { shared, .. }) => Some(shared.is_finished()),
+    }
+}
+
+/// The same with brands of their own.
+fn noted<S: RowStore<Addressed<Letter>> + Drop, H: Wait + Log>(
+    rt: &H,
+    alloc: Global,
+    book: Book<S>,
+    finish: bool,
+) -> Option<bool> {
+    noted_after_close::<Brand, Brand, Brand, S, H>(
+        rt,
+        alloc,
+        book,
+        Blank::new(2),
+        Blank::new(1),
+        Blank::new(1),
+        finish,
+    )
+}
+
+/// A shared book that comes back is finished where it was noted before the close that no arrival will follow, and not
+/// otherwise.
+#[test]
+fn the_note_comes_back(rt: HostRuntime) -> Result<(), Fail> {
+    for finish in [true, false] {
+        let book: Book<Rows> = waiting(&rt, false, EVENTS_MAX, &[])?;
+        let noted = noted(&rt, rt.alloc(), book, finish);
+        assert!(rt; noted == Some(finish));
+    }
+    Ok(())
+}

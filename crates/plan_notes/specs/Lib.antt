@@ -1,0 +1,4 @@
+pub mod Address
+pub mod Line
+pub mod Position
+pub mod Room

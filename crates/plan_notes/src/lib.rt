@@ -1,0 +1,29 @@
+//! What is said of a plan beside its specified lines: notes that explain a fault, and warnings of what a plan that can be read
+//! is unlikely to mean.
+#![tactic(auto)]
+
+mod address;
+mod explain;
+mod flaws;
+mod found;
+mod keys;
+mod line;
+mod lines;
+mod nearest;
+mod path_notes;
+mod plan_warnings;
+mod position;
+mod room;
+mod shown;
+mod spot;
+mod tables;
+mod value_notes;
+
+pub use explain::{fault_notes, file_note, listen_note};
+pub use line::Line;
+pub use plan_warnings::warnings;
+pub use room::room_notes;
+pub use shown::ShownFault;
+
+#[cfg(test)]
+mod tests;

@@ -1,0 +1,66 @@
+-- What a line of the service's standard input asks for.
+use Rattle.std.specs.Prelude.{ℕ, ◌+◌, ◌*◌, ◌-◌, ◌&&◌, ◌==◌, nat_lt, nat_le, if◌then◌else◌, List, [], ◌∷◌, length, take, drop, Option, None, Some, codes}
+use Rattle.std.specs.Borrow.{Bor}
+use Rattle.std.specs.Option.{option_map_or}
+use Rattle.std.specs.Str.{bytes_eq}
+use Rattle.service_commands.specs.declared.command.Command.{Command}
+use Rattle.service_commands.specs.declared.command.Command.TheVariants.{Status, Metrics, Message, Find, Waiting, Deploy, Prune, Cancel, Stop, StopNow, Unknown}
+
+-- a command by the bytes of its text
+abbrev pub seen : Command (Bor (List ℕ)) → Command (List ℕ)
+seen Status = Status
+seen Metrics = Metrics
+seen (Message n) = Message n
+seen (Find text) = Find text.now
+seen (Waiting text) = Waiting text.now
+seen (Deploy text) = Deploy text.now
+seen Prune = Prune
+seen (Cancel n) = Cancel n
+seen Stop = Stop
+seen StopNow = StopNow
+seen Unknown = Unknown
+
+-- a text of at least one byte
+abbrev pub nonempty : List ℕ → Option (List ℕ)
+nonempty [] = None
+nonempty (b ∷ bs) = Some (b ∷ bs)
+
+-- what follows a word, which ends with a space, where at least one byte does
+abbrev pub argument : List ℕ → List ℕ → Option (List ℕ)
+argument word line = if bytes_eq (take (length word) line) word then nonempty (drop (length word) line) else None
+
+-- a number with a decimal digit behind it; none at another byte, or at 2^32 and above
+abbrev pub with_digit : ℕ → ℕ → Option ℕ
+with_digit n b = if (nat_le 48 b && nat_le b 57) && nat_lt (n * 10 + (b - 48)) 4_294_967_296 then Some (n * 10 + (b - 48)) else None
+
+-- the number that decimal digits write when they follow those of n
+abbrev pub number_after : ℕ → List ℕ → Option ℕ
+number_after n [] = Some n
+number_after n (b ∷ bs) = option_map_or (λ m. number_after m bs) (with_digit n b) None
+
+-- the number that a text writes in decimal digits, at least one
+abbrev pub number_of : List ℕ → Option ℕ
+number_of text = if length text == 0 then None else number_after 0 text
+
+-- message N, cancel N
+abbrev pub numbered : List ℕ → Command (List ℕ)
+numbered line =
+    option_map_or (λ text. option_map_or (λ n. Message n) (number_of text) Unknown) (argument (codes "message ") line)
+    (option_map_or (λ text. option_map_or (λ n. Cancel n) (number_of text) Unknown) (argument (codes "cancel ") line) Unknown)
+
+-- find ID, waiting NAME, deploy PATH
+abbrev pub named : List ℕ → Command (List ℕ)
+named line =
+    option_map_or (λ text. Find text) (argument (codes "find ") line)
+    (option_map_or (λ text. Waiting text) (argument (codes "waiting ") line)
+    (option_map_or (λ text. Deploy text) (argument (codes "deploy ") line) (numbered line)))
+
+-- what a line asks for
+abbrev pub command_of : List ℕ → Command (List ℕ)
+command_of line =
+    if bytes_eq line (codes "status") then Status
+    else (if bytes_eq line (codes "metrics") then Metrics
+    else (if bytes_eq line (codes "prune") then Prune
+    else (if bytes_eq line (codes "stop") then Stop
+    else (if bytes_eq line (codes "stop now") then StopNow
+    else named line))))

@@ -1,0 +1,164 @@
+//! What a line asks for.
+
+ghost use Rattle.std.specs.Prelude.{◌≡◌, option_map};
+ghost use Rattle.service_commands.specs.Commands.{argument, command_of, named, numbered, number_of, seen, with_digit};
+
+/// What a line asks for. Texts are of type `T`, the bytes as they are in the line.
+#[derive(Clone, Copy, Debug, PartialEq, Eq)]
+pub enum Command<T> {
+    /// What each channel, each destination, the book and the connections have done.
+    Status,
+    /// The same numbers in the text format of Prometheus.
+    Metrics,
+    /// Where the message of this number is.
+    Message(u32),
+    /// The numbers of the messages with this control id (MSH-10, HL7 v2.5.1, 2.15.9.10), at least one byte.
+    Find(T),
+    /// The first messages in the queue of the destination of this name, at least one byte.
+    Waiting(T),
+    /// The plan in the file of this path, at least one byte, in place of the plan in force.
+    Deploy(T),
+    /// Forgetting what is settled.
+    Prune,
+    /// The message of this number is delivered nowhere any more.
+    Cancel(u32),
+    /// The end, once nothing waits for delivery.
+    Stop,
+    /// The end, without waiting for deliveries.
+    StopNow,
+    /// No command.
+    Unknown,
+}
+
+/// What follows a word and one space, where something does.
+fn argument<'a>(line: &'a [u8], word: &[u8]) -> Option<&'a [u8]>
+    ensures { option_map (λ text. text.now) result ≡ argument word.now line.now }
+{
+    match line.strip_prefix(word) {
+        Some(text) if !text.is_empty() => Some(text),
+        _ => None,
+    }
+}
+
+/// A number with a decimal digit written behind it, where that is one and the number stays below 2^32.
+fn with_digit(number: u32, byte: u8) -> Option<u32>
+    ensures { result ≡ with_digit number byte }
+{
+    match byte {
+        b'0'..=b'9' => number.checked_mul(10)?.checked_add(u32::from(byte - b'0')),
+        _ => None,
+    }
+}
+
+/// The number below 2^32 that decimal digits write, where a text is one digit or more and nothing else.
+fn number_of(text: &[u8]) -> Option<u32>
+    ensures { result ≡ number_of text.now }
+{
+    if text.is_empty() {
+        return None;
+    }
+    let mut number = 0;
+    for byte in text {
+        number = with_digit(number, *byte)?;
+    }
+    Some(number)
+}
+
+/// What a line asks for that begins with none of the words that a text follows.
+fn numbered(line: &[u8]) -> Command<&[u8]>
+    ensures { seen result ≡ numbered line.now }
+{
+    if let Some(text) = argument(line, b"message ") {
+        return match number_of(text) {
+            Some(number) => Command::Message(number),
+            None => Command::Unknown,
+        };
+    }
+    if let Some(text) = argument(line, b"cancel ") {
+        return match number_of(text) {
+            Some(number) => Command::Cancel(number),
+            None => Command::Unknown,
+        };
+    }
+    Command::Unknown
+}
+
+/// What a line asks for that is no command of a single word, nor `stop now`.
+fn named(line: &[u8]) -> Command<&[u8]>
+    ensures { seen result ≡ named line.now }
+{
+    if let Some(text) = argument(line, b"find ") {
+        Command::Find(text)
+    } else if let Some(text) = argument(line, b"waiting ") {
+        Command::Waiting(text)
+    } else if let Some(text) = argument(line, b"deploy ") {
+        Command::Deploy(text)
+    } else {
+        numbered(line)
+    }
+}
+
+/// What a line asks for. Each line asks for one thing; those that are none of the commands are `Unknown`.
+pub fn read_command(line: &[u8]) -> Command<&[u8]>
+    ensures { seen result ≡ command_of line.now }
+{
+    if line == b"status".as_slice() {
+        Command::Status
+    } else if line == b"metrics".as_slice() {
+        Command::Metrics
+    } else if line == b"prune".as_slice() {
+        Command::Prune
+    } else if line == b"stop".as_slice() {
+        Command::Stop
+    } else if line == b"stop now".as_slice() {
+        Command::StopNow
+    } else {
+        named(line)
+    }
+}
+
+#[cfg(test)]
+mod tests {
+    use super::{Command, read_command};
+
+    #[test]
+    fn each_command_is_read(rt: HostRuntime) {
+        assert_eq!(rt; read_command(b"status"), Command::Status);
+        assert_eq!(rt; read_command(b"metrics"), Command::Metrics);
+        assert_eq!(rt;
+            read_command(b"message 4294967295"),
+            Command::Message(4_294_967_295)
+        );
+        assert_eq!(rt; read_command(b"find A 1"), Command::Find(b"A 1".as_slice()));
+        assert_eq!(rt;
+            read_command(b"waiting LAB"),
+            Command::Waiting(b"LAB".as_slice())
+        );
+        assert_eq!(rt;
+            read_command(b"deploy /etc/a b.toml"),
+            Command::Deploy(b"/etc/a b.toml".as_slice())
+        );
+        assert_eq!(rt; read_command(b"prune"), Command::Prune);
+        assert_eq!(rt; read_command(b"cancel 0"), Command::Cancel(0));
+        assert_eq!(rt; read_command(b"stop"), Command::Stop);
+        assert_eq!(rt; read_command(b"stop now"), Command::StopNow);
+    }
+
+    #[test]
+    fn other_lines_are_unknown(rt: HostRuntime) {
+        for line in [
+            b"".as_slice(),
+            b"Status",
+            b"status ",
+            b"message",
+            b"message ",
+            b"message +1",
+            b"message 4294967296",
+            b"cancel 1x",
+            b"find ",
+            b"stop  now",
+        ] {
+            assert_eq!(rt; read_command(line), Command::Unknown);
+        }
+    }
+}

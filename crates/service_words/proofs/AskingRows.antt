@@ -1,0 +1,58 @@
+-- Worked command lines.
+use Rattle.std.specs.Prelude.{◌≡◌, List, [], ◌∷◌, Option, None, Some, codes, option_map, refl}
+use Rattle.clap.proofs.OnLiterals.{clap_on_literals}
+use Rattle.clap.specs.declared.error.kind.ErrorKind.TheVariants.{MissingRequiredArgument, MissingSubcommand, UnknownArgument, ValueValidation}
+use Rattle.clap.specs.Words.{Text, fault_of, first_of, one_of, subcommand_of}
+use Rattle.service_words.specs.Words.{program}
+
+-- the command that words name, with its plan, its connections and what it keeps as they are written
+abbrev read-run : List Text → Option (Text × Option Text × Option Text × Option Text)
+read-run words = option_map (λ p. (p.0, first_of (codes "PLAN") p.1, one_of (codes "connections") p.1, one_of (codes "keep") p.1)) (subcommand_of program words)
+
+-- the command that words name, with its plan and its channel
+abbrev read-try : List Text → Option (Text × Option Text × Option Text)
+read-try words = option_map (λ p. (p.0, first_of (codes "PLAN") p.1, first_of (codes "channel") p.1)) (subcommand_of program words)
+
+all-given : read-run (codes "hl7_service" ∷ codes "run" ∷ codes "a.toml" ∷ codes "--connections" ∷ codes "3" ∷ codes "--keep=7" ∷ []) ≡ Some (codes "run", Some (codes "a.toml"), Some (codes "3"), Some (codes "7"))
+unfolding clap_on_literals
+all-given = refl
+
+none-given : read-run (codes "hl7_service" ∷ codes "run" ∷ codes "a.toml" ∷ []) ≡ Some (codes "run", Some (codes "a.toml"), None, None)
+unfolding clap_on_literals
+none-given = refl
+
+tried : read-try (codes "hl7_service" ∷ codes "try" ∷ codes "--channel" ∷ codes "ADT" ∷ codes "a.toml" ∷ []) ≡ Some (codes "try", Some (codes "a.toml"), Some (codes "ADT"))
+unfolding clap_on_literals
+tried = refl
+
+tried-at-first : read-try (codes "hl7_service" ∷ codes "try" ∷ codes "a.toml" ∷ []) ≡ Some (codes "try", Some (codes "a.toml"), None)
+unfolding clap_on_literals
+tried-at-first = refl
+
+nothing-wrong : fault_of program (codes "hl7_service" ∷ codes "run" ∷ codes "a.toml" ∷ codes "--idle=86400" ∷ codes "--grace" ∷ codes "0" ∷ []) ≡ []
+unfolding clap_on_literals
+nothing-wrong = refl
+
+no-command : fault_of program (codes "hl7_service" ∷ []) ≡ MissingSubcommand ∷ []
+unfolding clap_on_literals
+no-command = refl
+
+no-plan : fault_of program (codes "hl7_service" ∷ codes "run" ∷ []) ≡ MissingRequiredArgument ∷ []
+unfolding clap_on_literals
+no-plan = refl
+
+too-many-connections : fault_of program (codes "hl7_service" ∷ codes "run" ∷ codes "a.toml" ∷ codes "--connections=1001" ∷ []) ≡ ValueValidation ∷ []
+unfolding clap_on_literals
+too-many-connections = refl
+
+no-connection : fault_of program (codes "hl7_service" ∷ codes "run" ∷ codes "a.toml" ∷ codes "--connections=0" ∷ []) ≡ ValueValidation ∷ []
+unfolding clap_on_literals
+no-connection = refl
+
+too-long-a-grace : fault_of program (codes "hl7_service" ∷ codes "run" ∷ codes "a.toml" ∷ codes "--grace" ∷ codes "3601" ∷ []) ≡ ValueValidation ∷ []
+unfolding clap_on_literals
+too-long-a-grace = refl
+
+another-option : fault_of program (codes "hl7_service" ∷ codes "run" ∷ codes "a.toml" ∷ codes "--accept" ∷ codes "1" ∷ []) ≡ UnknownArgument ∷ []
+unfolding clap_on_literals
+another-option = refl

@@ -1,0 +1,3 @@
+pub mod Asking
+mod AskingRows
+pub mod Commands

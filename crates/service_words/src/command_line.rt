@@ -1,0 +1,346 @@
+//! The words of the command line.
+
+ghost use Rattle.std.specs.Prelude.{◌≡◌, ◌≤◌, ℕ, None, Some, IfOk, codes, false, length, map, pos, string_bytes};
+ghost use Rattle.clap.specs.declared.builder.command.Command.TheViews.{out-Command as fields_of};
+ghost use Rattle.clap.specs.declared.builder.value_parser.ValueParser.TheVariants as parser;
+ghost use Rattle.clap.specs.Words.{FailsBy, app_of, fault_of, found_of, new_app, new_rule, rows_of, rule_of, subcommand_of, subcommand_rows_of, with_rule, with_subcommand};
+ghost use Rattle.service_words.specs.Request.{IsWithinLimits};
+ghost use Rattle.service_words.specs.Words.{channel_rule, check_app, connections_rule, events_rule, grace_rule, idle_rule, keep_rule, plan_rule, program, run_app, top, try_app, Asks, AsksBy, AsksRun, AsksTry, IsWithin, IsKept};
+
+use crate::help::{RUNNING, STATUSES, TRYING};
+use clap::builder::ValueParser;
+use clap::{Arg, ArgMatches, Command, Error, value_parser};
+use fixed_numbers::EVENTS_MAX;
+use std::alloc::{AllocError, Global};
+
+/// The version that `--version` tells.
+const VERSION: &str = "0.2.0";
+
+/// What the program is asked to do.
+#[derive(Clone, Copy, Debug, PartialEq, Eq)]
+pub enum Request<'a> {
+    /// Listen by the plan in a file, and serve, deliver and obey commands until told to stop.
+    Run {
+        /// The plan's file.
+        plan: &'a str,
+        /// The most connections of each channel at once, 1 to 1,000.
+        connections: u32,
+        /// The most entries that the book may hold, 1 to 1,000,000.
+        events: u32,
+        /// How many settled messages a pruning keeps, 0 to 1,000,000.
+        keep: u32,
+        /// After how many seconds without a byte a connection ends, 0 to 86,400. 0: never.
+        idle: u32,
+        /// How many seconds connections may take at `stop` to write their last acknowledgments, 0 to 3,600.
+        grace: u32,
+    },
+    /// Judge what comes on standard input by the plan in a file, and print what would be answered and sent.
+    Try {
+        /// The plan's file.
+        plan: &'a str,
+        /// The channel's name; the plan's first channel where left out.
+        channel: Option<&'a str>,
+    },
+    /// Read the plan in a file, and tell its size or its first fault.
+    Check {
+        /// The plan's file.
+        plan: &'a str,
+    },
+}
+
+/// An option that takes a number.
+fn number_option<'a>(
+    alloc: Global,
+    name: &'a str,
+    value_name: &'a str,
+    numbers: ValueParser<'a>,
+    help: &'a str,
+) -> Arg<'a>
+    ensures rule { rule_of result
+        ≡ record (new_rule name.entry.now) { long = Some name.entry.now; value_names = 1; parser = Some numbers.entry } }
+    ensures local { result.global ≡ false }
+{
+    Arg::new(alloc, name)
+        .long(name)
+        .value_name(value_name)
+        .value_parser(numbers)
+        .help(help)
+}
+
+/// The numbers that `--connections` takes.
+fn connections<'a>() -> ValueParser<'a>
+    ensures { result ≡ parser.Signed (pos 1) (pos 1_000) }
+{
+    value_parser!(u32).range(1..=1_000)
+}
+
+fn connections_option<'a>(alloc: Global) -> Arg<'a>
+    ensures rule { rule_of result ≡ connections_rule }
+    ensures local { result.global ≡ false }
+{
+    let help = "The most connections of each channel at once, 1 to 1000 [default: 64]";
+    number_option(alloc, "connections", "N", connections(), help)
+}
+
+/// The numbers that `--events` takes.
+fn entries<'a>() -> ValueParser<'a>
+    ensures { result ≡ parser.Signed (pos 1) (pos 1_000_000) }
+{
+    value_parser!(u32).range(1..=EVENTS_MAX as i64)
+}
+
+fn events_option<'a>(alloc: Global) -> Arg<'a>
+    ensures rule { rule_of result ≡ events_rule }
+    ensures local { result.global ≡ false }
+{
+    let help = "The most entries that the book may hold, 1 to 1000000 [default: 1000000]";
+    number_option(alloc, "events", "N", entries(), help)
+}
+
+/// The numbers that `--keep` takes.
+fn kept<'a>() -> ValueParser<'a>
+    ensures { result ≡ parser.Signed (pos 0) (pos 1_000_000) }
+{
+    value_parser!(u32).range(0..=1_000_000)
+}
+
+fn keep_option<'a>(alloc: Global) -> Arg<'a>
+    ensures rule { rule_of result ≡ keep_rule }
+    ensures local { result.global ≡ false }
+{
+    let help =
+        "How many settled messages a pruning keeps, 0 to 1000000 [default: the lesser of 100000 and a quarter of --events]";
+    number_option(alloc, "keep", "N", kept(), help)
+}
+
+/// The numbers that `--idle` takes.
+fn idle_seconds<'a>() -> ValueParser<'a>
+    ensures { result ≡ parser.Signed (pos 0) (pos 86_400) }
+{
+    value_parser!(u32).range(0..=86_400)
+}
+
+fn idle_option<'a>(alloc: Global) -> Arg<'a>
+    ensures rule { rule_of result ≡ idle_rule }
+    ensures local { result.global ≡ false }
+{
+    let help =
+        "Ends a connection that sends nothing for so long, 0 to 86400; 0: never [default: 0]";
+    number_option(alloc, "idle", "SECONDS", idle_seconds(), help)
+}
+
+/// The numbers that `--grace` takes.
+fn grace_seconds<'a>() -> ValueParser<'a>
+    ensures { result ≡ parser.Signed (pos 0) (pos 3_600) }
+{
+    value_parser!(u32).range(0..=3_600)
+}
+
+fn grace_option<'a>(alloc: Global) -> Arg<'a>
+    ensures rule { rule_of result ≡ grace_rule }
+    ensures local { result.global ≡ false }
+{
+    let help =
+        "How long connections may take at 'stop' to write their last acknowledgments, 0 to 3600 [default: 5]";
+    number_option(alloc, "grace", "SECONDS", grace_seconds(), help)
+}
+
+fn channel_option<'a>(alloc: Global) -> Arg<'a>
+    ensures rule { rule_of result ≡ channel_rule }
+    ensures local { result.global ≡ false }
+{
+    Arg::new(alloc, "channel")
+        .long("channel")
+        .value_name("NAME")
+        .help("The channel by whose rules the messages are judged [default: the plan's first]")
+}
+
+/// The plan's file, which has to be given.
+fn plan_word<'a>(alloc: Global) -> Arg<'a>
+    ensures rule { rule_of result ≡ plan_rule }
+    ensures local { result.global ≡ false }
+{
+    Arg::new(alloc, "PLAN")
+        .required(true)
+        .help("A plan in TOML")
+}
+
+/// The command with one word more.
+fn with_word<'a>(command: Command<'a>, word: Arg<'a>) -> Result<Command<'a>, AllocError>
+    requires command { (fields_of command).has_globals ≡ false }
+    requires word { word.global ≡ false }
+    ensures app { IfOk result (λ c. app_of c ≡ with_rule (app_of command.entry) (rule_of word.entry)) }
+    ensures local { IfOk result (λ c. (fields_of c).has_globals ≡ false) }
+{
+    command.arg(word)
+}
+
+fn check_command<'a>(alloc: Global) -> Result<Command<'a>, AllocError>
+    ensures app { IfOk result (λ c. app_of c ≡ check_app) }
+    ensures local { IfOk result (λ c. (fields_of c).has_globals ≡ false) }
+{
+    let command = Command::new(alloc, "check").about(
+        "Reads a plan and tells its size, or its first fault and where it is",
+    );
+    with_word(command, plan_word(alloc))
+}
+
+fn try_command<'a>(alloc: Global) -> Result<Command<'a>, AllocError>
+    ensures app { IfOk result (λ c. app_of c ≡ try_app) }
+    ensures local { IfOk result (λ c. (fields_of c).has_globals ≡ false) }
+{
+    let command = Command::new(alloc, "try")
+        .about(
+            "Judges the messages on standard input by a plan, and prints what would be answered and sent",
+        )
+        .after_help(TRYING);
+    let command = with_word(command, plan_word(alloc))?;
+    with_word(command, channel_option(alloc))
+}
+
+/// `run` with its plan, its connections and its entries.
+fn running<'a>(alloc: Global) -> Result<Command<'a>, AllocError>
+    ensures app { IfOk result (λ c. app_of c
+        ≡ with_rule (with_rule (with_rule (new_app (codes "run")) plan_rule) connections_rule) events_rule) }
+    ensures local { IfOk result (λ c. (fields_of c).has_globals ≡ false) }
+{
+    let command = Command::new(alloc, "run")
+        .about(
+            "Listens for each channel of a plan, acknowledges what comes, and delivers it to the destinations",
+        )
+        .after_help(RUNNING);
+    let command = with_word(command, plan_word(alloc))?;
+    let command = with_word(command, connections_option(alloc))?;
+    with_word(command, events_option(alloc))
+}
+
+fn run_command<'a>(alloc: Global) -> Result<Command<'a>, AllocError>
+    ensures app { IfOk result (λ c. app_of c ≡ run_app) }
+    ensures local { IfOk result (λ c. (fields_of c).has_globals ≡ false) }
+{
+    let command = running(alloc)?;
+    let command = with_word(command, keep_option(alloc))?;
+    let command = with_word(command, idle_option(alloc))?;
+    with_word(command, grace_option(alloc))
+}
+
+/// The program by its name, with its version and help, before it has any command.
+fn top_command<'a>(alloc: Global) -> Command<'a>
+    ensures { app_of result ≡ top }
+{
+    Command::new(alloc, "hl7_service")
+        .about(
+            "An HL7 v2.5.1 interface engine as a service: takes messages over MLLP, acknowledges them, and delivers them by a plan",
+        )
+        .after_help(STATUSES)
+        .version(VERSION)
+        .subcommand_required(true)
+}
+
+/// The program with `run`, its first command.
+fn with_run<'a>(alloc: Global) -> Result<Command<'a>, AllocError>
+    ensures { IfOk result (λ c. app_of c ≡ with_subcommand top run_app.top) }
+{
+    let run = run_command(alloc)?;
+    top_command(alloc).subcommand(run)
+}
+
+/// The program with `run` and `try`.
+fn with_try<'a>(alloc: Global) -> Result<Command<'a>, AllocError>
+    ensures { IfOk result (λ c. app_of c ≡ with_subcommand (with_subcommand top run_app.top) try_app.top) }
+{
+    let dry = try_command(alloc)?;
+    with_run(alloc)?.subcommand(dry)
+}
+
+fn program_command<'a>(alloc: Global) -> Result<Command<'a>, AllocError>
+    ensures { IfOk result (λ c. app_of c ≡ program) }
+{
+    let check = check_command(alloc)?;
+    with_try(alloc)?.subcommand(check)
+}
+
+/// The number given, or else the usual one.
+fn number_of(given: Option<u32>, least: u32, most: u32, usual: u32) -> u32
+    requires least { least ≤ usual }
+    requires most { usual ≤ most }
+    ensures written { IsWithin least most usual given result }
+    ensures least { least ≤ result }
+    ensures most { result ≤ most }
+{
+    given.unwrap_or(usual).clamp(least, most)
+}
+
+/// How many settled messages a pruning keeps, by what is given of them, in a book of `events` entries.
+fn keep_of(given: Option<u32>, events: u32) -> u32
+    ensures written { IsKept events given result }
+    ensures most { result ≤ 1_000_000 }
+{
+    given.unwrap_or((events / 4).min(100_000)).min(1_000_000)
+}
+
+/// What the words of `run` ask.
+fn run_request<'a>(matches: &ArgMatches<'a>) -> Request<'a>
+    ensures limits { IsWithinLimits result }
+    ensures written { AsksRun result (rows_of (found_of matches.now)) }
+{
+    let events = number_of(matches.get_one("events"), 1, EVENTS_MAX, EVENTS_MAX);
+    Request::Run {
+        plan: matches.get_str("PLAN").unwrap_or(""),
+        connections: number_of(matches.get_one("connections"), 1, 1_000, 64),
+        events,
+        keep: keep_of(matches.get_one("keep"), events),
+        idle: number_of(matches.get_one("idle"), 0, 86_400, 0),
+        grace: number_of(matches.get_one("grace"), 0, 3_600, 5),
+    }
+}
+
+/// What the words of `try` ask.
+fn try_request<'a>(matches: &ArgMatches<'a>) -> Request<'a>
+    ensures limits { IsWithinLimits result }
+    ensures written { AsksTry result (rows_of (found_of matches.now)) }
+{
+    Request::Try {
+        plan: matches.get_str("PLAN").unwrap_or(""),
+        channel: matches.get_str("channel"),
+    }
+}
+
+/// What the words of a command ask, by its name.
+fn request_of<'a>(matches: &ArgMatches<'a>) -> Request<'a>
+    ensures limits { IsWithinLimits result }
+    ensures written { AsksBy result (subcommand_rows_of matches.now) }
+{
+    match matches.subcommand() {
+        Some(("check", given)) => Request::Check {
+            plan: given.get_str("PLAN").unwrap_or(""),
+        },
+        Some(("try", given)) => try_request(given),
+        Some((_, given)) => run_request(given),
+        // The parse fails where no command is given.
+        None => Request::Check { plan: "" },
+    }
+}
+
+/// The matches of the words, of which the first is the program's name.
+fn parse<'a>(alloc: Global, words: &'a [String]) -> Result<ArgMatches<'a>, Error>
+    ensures rows { IfOk result (λ m. subcommand_rows_of m ≡ subcommand_of program (map string_bytes words.entry.now)) }
+    ensures refused { FailsBy (fault_of program (map string_bytes words.entry.now)) result }
+{
+    program_command(alloc)?.try_get_matches_from(words)
+}
+
+/// What the words ask, of which the first is the program's name.
+///
+/// # Errors
+///
+/// The error has the text to be printed: the help, or what is wrong and what the program takes. Where memory isn't
+/// refused, it comes exactly for the words that have a fault, and is of that fault's kind.
+pub fn ask<'a>(alloc: Global, words: &'a [String]) -> Result<Request<'a>, Error>
+    ensures limits { IfOk result IsWithinLimits }
+    ensures written { IfOk result (λ request. Asks request (map string_bytes words.entry.now)) }
+    ensures refused { FailsBy (fault_of program (map string_bytes words.entry.now)) result }
+{
+    let matches = parse(alloc, words)?;
+    Ok(request_of(&matches))
+}

@@ -1,0 +1,44 @@
+//! What the help of the service tells beside its words.
+
+/// What the help of the program tells beside its commands.
+pub const STATUSES: &str = "\
+Each fault is a line on standard error. The exit status:
+  0  done
+  1  plan: NAME at PATH; try: a message was refused or couldn't be read
+  2  words that aren't taken; limit: connections
+  3  file: PLAN; device: read, write, random or listen NAME; memory
+  4  audit: NAME
+  5  stop now: messages were left undelivered, each named on standard error
+
+Example: hl7_service run plan.toml --connections 16";
+
+/// What the help of `run` tells beside its words.
+pub const RUNNING: &str = "\
+N connections times the channels of the plan are at most 9999; else 'limit: connections', status 2.
+
+Commands are read from standard input, a line each, and answered on standard output. Each answer ends with an empty
+line. The end of standard input ends nothing.
+  status         what each channel, each destination, the book and the connections have done
+  metrics        the same numbers in the text format of Prometheus
+  message N      where message N is
+  find ID        the numbers of the messages with this control id (MSH-10), at most 100
+  waiting NAME   the first 100 messages in a destination's queue
+  deploy PATH    takes the plan in this file in place of the one in force
+  prune          forgets what is settled, but for the last messages that are kept
+  cancel N       delivers message N nowhere any more
+  stop           reads no further block, delivers what waits, and ends
+  stop now       ends without waiting for deliveries
+
+Standard error has a line for each thing that an operator has to know.
+
+Example: hl7_service run plan.toml --connections 16 --idle 600 < commands > answers";
+
+/// What the help of `try` tells beside its words.
+pub const TRYING: &str = "\
+Standard input has MLLP blocks; or, where its first byte isn't 0x0B, one message as text, whose segments end by CR, LF
+or CR LF. For each message standard output has the verdict with its cause, whether each route's filter was true, the
+payload for each destination, a segment a line, and the acknowledgment. Nothing is kept and nothing is sent.
+
+The status is 1 where a message was refused or couldn't be read.
+
+Example: hl7_service try plan.toml --channel ADT < message.hl7";

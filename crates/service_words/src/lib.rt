@@ -1,0 +1,7 @@
+//! The words of the service's command line, and what they ask.
+#![tactic(auto)]
+
+mod command_line;
+mod help;
+
+pub use command_line::{Request, ask};

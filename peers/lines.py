@@ -1,0 +1,104 @@
+"""The lines of the log: each refusal and each failure of a run, provoked once, is found on standard error by its control id."""
+import socket
+import time
+
+from engine import Engine, plan
+from mllp import SILENCE, Destination, HANG_UP, Sender, answer, block, free_ports, message
+
+# A name that stands in each message and may stand in no line.
+PATIENT = b'SECRETNAME^PAT'
+TOO_LONG = 1_048_577
+
+
+def admission(control_id, **more):
+    return message(control_id, **more).replace(b'\rPV1', b'\rPV1', 1).replace(b'||77^^^H', b'||77^^^H||' + PATIENT, 1)
+
+
+def refusals():
+    """Texts by what has to be said of them: the control id, and the words of the line."""
+    first = admission(b'L-FIRST')
+    return [
+        (first, b'', ''),
+        (first, b'L-FIRST', 'message repeated'),
+        (admission(b'L-FIRST', ward=b'E'), b'L-FIRST', 'message refused: IdReused'),
+        (admission(b'L-TYPE', kind=b'ORU^R01^ORU_R01'), b'L-TYPE', 'message refused: UnsupportedType'),
+        (admission(b'L-PROC').replace(b'|P|2.5.1', b'|D|2.5.1'), b'L-PROC', 'message refused: UnsupportedProcessing'),
+        (admission(b'L-VERS', version=b'2.3'), b'L-VERS', 'message refused: UnsupportedVersion'),
+        (admission(b''), b'', 'message refused: MissingControlId'),
+        (admission(b'L-LONG' + b'x' * 200), b'L-LONG' + b'x' * 58 + b'..', 'message refused: BadControlId'),
+        (admission(b'L-STEP').replace(b'\rPV1|1|I', b'', 1), b'L-STEP',
+         'message refused: SourceTransform, step 1 of the channel: the message has no such segment'),
+        (admission(b'L-ROUTE', ward=b'X'), b'L-ROUTE',
+         'message refused: RouteTransform, step 2 of the route to LAB: the value is not in the table'),
+        (b'PID|1||' + PATIENT + b'\r', None, 'text unreadable: the text has no header segment'),
+        (admission(b'L-SEG') + b'pid|2\r', None, 'text unreadable: segment 4 has a bad name'),
+        (answer(first, b'AA'), b'L-FIRST', 'acknowledgment received and dropped'),
+        (admission(b'L-FEED').replace(b'\r', b'\n'), b'L-FEED', 'MSH holds a line feed'),
+    ]
+
+
+def broken():
+    """Bytes that are no block, and the words of the line."""
+    return [(b'\x0bMSH|\x0b', 'block broken: a start block character in its data'),
+            (b'\x1cx', 'block broken: an end block character that no carriage return follows'),
+            (block(b'x' * TOO_LONG), 'block broken: more than 1048576 bytes of data')]
+
+
+def told_of(lines, control_id, words):
+    key = '' if control_id is None else f'control_id={control_id.decode()}'
+    return any(words in line and (key in line.split(' ') or not key) for line in lines)
+
+
+def refused_messages(program, folder):
+    """What comes by a connection: each refusal, repeat, unreadable text and broken block has its line."""
+    ports = free_ports(2)
+    lab = Destination(lambda text, before: b'AA')
+    steps = '{ set = ["PV1-3", "W"] }'
+    route = '{ set = ["PV1-4", "R"] }, { lookup = "PV1-2", table = [["I", "IN"], ["E", "EM"]] }'
+    text = plan([('ADT', ports[0], [('LAB', None, route)])], [('LAB', lab.port, [])])
+    text = text.replace('[[channel.route]]', f'steps = [{steps}]\n[[channel.route]]')
+    said = refusals()
+    with Engine(program, text, 1, folder) as engine:
+        with socket.create_connection(('127.0.0.1', ports[0]), timeout=30) as connection:
+            for data, _, _ in said:
+                connection.sendall(block(data))
+            for data, _ in broken():
+                connection.sendall(data)
+            connection.shutdown(socket.SHUT_WR)
+            while connection.recv(65_536):
+                pass
+        status, _ = engine.ended(30)
+    lab.close()
+    lines = [f'no line says {words!r} of {control_id}' for _, control_id, words in said
+             if words and not told_of(engine.told, control_id, words)]
+    lines += [f'no line says {words!r}' for _, words in broken() if not told_of(engine.told, None, words)]
+    if status != 0:
+        lines.append(f'refused messages: status {status}')
+    return lines + leaks(engine.told)
+
+
+def leaks(told):
+    """No line has a patient's data, and each has a time and a level."""
+    lines = [f'a line has a patient\'s data: {line}' for line in told if 'SECRET' in line]
+    for line in told:
+        words = line.split(' ')
+        plain = line.startswith(('listening on ', 'warning: ', 'note: ', 'channel ', 'destination ', 'device: '))
+        if not plain and not (len(words) > 2 and words[0].endswith('Z') and words[1] in ('INFO', 'WARN')):
+            lines.append(f'a line has no time and level: {line}')
+    return lines
+
+
+def full_book(program, folder):
+    """A message that finds no room has its line, and so has a book that is nearly full."""
+    ports = free_ports(2)
+    text = plan([('ADT', ports[0], [('LAB', None, None)])], [('LAB', ports[1], ['attempts = 1', 'interval = 0', 'timeout = 1'])])
+    with Engine(program, text, 1, folder, events=6) as engine:
+        sender = Sender(ports[0], [admission(b'F%d' % n) for n in range(4)])
+        sender.run()
+        status, _ = engine.ended(60)
+    lines = []
+    if not told_of(engine.told, b'F3', 'message not booked: Full') and not any('not booked: Full' in line for line in engine.told):
+        lines.append(f'no line says that the book is full: {engine.told}')
+    if status != 0:
+        lines.append(f'a full book: status {status}')
+    return lines + leaks(engine.told)
