@@ -38,14 +38,14 @@ fn faults_are_explained(rt: HostRuntime) -> Result<(), AllocError> {
     let alloc = rt.alloc();
     for (text, shown, last) in FAULTS {
         let Err(fault) = Plan::read(alloc, text) else {
-            panic!(rt; "{shown} was read");
+            panic!(rt; "a plan with a fault was read");
         };
         let line = format!(in alloc; "{}", ShownFault(&fault))?;
         assert_eq!(rt; line.as_str(), shown);
         let notes = fault_notes(alloc, text, &fault)?;
         match notes.as_slice().last() {
             Some(note) => assert_eq!(rt; note.as_str(), last),
-            None => panic!(rt; "no note on {shown}"),
+            None => panic!(rt; "a fault has no note"),
         }
     }
     Ok(())
