@@ -19,7 +19,7 @@ SIZES, DESTINATIONS = (200, 700, 2_000, 10_000), (1, 2, 4, 8)
 
 
 def plan(destinations, steps):
-    """One channel whose messages go to all of so many destinations, changed on the way to each or not."""
+    """One channel whose messages go to this number of destinations, changed on the way to each or not."""
     text = ''.join(f'[[destination]]\nname = "D{n}"\naddress = "127.0.0.1:1"\n' for n in range(destinations))
     text += '[[channel]]\nname = "C"\nlisten = "127.0.0.1:0"\ntypes = ["ADT"]\nprocessing = ["P"]\nversions = ["2.5.1"]\n'
     change = 'steps = [{ set = ["MSH-5", "X"] }]\n' if steps else ''
@@ -27,13 +27,13 @@ def plan(destinations, steps):
 
 
 def message(number, size):
-    """A message of so many bytes, in its block."""
+    """A message of `size` bytes, in its block."""
     text = b'MSH|^~\\&|REG|HOSP|ENG|HUB|20231114221300||ADT^A01^ADT_A01|%08d|P|2.5.1|||AL|NE\rPID|1||77^^^H\rNTE|1||' % number
     return b'\x0b' + text + b'x' * (size - len(text) - 1) + b'\r\x1c\r'
 
 
 def peak(program, path, number, size):
-    """The most resident memory of `answer` for so many messages, in bytes, by /proc while it waits at the end of its input."""
+    """The peak resident memory of `answer` for `number` messages, in bytes, read from /proc while it waits for more input."""
     process = subprocess.Popen([program, 'answer', path], stdin=subprocess.PIPE, stdout=subprocess.DEVNULL, stderr=subprocess.DEVNULL)
     for n in range(number):
         process.stdin.write(message(n, size))
@@ -53,7 +53,7 @@ def main():
     program = os.path.abspath(sys.argv[1] if len(sys.argv) > 1 else PROGRAM)
     with tempfile.TemporaryDirectory() as folder:
         for steps in (False, True):
-            print('changed by steps on the way to each destination:' if steps else 'sent as it came:')
+            print('changed by steps on the way to each destination:' if steps else 'sent as received:')
             for destinations in DESTINATIONS:
                 path = os.path.join(folder, 'plan.toml')
                 with open(path, 'w', encoding='utf-8') as file:
