@@ -1,10 +1,12 @@
 #!/usr/bin/env python3
 """A destination to try things with: it listens on a port of loopback, prints each message that comes, and answers it.
 
-Usage: peers/receive.py PORT [CODE]
+Usage: peers/receive.py PORT [CODE] [--keep FILE]
 
-CODE is MSA-1 of the answers, AA where left out (AE: to be sent again, AR: rejected). Ctrl-C ends it.
+CODE is MSA-1 of the answers, AA where left out (AE: to be sent again, AR: rejected). With --keep each message is added to a
+file, a line each in hexadecimal, before it is answered, and not printed. Ctrl-C ends it.
 """
+import argparse
 import sys
 import threading
 
@@ -12,16 +14,21 @@ from mllp import Destination
 
 
 def main():
-    if len(sys.argv) not in (2, 3) or not sys.argv[1].isdigit():
-        print(__doc__, file=sys.stderr)
-        return 2
-    code = sys.argv[2].encode() if len(sys.argv) == 3 else b'AA'
+    words = argparse.ArgumentParser()
+    words.add_argument('port', type=int)
+    words.add_argument('code', nargs='?', default='AA')
+    words.add_argument('--keep')
+    asked = words.parse_args()
 
     def told(text, _):
-        print(text.decode(errors='replace').replace('\r', '\n'), flush=True)
-        return code
+        if asked.keep:
+            with open(asked.keep, 'a', encoding='ascii') as file:
+                file.write(text.hex() + '\n')
+        else:
+            print(text.decode(errors='replace').replace('\r', '\n'), flush=True)
+        return asked.code.encode()
 
-    Destination(told, port=int(sys.argv[1]))
+    Destination(told, port=asked.port)
     try:
         threading.Event().wait()
     except KeyboardInterrupt:

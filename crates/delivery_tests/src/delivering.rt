@@ -1,11 +1,12 @@
 //! Deliveries of the built-in plan's destination, whose messages are sent three times at most, ten seconds apart.
 
 use crate::played::{Play, Played};
-use crate::stage::{BLOCKS, Delivered, Rows, deliver_all, waiting};
+use crate::stage::{BLOCKS, Course, Delivered, Rows, deliver_all, waiting};
 use book_core::{Book, Letter};
 use delivery_worker::{DeliverEnd, DeliverReport, Reply};
 use dest_queue::{Addressed, FailCause, SlotState};
 use hl7_head::AckCode;
+use log::Log;
 use row_store::RowStore;
 use std::alloc::Global;
 use std::sync::Wait;
@@ -24,11 +25,11 @@ struct Case {
     state: SlotState,
 }
 
-const ACCEPTED: Play = Play::Says(
+pub const ACCEPTED: Play = Play::Says(
     "\x0bMSH|^~\\&|LAB|HOSP|ENG|HUB|20231114221301||ACK^A01^ACK|1|P|2.5.1\rMSA|AA|M1\r\x1c\r",
 );
 
-const SECOND_ACCEPTED: Play = Play::Says(
+pub const SECOND_ACCEPTED: Play = Play::Says(
     "\x0bMSH|^~\\&|LAB|HOSP|ENG|HUB|20231114221301||ACK^A01^ACK|2|P|2.5.1\rMSA|AA|M2\r\x1c\r",
 );
 
@@ -52,7 +53,7 @@ const DRIPPED: Play = Play::Drips(
     "\x0bMSH|^~\\&|LAB|HOSP|ENG|HUB|20231114221301||ACK^A01^ACK|1|P|2.5.1\rMSA|AA|M1\r\x1c\r",
 );
 /// An answer to the first message, and one that rejects the second.
-const LEFT_OVER: Play = Play::Says(
+pub const LEFT_OVER: Play = Play::Says(
     "\x0bMSH|^~\\&|LAB|HOSP|ENG|HUB|20231114221301||ACK^A01^ACK|1|P|2.5.1\rMSA|AA|M1\r\x1c\r\x0bMSH|^~\\&|LAB|HOSP|ENG|HUB|20231114221301||ACK^A01^ACK|2|P|2.5.1\rMSA|AR|M2\r\x1c\r",
 );
 
@@ -255,7 +256,7 @@ const CASES: [Case; 13] = [
 ];
 
 /// Whether the bytes are the two blocks in their order.
-fn are_both(bytes: &[u8]) -> bool {
+pub fn are_both(bytes: &[u8]) -> bool {
     match bytes.split_at_checked(BLOCKS[0].len()) {
         Some((first, second)) => { first == BLOCKS[0].as_bytes() && second == BLOCKS[1].as_bytes() }
         None => false,
@@ -276,14 +277,14 @@ fn is_right<S: RowStore<Addressed<Letter>>>(
 }
 
 /// Whether a case comes out as it is to, with the book in which its messages wait. It doesn't where memory was refused.
-fn comes_out<S: RowStore<Addressed<Letter>> + Drop, H: Wait + time::Clock>(
+fn comes_out<S: RowStore<Addressed<Letter>> + Drop, H: Wait + time::Clock + Log>(
     rt: &H,
     alloc: Global,
     book: Option<Book<S>>,
     case: &Case,
 ) -> bool {
     let mut link = Played::new(alloc, case.plays);
-    match deliver_all(rt, alloc, book, &mut link, case.turns) {
+    match deliver_all(rt, alloc, book, &mut link, Course::Turns(case.turns)) {
         Some(delivered) => is_right(case, &link, &delivered),
         None => false,
     }
@@ -298,14 +299,14 @@ fn is_doubled(bytes: &[u8]) -> bool {
 }
 
 /// Whether a message is sent over a new connection, within the attempt, where the one that was kept has ended before an answer.
-fn is_sent_again<S: RowStore<Addressed<Letter>> + Drop, H: Wait + time::Clock>(
+fn is_sent_again<S: RowStore<Addressed<Letter>> + Drop, H: Wait + time::Clock + Log>(
     rt: &H,
     alloc: Global,
     book: Option<Book<S>>,
 ) -> bool {
     let plays = [ACCEPTED, Play::Ends, SECOND_ACCEPTED];
     let mut link = Played::new(alloc, &plays);
-    match deliver_all(rt, alloc, book, &mut link, 9) {
+    match deliver_all(rt, alloc, book, &mut link, Course::Turns(9)) {
         Some(delivered) => {
             delivered.report == CASES[0].report && link.connections == 2 && is_doubled(&link.sent)
         }
@@ -314,7 +315,7 @@ fn is_sent_again<S: RowStore<Addressed<Letter>> + Drop, H: Wait + time::Clock>(
 }
 
 /// Whether an answer that was left over on a connection that has ended decides nothing: the message is sent over a new one.
-fn forgets_what_was_left<S: RowStore<Addressed<Letter>> + Drop, H: Wait + time::Clock>(
+fn forgets_what_was_left<S: RowStore<Addressed<Letter>> + Drop, H: Wait + time::Clock + Log>(
     rt: &H,
     alloc: Global,
     book: Option<Book<S>>,
@@ -322,7 +323,7 @@ fn forgets_what_was_left<S: RowStore<Addressed<Letter>> + Drop, H: Wait + time::
     let plays = [LEFT_OVER, SECOND_ACCEPTED];
     let mut link = Played::new(alloc, &plays);
     link.closes_when_kept = true;
-    match deliver_all(rt, alloc, book, &mut link, 9) {
+    match deliver_all(rt, alloc, book, &mut link, Course::Turns(9)) {
         Some(delivered) => {
             delivered.report == CASES[0].report && link.connections == 2 && are_both(&link.sent)
         }
@@ -340,7 +341,7 @@ fn left_over(rt: HostRuntime) -> Result<(), Fail> {
 
 /// How often bytes were asked for to deliver the one message of a book, what the answers to the last attempt said, and the
 /// state of the message then. None where memory was refused.
-fn deliver_one<S: RowStore<Addressed<Letter>> + Drop, H: Wait + time::Clock>(
+fn deliver_one<S: RowStore<Addressed<Letter>> + Drop, H: Wait + time::Clock + Log>(
     rt: &H,
     alloc: Global,
     book: Option<Book<S>>,
@@ -348,7 +349,7 @@ fn deliver_one<S: RowStore<Addressed<Letter>> + Drop, H: Wait + time::Clock>(
     turns: u64,
 ) -> Option<(u64, Option<(Reply, Option<SlotState>)>)> {
     let mut link = Played::new(alloc, plays);
-    let _delivered = deliver_all(rt, alloc, book, &mut link, turns)?;
+    let _delivered = deliver_all(rt, alloc, book, &mut link, Course::Turns(turns))?;
     Some((link.receives, link.told))
 }
 

@@ -4,6 +4,8 @@
 #[cfg(test)]
 mod delivering;
 #[cfg(test)]
+mod halting;
+#[cfg(test)]
 mod played;
 #[cfg(test)]
 mod refused_delivering;

@@ -5,7 +5,7 @@ ghost use Rattle.conn_worker.specs.Faults.{with_fault};
 
 use book_core::Job;
 use conn_worker::{Clock, nearest};
-use delivery_worker::{Link, LinkFault, Reply};
+use delivery_worker::{Halt, Link, LinkFault, Reply};
 use dest_queue::{Outcome, SlotState};
 use hl7_head::Moment;
 use std::alloc::Global;
@@ -41,6 +41,8 @@ pub struct Played<'a> {
     dripping: bool,
     breaking: bool,
     ending: bool,
+    /// Whether a connection is open.
+    connected: bool,
     /// Whether a connection that is kept for a further message is seen to have ended.
     pub closes_when_kept: bool,
     /// What was sent.
@@ -64,6 +66,7 @@ impl<'a> Played<'a> {
             dripping: false,
             breaking: false,
             ending: false,
+            connected: false,
             closes_when_kept: false,
             sent: Vec::new(alloc),
             connections: 0,
@@ -86,6 +89,7 @@ impl<'a> Played<'a> {
     fn fault(&mut self) -> LinkFault
         ensures { (self.new.faults ≡ with_fault true self.old.faults) × (self.new.sent ≡ self.old.sent) }
     {
+        self.connected = false;
         self.faults = self.faults.saturating_add(1);
         LinkFault
     }
@@ -107,7 +111,19 @@ impl Link for Played<'_> {
             return Err(self.fault());
         }
         self.connections = self.connections.saturating_add(1);
+        self.connected = true;
         Ok(())
+    }
+
+    fn prepare(&mut self) -> Result<(), LinkFault> {
+        if self.connected && self.is_open() {
+            self.saying = b"";
+            return Ok(());
+        }
+        match self.connect() {
+            Ok(()) => Ok(()),
+            Err(fault) => Err(fault),
+        }
     }
 
     fn is_open(&mut self) -> bool {
@@ -156,11 +172,35 @@ impl Link for Played<'_> {
         let (piece, rest) = self.saying.split_at(len);
         buffer[..len].copy_from_slice(piece);
         self.saying = rest;
+        self.connected = len > 0;
         Ok(len)
     }
 
     fn faults(&self) -> u64 {
         self.faults
+    }
+}
+
+/// A halt after so many looks.
+#[derive(Drop)]
+pub struct Looks {
+    left: Cell<u32>,
+}
+
+impl Looks {
+    /// With so many looks before it is halted.
+    pub fn new(looks: u32) -> Looks {
+        Looks {
+            left: Cell::new(looks),
+        }
+    }
+}
+
+impl Halt for Looks {
+    fn is_halted(&self) -> bool {
+        let left = self.left.get();
+        self.left.set(left.saturating_sub(1));
+        left == 0
     }
 }
 

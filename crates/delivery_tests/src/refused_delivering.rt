@@ -1,7 +1,7 @@
 //! Delivering where one request for memory may be refused, as `rt try --test --fail-alloc N` refuses the Nth.
 
 use crate::played::{Play, Played};
-use crate::stage::{BLOCKS, Delivered, Rows, deliver_all, waiting};
+use crate::stage::{BLOCKS, Course, Delivered, Rows, deliver_all, waiting};
 use book_core::Letter;
 use delivery_worker::DeliverEnd;
 use dest_queue::{Addressed, SlotState};
@@ -19,7 +19,7 @@ const ACCEPTED: Play = Play::Says(
 const PLAYS: [Play; 6] = [ACCEPTED; 6];
 
 /// More turns than they take.
-const TURNS: u64 = 12;
+const TURNS: Course = Course::Turns(12);
 
 /// A link that needs no further memory. None where memory was refused for it.
 fn roomy_link(alloc: Global) -> Option<Played<'static>> {

@@ -5,13 +5,14 @@ ghost use Rattle.judge_core.specs.Judging.{is_bookable};
 ghost use Rattle.event_log.specs.History.{next_place, plan_in_force};
 ghost use Rattle.event_log.specs.Counting.{counted};
 
-use crate::played::{Leaping, Played};
+use crate::played::{Leaping, Looks, Played};
 use book_core::{Book, EVENTS_MAX, Letter};
 use book_lock::{Closed, Opening, Shared, Station};
 use conn_worker::Clock;
-use delivery_worker::{DeliverReport, deliver};
+use delivery_worker::{DeliverReport, deliver, deliver_until};
 use dest_queue::Addressed;
 use judge_core::{Judged, fits_block, judge};
+use log::Log;
 use plan_text::Plan;
 use row_store::{PlainRows, RowStore};
 use std::alloc::Global;
@@ -83,6 +84,15 @@ pub fn waiting<S: RowStore<Addressed<Letter>> + Drop>(
     Some(book)
 }
 
+/// How long it is delivered.
+#[derive(Clone, Copy)]
+pub enum Course {
+    /// For so many turns at most.
+    Turns(u64),
+    /// Until it is halted, after so many looks.
+    Looks(u32),
+}
+
 /// What came of delivering, and the book after it.
 #[derive(Drop)]
 pub struct Delivered<S: RowStore<Addressed<Letter>>> {
@@ -90,13 +100,13 @@ pub struct Delivered<S: RowStore<Addressed<Letter>>> {
     pub closed: Closed<S>,
 }
 
-/// Delivers what waits at the last of the stations, in so many turns at most.
+/// Delivers what waits at the last of the stations.
 fn deliver_at<
     A: Opening,
     T: Ledger,
     U: Ledger,
     S: RowStore<Addressed<Letter>>,
-    H: Wait + time::Clock,
+    H: Wait + time::Clock + Log,
     C: Clock,
 >(
     rt: &H,
@@ -105,11 +115,17 @@ fn deliver_at<
     stations: &mut [Station<T, U>],
     link: &mut Played<'_>,
     clock: &mut C,
-    turns: u64,
+    course: Course,
 ) -> Option<DeliverReport> {
     let station = stations.last_mut()?;
     shared.finish(rt);
-    Some(deliver(rt, alloc, shared, station, link, 0, clock, turns))
+    Some(match course {
+        Course::Turns(turns) => deliver(rt, alloc, shared, station, link, 0, clock, turns),
+        Course::Looks(looks) => {
+            let halt = Looks::new(looks);
+            deliver_until(rt, alloc, shared, station, link, 0, clock, &halt)
+        }
+    })
 }
 
 /// Shares a book, delivers what waits in it, and closes it. None where memory was refused for sharing it.
@@ -118,7 +134,7 @@ fn deliver_and_close<
     T: Ledger,
     U: Ledger,
     S: RowStore<Addressed<Letter>> + Drop,
-    H: Wait + time::Clock,
+    H: Wait + time::Clock + Log,
     C: Clock,
 >(
     rt: &H,
@@ -129,7 +145,7 @@ fn deliver_and_close<
     settlements: Blank,
     link: &mut Played<'_>,
     clock: &mut C,
-    turns: u64,
+    course: Course,
 ) -> Option<Delivered<S>>
     requires counts { counted book ≡ A.counts }
     requires first { next_place book ≡ A.first }
@@ -140,20 +156,19 @@ fn deliver_and_close<
 {
     let opened = Shared::<A, T, U, S>::new(alloc, book, 0, 1, arrivals, takes, settlements);
     let (shared, desks, mut stations) = opened.ok()?;
-    let report = deliver_at(rt, alloc, &shared, &mut stations, link, clock, turns)?;
+    let report = deliver_at(rt, alloc, &shared, &mut stations, link, clock, course)?;
     let closed = shared.close(desks, stations).ok()?;
     Some(Delivered { report, closed })
 }
 
-/// Delivers what waits in a book over a link by a clock, in so many turns at most. None where there is no book, or memory was
-/// refused for sharing it.
-pub fn deliver_by<S: RowStore<Addressed<Letter>> + Drop, H: Wait + time::Clock, C: Clock>(
+/// Delivers what waits in a book over a link by a clock. None where there is no book, or memory was refused for sharing it.
+pub fn deliver_by<S: RowStore<Addressed<Letter>> + Drop, H: Wait + time::Clock + Log, C: Clock>(
     rt: &H,
     alloc: Global,
     book: Option<Book<S>>,
     link: &mut Played<'_>,
     clock: &mut C,
-    turns: u64,
+    course: Course,
 ) -> Option<Delivered<S>> {
     deliver_and_close::<Brand, Brand, Brand, S, H, C>(
         rt,
@@ -164,22 +179,22 @@ pub fn deliver_by<S: RowStore<Addressed<Letter>> + Drop, H: Wait + time::Clock, 
         Blank::new(2),
         link,
         clock,
-        turns,
+        course,
     )
 }
 
-/// Delivers what waits in a book over a link, in so many turns at most, by a clock that leaps by twenty seconds at each look.
-/// None where there is no book, or memory was refused for sharing it.
-pub fn deliver_all<S: RowStore<Addressed<Letter>> + Drop, H: Wait + time::Clock>(
+/// Delivers what waits in a book over a link, by a clock that leaps by twenty seconds at each look. None where there is no
+/// book, or memory was refused for sharing it.
+pub fn deliver_all<S: RowStore<Addressed<Letter>> + Drop, H: Wait + time::Clock + Log>(
     rt: &H,
     alloc: Global,
     book: Option<Book<S>>,
     link: &mut Played<'_>,
-    turns: u64,
+    course: Course,
 ) -> Option<Delivered<S>> {
     let mut clock = Leaping {
         seconds: 0,
         leap: 20,
     };
-    deliver_by(rt, alloc, book, link, &mut clock, turns)
+    deliver_by(rt, alloc, book, link, &mut clock, course)
 }

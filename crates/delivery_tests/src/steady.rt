@@ -1,11 +1,12 @@
 //! Deliveries where the system's clock is set back.
 
 use crate::played::{Play, Played, SetBack};
-use crate::stage::{Rows, deliver_by, waiting};
+use crate::stage::{Course, Rows, deliver_by, waiting};
 use book_core::{Book, Letter};
 use conn_worker::{Clock, Running, Steady, nearest};
 use delivery_worker::DeliverEnd;
 use dest_queue::Addressed;
+use log::Log;
 use row_store::RowStore;
 use std::alloc::Global;
 use std::sync::Wait;
@@ -32,14 +33,14 @@ fn set_back(rt: HostRuntime) -> Result<(), Fail> {
 }
 
 /// Whether the message is delivered in the second attempt.
-fn is_delivered<S: RowStore<Addressed<Letter>> + Drop, H: Wait + time::Clock, C: Clock>(
+fn is_delivered<S: RowStore<Addressed<Letter>> + Drop, H: Wait + time::Clock + Log, C: Clock>(
     rt: &H,
     alloc: Global,
     book: Option<Book<S>>,
     clock: &mut C,
 ) -> bool {
     let mut link = Played::new(alloc, &PLAYS);
-    match deliver_by(rt, alloc, book, &mut link, clock, 9) {
+    match deliver_by(rt, alloc, book, &mut link, clock, Course::Turns(9)) {
         Some(delivered) => {
             (delivered.report.end, delivered.report.delivered) == (DeliverEnd::Drained, 1)
         }

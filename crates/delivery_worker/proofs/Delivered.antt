@@ -61,7 +61,7 @@ tells_more attempts r a Rejected is t =
     }
 
 -- one more of lists that are joined
-flat_one : {X Y : Type 0} (f : X → List Y) (xs : List X) (x : X) → flat_map f (xs ++ x ∷ []) ≡ flat_map f xs ++ f x
+pub flat_one : {X Y : Type 0} (f : X → List Y) (xs : List X) (x : X) → flat_map f (xs ++ x ∷ []) ≡ flat_map f xs ++ f x
 flat_one {X} {Y} f xs x = flat_map-append f xs (x ∷ []) ∙ ap (λ (l : List Y). flat_map f xs ++ l) (append-nil (f x))
 
 -- nothing was sent
@@ -417,7 +417,7 @@ starts begin log first framer r none new =
     }))
 
 -- the sum of one more attempt
-counted_sum : (o : Outcome) (r : DeliverReport) → r.taken ≡ r.delivered + r.again + r.rejected
+pub counted_sum : (o : Outcome) (r : DeliverReport) → r.taken ≡ r.delivered + r.again + r.rejected
     → (counted o r).taken ≡ (counted o r).delivered + (counted o r).again + (counted o r).rejected
 counted_sum Delivered r is = omega (arith, is)
 counted_sum Again r is = omega (arith, is)

@@ -1,3 +1,4 @@
+pub mod Afresh
 pub mod Calls
 pub mod Delivered
 pub mod Reading

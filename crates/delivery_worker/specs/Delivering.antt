@@ -166,3 +166,21 @@ abbrev pub counted : Outcome → DeliverReport → DeliverReport
 counted Delivered r = record r { taken = r.taken + 1; delivered = r.delivered + 1 }
 counted Again r = record r { taken = r.taken + 1; again = r.again + 1 }
 counted Rejected r = record r { taken = r.taken + 1; rejected = r.rejected + 1 }
+
+-- an attempt, with the bytes that were received in it
+pub record Exchanged : Type 0 where
+  pub attempt : Attempt
+  pub received : List ℕ
+
+-- The events that were read are the first of those that were received in the attempt itself.
+abbrev pub IsFresh : Exchanged → Type 0
+IsFresh e = IsFrontOf e.received e.attempt.last.read
+
+-- The attempts were made that the report counts, each with nothing left of what was received before it: they sent what was
+-- sent, and what was received came in them.
+pub record DeliversAfresh (sent sends log logs : Option (List ℕ)) (r : DeliverReport) : Type 0 where
+  pub exchanges : List Exchanged
+  pub fresh : All IsFresh exchanges
+  pub tells : Tells (map (λ e. e.attempt) exchanges) r
+  pub sends_blocks : Appends sent sends (flat_map (λ e. sent_by e.attempt) exchanges)
+  pub logged : Appends log logs (flat_map (λ e. e.received) exchanges)

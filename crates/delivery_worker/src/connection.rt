@@ -7,7 +7,7 @@ ghost use Rattle.dest_queue.specs.declared.Outcome.TheVariants.{Again};
 ghost use Rattle.fixed_numbers.specs.declared.serving.TheConstants.{RECEIVES_MAX};
 ghost use Rattle.mllp_frame.specs.Event.{event_of};
 ghost use Rattle.mllp_frame.specs.Framing.{IsData, block_bytes};
-ghost use Rattle.mllp_frame.specs.Framed.{fed};
+ghost use Rattle.mllp_frame.specs.Framed.{blank, fed};
 ghost use Rattle.delivery_worker.specs.Answers.{answer_in, answers_to};
 ghost use Rattle.delivery_worker.specs.Calls.{CallsMore, CallsUpTo};
 ghost use Rattle.delivery_worker.specs.Stream.{ReadsFront, ReadsOn, Receives};
@@ -219,6 +219,28 @@ impl Connection {
     /// What the answers to the last sending of the last attempt said of its message.
     pub fn reply(&self) -> Reply {
         self.reply
+    }
+
+    /// Readies the link for a message that is not taken yet. What was left of earlier answers is dropped, so the next answer
+    /// that is read is received after this.
+    ///
+    /// # Errors
+    ///
+    /// The link's. There is no connection then.
+    pub fn prepare<L: Link>(&mut self, link: &mut L) -> Result<(), LinkFault>
+        ensures ready { OnOk result (self.new.framer ≡ Some blank) }
+        ensures none { OnErr result (self.new.framer ≡ None) }
+        ensures sent { Keeps (L.sent link.old) (L.sent link.new) }
+        ensures received { Keeps (L.received link.old) (L.received link.new) }
+        ensures receives { CallsMore (L.receives link.old) (L.receives link.new) 0 }
+    {
+        self.framer = None;
+        match link.prepare() {
+            Ok(()) => {}
+            Err(fault) => return Err(fault),
+        }
+        self.framer = Some(Framer::new(self.alloc));
+        Ok(())
     }
 
     /// Sends a message over the open connection, whose framer this is, and reads the answers where the destination

@@ -7,6 +7,8 @@ mod link;
 mod report;
 mod socket;
 mod tcp_link;
+mod until;
+mod way;
 mod words;
 mod worker;
 
@@ -14,4 +16,6 @@ pub use answers::{Reply, outcome_of};
 pub use link::{Link, LinkFault};
 pub use report::{DeliverEnd, DeliverReport};
 pub use tcp_link::TcpLink;
+pub use until::{Halt, deliver_until};
+pub use way::Way;
 pub use worker::deliver;

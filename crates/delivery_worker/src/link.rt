@@ -12,7 +12,7 @@ pub struct LinkFault;
 
 /// A link to a destination, over which blocks are sent and answers come back (MLLP Release 1).
 pub trait Link {
-    ghost use Rattle.std.specs.Prelude.{◌≡◌, ◌≤◌, ℕ, List, Option, None, length, take, IfOk, OnOk, OnErr};
+    ghost use Rattle.std.specs.Prelude.{◌≡◌, ◌≤◌, ◌⊎◌, ℕ, List, Option, None, true, length, take, IfOk, OnOk, OnErr};
     ghost use Rattle.std.specs.Result.{is_err};
     ghost use Rattle.std.specs.Io.KnownBytes.{Appends, Keeps};
     ghost use Rattle.conn_worker.specs.Faults.{with_fault};
@@ -86,6 +86,29 @@ pub trait Link {
         ensures sent { Keeps (sent self.old) (sent self.new) }
         ensures received { Keeps (received self.old) (received self.new) }
         ensures receives { CallsMore (receives self.old) (receives self.new) 0 };
+
+    /// Readies the connection for a message that is not taken yet. What has arrived on the open connection is read and
+    /// dropped, for it answers nothing that is still to be sent. Where none is open, by a look, a new one is opened.
+    ///
+    /// # Errors
+    ///
+    /// Where none could be opened, or it is too soon to try that again. There is no connection then.
+    fn prepare(&mut self) -> Result<(), LinkFault>
+        ensures ready { OnOk result (fault_count self.new ≡ fault_count self.old) }
+        ensures failed { OnErr result (
+            (fault_count self.new ≡ fault_count self.old) ⊎ (fault_count self.new ≡ with_fault true (fault_count self.old))) }
+        ensures sent { Keeps (sent self.old) (sent self.new) }
+        ensures received { Keeps (received self.old) (received self.new) }
+        ensures receives { CallsMore (receives self.old) (receives self.new) 0 }
+    {
+        if self.is_open() {
+            return Ok(());
+        }
+        match self.connect() {
+            Ok(()) => Ok(()),
+            Err(fault) => Err(fault),
+        }
+    }
 
     /// Writes all of these bytes and flushes them.
     ///

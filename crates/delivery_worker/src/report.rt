@@ -12,6 +12,8 @@ pub enum DeliverEnd {
     Drained,
     /// As many turns were taken as were given.
     TurnsSpent,
+    /// It was halted. What was not taken yet is still queued.
+    Halted,
 }
 
 /// What came of the attempts to deliver messages, and why delivering ended.

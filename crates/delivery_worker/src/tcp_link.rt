@@ -7,13 +7,14 @@ ghost use Rattle.conn_worker.specs.Faults.{with_fault};
 use crate::answers::Reply;
 use crate::link::{Link, LinkFault};
 use crate::socket::{drop_input, is_end, is_own_lack, wait_for};
+use crate::way::Way;
 use crate::words::{Cause, Failure};
 use book_core::Job;
 use dest_queue::{FailCause, Outcome, SlotState};
 use fixed_numbers::RECEIVES_MAX;
 use log::{Log, info, warn};
 use log_text::ControlId;
-use plan_text::{Await, Destination};
+use plan_text::Await;
 use socket_options::{Spare, keep_alive};
 use std::io;
 use std::io::{ErrorKind, Read, Write};
@@ -42,9 +43,20 @@ const WRITES_MAX: u32 = 10_000_000;
 /// How many times something may come while a connection is ended.
 const PIECES_MAX: u32 = 10_000_000;
 
+/// The most seconds that a connect may last while no attempt is under way.
+const PREPARE_SECONDS_MAX: u64 = 10;
+
+/// How long one wait may last that can be halted, in milliseconds.
+const SLICE: u64 = 250;
+
+/// How many such waits there may be for one read.
+const SLICES_MAX: u32 = 100_000;
+
 /// What a link was asked for.
 #[derive(Clone, Copy)]
 enum Call {
+    /// To connect while no attempt is under way.
+    Prepare,
     Connect,
     Send,
     Receive,
@@ -58,7 +70,7 @@ enum Told {
     Lost,
 }
 
-/// A link to a destination of the plan, over TCP. The destination's timeout is the limit on connecting, on a write that makes
+/// A link over TCP to where a way leads: to a destination of a plan. The destination's timeout is the limit on connecting, on a write that makes
 /// no progress and on each read, and ten times the timeout is that on an attempt. Each attempt that failed is one line of the
 /// log, and so is a message that failed for good.
 ///
@@ -66,10 +78,13 @@ enum Told {
 /// to end. A descriptor is held back for the connection while there is none.
 ///
 /// What a destination sends whose answers are not awaited is dropped as it comes.
+///
+/// Between attempts, by `prepare`, a connect lasts for the timeout at most, and no longer than ten seconds. Where it failed,
+/// that is one line of the log, and no other connect is made there before the destination's interval is over.
 #[derive(Drop)]
-pub struct TcpLink<'a, R> {
+pub struct TcpLink<'a, R, W> {
     rt: &'a R,
-    destination: &'a Destination,
+    way: W,
     stream: Option<TcpStream>,
     spare: Spare,
     faults: u64,
@@ -79,16 +94,18 @@ pub struct TcpLink<'a, R> {
     receives: u32,
     /// Whether the last call met the end of the connection.
     ended: bool,
-    /// When the attempt at hand ends, by the monotonic clock, where that can be read.
+    /// When the attempt at hand ends, or the connect between attempts, by the monotonic clock, where that can be read.
     deadline: Option<Duration>,
     /// The limit on each read that the stream has.
     read_limit: Duration,
     /// The limit on each write that the stream has.
     write_limit: Duration,
     told: Told,
+    /// The moment, by the monotonic clock, before which no connect is made between attempts.
+    retry_at: Option<Duration>,
 }
 
-impl<'a, R> Model for TcpLink<'a, R> {
+impl<'a, R, W> Model for TcpLink<'a, R, W> {
     ghost use Rattle.std.specs.Prelude.{ℕ};
 
     ghost Value = { ℕ };
@@ -109,14 +126,14 @@ fn read(stream: &mut TcpStream, buffer: &mut [u8]) -> io::Result<usize>
     Err(io::Error::from(ErrorKind::Interrupted))
 }
 
-impl<'a, R: Net<Stream = TcpStream> + Log + Clock> TcpLink<'a, R> {
+impl<'a, R: Net<Stream = TcpStream> + Log + Clock, W: Way> TcpLink<'a, R, W> {
     /// A link that is not connected yet.
-    pub fn new(rt: &'a R, destination: &'a Destination) -> Self
+    pub fn new(rt: &'a R, way: W) -> Self
         ensures { result ≡ 0 }
     {
         TcpLink {
             rt,
-            destination,
+            way,
             stream: None,
             spare: Spare::new(),
             faults: 0,
@@ -127,17 +144,70 @@ impl<'a, R: Net<Stream = TcpStream> + Log + Clock> TcpLink<'a, R> {
             read_limit: Duration::ZERO,
             write_limit: Duration::ZERO,
             told: Told::Nothing,
+            retry_at: None,
+        }
+    }
+
+    /// The destination's name; empty where the plan has none.
+    fn name(&self) -> &str {
+        match self.way.destination() {
+            Some(destination) => destination.name(),
+            None => "",
+        }
+    }
+
+    /// The destination's address; empty where the plan has none.
+    fn address(&self) -> &str {
+        match self.way.destination() {
+            Some(destination) => destination.address(),
+            None => "",
+        }
+    }
+
+    /// How many attempts the destination allows.
+    fn attempts(&self) -> u32 {
+        match self.way.destination() {
+            Some(destination) => destination.attempts(),
+            None => 0,
+        }
+    }
+
+    /// The seconds between two attempts.
+    fn interval(&self) -> u32 {
+        match self.way.destination() {
+            Some(destination) => destination.interval(),
+            None => 0,
+        }
+    }
+
+    /// The destination's timeout, in seconds.
+    fn seconds(&self) -> u32 {
+        match self.way.destination() {
+            Some(destination) => destination.timeout(),
+            None => 0,
         }
     }
 
     /// The destination's timeout.
     fn timeout(&self) -> Duration {
-        Duration::from_secs(u64::from(self.destination.timeout()))
+        Duration::from_secs(u64::from(self.seconds()))
     }
 
     /// Whether the destination's answers are not awaited.
     fn drops_answers(&self) -> bool {
-        self.destination.wait() == Await::None
+        match self.way.destination() {
+            Some(destination) => destination.wait() == Await::None,
+            None => false,
+        }
+    }
+
+    /// How long one wait of so long may last until a halt is looked for.
+    fn slice(&self, limit: Duration) -> Duration {
+        if self.way.can_halt() {
+            limit.min(Duration::from_millis(SLICE))
+        } else {
+            limit
+        }
     }
 
     /// The moment that comes after so long.
@@ -145,8 +215,11 @@ impl<'a, R: Net<Stream = TcpStream> + Log + Clock> TcpLink<'a, R> {
         self.rt.monotonic().ok()?.checked_add(time)
     }
 
-    /// How long one call may last: the timeout, or what is left of the attempt.
+    /// How long one call may last: the timeout, or what is left of the attempt. Nothing is left once it is halted.
     fn limit(&self) -> io::Result<Duration> {
+        if self.way.is_halted() {
+            return Err(io::Error::from(ErrorKind::TimedOut));
+        }
         let timeout = self.timeout();
         let Some(deadline) = self.deadline else {
             return Ok(timeout);
@@ -191,12 +264,11 @@ impl<'a, R: Net<Stream = TcpStream> + Log + Clock> TcpLink<'a, R> {
     fn open_once(&mut self) -> io::Result<TcpStream>
         ensures { self.new ≡ self.old }
     {
-        let name = self.destination.address();
-        let mut addresses = name.to_socket_addrs(self.rt);
+        let mut addresses = self.address().to_socket_addrs(self.rt);
         if addresses.is_err() && !Spare::new().is_held() {
             // No descriptor is left to look the name up by, but for the one that is held back.
             self.spare.give_up();
-            addresses = name.to_socket_addrs(self.rt);
+            addresses = self.address().to_socket_addrs(self.rt);
         }
         let addresses = addresses?;
         self.spare.give_up();
@@ -217,8 +289,7 @@ impl<'a, R: Net<Stream = TcpStream> + Log + Clock> TcpLink<'a, R> {
                 return Err(error);
             }
             if !is_waiting {
-                let name = self.destination.name();
-                warn!(self.rt; destination = name; "can't connect yet: {error}");
+                warn!(self.rt; destination = self.name(); "can't connect yet: {error}");
                 is_waiting = true;
             }
             self.rt.sleep(Duration::from_millis(LACK_WAIT));
@@ -252,12 +323,13 @@ impl<'a, R: Net<Stream = TcpStream> + Log + Clock> TcpLink<'a, R> {
             if rest.is_empty() {
                 return Ok(());
             }
+            let slice = self.slice(limit);
             let Some(stream) = &mut self.stream else {
                 return Err(io::Error::from(ErrorKind::NotConnected));
             };
-            if limit != self.write_limit {
-                stream.set_write_timeout(Some(limit))?;
-                self.write_limit = limit;
+            if slice != self.write_limit {
+                stream.set_write_timeout(Some(slice))?;
+                self.write_limit = slice;
             }
             match stream.write(rest) {
                 Ok(0) => return Err(io::Error::from(ErrorKind::WriteZero)),
@@ -275,25 +347,53 @@ impl<'a, R: Net<Stream = TcpStream> + Log + Clock> TcpLink<'a, R> {
         Err(io::Error::from(ErrorKind::TimedOut))
     }
 
-    /// Waits until there is room for what is to be sent, and drops what came. What is left of the limit on that.
+    /// What is left of the limit on a write that made no progress for a slice of it. Where answers are not awaited, it waits
+    /// until there is room for what is to be sent, and drops what came; else the write itself has waited.
     fn wait_to_write(&mut self, limit: Duration) -> io::Result<Duration>
         ensures { self.new ≡ self.old }
     {
-        let drops = self.drops_answers();
-        let begun = self.rt.monotonic()?;
-        let Some(stream) = &mut self.stream else {
-            return Err(io::Error::from(ErrorKind::NotConnected));
+        let waited = if self.drops_answers() {
+            self.wait_and_drop(limit)?
+        } else {
+            self.write_limit
         };
-        if !drops {
-            return Err(io::Error::from(ErrorKind::TimedOut));
-        }
-        wait_for(stream, true, limit);
-        drop_input(stream);
-        let left = limit.saturating_sub(self.rt.monotonic()?.saturating_sub(begun));
-        if left < Duration::from_millis(1) {
+        let left = limit.saturating_sub(waited);
+        if left < Duration::from_millis(1) || self.way.is_halted() {
             return Err(io::Error::from(ErrorKind::TimedOut));
         }
         Ok(left)
+    }
+
+    /// Waits until there is room for what is to be sent, for a slice of the limit at most, and drops what came. How long that
+    /// lasted.
+    fn wait_and_drop(&mut self, limit: Duration) -> io::Result<Duration>
+        ensures { self.new ≡ self.old }
+    {
+        let begun = self.rt.monotonic()?;
+        let slice = self.slice(limit);
+        let Some(stream) = &mut self.stream else {
+            return Err(io::Error::from(ErrorKind::NotConnected));
+        };
+        wait_for(stream, true, slice);
+        drop_input(stream);
+        Ok(self.rt.monotonic()?.saturating_sub(begun))
+    }
+
+    /// Waits until something is to be read, for so long at most, and no longer than until a halt.
+    fn wait_to_read(&self, limit: Duration) -> io::Result<()> {
+        let (Some(stream), Some(deadline)) = (&self.stream, self.after(limit)) else {
+            return Ok(());
+        };
+        for _ in 0..SLICES_MAX {
+            let left = deadline.saturating_sub(self.rt.monotonic()?);
+            if left < Duration::from_millis(1) || self.way.is_halted() {
+                return Err(io::Error::from(ErrorKind::TimedOut));
+            }
+            if wait_for(stream, false, self.slice(left)).is_readable() {
+                return Ok(());
+            }
+        }
+        Err(io::Error::from(ErrorKind::TimedOut))
     }
 
     /// Reads bytes.
@@ -302,6 +402,9 @@ impl<'a, R: Net<Stream = TcpStream> + Log + Clock> TcpLink<'a, R> {
         ensures bound { IfOk result (λ len. len ≤ length buffer.new) }
     {
         let limit = self.limit()?;
+        if self.way.can_halt() {
+            self.wait_to_read(limit)?;
+        }
         let Some(stream) = &mut self.stream else {
             return Err(io::Error::from(ErrorKind::NotConnected));
         };
@@ -321,10 +424,10 @@ impl<'a, R: Net<Stream = TcpStream> + Log + Clock> TcpLink<'a, R> {
         };
         for _ in 0..PIECES_MAX {
             let left = deadline.saturating_sub(self.rt.monotonic()?);
-            if left < Duration::from_millis(1) {
+            if left < Duration::from_millis(1) || self.way.is_halted() {
                 return Err(io::Error::from(ErrorKind::TimedOut));
             }
-            if wait_for(stream, false, left).is_readable() && !drop_input(stream) {
+            if wait_for(stream, false, self.slice(left)).is_readable() && !drop_input(stream) {
                 return Ok(());
             }
         }
@@ -333,18 +436,22 @@ impl<'a, R: Net<Stream = TcpStream> + Log + Clock> TcpLink<'a, R> {
 
     /// Why a call failed.
     fn cause_of(&self, call: Call, error: io::Error) -> Cause {
-        let seconds = self.destination.timeout();
+        let seconds = self.seconds();
+        if self.way.is_halted() {
+            return Cause::Halted;
+        }
         let is_slow = match error.kind() {
             ErrorKind::WouldBlock => true,
             ErrorKind::TimedOut => error.raw_os_error().is_none(),
             _ => false,
         };
-        if is_slow && self.limit().is_err() {
+        let is_attempt = !matches!(call, Call::Prepare);
+        if is_attempt && is_slow && self.limit().is_err() {
             return Cause::TimeSpent(seconds.saturating_mul(TIMEOUTS_MAX));
         }
         match call {
-            Call::Connect if error.kind() == ErrorKind::WouldBlock => Cause::NoPort,
-            Call::Connect => Cause::NoConnection(error),
+            Call::Prepare | Call::Connect if error.kind() == ErrorKind::WouldBlock => Cause::NoPort,
+            Call::Prepare | Call::Connect => Cause::NoConnection(error),
             _ if is_end(&error) => Cause::Closed,
             Call::Send if is_slow => Cause::NoProgress(seconds),
             Call::Receive if is_slow => Cause::NoAnswer(seconds),
@@ -363,33 +470,56 @@ impl<'a, R: Net<Stream = TcpStream> + Log + Clock> TcpLink<'a, R> {
         LinkFault
     }
 
+    /// Logs what became of the connection.
+    fn tell(&self, words: &str) {
+        info!(self.rt; destination = self.name(), address = self.address(); "{words}");
+    }
+
     /// Logs that a connection was opened, where none was before or the last one was lost.
     fn tell_connected(&mut self)
         ensures { self.new ≡ self.old }
     {
-        let (name, address) = (self.destination.name(), self.destination.address());
         match self.told {
-            Told::Nothing => info!(self.rt; destination = name, address = address; "connected"),
-            Told::Lost => info!(self.rt; destination = name, address = address; "connected again"),
+            Told::Nothing => self.tell("connected"),
+            Told::Lost => self.tell("connected again"),
             Told::Connected => {}
         }
         self.told = Told::Connected;
+    }
+
+    /// Logs that the connection was lost, where there was one.
+    fn tell_lost(&mut self)
+        ensures { self.new ≡ self.old }
+    {
+        if self.stream.is_none() && self.told == Told::Connected {
+            self.tell("connection lost");
+            self.told = Told::Lost;
+        }
+    }
+
+    /// Logs why no connection could be opened between attempts.
+    fn tell_unconnected(&mut self)
+        ensures { self.new ≡ self.old }
+    {
+        match &self.cause {
+            None | Some(Cause::Halted) => return,
+            Some(cause) => {
+                warn!(self.rt; destination = self.name(), address = self.address(); "{cause}")
+            }
+        }
+        self.tell_lost();
     }
 
     /// Logs an attempt that failed, and a connection that was lost by it.
     fn tell_attempt(&mut self, job: &Job, reply: Reply)
         ensures { self.new ≡ self.old }
     {
-        let (name, address) = (self.destination.name(), self.destination.address());
         let failure = Failure {
             reply,
             cause: self.cause.as_ref(),
         };
-        warn!(self.rt; destination = name, message = job.ticket.number, control_id:% = ControlId(job.control_id.as_slice()), attempt = job.ticket.attempt, attempts = self.destination.attempts(); "{failure}");
-        if self.stream.is_none() && self.told == Told::Connected {
-            info!(self.rt; destination = name, address = address; "connection lost");
-            self.told = Told::Lost;
-        }
+        warn!(self.rt; destination = self.name(), message = job.ticket.number, control_id:% = ControlId(job.control_id.as_slice()), attempt = job.ticket.attempt, attempts = self.attempts(); "{failure}");
+        self.tell_lost();
     }
 
     /// Logs a message that failed for good.
@@ -399,11 +529,84 @@ impl<'a, R: Net<Stream = TcpStream> + Log + Clock> TcpLink<'a, R> {
             FailCause::Exhausted => "message failed: no attempt is left",
             FailCause::Cancelled => "message failed: cancelled",
         };
-        warn!(self.rt; target: "always", destination = self.destination.name(), message = job.ticket.number, control_id:% = ControlId(job.control_id.as_slice()), attempts = job.ticket.attempt; "{words}");
+        warn!(self.rt; target: "always", destination = self.name(), message = job.ticket.number, control_id:% = ControlId(job.control_id.as_slice()), attempts = job.ticket.attempt; "{words}");
+    }
+
+    /// Opens a new connection, and drops what was left of an earlier one.
+    fn reopen(&mut self) -> io::Result<()>
+        ensures { self.new ≡ self.old }
+    {
+        self.close();
+        self.ended = false;
+        self.cause = None;
+        let stream = self.open()?;
+        self.read_limit = self.timeout();
+        self.write_limit = self.timeout();
+        self.stream = Some(stream);
+        self.tell_connected();
+        Ok(())
+    }
+
+    /// Ends the connection in order where its answers are dropped, and closes it.
+    fn end(&mut self, drops: bool)
+        ensures { self.new ≡ self.old }
+    {
+        let Some(mut stream) = self.stream.take() else {
+            return;
+        };
+        if !drops {
+            return;
+        }
+        if let Err(error) = self.end_in_order(&mut stream) {
+            warn!(self.rt; destination = self.name(); "not closed by the destination in time, what was sent last may be lost: {error}");
+        }
+    }
+
+    /// Takes up the plan in force. Where the link leads elsewhere by it, or answers are awaited otherwise, the connection is
+    /// ended.
+    fn renew(&mut self)
+        ensures { self.new ≡ self.old }
+    {
+        let drops = self.drops_answers();
+        if self.way.renew() || self.drops_answers() != drops {
+            self.end(drops);
+            self.told = Told::Nothing;
+            self.retry_at = None;
+        }
+    }
+
+    /// Drops what has arrived on the connection. Whether it is open, and nothing is left to be read.
+    fn is_emptied(&mut self) -> bool
+        ensures { self.new ≡ self.old }
+    {
+        match &mut self.stream {
+            Some(stream) => {
+                drop_input(stream) && !wait_for(stream, false, Duration::ZERO).is_readable()
+            }
+            None => false,
+        }
+    }
+
+    /// Whether a connect failed so shortly before that none is made yet.
+    fn is_too_soon(&self) -> bool {
+        match (self.retry_at, self.rt.monotonic()) {
+            (Some(at), Ok(now)) => now < at,
+            _ => false,
+        }
+    }
+
+    /// Notes a connect that failed between attempts.
+    fn unconnected(&mut self, error: io::Error) -> LinkFault
+        ensures { self.new ≡ with_fault true self.old }
+    {
+        let fault = self.fault(Call::Prepare, error);
+        self.retry_at = self.after(Duration::from_secs(u64::from(self.interval())));
+        self.tell_unconnected();
+        fault
     }
 }
 
-impl<R: Net<Stream = TcpStream> + Log + Clock> Link for TcpLink<'_, R> {
+impl<R: Net<Stream = TcpStream> + Log + Clock, W: Way> Link for TcpLink<'_, R, W> {
     ghost fault_count = { λ faults. faults };
 
     fn begin(&mut self) {
@@ -430,11 +633,12 @@ impl<R: Net<Stream = TcpStream> + Log + Clock> Link for TcpLink<'_, R> {
     }
 
     fn has_interval(&self) -> bool {
-        self.destination.interval() > 0
+        self.interval() > 0
     }
 
     fn settled(&mut self, job: &Job, reply: Reply, outcome: Outcome, state: Option<SlotState>) {
-        if outcome != Outcome::Delivered {
+        self.way.note(outcome);
+        if outcome != Outcome::Delivered && !matches!(self.cause, Some(Cause::Halted)) {
             self.tell_attempt(job, reply);
         }
         if let Some(SlotState::Failed(cause)) = state {
@@ -443,31 +647,33 @@ impl<R: Net<Stream = TcpStream> + Log + Clock> Link for TcpLink<'_, R> {
     }
 
     fn finish(&mut self) {
-        let Some(mut stream) = self.stream.take() else {
-            return;
-        };
-        if !self.drops_answers() {
-            return;
-        }
-        if let Err(error) = self.end_in_order(&mut stream) {
-            let name = self.destination.name();
-            warn!(self.rt; destination = name; "not closed by the destination in time, what was sent last may be lost: {error}");
-        }
+        self.end(self.drops_answers());
     }
 
     fn connect(&mut self) -> Result<(), LinkFault> {
-        self.close();
-        self.ended = false;
-        self.cause = None;
-        match self.open() {
-            Ok(stream) => {
-                self.read_limit = self.timeout();
-                self.write_limit = self.timeout();
-                self.stream = Some(stream);
-                self.tell_connected();
-                Ok(())
-            }
+        match self.reopen() {
+            Ok(()) => Ok(()),
             Err(error) => Err(self.fault(Call::Connect, error)),
+        }
+    }
+
+    fn prepare(&mut self) -> Result<(), LinkFault> {
+        self.renew();
+        if self.way.destination().is_none() || self.way.is_halted() {
+            return Err(LinkFault);
+        }
+        if self.is_emptied() {
+            return Ok(());
+        }
+        self.close();
+        if self.is_too_soon() {
+            return Err(LinkFault);
+        }
+        let longest = Duration::from_secs(PREPARE_SECONDS_MAX);
+        self.deadline = self.after(self.timeout().min(longest));
+        match self.reopen() {
+            Ok(()) => Ok(()),
+            Err(error) => Err(self.unconnected(error)),
         }
     }
 

@@ -21,6 +21,8 @@ pub enum Cause {
     TimeSpent(u32),
     /// As many receives were made as an attempt may make.
     ReceivesSpent,
+    /// Delivering was halted.
+    Halted,
     /// The connection failed otherwise.
     Broken(io::Error),
 }
@@ -35,6 +37,7 @@ impl fmt::Display for Cause {
             Cause::Closed => f.write_str("closed by the destination before an answer"),
             Cause::TimeSpent(seconds) => write!(f, "attempt ended after {seconds} s"),
             Cause::ReceivesSpent => f.write_str("no answer in 1,000,000 receives"),
+            Cause::Halted => f.write_str("delivering was halted"),
             Cause::Broken(error) => write!(f, "connection failed: {error}"),
         }
     }

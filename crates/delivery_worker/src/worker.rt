@@ -13,6 +13,7 @@ use book_core::{Letter, TakeRefusal};
 use book_lock::{Opening, Shared, Station};
 use conn_worker::Clock;
 use dest_queue::{Addressed, Outcome};
+use log::Log;
 use row_store::RowStore;
 use std::alloc::Global;
 use std::sync::Wait;
@@ -21,7 +22,7 @@ use std::time;
 
 /// Takes the message at the front of a queue, makes one attempt to deliver it, and settles the attempt, whatever came of
 /// it. The lock is held for the take and for the settlement, and not in between.
-fn take_turn<
+pub fn take_turn<
     H: Wait,
     A: Opening,
     T: Ledger,
@@ -63,11 +64,11 @@ fn take_turn<
 
 /// Delivers the messages of queue `d`, one after another, over one link: each that is due is taken, sent as a block, and
 /// settled by what the destination answers (HL7 v2.5.1, 2.9.2 and 2.9.3). A turn is one call of `take`, answered or
-/// refused; where nothing is due, the worker waits for a change at the queue, or a short while.
+/// refused; where nothing is due, the worker waits for a change at the queue, or a short while, and then flushes the log.
 ///
 /// It ends where no arrival will follow and the queue is empty, or after so many turns.
 pub fn deliver<
-    H: Wait + time::Clock,
+    H: Wait + time::Clock + Log,
     A: Opening,
     T: Ledger,
     U: Ledger,
@@ -108,7 +109,10 @@ pub fn deliver<
                 link.finish();
                 return report;
             }
-            Err(_) => shared.bell(rt, d),
+            Err(_) => {
+                shared.bell(rt, d);
+                rt.flush();
+            }
         }
     }
     link.finish();

@@ -1,5 +1,6 @@
 //! The runtime that writes a line for each record.
 
+use crate::outbox::Outbox;
 use crate::repeats::{KINDS_MAX, Repeats, Summary};
 use crate::text::{Line, Part};
 use jiff::Timestamp;
@@ -25,6 +26,8 @@ const HASH_FACTOR: u64 = 0x0000_0100_0000_01B3;
 pub struct Journal<'a, R> {
     pub(crate) rt: R,
     repeats: &'a Mutex<Repeats>,
+    /// Where lines wait to be written; none where each is written at once.
+    outbox: Option<&'a Outbox>,
 }
 
 /// The fields of a record, as they are written and as they tell its kind.
@@ -100,9 +103,23 @@ fn kind_of(head: &str) -> u64 {
 }
 
 impl<'a, R: Clock + Wait + Eprint> Journal<'a, R> {
-    /// A journal over the system's runtime. What was shown a short while ago is kept in `repeats`.
+    /// A journal over the system's runtime, which writes each line at once. What was shown a short while ago is kept in
+    /// `repeats`.
     pub fn new(rt: R, repeats: &'a Mutex<Repeats>) -> Self {
-        Journal { rt, repeats }
+        Journal {
+            rt,
+            repeats,
+            outbox: None,
+        }
+    }
+
+    /// A journal whose lines are put into an outbox: who logs never waits for the reader of standard error.
+    pub fn buffered(rt: R, repeats: &'a Mutex<Repeats>, outbox: &'a Outbox) -> Self {
+        Journal {
+            rt,
+            repeats,
+            outbox: Some(outbox),
+        }
     }
 
     /// Seconds of the monotonic clock; 0 where it can't be read.
@@ -113,16 +130,30 @@ impl<'a, R: Clock + Wait + Eprint> Journal<'a, R> {
         }
     }
 
+    /// Writes a line, or puts it into the outbox.
+    fn put<D: Display + Drop>(&self, text: D) {
+        match self.outbox {
+            None => {
+                let _ = self.rt.eprintln(text);
+            }
+            Some(outbox) => {
+                let mut line = Line::new();
+                let _ = write!(line, "{text}");
+                outbox.put(&self.rt, line);
+            }
+        }
+    }
+
     /// Writes a line, with the time before it.
     fn write(&self, text: &str) {
         let seconds = match self.rt.since_1970() {
             Ok(since) => i64::try_from(since.as_secs()).unwrap_or(0),
             Err(_) => 0,
         };
-        let _ = match Timestamp::from_second(seconds) {
-            Ok(time) => self.rt.eprintln(format_args!("{time} {text}")),
-            Err(_) => self.rt.eprintln(text),
-        };
+        match Timestamp::from_second(seconds) {
+            Ok(time) => self.put(format_args!("{time} {text}")),
+            Err(_) => self.put(text),
+        }
     }
 
     /// Writes how many records of a kind were not shown, and the first and the last control id among them.

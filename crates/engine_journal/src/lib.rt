@@ -10,8 +10,10 @@
 
 mod forward;
 mod journal;
+mod outbox;
 mod repeats;
 mod text;
 
 pub use journal::Journal;
+pub use outbox::{LINES_MAX, Outbox};
 pub use repeats::{KINDS_MAX, QUIET_SECONDS, Repeats};

@@ -12,15 +12,12 @@ use answer::answer;
 use book_core::{Book, Letter};
 use check::check;
 use dest_queue::Addressed;
-use engine_report::{Fault, explained_plan, tell_lines};
+use engine_report::{Fault, read_plan, warned_plan};
 use engine_words::Request;
-use plan_notes::{file_note, room_notes, warnings};
 use plan_text::Plan;
 use record_list::RecordList;
 use run::run;
 use std::alloc::AllocError;
-use std::fs;
-use std::io::ErrorKind;
 use std::sync::Arc;
 
 /// The store of a book's rows: linked nodes.
@@ -28,33 +25,6 @@ type EngineRows = RecordList<Addressed<Letter>>;
 
 /// The book of the program.
 type EngineBook = Book<EngineRows>;
-
-/// The bytes of a plan's file. A note tells why it can't be read.
-fn plan_file<'a>(rt: &HostRuntime, path: &'a str) -> Result<Vec<u8>, Fault<'a>> {
-    match fs::read(rt, path) {
-        Ok(text) => Ok(text),
-        Err(error) if error.kind() == ErrorKind::OutOfMemory => Err(Fault::Memory),
-        Err(error) => {
-            tell_lines(rt, file_note(rt.alloc(), path, &error));
-            Err(Fault::File(path))
-        }
-    }
-}
-
-/// The plan in a file.
-fn read_plan<'a>(rt: &HostRuntime, path: &'a str) -> Result<Plan, Fault<'a>> {
-    explained_plan(rt, &plan_file(rt, path)?)
-}
-
-/// The plan in a file, with warnings of what it is unlikely to mean, and how many messages of each channel a book of
-/// `events` entries takes.
-fn warned_plan<'a>(rt: &HostRuntime, path: &'a str, events: u32) -> Result<Plan, Fault<'a>> {
-    let text = plan_file(rt, path)?;
-    let plan = explained_plan(rt, &text)?;
-    tell_lines(rt, warnings(rt.alloc(), &text, &plan));
-    tell_lines(rt, room_notes(rt.alloc(), &plan, events));
-    Ok(plan)
-}
 
 /// The plan in a file, to be shared, with the warnings of [`warned_plan`].
 fn warned_shared_plan<'a>(

@@ -2,7 +2,7 @@
 //! serves and delivers by a plan over TCP, and checks plans.
 #![tactic(auto)]
 
-ghost use Rattle.std.specs.Prelude.{◌≡◌, ◌⊎◌, IfErr, OnOk};
+ghost use Rattle.std.specs.Prelude.{◌≡◌, IfErr, OnOk};
 ghost use Rattle.std.specs.Process.{exit_status};
 ghost use Rattle.engine_report.specs.Ending.{status_of};
 
@@ -10,8 +10,7 @@ mod commands;
 mod handle;
 
 use commands::obey;
-use descriptors::{is_open, open_null};
-use engine_report::Fault;
+use engine_report::{Fault, open_standard};
 use engine_words::ask;
 use handle::Handle;
 use std::env;
@@ -23,23 +22,6 @@ use std::process::ExitCode;
 /// The sockets that the program listens and connects by, for a parameter that makes them known where `main` calls: the
 /// bounds of `Handle` name them, and no value that `main` has is of their types.
 type Sockets = PhantomData<(TcpListener, TcpStream)>;
-
-/// Opens the standard descriptors that the program was started without, so that no socket takes their numbers: reading
-/// standard input fails then, and what goes to standard error is dropped. Without standard output the program doesn't start.
-fn open_standard<'a>(rt: &HostRuntime) -> Result<(), Fault<'a>>
-    ensures { IfErr result (λ fault. (fault ≡ Fault.Read) ⊎ (fault ≡ Fault.Write)) }
-{
-    if !is_open(&rt.stdin()) {
-        open_null(rt).map_err(|_| Fault::Read)?;
-    }
-    if !is_open(&rt.stdout()) {
-        return Err(Fault::Write);
-    }
-    if !is_open(&rt.stderr()) {
-        open_null(rt).map_err(|_| Fault::Write)?;
-    }
-    Ok(())
-}
 
 /// The words of the command line, of which the first is the program's name.
 fn words_given<'a>(rt: &HostRuntime) -> Result<Vec<String>, Fault<'a>> {

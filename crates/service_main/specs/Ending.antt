@@ -10,9 +10,9 @@ use Rattle.service_main.specs.declared.ended.Trouble.TheVariants as trouble
 abbrev pub ended_status : Ended → ℕ
 ended_status ended.Done = 0
 ended_status ended.Refused = 1
+ended_status ended.Undelivered = 5
 
 -- the exit status where it can't
 abbrev pub trouble_status : Trouble → ℕ
 trouble_status (trouble.Engine fault) = status_of fault
 trouble_status (trouble.NoChannel given names) = 2
-trouble_status trouble.NoRun = 2

@@ -14,6 +14,8 @@ pub enum Ended {
     Done,
     /// A message that was tried is refused, or couldn't be read.
     Refused,
+    /// The service ended, and messages were left undelivered.
+    Undelivered,
 }
 
 /// Why the program can't do what it was asked. Its text is the line on standard error.
@@ -22,9 +24,6 @@ pub enum Trouble<'a> {
     /// What an engine meets too.
     #[error("{0}")]
     Engine(Fault<'a>),
-    /// The service can't run yet.
-    #[error("error: 'run' is not there yet; there are 'try' and 'check'")]
-    NoRun,
     /// The plan has no channel of the name that was given.
     #[error("error: the plan has no channel '{given}'; it has {names}")]
     NoChannel {
@@ -36,13 +35,15 @@ pub enum Trouble<'a> {
 }
 
 impl Ended {
-    /// The exit status: 1 where a message that was tried is refused or couldn't be read.
+    /// The exit status: 1 where a message that was tried is refused or couldn't be read, and 5 where messages were left
+    /// undelivered.
     pub fn status(self) -> u8
         ensures { result ≡ ended_status self }
     {
         match self {
             Ended::Done => 0,
             Ended::Refused => 1,
+            Ended::Undelivered => 5,
         }
     }
 }
@@ -54,7 +55,7 @@ impl Trouble<'_> {
     {
         match self {
             Trouble::Engine(fault) => fault.status(),
-            Trouble::NoRun | Trouble::NoChannel { .. } => 2,
+            Trouble::NoChannel { .. } => 2,
         }
     }
 }

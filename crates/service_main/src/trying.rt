@@ -3,9 +3,8 @@
 ghost use Rattle.std.specs.Prelude.{◌≡◌, ◌<◌, IfOk, IfSome, length};
 
 use crate::ended::{Ended, Trouble};
-use crate::plan_file::read_plan;
 use dry_run::{Trial, TryFault, try_input};
-use engine_report::Fault;
+use engine_report::{Fault, read_plan};
 use hl7_head::Moment;
 use plan_text::Plan;
 use std::alloc::{AllocError, Global};

@@ -1,17 +1,22 @@
 //! Doing what the command line asks.
 
-ghost use Rattle.std.specs.Prelude.{◌≡◌, IfErr, IfOk};
+ghost use Rattle.std.specs.Prelude.{◌≡◌, ◌≤◌, IfErr, IfOk};
 ghost use Rattle.std.specs.Process.{exit_status};
 ghost use Rattle.service_main.specs.Ending.{ended_status, trouble_status};
 
 use crate::check::check;
 use crate::ended::{Ended, Trouble};
 use crate::trying::try_messages;
-use engine_report::Fault;
+use engine_report::{Fault, warned_plan};
+use service_run::{RunEnd, Settings, run};
 use service_words::{Request, ask};
+use service_workers::Crew;
 use std::env;
 use std::io::ErrorKind;
+use std::marker::PhantomData;
+use std::net::{TcpListener, TcpStream};
 use std::process::ExitCode;
+use std::thread::Threads;
 
 /// The words of the command line, of which the first is the program's name.
 ///
@@ -39,12 +44,56 @@ fn explain<'a>(rt: &HostRuntime, error: clap::Error) -> Result<Ended, Trouble<'a
     }
 }
 
-/// Does what the words ask.
-pub fn perform<'a>(rt: &HostRuntime, words: &'a [String]) -> Result<Ended, Trouble<'a>> {
+/// The sockets that the service listens and connects by, for a parameter that makes them known where `main` calls: the bounds of
+/// `Crew` name them, and no value that `main` has is of their types.
+pub type Sockets = PhantomData<(TcpListener, TcpStream)>;
+
+/// Runs the service by the plan in a file.
+fn serve<'a, H: Crew + Threads + Eprint + Copy + Sync>(
+    rt: &HostRuntime,
+    handle: &H,
+    path: &'a str,
+    settings: &Settings,
+) -> Result<Ended, Trouble<'a>>
+    requires some { 1 ≤ settings.now.events }
+    requires few { settings.now.events ≤ 1_000_000 }
+{
+    let plan = warned_plan(rt, path, settings.events)?;
+    match run(rt, handle, path, plan, settings)? {
+        RunEnd::Drained => Ok(Ended::Done),
+        RunEnd::Undelivered => Ok(Ended::Undelivered),
+    }
+}
+
+/// Does what the words ask. Threads are started, and waited for, by `handle`.
+pub fn perform<'a, H: Crew + Threads + Eprint + Copy + Sync>(
+    rt: &HostRuntime,
+    handle: &H,
+    _sockets: Sockets,
+    words: &'a [String],
+) -> Result<Ended, Trouble<'a>> {
     match ask(rt.alloc(), words) {
         Ok(Request::Try { plan, channel }) => try_messages(rt, plan, channel),
         Ok(Request::Check { plan }) => check(rt, plan),
-        Ok(Request::Run { .. }) => Err(Trouble::NoRun),
+        Ok(
+            Request::Run {
+                plan,
+                connections,
+                events,
+                keep,
+                idle,
+                grace,
+            },
+        ) => {
+            let settings = Settings {
+                connections,
+                events,
+                keep,
+                idle,
+                grace,
+            };
+            serve(rt, handle, plan, &settings)
+        }
         Err(error) => explain(rt, error),
     }
 }

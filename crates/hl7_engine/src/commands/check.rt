@@ -1,8 +1,7 @@
 //! `check`: whether a plan can be read, and its size.
 
-use crate::commands::warned_plan;
 use book_core::EVENTS_MAX;
-use engine_report::{Fault, PlanSize};
+use engine_report::{Fault, PlanSize, warned_plan};
 
 /// Prints the size of the plan in a file. What the plan is unlikely to mean, and how many messages the largest book takes, is
 /// told on standard error.

@@ -8,7 +8,7 @@ use engine_report::{Fault, add_listen_fault, tell_lines};
 use engine_workers::{Door, TcpDoor};
 use log::Log;
 use plan_notes::listen_note;
-use plan_text::Plan;
+use plan_text::{Destination, Plan};
 use std::alloc::{AllocError, Global};
 use std::net::{Net, TcpListener, TcpStream};
 use std::time::Clock;
@@ -19,7 +19,7 @@ pub struct Devices<'a, H> {
     /// In the order of the plan's channels.
     pub doors: Vec<TcpDoor<'a, H>>,
     /// In the order of the plan's destinations.
-    pub links: Vec<TcpLink<'a, H>>,
+    pub links: Vec<TcpLink<'a, H, &'a Destination>>,
 }
 
 /// The doors of all channels, the first connection of each with the number that follows from `accept`.
@@ -57,7 +57,7 @@ fn make_links<'a, H: Net<Listener = TcpListener, Stream = TcpStream> + Clock + L
     rt: &'a H,
     alloc: Global,
     plan: &'a Plan,
-) -> Result<Vec<TcpLink<'a, H>>, AllocError>
+) -> Result<Vec<TcpLink<'a, H, &'a Destination>>, AllocError>
     ensures { IfOk result (λ links. vec_len links ≡ length plan.now.destinations) }
 {
     let mut links = Vec::new(alloc);

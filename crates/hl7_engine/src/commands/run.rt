@@ -23,7 +23,7 @@ use engine_workers::{
     Door, Staff, TcpDoor, Worked, desks_and_reports, run_workers, stations_and_reports,
 };
 use log::{Log, warn};
-use plan_text::Plan;
+use plan_text::{Destination, Plan};
 use std::alloc::{AllocError, Global};
 use std::marker::Brand;
 use std::sync::ledger::{Blank, Ledger};
@@ -69,7 +69,7 @@ fn work_at<'a, 'f, A: Opening + Sync, T: Ledger + Sync, U: Ledger + Sync, H: Han
     alloc: Global,
     plan: &'a Plan,
     shared: Shared<A, T, U, EngineRows>,
-    staff: Staff<A, T, U, TcpDoor<'a, H>, TcpLink<'a, H>>,
+    staff: Staff<A, T, U, TcpDoor<'a, H>, TcpLink<'a, H, &'a Destination>>,
     accept: u32,
 ) -> Result<Ended<'f>, AllocError>
     ensures opening { IfOk result (λ ended. IfSome ended.closed (λ closed. (closed.opening ≡ A.counts) × (closed.first ≡ A.first))) }

@@ -1,0 +1,191 @@
+//! Delivering the messages of a destination's queue until that is halted.
+
+ghost use Rattle.std.specs.Prelude.{◌≡◌, ◌+◌, ◌*◌, ◌≤◌, Some, IfOk, OnOk, OnErr};
+ghost use Rattle.std.specs.Io.KnownBytes.{Keeps};
+ghost use Rattle.fixed_numbers.specs.declared.serving.TheConstants.{RECEIVES_MAX};
+ghost use Rattle.mllp_frame.specs.Framed.{blank};
+ghost use Rattle.delivery_worker.specs.Calls.{CallsUpTo};
+ghost use Rattle.delivery_worker.specs.Delivering.{DeliversAfresh, Tries};
+
+use crate::connection::Connection;
+use crate::link::Link;
+use crate::report::{DeliverEnd, DeliverReport};
+use crate::worker::take_turn;
+use book_core::{Front, Letter};
+use book_lock::{Opening, Shared, Station};
+use conn_worker::Clock;
+use dest_queue::{Addressed, Outcome, SlotState};
+use log::Log;
+use row_store::RowStore;
+use std::alloc::Global;
+use std::sync::Wait;
+use std::sync::ledger::Ledger;
+use std::time;
+
+/// What halts the work.
+pub trait Halt {
+    /// Whether the work is to end now.
+    fn is_halted(&self) -> bool;
+}
+
+/// Why a turn made no attempt.
+#[derive(Clone, Copy)]
+enum Pause {
+    /// No arrival will follow, and the queue was empty after that was noted.
+    Drained,
+    /// Nothing is due, or the destination can't be reached.
+    NotYet,
+}
+
+/// Whether a message is at the front of a queue that may be taken at this moment.
+fn is_due<C: Clock>(front: Option<Front>, clock: &mut C) -> bool {
+    match front {
+        Some(
+            Front {
+                state: SlotState::Waiting { due, .. },
+                ..
+            },
+        ) => due <= clock.at_take().secs(),
+        _ => false,
+    }
+}
+
+/// Readies the connection, and makes one attempt to deliver the message at the front of a queue.
+fn deliver_afresh<
+    H: Wait,
+    A: Opening,
+    T: Ledger,
+    U: Ledger,
+    S: RowStore<Addressed<Letter>>,
+    L: Link,
+    C: Clock,
+>(
+    rt: &H,
+    shared: &Shared<A, T, U, S>,
+    station: &mut Station<T, U>,
+    connection: &mut Connection,
+    link: &mut L,
+    d: u32,
+    clock: &mut C,
+) -> Result<Outcome, Pause>
+    ensures taken { OnOk result (station.new.takes ≡ station.old.takes + 1) }
+    ensures settled { OnOk result (
+        (station.old.settlements ≤ station.new.settlements) × (station.new.settlements ≤ station.old.settlements + 1)) }
+    ensures attempt { IfOk result (λ outcome.
+        Tries (Some blank) connection.new.framer (L.sent link.old) (L.sent link.new) (L.received link.old) (L.received link.new) outcome) }
+    ensures receives { OnOk result (CallsUpTo (L.receives link.old) (L.receives link.new) RECEIVES_MAX) }
+    ensures refused { OnErr result (station.new ≡ station.old) }
+    ensures unused { OnErr result (Keeps (L.sent link.old) (L.sent link.new) × Keeps (L.received link.old) (L.received link.new)) }
+    ensures uncalled { OnErr result (CallsUpTo (L.receives link.old) (L.receives link.new) 0) }
+{
+    match connection.prepare(link) {
+        Ok(()) => {}
+        Err(_) => return Err(Pause::NotYet),
+    }
+    match take_turn(rt, shared, station, connection, link, d, clock) {
+        Ok(outcome) => Ok(outcome),
+        Err(_) => Err(Pause::NotYet),
+    }
+}
+
+/// Makes one attempt to deliver the message at the front of a queue, if it is due and the destination can be reached.
+fn turn_afresh<
+    H: Wait,
+    A: Opening,
+    T: Ledger,
+    U: Ledger,
+    S: RowStore<Addressed<Letter>>,
+    L: Link,
+    C: Clock,
+>(
+    rt: &H,
+    shared: &Shared<A, T, U, S>,
+    station: &mut Station<T, U>,
+    connection: &mut Connection,
+    link: &mut L,
+    d: u32,
+    clock: &mut C,
+) -> Result<Outcome, Pause>
+    ensures taken { OnOk result (station.new.takes ≡ station.old.takes + 1) }
+    ensures settled { OnOk result (
+        (station.old.settlements ≤ station.new.settlements) × (station.new.settlements ≤ station.old.settlements + 1)) }
+    ensures attempt { IfOk result (λ outcome.
+        Tries (Some blank) connection.new.framer (L.sent link.old) (L.sent link.new) (L.received link.old) (L.received link.new) outcome) }
+    ensures receives { OnOk result (CallsUpTo (L.receives link.old) (L.receives link.new) RECEIVES_MAX) }
+    ensures refused { OnErr result (station.new ≡ station.old) }
+    ensures unused { OnErr result (Keeps (L.sent link.old) (L.sent link.new) × Keeps (L.received link.old) (L.received link.new)) }
+    ensures uncalled { OnErr result (CallsUpTo (L.receives link.old) (L.receives link.new) 0) }
+{
+    // An arrival before this note is seen by the look after it.
+    let is_finished = shared.is_finished();
+    let front = shared.front(rt, d);
+    if front.is_none() && is_finished {
+        return Err(Pause::Drained);
+    }
+    if !is_due(front, clock) {
+        return Err(Pause::NotYet);
+    }
+    deliver_afresh(rt, shared, station, connection, link, d, clock)
+}
+
+/// Delivers the messages of queue `d`, one after another, over one link, until that is halted: each that is due is taken,
+/// sent as a block, and settled by what the destination answers (HL7 v2.5.1, 2.9.2 and 2.9.3). A message is taken only once
+/// its connection is ready, so a destination that can't be reached costs no attempt. No answer is read but one that came
+/// after the connection was readied for the attempt. Where nothing can be sent, the worker waits for a change at the queue,
+/// or a short while, and then flushes the log.
+///
+/// It ends where it is halted, or where no arrival will follow and the queue is empty.
+pub fn deliver_until<
+    H: Wait + time::Clock + Log,
+    A: Opening,
+    T: Ledger,
+    U: Ledger,
+    S: RowStore<Addressed<Letter>>,
+    L: Link,
+    C: Clock,
+    E: Halt,
+>(
+    rt: &H,
+    alloc: Global,
+    shared: &Shared<A, T, U, S>,
+    station: &mut Station<T, U>,
+    link: &mut L,
+    d: u32,
+    clock: &mut C,
+    halt: &E,
+) -> DeliverReport
+    // The attempts are the takes of this station, and none is settled twice.
+    ensures taken { station.new.takes ≡ station.old.takes + result.taken }
+    ensures settled { (station.old.settlements ≤ station.new.settlements) × (station.new.settlements ≤ station.old.settlements + result.taken) }
+
+    // Each attempt is counted by what it came to: where it was sent, by the answers that were received in the attempt itself.
+    ensures sum { result.taken ≡ result.delivered + result.again + result.rejected }
+    ensures attempts { DeliversAfresh (L.sent link.old) (L.sent link.new) (L.received link.old) (L.received link.new) result }
+
+    // An attempt asks for bytes 1,000,000 times at most.
+    ensures receives { CallsUpTo (L.receives link.old) (L.receives link.new) (RECEIVES_MAX * result.taken) }
+{
+    let mut connection = Connection::new(alloc);
+    let mut report = DeliverReport::new();
+    'turns: for _ in 0..u64::MAX {
+        if halt.is_halted() {
+            report.end = DeliverEnd::Halted;
+            link.finish();
+            return report;
+        }
+        match turn_afresh(rt, shared, station, &mut connection, link, d, clock) {
+            Ok(outcome) => report.count(outcome),
+            Err(Pause::Drained) => {
+                report.end = DeliverEnd::Drained;
+                link.finish();
+                return report;
+            }
+            Err(Pause::NotYet) => {
+                shared.bell(rt, d);
+                rt.flush();
+            }
+        }
+    }
+    link.finish();
+    report
+}

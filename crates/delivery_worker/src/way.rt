@@ -1,0 +1,35 @@
+//! Where a link leads.
+
+use dest_queue::Outcome;
+use plan_text::Destination;
+
+/// Where a link leads, and whether its waits are cut short.
+pub trait Way {
+    /// The destination as the plan that was taken up last has it. None where that plan has none at this index any more.
+    fn destination(&self) -> Option<&Destination>;
+
+    /// Takes up the plan in force. Whether the address or the timeout differs from the one before.
+    fn renew(&mut self) -> bool {
+        false
+    }
+
+    /// Whether every wait is to end now, since delivering is halted.
+    fn is_halted(&self) -> bool {
+        false
+    }
+
+    /// Whether it can be halted at all. Only then are waits cut into slices.
+    fn can_halt(&self) -> bool {
+        false
+    }
+
+    /// Is called with what an attempt came to, once it is settled.
+    fn note(&mut self, _outcome: Outcome) {}
+}
+
+/// The destination of a plan that stays in force. Nothing cuts a wait short.
+impl<'a> Way for &'a Destination {
+    fn destination(&self) -> Option<&Destination> {
+        Some(*self)
+    }
+}

@@ -1,0 +1,203 @@
+//! Lines on their way to standard error, in a buffer.
+
+use crate::text::Line;
+use libc::net as c;
+use libc::types::pollfd;
+use std::alloc::{AllocError, Global};
+use std::collections::VecDeque;
+use std::sync::{Condvar, Mutex, Wait};
+use std::time::{Clock, Duration};
+
+/// The most lines that wait to be written, each of at most 1,000 bytes.
+pub const LINES_MAX: usize = 1_024;
+
+/// The descriptor of standard error.
+const STANDARD_ERROR: i32 = 2;
+
+/// For how many milliseconds one look waits for the reader of standard error.
+const LOOK_MILLIS: i32 = 100;
+
+/// How many looks are made after the end, so that a reader that doesn't read is waited for a second at most.
+const LAST_LOOKS: u32 = 10;
+
+/// For how many milliseconds the writer waits for a line at most.
+const NAP: u64 = 250;
+
+/// What waits to be written.
+#[derive(Drop)]
+struct Waiting {
+    lines: VecDeque<Line>,
+    /// How many lines found no room since the last one that was written.
+    dropped: u64,
+    is_ended: bool,
+}
+
+/// Lines that wait to be written to standard error by a thread of its own: where its reader doesn't read, nobody else is
+/// stopped. What finds no room is dropped and counted.
+#[derive(Drop)]
+pub struct Outbox {
+    waiting: Mutex<Waiting>,
+    bell: Condvar,
+}
+
+/// What is to be done next.
+#[derive(Clone, Copy)]
+enum Next {
+    /// A line is to be written, after the number of those that were dropped before it.
+    Write(Line, u64),
+    /// Nothing waits at this time.
+    Nothing,
+    /// Nothing waits, and no line will follow.
+    End,
+}
+
+impl Waiting {
+    /// Adds a line, if there is room.
+    fn put(&mut self, line: Line) {
+        if self.lines.len() >= LINES_MAX || self.lines.push_back(line).is_err() {
+            self.dropped = self.dropped.saturating_add(1);
+        }
+    }
+
+    /// What is to be done next.
+    fn next(&mut self) -> Next {
+        match self.lines.pop_front() {
+            Some(line) => {
+                let dropped = self.dropped;
+                self.dropped = 0;
+                Next::Write(line, dropped)
+            }
+            None if self.is_ended => Next::End,
+            None => Next::Nothing,
+        }
+    }
+}
+
+/// Whether standard error takes a line without waiting, or fails at once, within 100 milliseconds.
+fn is_writable() -> bool {
+    let mut asked = [pollfd {
+        fd: STANDARD_ERROR,
+        events: c::POLLOUT,
+        revents: 0,
+    }];
+    c::poll(&mut asked, LOOK_MILLIS) > 0
+}
+
+impl Outbox {
+    /// With no line yet. All memory that it will need is requested here.
+    ///
+    /// # Errors
+    ///
+    /// Where memory is refused.
+    pub fn new(alloc: Global) -> Result<Self, AllocError> {
+        Ok(Outbox {
+            waiting: Mutex::new(Waiting {
+                lines: VecDeque::with_capacity(alloc, LINES_MAX)?,
+                dropped: 0,
+                is_ended: false,
+            }),
+            bell: Condvar::new(),
+        })
+    }
+
+    /// Adds a line. Where too many wait already, it is dropped and counted.
+    pub(crate) fn put<H: Wait>(&self, rt: &H, line: Line) {
+        self.waiting.lock(rt).put(line);
+        self.bell.notify_one();
+    }
+
+    /// Notes that no line will follow, so that [`write_all`](Self::write_all) ends.
+    pub fn end<H: Wait>(&self, rt: &H) {
+        self.waiting.lock(rt).is_ended = true;
+        self.bell.notify_one();
+    }
+
+    /// What is to be done next, after a short while at most.
+    fn next<H: Wait + Clock>(&self, rt: &H) -> Next {
+        let mut waiting = self.waiting.lock(rt);
+        match waiting.next() {
+            Next::Nothing => {
+                let (mut woken, _) = self
+                    .bell
+                    .wait_timeout(rt, waiting, Duration::from_millis(NAP));
+                woken.next()
+            }
+            next => next,
+        }
+    }
+
+    /// Whether it was noted that no line will follow.
+    fn is_ended<H: Wait>(&self, rt: &H) -> bool {
+        self.waiting.lock(rt).is_ended
+    }
+
+    /// Waits until standard error takes a line; after the end for a second at most. Whether it does.
+    fn wait_for_reader<H: Wait>(&self, rt: &H) -> bool {
+        let mut last_looks: u32 = 0;
+        for _ in rt.forever() {
+            if is_writable() {
+                return true;
+            }
+            if self.is_ended(rt) {
+                last_looks = last_looks.saturating_add(1);
+            }
+            if last_looks >= LAST_LOOKS {
+                return false;
+            }
+        }
+        false
+    }
+
+    /// Writes the lines that come, until the end is noted and none waits any more, or nobody reads them any more.
+    pub fn write_all<H: Wait + Clock + Eprint>(&self, rt: &H) {
+        for _ in rt.forever() {
+            match self.next(rt) {
+                Next::Write(line, dropped) => {
+                    if !self.wait_for_reader(rt) {
+                        return;
+                    }
+                    if dropped > 0 {
+                        let _ = rt.eprintln(format_args!(
+                            "{dropped} lines of the log were dropped, nobody read them"
+                        ));
+                    }
+                    let _ = rt.eprintln(line.as_str());
+                }
+                Next::Nothing => {}
+                Next::End => return,
+            }
+        }
+    }
+}
+
+#[cfg(test)]
+mod tests {
+    use super::{LINES_MAX, Next, Outbox};
+    use crate::text::Line;
+    use std::alloc::AllocError;
+    use std::fmt::Write;
+
+    #[test]
+    fn a_line_without_room_is_counted(rt: HostRuntime) -> Result<(), AllocError> {
+        let outbox = Outbox::new(rt.alloc())?;
+        for number in 0..LINES_MAX + 3 {
+            let mut line = Line::new();
+            let _ = write!(line, "{number}");
+            outbox.put(&rt, line);
+        }
+        let Next::Write(first, dropped) = outbox.next(&rt) else {
+            panic!(rt; "nothing waits");
+        };
+        assert_eq!(rt; (first.as_str(), dropped), ("0", 3));
+        let Next::Write(second, dropped) = outbox.next(&rt) else {
+            panic!(rt; "nothing waits");
+        };
+        assert_eq!(rt; (second.as_str(), dropped), ("1", 0));
+        outbox.end(&rt);
+        for _ in 2..LINES_MAX {
+            let _line = outbox.next(&rt);
+        }
+        assert!(rt; matches!(outbox.next(&rt), Next::End));
+        Ok(())
+    }
+}

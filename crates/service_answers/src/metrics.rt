@@ -1,0 +1,357 @@
+//! The numbers of a service in the text format of Prometheus, version 0.0.4.
+
+use crate::figures::{Figures, Unbooked};
+use book_lock::{Gauge, Status};
+use fixed_numbers::{DEPLOYMENTS_MAX, PRUNINGS_MAX};
+use plan_text::Plan;
+use stat_count::{CHANNELS, ChannelCounts, Counts, DESTINATIONS, DestinationCounts};
+use std::alloc::{AllocError, Global};
+use std::fmt;
+
+/// A label's value: a quotation mark, a backslash and a line feed are written behind a backslash.
+#[derive(Clone, Copy, Debug, PartialEq, Eq)]
+pub struct LabelValue<'a>(pub &'a str);
+
+impl fmt::Display for LabelValue<'_> {
+    fn fmt<W: fmt::Write>(&self, f: &mut fmt::Formatter<W>) -> fmt::Result {
+        let LabelValue(text) = self;
+        for c in text.chars() {
+            match c {
+                '"' => f.write_str("\\\"")?,
+                '\\' => f.write_str("\\\\")?,
+                '\n' => f.write_str("\\n")?,
+                c => f.write_char(c)?,
+            }
+        }
+        Ok(())
+    }
+}
+
+/// What a metric is to Prometheus.
+#[derive(Clone, Copy)]
+enum Kind {
+    /// A number that only rises.
+    Counter,
+    /// A number that rises and falls.
+    Gauge,
+}
+
+/// Adds the two lines that say what a metric is.
+fn add_head(text: &mut String, name: &str, kind: Kind, help: &str) -> Result<(), AllocError> {
+    let kind = match kind {
+        Kind::Counter => "counter",
+        Kind::Gauge => "gauge",
+    };
+    writeln!(text, "# HELP {name} {help}")?;
+    writeln!(text, "# TYPE {name} {kind}")
+}
+
+/// Adds a metric with one number.
+fn add_one(
+    text: &mut String,
+    name: &str,
+    kind: Kind,
+    help: &str,
+    number: u64,
+) -> Result<(), AllocError> {
+    add_head(&mut *text, name, kind, help)?;
+    writeln!(text, "{name} {number}")
+}
+
+/// Adds a metric with a number for each channel.
+fn add_by_channel<F: Fn(u32) -> u64>(
+    text: &mut String,
+    plan: &Plan,
+    name: &str,
+    kind: Kind,
+    help: &str,
+    number: F,
+) -> Result<(), AllocError>
+    requires { F.IsAlwaysCallable number }
+{
+    add_head(&mut *text, name, kind, help)?;
+    for index in 0..plan.channels() {
+        if let Some(channel) = plan.channel(index) {
+            let label = LabelValue(channel.name());
+            let number = number(index);
+            writeln!(text, "{name}{{channel=\"{label}\"}} {number}")?;
+        }
+    }
+    Ok(())
+}
+
+/// Adds a metric with a number for each destination.
+fn add_by_destination<F: Fn(u32) -> u64>(
+    text: &mut String,
+    plan: &Plan,
+    name: &str,
+    kind: Kind,
+    help: &str,
+    number: F,
+) -> Result<(), AllocError>
+    requires { F.IsAlwaysCallable number }
+{
+    add_head(&mut *text, name, kind, help)?;
+    for index in 0..plan.destinations() {
+        if let Some(destination) = plan.destination(index) {
+            let label = LabelValue(destination.name());
+            let number = number(index);
+            writeln!(text, "{name}{{destination=\"{label}\"}} {number}")?;
+        }
+    }
+    Ok(())
+}
+
+/// The counters of a channel; those of the first one where no plan has so many.
+fn channel_counts(counts: &Counts, index: u32) -> ChannelCounts {
+    counts.channel(if index < CHANNELS { index } else { 0 })
+}
+
+/// The counters of a destination; those of the first one where no plan has so many.
+fn destination_counts(counts: &Counts, index: u32) -> DestinationCounts {
+    counts.destination(if index < DESTINATIONS { index } else { 0 })
+}
+
+/// Adds what the channels received, and what became of it.
+fn add_channels(text: &mut String, plan: &Plan, counts: &Counts) -> Result<(), AllocError> {
+    add_by_channel(
+        &mut *text,
+        plan,
+        "hl7_channel_received_total",
+        Kind::Counter,
+        "Messages received, repeats aside.",
+        |index| channel_counts(counts, index).received,
+    )?;
+    add_by_channel(
+        &mut *text,
+        plan,
+        "hl7_channel_filtered_total",
+        Kind::Counter,
+        "Messages received that go to no destination.",
+        |index| channel_counts(counts, index).filtered,
+    )?;
+    add_by_channel(
+        &mut *text,
+        plan,
+        "hl7_channel_accepted_total",
+        Kind::Counter,
+        "Messages accepted for delivery.",
+        |index| channel_counts(counts, index).accepted,
+    )?;
+    add_by_channel(
+        &mut *text,
+        plan,
+        "hl7_channel_refused_total",
+        Kind::Counter,
+        "Messages refused by their content.",
+        |index| channel_counts(counts, index).refused,
+    )?;
+    add_by_channel(
+        &mut *text,
+        plan,
+        "hl7_channel_repeats_total",
+        Kind::Counter,
+        "Messages received again and answered as before.",
+        |index| channel_counts(counts, index).repeats,
+    )
+}
+
+/// Adds what waits for the destinations, and what became of deliveries.
+fn add_destinations(text: &mut String, plan: &Plan, counts: &Counts) -> Result<(), AllocError> {
+    add_by_destination(
+        &mut *text,
+        plan,
+        "hl7_destination_waiting_messages",
+        Kind::Gauge,
+        "Messages that wait for delivery.",
+        |index| destination_counts(counts, index).waiting,
+    )?;
+    add_by_destination(
+        &mut *text,
+        plan,
+        "hl7_destination_inflight_messages",
+        Kind::Gauge,
+        "Messages that are being sent.",
+        |index| destination_counts(counts, index).inflight,
+    )?;
+    add_by_destination(
+        &mut *text,
+        plan,
+        "hl7_destination_delivered_total",
+        Kind::Counter,
+        "Messages delivered.",
+        |index| destination_counts(counts, index).delivered,
+    )?;
+    add_by_destination(
+        &mut *text,
+        plan,
+        "hl7_destination_failed_total",
+        Kind::Counter,
+        "Messages that will not be sent again.",
+        |index| destination_counts(counts, index).failed,
+    )?;
+    add_by_destination(
+        &mut *text,
+        plan,
+        "hl7_destination_attempts_total",
+        Kind::Counter,
+        "Attempts to deliver.",
+        |index| destination_counts(counts, index).attempts,
+    )
+}
+
+/// Adds when channels and destinations were last used, and which channels are not read at this time.
+fn add_moments(text: &mut String, plan: &Plan, figures: &Figures) -> Result<(), AllocError> {
+    add_by_channel(
+        &mut *text,
+        plan,
+        "hl7_channel_last_received_timestamp_seconds",
+        Kind::Gauge,
+        "When the last message was received, in seconds since 1970; 0: none was.",
+        |index| figures.received(index),
+    )?;
+    add_by_channel(
+        &mut *text,
+        plan,
+        "hl7_channel_paused",
+        Kind::Gauge,
+        "1 while the channel is not read because too much waits for delivery, else 0.",
+        |index| u64::from(figures.is_paused(index)),
+    )?;
+    add_by_destination(
+        &mut *text,
+        plan,
+        "hl7_destination_last_delivered_timestamp_seconds",
+        Kind::Gauge,
+        "When the last message was delivered, in seconds since 1970; 0: none was.",
+        |index| figures.delivered(index),
+    )
+}
+
+/// Adds how full the book is, and how many prunings and deployments are left.
+fn add_book(text: &mut String, gauge: Gauge) -> Result<(), AllocError> {
+    let prunings_left = PRUNINGS_MAX.saturating_sub(gauge.prunings);
+    let deployments_left = DEPLOYMENTS_MAX.saturating_sub(gauge.deployments);
+    add_one(
+        &mut *text,
+        "hl7_book_held_entries",
+        Kind::Gauge,
+        "Entries that the book holds.",
+        gauge.held as u64,
+    )?;
+    add_one(
+        &mut *text,
+        "hl7_book_owed_entries",
+        Kind::Gauge,
+        "Entries that deliveries may still need.",
+        u64::from(gauge.owed),
+    )?;
+    add_one(
+        &mut *text,
+        "hl7_book_max_entries",
+        Kind::Gauge,
+        "Entries that the book may hold, those owed included.",
+        u64::from(gauge.events_max),
+    )?;
+    add_one(
+        &mut *text,
+        "hl7_book_messages_total",
+        Kind::Counter,
+        "Messages accepted since the start.",
+        u64::from(gauge.messages),
+    )?;
+    add_one(
+        &mut *text,
+        "hl7_book_remembered_messages",
+        Kind::Gauge,
+        "Messages accepted and not forgotten.",
+        u64::from(gauge.remembered()),
+    )?;
+    add_one(
+        &mut *text,
+        "hl7_book_prunings_left",
+        Kind::Gauge,
+        "Prunings that can still be made.",
+        u64::from(prunings_left),
+    )?;
+    add_one(
+        &mut *text,
+        "hl7_book_deployments_left",
+        Kind::Gauge,
+        "Plans that can still be deployed.",
+        u64::from(deployments_left),
+    )
+}
+
+/// Adds the arrivals that were not booked, by cause.
+fn add_unbooked(text: &mut String, unbooked: Unbooked) -> Result<(), AllocError> {
+    let Unbooked {
+        full,
+        plan_changed,
+        no_memory,
+    } = unbooked;
+    let name = "hl7_unbooked_messages_total";
+    add_head(
+        &mut *text,
+        name,
+        Kind::Counter,
+        "Messages that were not booked, and answered so.",
+    )?;
+    writeln!(text, "{name}{{cause=\"full\"}} {full}")?;
+    writeln!(text, "{name}{{cause=\"plan_changed\"}} {plan_changed}")?;
+    writeln!(text, "{name}{{cause=\"no_memory\"}} {no_memory}")
+}
+
+/// Adds the connections of senders.
+fn add_connections(text: &mut String, admitted: u32, figures: &Figures) -> Result<(), AllocError> {
+    add_one(
+        &mut *text,
+        "hl7_open_connections",
+        Kind::Gauge,
+        "Connections of senders that are open.",
+        u64::from(figures.open),
+    )?;
+    add_one(
+        &mut *text,
+        "hl7_connections_total",
+        Kind::Counter,
+        "Connections of senders taken since the start.",
+        u64::from(admitted),
+    )?;
+    add_one(
+        &mut *text,
+        "hl7_refused_connections_total",
+        Kind::Counter,
+        "Connections closed because no number or no memory was left for them.",
+        figures.refused,
+    )
+}
+
+/// The numbers of a service in the text format of Prometheus, version 0.0.4.
+///
+/// # Errors
+///
+/// Where memory is refused.
+pub fn metrics_text(
+    alloc: Global,
+    plan: &Plan,
+    status: &Status,
+    figures: &Figures,
+) -> Result<String, AllocError> {
+    let mut text = String::new(alloc);
+    add_one(
+        &mut text,
+        "hl7_start_time_seconds",
+        Kind::Gauge,
+        "When the service started, in seconds since 1970.",
+        figures.started,
+    )?;
+    add_channels(&mut text, plan, &status.counts)?;
+    add_destinations(&mut text, plan, &status.counts)?;
+    add_moments(&mut text, plan, figures)?;
+    add_book(&mut text, status.gauge)?;
+    add_connections(&mut text, status.gauge.admitted, figures)?;
+    add_unbooked(&mut text, figures.unbooked)?;
+    writeln!(text, "")?;
+    Ok(text)
+}

@@ -1,0 +1,135 @@
+//! The status of a service.
+
+use crate::figures::{Figures, Unbooked};
+use crate::messages::add_state;
+use crate::time::Utc;
+use book_core::Front;
+use book_lock::{Gauge, Status};
+use engine_report::statistics_text;
+use fixed_numbers::{DEPLOYMENTS_MAX, PRUNINGS_MAX};
+use plan_text::Plan;
+use std::alloc::{AllocError, Global};
+
+/// Adds the lines of the book: its entries, its messages, and the prunings and deployments.
+fn add_book(text: &mut String, gauge: Gauge) -> Result<(), AllocError> {
+    let Gauge {
+        held,
+        owed,
+        events_max,
+        messages,
+        prunings,
+        deployments,
+        ..
+    } = gauge;
+    let left = u64::from(events_max)
+        .saturating_sub(u64::from(owed))
+        .saturating_sub(held as u64);
+    let remembered = gauge.remembered();
+    let prunings_left = PRUNINGS_MAX.saturating_sub(prunings);
+    let deployments_left = DEPLOYMENTS_MAX.saturating_sub(deployments);
+    writeln!(
+        text,
+        "book held {held} owed {owed} left {left} messages {messages} remembered {remembered}"
+    )?;
+    writeln!(text, "prunings {prunings} left {prunings_left}")?;
+    writeln!(text, "deployments {deployments} left {deployments_left}")
+}
+
+/// Adds the lines of the connections and of the arrivals that were not booked.
+fn add_connections(text: &mut String, admitted: u32, figures: &Figures) -> Result<(), AllocError> {
+    let Figures {
+        open,
+        refused,
+        unbooked,
+        ..
+    } = *figures;
+    let Unbooked {
+        full,
+        plan_changed,
+        no_memory,
+    } = unbooked;
+    writeln!(
+        text,
+        "connections open {open} taken {admitted} refused {refused}"
+    )?;
+    writeln!(
+        text,
+        "unbooked full {full} plan_changed {plan_changed} no_memory {no_memory}"
+    )
+}
+
+/// Adds a moment, or that there was none.
+fn add_moment(text: &mut String, moment: u64) -> Result<(), AllocError> {
+    if moment == 0 {
+        writeln!(text, "never")
+    } else {
+        writeln!(text, "{}", Utc(moment))
+    }
+}
+
+/// Adds a line for each channel: when its last message was received, and whether it is read at this time.
+fn add_channels(text: &mut String, plan: &Plan, figures: &Figures) -> Result<(), AllocError> {
+    for index in 0..plan.channels() {
+        if let Some(channel) = plan.channel(index) {
+            let name = channel.name();
+            write!(text, "last received {name} ")?;
+            add_moment(&mut *text, figures.received(index))?;
+            if figures.is_paused(index) {
+                writeln!(text, "paused {name}")?;
+            }
+        }
+    }
+    Ok(())
+}
+
+/// Adds the message at the front of a destination's queue.
+fn add_front(text: &mut String, front: Option<Front>) -> Result<(), AllocError> {
+    match front {
+        None => writeln!(text, "none"),
+        Some(Front { number, state }) => {
+            write!(text, "message {number} ")?;
+            add_state(&mut *text, state)?;
+            writeln!(text, "")
+        }
+    }
+}
+
+/// Adds two lines for each destination: when the last message was delivered, and the front of its queue.
+fn add_destinations(
+    text: &mut String,
+    plan: &Plan,
+    status: &Status,
+    figures: &Figures,
+) -> Result<(), AllocError> {
+    for (index, front) in (0..plan.destinations()).zip(status.fronts.iter()) {
+        if let Some(destination) = plan.destination(index) {
+            let name = destination.name();
+            write!(text, "last delivered {name} ")?;
+            add_moment(&mut *text, figures.delivered(index))?;
+            write!(text, "front {name} ")?;
+            add_front(&mut *text, *front)?;
+        }
+    }
+    Ok(())
+}
+
+/// The status of a service: the lines of the statistics, and then those of the book, the connections, the channels and the
+/// destinations.
+///
+/// # Errors
+///
+/// Where memory is refused.
+pub fn status_text(
+    alloc: Global,
+    plan: &Plan,
+    status: &Status,
+    figures: &Figures,
+) -> Result<String, AllocError> {
+    let mut text = statistics_text(alloc, plan, &status.counts)?;
+    add_book(&mut text, status.gauge)?;
+    add_connections(&mut text, status.gauge.admitted, figures)?;
+    add_channels(&mut text, plan, figures)?;
+    add_destinations(&mut text, plan, status, figures)?;
+    writeln!(text, "")?;
+    Ok(text)
+}

@@ -1,0 +1,15 @@
+use denote.Exit.{no}
+use denote.Param.{param}
+use denote.Param.Send.{sendable, arg_send, param_send, shr_send}
+use Rattle.std.proofs.Crossing.{crosses}
+use Rattle.service_workers.proofs.post.Post.TheSendSync as post
+use Rattle.service_run.proofs.Crossing.{at_site_send}
+use Rattle.service_run.proofs.threads.start_posts.Goals as goal
+
+pub spawn_scoped-requires-send-F : goal.spawn_scoped-requires-send-F
+spawn_scoped-requires-send-F g c κs within =
+    let b = c.type_bounds in
+    param_send 1 _ (arg_send _ no _ (
+    at_site_send (param 1 g.row.A) (param 2 g.row.T) (param 3 g.row.U) (param 4 g.row.H) g.A.Opening g.A.Ledger g.T.Ledger g.U.Ledger _ _ _ _ _
+    b.sync-H (shr_send _ _ _ (post.the_sync _ _ _ _), (search (sendable, crosses) depth 20, tt))
+    ))

@@ -1,0 +1,92 @@
+//! The end of a service: what was left undelivered, and the closed book.
+
+use crate::questions::queued;
+use crate::service::RunEnd;
+use crate::workers::Returned;
+use book_lock::{Opening, Shared};
+use engine_report::{Fault, Finding, statistics_text};
+use plan_text::Plan;
+use service_answers::{Listed, left_behind};
+use service_workers::{Crew, ServiceRows, Site};
+use stat_count::{Counts, DestinationCounts};
+use std::alloc::{AllocError, Global};
+use std::sync::ledger::Ledger;
+
+/// Names each message that is left undelivered at a destination, a line each on standard error. How many there are.
+fn name_left_at<A: Opening, T: Ledger, U: Ledger, H: Crew>(
+    rt: &HostRuntime,
+    site: &Site<'_, A, T, U, H>,
+    destination: u32,
+    name: &str,
+) -> Result<usize, AllocError> {
+    let left = queued(site, destination, usize::MAX)?;
+    let count = left.len();
+    for front in left {
+        let found = site.shared.message(site.rt, front.number)?;
+        let line = left_behind(site.alloc, name, &Listed { front, found })?;
+        let _ = eprintln!(rt; "{line}");
+    }
+    Ok(count)
+}
+
+/// Names each message that is left undelivered, by destination. How many there are.
+///
+/// # Errors
+///
+/// Where memory is refused: some may not have been named.
+pub fn name_left<A: Opening, T: Ledger, U: Ledger, H: Crew>(
+    rt: &HostRuntime,
+    site: &Site<'_, A, T, U, H>,
+    plan: &Plan,
+) -> Result<usize, AllocError> {
+    let mut count: usize = 0;
+    for index in 0..plan.destinations() {
+        if let Some(destination) = plan.destination(index) {
+            let left = name_left_at(rt, site, index, destination.name())?;
+            count = count.saturating_add(left);
+        }
+    }
+    Ok(count)
+}
+
+/// Whether a message waits for a destination, or is in flight there.
+fn is_any_left(plan: &Plan, counts: &Counts) -> bool {
+    plan.rules();
+    for index in 0..plan.destinations() {
+        let DestinationCounts {
+            waiting,
+            inflight,
+            ..
+        } = counts.destination(index);
+        if waiting > 0 || inflight > 0 {
+            return true;
+        }
+    }
+    false
+}
+
+/// Closes the book, and prints the statistics.
+///
+/// # Errors
+///
+/// `Audit` where the shares of the workers don't add up, `Write` where standard output can't be written, `Memory`.
+pub fn conclude<'f, A: Opening, T: Ledger, U: Ledger>(
+    rt: &HostRuntime,
+    alloc: Global,
+    plan: &Plan,
+    shared: Shared<A, T, U, ServiceRows>,
+    returned: Returned<A, T, U>,
+) -> Result<RunEnd, Fault<'f>> {
+    let Returned { desks, stations } = returned;
+    let Ok(closed) = shared.close(desks, stations) else {
+        return Err(Fault::Audit(Finding::SharesMissing));
+    };
+    let (_rows, counts) = closed.promise();
+    let text = statistics_text(alloc, plan, counts)?;
+    print!(rt; "{text}").map_err(|_| Fault::Write)?;
+    if is_any_left(plan, counts) {
+        Ok(RunEnd::Undelivered)
+    } else {
+        Ok(RunEnd::Drained)
+    }
+}

@@ -1,0 +1,35 @@
+//! What a service counts beside its book.
+
+use book_lock::Opening;
+use service_answers::{Figures, Unbooked};
+use service_workers::{Crew, Site};
+use std::sync::ledger::Ledger;
+
+/// What the workers of a service have counted so far.
+pub fn figures_of<A: Opening, T: Ledger, U: Ledger, H: Crew>(
+    site: &Site<'_, A, T, U, H>,
+    started: u64,
+) -> Figures {
+    let unbooked = site.unbooked();
+    let mut received = [0; 64];
+    for (moment, channel) in received.iter_mut().zip(0..u32::MAX) {
+        *moment = site.last_received(channel);
+    }
+    let mut delivered = [0; 32];
+    for (moment, destination) in delivered.iter_mut().zip(0..u32::MAX) {
+        *moment = site.last_delivered(destination);
+    }
+    Figures {
+        started,
+        open: site.open(),
+        refused: site.refused(),
+        unbooked: Unbooked {
+            full: unbooked.full,
+            plan_changed: unbooked.plan_changed,
+            no_memory: unbooked.no_memory,
+        },
+        paused: site.paused(),
+        received,
+        delivered,
+    }
+}

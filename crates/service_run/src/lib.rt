@@ -1,0 +1,16 @@
+//! A running service: its listeners, its threads, the commands that it obeys, and its end.
+#![tactic(auto)]
+
+mod ending;
+mod figures;
+mod listeners;
+mod obey;
+mod output;
+mod questions;
+mod service;
+mod settings;
+mod threads;
+mod workers;
+
+pub use service::{RunEnd, run};
+pub use settings::Settings;

@@ -1,0 +1,197 @@
+//! The service, from its start to its end.
+
+ghost use Rattle.std.specs.Prelude.{◌≡◌, ◌+◌, ◌≤◌, length};
+ghost use Rattle.event_log.specs.History.{next_place, plan_in_force};
+ghost use Rattle.event_log.specs.Counting.{counted};
+
+use crate::ending::{conclude, name_left};
+use crate::listeners::open_gates;
+use crate::settings::Settings;
+use crate::threads::work;
+use crate::workers::Workers;
+use book_core::Book;
+use book_lock::{Opening, Shared};
+use descriptors::allowed;
+use engine_journal::{Journal, Outbox, Repeats};
+use engine_report::{Fault, connections_of, descriptors_of, hasher};
+use log::{Log, info, warn};
+use log_text::Escaped;
+use plan_text::Plan;
+use service_workers::{Crew, Gate, ServiceRows, Site};
+use std::alloc::AllocError;
+use std::marker::Brand;
+use std::sync::ledger::{Blank, Ledger};
+use std::sync::{Arc, Mutex};
+use std::thread;
+use std::thread::{Builder, Threads};
+
+/// How many queues there are. Each has a post, whatever the plan in force has, so that a destination that is deployed later
+/// is delivered to at once.
+const POSTS: u32 = 32;
+
+/// The version that the log says at the start.
+const VERSION: &str = "0.2.0";
+
+/// The stack of the thread that writes the lines of the log, in bytes.
+const STACK_BYTES: usize = 262_144;
+
+/// How the service ended.
+#[derive(Clone, Copy, Debug, PartialEq, Eq)]
+pub enum RunEnd {
+    /// Each message was delivered or failed.
+    Drained,
+    /// Messages were left undelivered.
+    Undelivered,
+}
+
+/// Shares the book, runs all workers over it, closes it, and prints the statistics.
+fn serve<'f, A: Opening + Sync, T: Ledger + Sync, U: Ledger + Sync, H: Crew + Threads + Sync>(
+    rt: &HostRuntime,
+    handle: &H,
+    settings: &Settings,
+    gates: Vec<Gate>,
+    book: Book<ServiceRows>,
+    desks: u32,
+    arrivals: Blank,
+    takes: Blank,
+    settlements: Blank,
+) -> Result<RunEnd, Fault<'f>>
+    requires counts { counted book ≡ A.counts }
+    requires first { next_place book ≡ A.first }
+    requires channels { length (plan_in_force book).channels ≡ A.channels }
+    requires arrivals { (arrivals.name ≡ A.name) × (arrivals.parts ≡ A.parts) × (A.parts ≡ desks + 1) }
+    requires takes { (takes.name ≡ T.name) × (takes.parts ≡ T.parts) × (T.parts ≡ 33) }
+    requires settlements { (settlements.name ≡ U.name) × (settlements.parts ≡ U.parts) × (U.parts ≡ 33) }
+{
+    let alloc = rt.alloc();
+    let opened = Shared::<A, T, U, ServiceRows>::new(
+        alloc,
+        book,
+        desks as usize,
+        POSTS as usize,
+        arrivals,
+        takes,
+        settlements,
+    );
+    let Ok((shared, desks, stations)) = opened else {
+        return Err(Fault::Memory);
+    };
+    let workers = Workers::new(alloc, gates, desks, stations)?;
+    let started = seconds_now(handle);
+    let site = Site::new(handle, alloc, &shared, settings.keep, settings.idle);
+    let is_staffed = work(rt, handle, &site, &workers, settings, started);
+    let plan = shared.plan(handle)?;
+    let named = name_left(rt, &site, &plan);
+    if let Ok(undelivered) = named
+        && undelivered > 0
+    {
+        warn!(handle; target: "always", undelivered; "messages are left undelivered");
+    }
+    let returned = workers.into_returned(alloc)?;
+    let ended = conclude(rt, alloc, &plan, shared, returned)?;
+    if is_staffed {
+        Ok(ended)
+    } else {
+        Err(Fault::Memory)
+    }
+}
+
+/// Seconds since 1970; 0 where the clock can't be read.
+fn seconds_now<H: Crew>(handle: &H) -> u64 {
+    match handle.since_1970() {
+        Ok(since) => since.as_secs(),
+        Err(_) => 0,
+    }
+}
+
+/// Logs that the process may have fewer descriptors open than a service needs, where that is so.
+fn log_descriptors<H: Log>(handle: &H, needed: u64) {
+    if let Some(allowed) = allowed()
+        && allowed < needed
+    {
+        warn!(handle; allowed, needed; "the limit of open files is below what all connections and destinations need");
+    }
+}
+
+/// Logs what the service runs with.
+fn log_start<H: Log>(handle: &H, path: &str, plan: &Plan, settings: &Settings) {
+    let (channels, destinations) = (plan.channels(), plan.destinations());
+    let Settings {
+        connections,
+        events,
+        keep,
+        idle,
+        grace,
+    } = *settings;
+    let (version, path) = (VERSION, Escaped(path));
+    info!(handle; version, plan:% = path, channels, destinations, connections, events, keep, idle, grace; "the service starts");
+}
+
+/// Runs the service by a plan, with its log in a journal.
+fn run_by<'f, H: Crew + Threads + Sync>(
+    rt: &HostRuntime,
+    handle: &H,
+    path: &str,
+    plan: &Arc<Plan>,
+    settings: &Settings,
+) -> Result<RunEnd, Fault<'f>>
+    requires some { 1 ≤ settings.now.events }
+    requires few { settings.now.events ≤ 1_000_000 }
+{
+    let alloc = rt.alloc();
+    let desks = connections_of(plan, settings.connections)?;
+    log_start(handle, path, plan, settings);
+    log_descriptors(handle, descriptors_of(plan, desks));
+    let hasher = hasher(rt)?;
+    let shared_plan = Arc::try_clone(plan)?;
+    let gates = open_gates(rt, handle, plan)?;
+    let book = Book::<ServiceRows>::new(alloc, shared_plan, settings.events, hasher);
+    serve::<Brand, Brand, Brand, _>(
+        rt,
+        handle,
+        settings,
+        gates,
+        book,
+        desks,
+        Blank::new(u64::from(desks) + 1),
+        Blank::new(u64::from(POSTS) + 1),
+        Blank::new(u64::from(POSTS) + 1),
+    )
+}
+
+/// Runs the service by a plan, which was read from the file `path`, until it is told to stop. Lines of the log are written by a
+/// thread of their own.
+///
+/// # Errors
+///
+/// `Limit` where the connections of all channels are more than 9,999; `Random`; `Listen` of the first channel that can't
+/// listen; `Memory`; `Write` and `Audit` at the end.
+pub fn run<'f, H: Crew + Threads + Eprint + Copy + Sync>(
+    rt: &HostRuntime,
+    handle: &H,
+    path: &str,
+    plan: Plan,
+    settings: &Settings,
+) -> Result<RunEnd, Fault<'f>>
+    requires some { 1 ≤ settings.now.events }
+    requires few { settings.now.events ≤ 1_000_000 }
+{
+    let alloc = rt.alloc();
+    let plan = Arc::new(alloc, plan).map_err(AllocError::from)?;
+    let repeats = Mutex::new(Repeats::new(alloc)?);
+    let outbox = Outbox::new(alloc)?;
+    let journal = Journal::buffered(*handle, &repeats, &outbox);
+    let mut ended = Err(Fault::Memory);
+    let end = &mut ended;
+    thread::scope(thread::scope_env(), handle, |scope| {
+        let writer = Builder::new()
+            .stack_size(STACK_BYTES)
+            .spawn_scoped(scope, || outbox.write_all(handle));
+        if writer.is_ok() {
+            *end = run_by(rt, &journal, path, &plan, settings);
+            journal.finish();
+        }
+        outbox.end(handle);
+    });
+    ended
+}

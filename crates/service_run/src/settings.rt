@@ -1,0 +1,16 @@
+//! What `run` is asked.
+
+/// What `run` is asked, as the command line has it.
+#[derive(Clone, Copy, Debug, PartialEq, Eq)]
+pub struct Settings {
+    /// The most connections of each channel at once.
+    pub connections: u32,
+    /// The most entries that the book may hold.
+    pub events: u32,
+    /// How many settled messages a pruning keeps.
+    pub keep: u32,
+    /// After how many seconds without a byte a connection ends. 0: never.
+    pub idle: u32,
+    /// How many seconds connections may take at `stop` to write their last acknowledgments.
+    pub grace: u32,
+}

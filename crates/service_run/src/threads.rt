@@ -1,0 +1,138 @@
+//! The threads of a service.
+
+use crate::obey::obey_all;
+use crate::settings::Settings;
+use crate::workers::Workers;
+use book_lock::Opening;
+use log::{Log, info, warn};
+use service_workers::{Crew, Gate, Place, Post, Site, stop, work_place, work_post, work_warden};
+use std::sync::ledger::Ledger;
+use std::thread;
+use std::thread::{Builder, Scope, Threads};
+use std::time::Duration;
+
+/// The stack of a worker's thread, in bytes. The system gives memory to the part that is used alone.
+const STACK_BYTES: usize = 262_144;
+
+/// Starts a thread for each post. How many threads were refused.
+fn start_posts<
+    's,
+    'x: 's,
+    E: 's,
+    A: Opening + Sync + 's,
+    T: Ledger + Sync + 's,
+    U: Ledger + Sync + 's,
+    H: Crew + Sync + 's,
+>(scope: &Scope<'s, E>, site: &'s Site<'x, A, T, U, H>, posts: &'s [Post<T, U>]) -> u32 {
+    let mut refused: u32 = 0;
+    for (post, destination) in posts.iter().zip(0..u32::MAX) {
+        site.begin_post();
+        let started = Builder::new()
+            .stack_size(STACK_BYTES)
+            .spawn_scoped(scope, move || work_post(site, post, destination));
+        if started.is_err() {
+            site.end_post();
+            refused = refused.saturating_add(1);
+        }
+    }
+    refused
+}
+
+/// The listener of the place at an index: the channels take turns.
+fn gate_of(gates: &[Gate], index: u32) -> Option<&Gate> {
+    let channels = gates.len().max(1);
+    gates.get(index as usize % channels)
+}
+
+/// Starts a thread for each place. How many threads were refused.
+fn start_places<
+    's,
+    'x: 's,
+    E: 's,
+    A: Opening + Sync + 's,
+    T: Ledger + Sync + 's,
+    U: Ledger + Sync + 's,
+    H: Crew + Sync + 's,
+>(
+    scope: &Scope<'s, E>,
+    site: &'s Site<'x, A, T, U, H>,
+    gates: &'s [Gate],
+    places: &'s [Place<A>],
+) -> u32 {
+    let mut refused: u32 = 0;
+    for (place, index) in places.iter().zip(0..u32::MAX) {
+        let Some(gate) = gate_of(gates, index) else {
+            break;
+        };
+        site.begin_place();
+        let started = Builder::new()
+            .stack_size(STACK_BYTES)
+            .spawn_scoped(scope, move || work_place(site, gate, place));
+        if started.is_err() {
+            site.end_place();
+            refused = refused.saturating_add(1);
+        }
+    }
+    refused
+}
+
+/// Starts the thread that watches how full the book is. Whether it was started.
+fn start_warden<
+    's,
+    'x: 's,
+    E: 's,
+    A: Opening + Sync + 's,
+    T: Ledger + Sync + 's,
+    U: Ledger + Sync + 's,
+    H: Crew + Sync + 's,
+>(scope: &Scope<'s, E>, site: &'s Site<'x, A, T, U, H>) -> bool {
+    Builder::new()
+        .stack_size(STACK_BYTES)
+        .spawn_scoped(scope, move || work_warden(site))
+        .is_ok()
+}
+
+/// Starts all workers. Whether enough threads could be started: that of each post, the warden's, and one for each channel.
+fn start_all<
+    's,
+    'x: 's,
+    E: 's,
+    A: Opening + Sync + 's,
+    T: Ledger + Sync + 's,
+    U: Ledger + Sync + 's,
+    H: Crew + Sync + 's,
+>(scope: &Scope<'s, E>, site: &'s Site<'x, A, T, U, H>, workers: &'s Workers<A, T, U>) -> bool {
+    if start_posts(scope, site, &workers.posts) > 0 || !start_warden(scope, site) {
+        return false;
+    }
+    let refused = start_places(scope, site, &workers.gates, &workers.places);
+    if refused > 0 {
+        let started = site.places();
+        warn!(site.rt; refused, started; "not all threads could be started, fewer connections are served at once");
+    }
+    site.places() as usize >= workers.gates.len()
+}
+
+/// Starts all workers, and obeys commands until they have ended. Whether enough threads could be started; where not, those that
+/// were are ended.
+pub fn work<A: Opening + Sync, T: Ledger + Sync, U: Ledger + Sync, H: Crew + Threads + Sync>(
+    rt: &HostRuntime,
+    handle: &H,
+    site: &Site<'_, A, T, U, H>,
+    workers: &Workers<A, T, U>,
+    settings: &Settings,
+    started: u64,
+) -> bool {
+    let mut is_staffed = true;
+    let staffed = &mut is_staffed;
+    thread::scope(thread::scope_env(), handle, |scope| {
+        if start_all(scope, site, workers) {
+            info!(site.rt; "the service is ready");
+            obey_all(rt, site, workers, settings, started);
+        } else {
+            *staffed = false;
+            stop(site, &workers.gates, &workers.places, false, Duration::ZERO);
+        }
+    });
+    is_staffed
+}

@@ -1,0 +1,103 @@
+//! What works in a service.
+
+use book_lock::{Desk, Opening, Station};
+use service_workers::{Gate, Place, Post};
+use std::alloc::{AllocError, Global};
+use std::sync::ledger::Ledger;
+
+/// What works: the listeners of the channels, the places at which connections are served, and the posts that deliver.
+#[derive(Drop)]
+pub struct Workers<A: Opening, T: Ledger, U: Ledger> {
+    /// In the order of the plan's channels.
+    pub gates: Vec<Gate>,
+    /// The place at index `k` is one of channel `k` modulo the number of channels.
+    pub places: Vec<Place<A>>,
+    /// By destination.
+    pub posts: Vec<Post<T, U>>,
+}
+
+/// The desks and stations of workers that have ended.
+#[derive(Drop)]
+pub struct Returned<A: Opening, T: Ledger, U: Ledger> {
+    pub desks: Vec<Desk<A>>,
+    pub stations: Vec<Station<T, U>>,
+}
+
+/// A place for each desk.
+fn places_of<A: Opening>(alloc: Global, desks: Vec<Desk<A>>) -> Result<Vec<Place<A>>, AllocError> {
+    let mut places = Vec::new(alloc);
+    for desk in desks {
+        places.push(Place::new(desk))?;
+    }
+    Ok(places)
+}
+
+/// A post for each station.
+fn posts_of<T: Ledger, U: Ledger>(
+    alloc: Global,
+    stations: Vec<Station<T, U>>,
+) -> Result<Vec<Post<T, U>>, AllocError> {
+    let mut posts = Vec::new(alloc);
+    for station in stations {
+        posts.push(Post::new(station))?;
+    }
+    Ok(posts)
+}
+
+/// The desks of places that have ended.
+fn desks_of<A: Opening>(alloc: Global, places: Vec<Place<A>>) -> Result<Vec<Desk<A>>, AllocError> {
+    let mut desks = Vec::new(alloc);
+    for place in places {
+        if let Some(desk) = place.into_desk() {
+            desks.push(desk)?;
+        }
+    }
+    Ok(desks)
+}
+
+/// The stations of posts that have ended.
+fn stations_of<T: Ledger, U: Ledger>(
+    alloc: Global,
+    posts: Vec<Post<T, U>>,
+) -> Result<Vec<Station<T, U>>, AllocError> {
+    let mut stations = Vec::new(alloc);
+    for post in posts {
+        if let Some(station) = post.into_station() {
+            stations.push(station)?;
+        }
+    }
+    Ok(stations)
+}
+
+impl<A: Opening, T: Ledger, U: Ledger> Workers<A, T, U> {
+    /// A place for each desk, and a post for each station.
+    ///
+    /// # Errors
+    ///
+    /// Where memory is refused.
+    pub fn new(
+        alloc: Global,
+        gates: Vec<Gate>,
+        desks: Vec<Desk<A>>,
+        stations: Vec<Station<T, U>>,
+    ) -> Result<Self, AllocError> {
+        Ok(Workers {
+            gates,
+            places: places_of(alloc, desks)?,
+            posts: posts_of(alloc, stations)?,
+        })
+    }
+
+    /// The desks and stations, once all workers have ended.
+    ///
+    /// # Errors
+    ///
+    /// Where memory is refused.
+    pub fn into_returned(self, alloc: Global) -> Result<Returned<A, T, U>, AllocError> {
+        let Workers { places, posts, .. } = self;
+        Ok(Returned {
+            desks: desks_of(alloc, places)?,
+            stations: stations_of(alloc, posts)?,
+        })
+    }
+}

@@ -1,0 +1,86 @@
+//! A desk of a shared book that prunes itself, as the place where the messages of a channel are booked.
+
+use crate::site::{Crew, Site};
+use book_core::{NotBooked, Receipt};
+use book_lock::{Desk, Opening, Tidied, Tidying};
+use conn_core::Booking;
+use conn_worker::{log_arrival, log_break, log_fill, log_passed_over};
+use judge_core::Judged;
+use log::{Log, info, warn};
+use mllp_frame::Break;
+use plan_text::Plan;
+use std::alloc::AllocError;
+use std::sync::Arc;
+use std::sync::ledger::Ledger;
+
+/// How many entries lie between two looks at how full the book is, for the log.
+const FILL_STEP: usize = 16;
+
+/// A desk of a shared book. An arrival that finds the book tight first forgets what is settled, but for the last messages
+/// that the site keeps. Each call takes the book's lock for a moment. What is not booked is counted at once.
+#[derive(Drop)]
+pub struct AtPlace<'a, 'x, A: Opening, T: Ledger, U: Ledger, H> {
+    pub site: &'a Site<'x, A, T, U, H>,
+    pub desk: &'a mut Desk<A>,
+}
+
+/// Logs what was done about a tight book.
+fn log_tidying<H: Log>(rt: &H, tidying: Tidying) {
+    match tidying {
+        Tidying::NotTight => {}
+        Tidying::Pruned { before } => info!(rt; before; "settled messages forgotten"),
+        Tidying::Refused(refusal) => warn!(rt; "the book is tight and can't be pruned: {refusal}"),
+    }
+}
+
+impl<'a, 'x, A: Opening, T: Ledger, U: Ledger, H: Crew> Booking for AtPlace<'a, 'x, A, T, U, H> {
+    ghost use Rattle.std.specs.Prelude.{◌≡◌, ◌+◌, length, refl, ⊤};
+    ghost use Rattle.std.proofs.Common.{◌∙◌, arith, length-append};
+
+    /// The desk counted as many arrivals. It is the same desk.
+    ghost books = { λ old new receipts. (new.desk.now ≡ old.desk.now + length receipts) × (new.desk.ghost_name ≡ old.desk.ghost_name) };
+
+    ghost channels = { λ _. A.channels };
+
+    ghost judges = { λ _ _. ⊤ };
+
+    ghost outcomes = { λ _ _ _. ⊤ };
+
+    fn plan(&self) -> Result<Arc<Plan>, AllocError> {
+        self.site.shared.plan(self.site.rt)
+    }
+
+    fn arrive(&mut self, conn: u32, judged: &Judged) -> Result<Receipt, NotBooked> {
+        self.site.note_received(judged.channel());
+        let Tidied { receipt, tidying } = self
+            .site
+            .shared
+            .arrive_tidy(self.site.rt, self.desk, conn, judged, self.site.keep);
+        log_tidying(self.site.rt, tidying);
+        log_arrival(self.site.rt, self.site.alloc, conn, judged, &receipt);
+        match &receipt {
+            Ok(receipt) if receipt.entry % FILL_STEP == 0 => {
+                log_fill(self.site.rt, self.site.shared.gauge(self.site.rt));
+            }
+            Ok(_) => {}
+            Err(cause) => self.site.count_unbooked(*cause),
+        }
+        receipt
+    }
+
+    fn pass_over(&mut self, conn: u32, judged: &Judged) {
+        log_passed_over(self.site.rt, self.site.alloc, conn, judged);
+    }
+
+    fn note_break(&mut self, conn: u32, channel: u32, cause: Break) {
+        if let Ok(plan) = self.site.shared.plan(self.site.rt) {
+            log_break(self.site.rt, &plan, conn, channel, cause);
+        }
+    }
+
+    ghost nothing = { λ x. (Prim.omega arith, refl) };
+
+    ghost after = { λ x y z rs ss h k. (Prim.omega (arith, h.0, k.0, length-append rs ss), k.1 ∙ h.1) };
+
+    ghost same_channels = { λ _ _ _ _. refl };
+}

@@ -1,0 +1,102 @@
+//! The listener of a channel.
+
+ghost use Rattle.std.specs.Prelude.{◌≡◌, IfOk};
+
+use libc::net as c;
+use plan_text::Channel;
+use std::alloc::{AllocError, Global};
+use std::io;
+use std::net::{Net, SocketAddr, TcpListener, TcpStream};
+use std::os::fd::AsRawFd;
+use std::sync::atomic::{AtomicU32, Ordering};
+
+/// How often one call may be interrupted before that is a fault.
+const INTERRUPTIONS_MAX: u32 = 1_000;
+
+/// The listener of a channel, by which all places of the channel accept.
+#[derive(Drop)]
+pub struct Gate {
+    name: String,
+    channel: u32,
+    listener: TcpListener,
+    failures: AtomicU32,
+}
+
+impl Gate {
+    /// Listens at the address of a channel, the one at this index of its plan.
+    ///
+    /// # Errors
+    ///
+    /// Where the channel can't listen there. Where memory is refused, that is the error within.
+    pub fn open<R: Net<Listener = TcpListener, Stream = TcpStream>>(
+        rt: &R,
+        alloc: Global,
+        channel: &Channel,
+        index: u32,
+    ) -> Result<io::Result<Gate>, AllocError>
+        ensures { IfOk result (λ opened. IfOk opened (λ gate. gate.channel ≡ index)) }
+    {
+        let name = channel.name().to_string(alloc)?;
+        let listener: io::Result<TcpListener> = TcpListener::bind(rt, channel.listen());
+        Ok(match listener {
+            Ok(listener) => Ok(Gate {
+                name,
+                channel: index,
+                listener,
+                failures: AtomicU32::new(0),
+            }),
+            Err(error) => Err(error),
+        })
+    }
+
+    /// The channel's name.
+    pub fn name(&self) -> &str {
+        self.name.as_str()
+    }
+
+    /// The channel's index in the plan.
+    pub fn channel(&self) -> u32
+        ensures { result ≡ self.now.channel }
+    {
+        self.channel
+    }
+
+    /// The address that it listens at.
+    ///
+    /// # Errors
+    ///
+    /// Where the system can't report it.
+    pub fn address(&self) -> io::Result<SocketAddr> {
+        self.listener.local_addr()
+    }
+
+    /// Waits for the next connection, again where that was interrupted.
+    ///
+    /// # Errors
+    ///
+    /// Where none can be accepted at this time, or the gate is shut.
+    pub fn accept(&self) -> io::Result<(TcpStream, SocketAddr)> {
+        for _ in 0..INTERRUPTIONS_MAX {
+            match self.listener.accept() {
+                Err(error) if error.kind() == io::ErrorKind::Interrupted => {}
+                answer => return answer,
+            }
+        }
+        Err(io::Error::from(io::ErrorKind::Interrupted))
+    }
+
+    /// Counts a failure to accept. How many there were since the last connection.
+    pub fn count_failure(&self) -> u32 {
+        self.failures.fetch_add(1, Ordering::SeqCst)
+    }
+
+    /// Forgets the failures. How many there were since the last connection.
+    pub fn forget_failures(&self) -> u32 {
+        self.failures.swap(0, Ordering::SeqCst)
+    }
+
+    /// Ends the calls that wait in [`accept`](Self::accept), and those to come.
+    pub fn shut(&self) {
+        let _ = c::shutdown(self.listener.as_raw_fd(), c::SHUT_RDWR);
+    }
+}

@@ -1,0 +1,37 @@
+//! The workers of a service: places that accept connections, serve them and end them in order, one after another; posts that
+//! deliver, one for each queue; a warden, by which reading pauses where the book has no room; and how all of them end.
+//!
+//! What the workers share is a site. What is counted there is counted at once, and each counter is read by itself.
+//!
+//! No contract says that a connection is served, that a message is delivered, or that a worker ends.
+#![tactic(auto)]
+
+mod at_place;
+mod gate;
+mod half;
+mod hold;
+mod pauses;
+mod place;
+mod post;
+mod site;
+mod stage;
+mod standard_input;
+mod stopping;
+mod tallies;
+mod warden;
+mod way;
+
+pub use gate::Gate;
+pub use hold::Hold;
+pub use pauses::paused_by;
+pub use place::{Place, work_place};
+pub use post::{Post, work_post};
+pub use site::{Crew, ServiceRows, Site};
+pub use stage::Stage;
+pub use standard_input::StandardInput;
+pub use stopping::{has_ended, stop};
+pub use tallies::Unbooked;
+pub use warden::work_warden;
+
+#[cfg(test)]
+mod tests;

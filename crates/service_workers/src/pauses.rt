@@ -1,0 +1,149 @@
+//! Which channels' reading has to pause.
+
+ghost use Rattle.std.specs.Prelude.{◌≡◌, ◌≢◌, ◌<◌, ◌==◌, ℕ};
+ghost use Rattle.std.specs.Int.{bit_at};
+ghost use Rattle.service_workers.specs.Pauses.{frees_enough, is_crowded, is_overfull, leads_to_crowd, pauses, pauses_at};
+
+use book_lock::{Gauge, Status};
+use plan_text::{Channel, Plan};
+use stat_count::DestinationCounts;
+
+/// Why the reading of a channel pauses.
+#[derive(Clone, Copy, Debug, PartialEq, Eq)]
+pub enum PauseCause {
+    /// As many messages are remembered as may be.
+    Remembered,
+    /// What waits for the destination at this index may take half of the book.
+    Queue(u32),
+}
+
+/// Whether as many messages are remembered as may be: those that a pruning keeps, and one for each entry that the book may
+/// hold.
+pub fn is_overfull(gauge: Gauge, keep: u32) -> bool
+    ensures { result ≡ is_overfull keep gauge }
+{
+    u64::from(gauge.remembered()) >= u64::from(keep) + u64::from(gauge.events_max)
+}
+
+/// Whether a pruning would forget more messages than an eighth of the entries that the book may hold. The number of prunings
+/// is limited, so none is made for a few messages.
+pub fn frees_enough(status: &Status, keep: u32) -> bool
+    ensures { result ≡ frees_enough keep status.now }
+{
+    let Gauge {
+        messages,
+        first,
+        events_max,
+        ..
+    } = status.gauge;
+    let settled = status.first_live.unwrap_or(messages);
+    let before = settled.min(messages.saturating_sub(keep));
+    before.saturating_sub(first) > events_max / 8
+}
+
+/// Whether what waits for a destination, or is in flight there, may take more than half of the entries that the book may
+/// hold, or more than a quarter where reading pauses: a take and a settlement for each attempt of each message, and a
+/// cancellation.
+fn is_crowded(plan: &Plan, status: &Status, is_paused: bool, index: u32) -> bool
+    ensures { result ≡ is_crowded plan.now status.now is_paused index }
+{
+    plan.rules();
+    let Some(destination) = plan.destination(index) else {
+        return false;
+    };
+    let DestinationCounts {
+        waiting,
+        inflight,
+        ..
+    } = status.counts.destination(index);
+    let messages = u128::from(waiting) + u128::from(inflight);
+    let owed = messages * (2 * u128::from(destination.attempts()) + 1);
+    let parts = if is_paused { 4 } else { 2 };
+    parts * owed > u128::from(status.gauge.events_max)
+}
+
+/// The first destination that a channel has a route to and whose queue may take more than half of the book.
+fn crowded_route(plan: &Plan, status: &Status, channel: &Channel) -> Option<u32> {
+    for route in channel.routes() {
+        if is_crowded(plan, status, false, route.to()) {
+            return Some(route.to());
+        }
+    }
+    None
+}
+
+/// Why the reading of a channel of this plan has to begin to pause, if it has to.
+pub fn pause_cause(
+    plan: &Plan,
+    status: &Status,
+    keep: u32,
+    channel: &Channel,
+) -> Option<PauseCause> {
+    if is_overfull(status.gauge, keep) {
+        return Some(PauseCause::Remembered);
+    }
+    let index = crowded_route(plan, status, channel)?;
+    Some(PauseCause::Queue(index))
+}
+
+/// Whether what waits for a destination to which a channel has a route may take too much of the book, where the channel's
+/// reading pauses or not so far.
+fn leads_to_crowd(plan: &Plan, status: &Status, is_paused: bool, channel: &Channel) -> bool
+    ensures { result ≡ leads_to_crowd plan.now status.now is_paused channel.now }
+{
+    channel
+        .routes()
+        .iter()
+        .any(|route| is_crowded(plan, status, is_paused, route.to()))
+}
+
+/// Whether the reading of a channel of this plan has to pause, where it pauses or not so far.
+fn pauses(plan: &Plan, status: &Status, keep: u32, is_paused: bool, channel: &Channel) -> bool
+    ensures { result ≡ pauses plan.now status.now keep is_paused channel.now }
+{
+    is_overfull(status.gauge, keep) || leads_to_crowd(plan, status, is_paused, channel)
+}
+
+/// Whether the bit of a channel is set in a mask.
+pub fn has_channel(mask: u64, channel: u32) -> bool
+    requires { channel < 64 }
+    ensures { result ≡ (bit_at mask channel == 1) }
+{
+    mask >> channel & 1 == 1
+}
+
+/// A mask, with the bit of a channel set where this is so.
+#[tactic(auto, using(crate::proofs::Masks::set_here, crate::proofs::Masks::set_others))]
+fn with_channel(mask: u64, channel: u32, is_set: bool) -> u64
+    requires { channel < 64 }
+    ensures here { bit_at mask channel ≡ 0 → (bit_at result channel == 1) ≡ is_set }
+    ensures others { (c : ℕ) → c ≢ channel → bit_at result c ≡ bit_at mask c }
+{
+    if is_set { mask | 1 << channel } else { mask }
+}
+
+/// Whether the reading of the channel at an index of this plan has to pause, where those of a mask pause so far.
+fn pauses_at(plan: &Plan, status: &Status, keep: u32, before: u64, index: u32) -> bool
+    requires { index < 64 }
+    ensures { result ≡ pauses_at plan.now status.now keep before index }
+{
+    match plan.channel(index) {
+        Some(channel) => pauses(plan, status, keep, has_channel(before, index), channel),
+        None => false,
+    }
+}
+
+/// The channels whose reading has to pause, one bit each, where those of `before` pause so far: all where as many messages
+/// are remembered as may be, and those with a route to a destination whose queue may take more than half of the book. A
+/// channel that pauses goes on once the queues may take a quarter at most.
+#[tactic(auto, using(crate::proofs::Masks::mask_none, crate::proofs::Masks::mask_more, crate::proofs::Masks::mask_all))]
+pub fn paused_by(plan: &Plan, status: &Status, keep: u32, before: u64) -> u64
+    ensures { (c : ℕ) → (bit_at result c == 1) ≡ pauses_at plan.now status.now keep before c }
+{
+    plan.rules();
+    let mut mask = 0;
+    for index in 0..plan.channels() {
+        mask = with_channel(mask, index, pauses_at(plan, status, keep, before, index));
+    }
+    mask
+}

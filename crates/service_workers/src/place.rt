@@ -1,0 +1,271 @@
+//! A place of a channel: it accepts a connection, serves it to its end, and accepts the next.
+
+ghost use Rattle.std.specs.Prelude.{◌<◌, IsTrue};
+
+use crate::at_place::AtPlace;
+use crate::gate::Gate;
+use crate::half::{Label, bound_writes};
+use crate::hold::Hold;
+use crate::site::{Crew, Site};
+use crate::stage::Stage;
+use book_lock::{Desk, Opening};
+use conn_core::Line;
+use conn_worker::{Counted, Running, ServeEnd, ServeReport, TURNS_MAX, Unkept, serve_within};
+use log::{Log, info, warn};
+use socket_options::keep_alive;
+use std::alloc::AllocError;
+use std::net::{Shutdown, SocketAddr, TcpStream};
+use std::sync::ledger::Ledger;
+use std::sync::{Arc, Mutex};
+use std::time::Duration;
+use std::{io, thread};
+
+/// How long a place waits before it accepts again where the system lacked something for a connection, in milliseconds.
+const RETRY_MILLIS: u64 = 100;
+
+/// A place of a channel: its desk, and the stream that it serves.
+#[derive(Drop)]
+pub struct Place<A: Opening> {
+    desk: Mutex<Option<Desk<A>>>,
+    hold: Hold,
+}
+
+impl<A: Opening> Place<A> {
+    /// A place with this desk.
+    pub fn new(desk: Desk<A>) -> Self {
+        Place {
+            desk: Mutex::new(Some(desk)),
+            hold: Hold::new(),
+        }
+    }
+
+    /// The stream that it serves.
+    pub fn hold(&self) -> &Hold {
+        &self.hold
+    }
+
+    /// Its desk, once it has ended.
+    pub fn into_desk(self) -> Option<Desk<A>> {
+        let Place { desk, .. } = self;
+        desk.into_inner()
+    }
+}
+
+/// Sets the options of a connection's stream: keepalive, and limits on waiting. Where the system refuses one of them, the
+/// connection is served without it.
+fn prepare(stream: &TcpStream, idle: u32) {
+    let _ = stream.set_nodelay(true);
+    let _ = keep_alive(stream);
+    let _ = bound_writes(stream);
+    if idle > 0 {
+        let _ = stream.set_read_timeout(Some(Duration::from_secs(u64::from(idle))));
+    }
+}
+
+/// What serving a connection came to, and how many of its messages were booked.
+#[derive(Drop)]
+struct Served {
+    report: ServeReport<Unkept>,
+    booked: u64,
+}
+
+/// Serves a connection to its end, and ends it in order.
+///
+/// # Errors
+///
+/// Where memory is refused for its stream.
+fn serve_stream<A: Opening, T: Ledger, U: Ledger, H: Crew>(
+    site: &Site<'_, A, T, U, H>,
+    channel: u32,
+    hold: &Hold,
+    desk: &mut Desk<A>,
+    stream: TcpStream,
+    label: Label<'_>,
+) -> Result<Served, AllocError>
+    requires { channel < A.channels }
+{
+    prepare(&stream, site.idle);
+    let stream = Arc::new(site.alloc, stream).map_err(AllocError::from)?;
+    let mut reader = Counted::new(site.half(Arc::try_clone(&stream)?, channel, label));
+    let mut writer = Counted::new(site.half(Arc::try_clone(&stream)?, channel, label));
+    hold.put(site.rt, Some(stream));
+    // A stop that began before the stream was put there didn't find it.
+    if site.stage() != Stage::Open {
+        hold.shut(site.rt, Shutdown::Read);
+    }
+    let before = desk.made();
+    let line = Line {
+        alloc: site.alloc,
+        conn: label.connection,
+        channel,
+    };
+    let mut book = AtPlace {
+        site,
+        desk: &mut *desk,
+    };
+    let report = serve_within(
+        &line,
+        &mut book,
+        &mut reader,
+        &mut writer,
+        &mut Running(site.rt),
+        TURNS_MAX,
+    );
+    writer.into_inner().drain();
+    hold.put(site.rt, None);
+    Ok(Served {
+        report,
+        booked: desk.made().saturating_sub(before),
+    })
+}
+
+/// Logs that a connection ended, why, and what it brought. Whether it ended because memory was refused.
+fn log_end<A: Opening, T: Ledger, U: Ledger, H: Crew>(
+    site: &Site<'_, A, T, U, H>,
+    label: Label<'_>,
+    served: Result<Served, AllocError>,
+) -> bool {
+    let rt = site.rt;
+    let Label {
+        channel,
+        connection,
+        ..
+    } = label;
+    let Ok(Served { report, booked }) = served else {
+        warn!(rt; channel, connection; "connection ended: out of memory");
+        return true;
+    };
+    let ServeReport {
+        unbooked,
+        unreadable,
+        strays,
+        breaks,
+        end,
+        ..
+    } = report;
+    match end {
+        ServeEnd::End if site.stage() != Stage::Open =>
+            info!(rt; channel, connection, booked, unbooked, unreadable, strays, breaks; "connection ended: the service stops"),
+        ServeEnd::End =>
+            info!(rt; channel, connection, booked, unbooked, unreadable, strays, breaks; "connection ended: closed by the sender"),
+        ServeEnd::ReadFault =>
+            info!(rt; channel, connection, booked, unbooked, unreadable, strays, breaks; "connection ended: reading from the sender failed"),
+        ServeEnd::WriteFault =>
+            info!(rt; channel, connection, booked, unbooked, unreadable, strays, breaks; "connection ended: writing to the sender failed"),
+        ServeEnd::NoMemory =>
+            warn!(rt; channel, connection, booked, unbooked, unreadable, strays, breaks; "connection ended: out of memory"),
+        ServeEnd::TurnBound =>
+            warn!(rt; channel, connection, booked, unbooked, unreadable, strays, breaks; "connection ended: it brought more than one connection may"),
+    }
+    end == ServeEnd::NoMemory
+}
+
+/// Serves a connection that was accepted, under a number of its own. Where no number is left, the connection is closed.
+fn serve_accepted<A: Opening, T: Ledger, U: Ledger, H: Crew>(
+    site: &Site<'_, A, T, U, H>,
+    gate: &Gate,
+    hold: &Hold,
+    desk: &mut Desk<A>,
+    stream: TcpStream,
+    peer: SocketAddr,
+)
+    requires { gate.now.channel < A.channels }
+{
+    let channel = gate.name();
+    let Some(connection) = site.shared.admit(site.rt) else {
+        site.count_refused();
+        warn!(site.rt; channel, peer:% = peer; "connection closed: no number is left for it");
+        return;
+    };
+    info!(site.rt; channel, connection, peer:% = peer; "connection opened");
+    let label = Label {
+        channel,
+        connection,
+        peer,
+    };
+    site.count_opened();
+    let served = serve_stream(site, gate.channel(), hold, desk, stream, label);
+    site.count_ended();
+    if log_end(site, label, served) {
+        site.count_refused();
+        thread::sleep(site.rt, Duration::from_millis(RETRY_MILLIS));
+    }
+}
+
+/// Waits a moment after a failure to accept. The first of a row is logged.
+fn wait_after_failure<A: Opening, T: Ledger, U: Ledger, H: Crew>(
+    site: &Site<'_, A, T, U, H>,
+    gate: &Gate,
+    error: &io::Error,
+) {
+    if gate.count_failure() == 0 {
+        let channel = gate.name();
+        warn!(site.rt; channel; "accepting a connection failed, trying again: {error}");
+    }
+    thread::sleep(site.rt, Duration::from_millis(RETRY_MILLIS));
+}
+
+/// Logs that connections are accepted again, where accepting failed before.
+fn log_recovery<H: Log>(rt: &H, gate: &Gate) {
+    let failures = gate.forget_failures();
+    if failures > 0 {
+        let channel = gate.name();
+        info!(rt; channel, failures; "accepting connections again");
+    }
+}
+
+/// Accepts one connection after another, and serves each to its end, until the service closes.
+fn serve_all<A: Opening, T: Ledger, U: Ledger, H: Crew>(
+    site: &Site<'_, A, T, U, H>,
+    gate: &Gate,
+    hold: &Hold,
+    desk: &mut Desk<A>,
+)
+    requires { gate.now.channel < A.channels }
+{
+    for _ in site.rt.forever() {
+        if site.stage() != Stage::Open {
+            return;
+        }
+        match gate.accept() {
+            Ok((stream, peer)) => {
+                log_recovery(site.rt, gate);
+                serve_accepted(site, gate, hold, desk, stream, peer);
+            }
+            Err(error) => {
+                if site.stage() == Stage::Open {
+                    wait_after_failure(site, gate, &error);
+                }
+            }
+        }
+    }
+}
+
+/// Whether the channel of a gate is one of the plan in force, as it is of each gate that was opened for the plan.
+fn is_planned<A: Opening, T: Ledger, U: Ledger, H: Crew>(
+    site: &Site<'_, A, T, U, H>,
+    gate: &Gate,
+) -> bool
+    ensures { IsTrue result → gate.now.channel < A.channels }
+{
+    match site.shared.plan(site.rt) {
+        Ok(plan) => gate.channel() < plan.channels(),
+        Err(_) => false,
+    }
+}
+
+/// Works at a place of the gate's channel until the service closes.
+pub fn work_place<A: Opening, T: Ledger, U: Ledger, H: Crew>(
+    site: &Site<'_, A, T, U, H>,
+    gate: &Gate,
+    place: &Place<A>,
+) {
+    let taken = place.desk.lock(site.rt).take();
+    if let Some(mut desk) = taken {
+        if is_planned(site, gate) {
+            serve_all(site, gate, &place.hold, &mut desk);
+        }
+        *place.desk.lock(site.rt) = Some(desk);
+    }
+    site.end_place();
+}

@@ -1,0 +1,198 @@
+//! What all workers of a service share.
+
+use crate::half::{Half, Label};
+use crate::stage::Stage;
+use crate::tallies::{Tallies, Unbooked};
+use book_core::{Letter, NotBooked};
+use book_lock::{Opening, Shared};
+use dest_queue::Addressed;
+use log::Log;
+use record_list::RecordList;
+use std::alloc::Global;
+use std::net::{Net, TcpListener, TcpStream};
+use std::sync::atomic::{AtomicU32, AtomicU64, Ordering};
+use std::sync::ledger::Ledger;
+use std::sync::{Arc, Wait};
+use std::time::Clock;
+
+/// The store of a book's rows: linked nodes.
+pub type ServiceRows = RecordList<Addressed<Letter>>;
+
+/// What workers require of the system: waiting, sockets, the time, and a log.
+pub trait Crew: Clock + Net<Listener = TcpListener, Stream = TcpStream> + Log + Wait {}
+
+impl<H: Clock + Net<Listener = TcpListener, Stream = TcpStream> + Log + Wait> Crew for H {}
+
+/// What all workers of a service share.
+#[derive(Drop)]
+pub struct Site<'x, A: Opening, T: Ledger, U: Ledger, H> {
+    /// The system and the log.
+    pub rt: &'x H,
+    /// The allocator.
+    pub alloc: Global,
+    /// The book.
+    pub shared: &'x Shared<A, T, U, ServiceRows>,
+    /// How many settled messages a pruning keeps.
+    pub keep: u32,
+    /// After how many seconds without a byte a connection ends; 0: never.
+    pub idle: u32,
+    /// How many connections are open.
+    open: AtomicU32,
+    /// How many places work.
+    places: AtomicU32,
+    /// How many posts work.
+    posts: AtomicU32,
+    /// The number of the stage.
+    stage: AtomicU32,
+    /// The channels whose reading pauses, one bit each.
+    paused: AtomicU64,
+    tallies: Tallies,
+}
+
+impl<'x, A: Opening, T: Ledger, U: Ledger, H: Crew> Site<'x, A, T, U, H> {
+    /// A site where nothing works yet.
+    pub fn new(
+        rt: &'x H,
+        alloc: Global,
+        shared: &'x Shared<A, T, U, ServiceRows>,
+        keep: u32,
+        idle: u32,
+    ) -> Self {
+        Site {
+            rt,
+            alloc,
+            shared,
+            keep,
+            idle,
+            open: AtomicU32::new(0),
+            places: AtomicU32::new(0),
+            posts: AtomicU32::new(0),
+            stage: AtomicU32::new(0),
+            paused: AtomicU64::new(0),
+            tallies: Tallies::new(),
+        }
+    }
+
+    /// A half of the stream of a connection of the channel at this index.
+    pub(crate) fn half<'s>(
+        &'s self,
+        stream: Arc<TcpStream>,
+        channel: u32,
+        label: Label<'s>,
+    ) -> Half<'s, H> {
+        Half::new(self.rt, &self.stage, &self.paused, channel, stream, label)
+    }
+
+    /// How far the end is.
+    pub fn stage(&self) -> Stage {
+        Stage::of(self.stage.load(Ordering::SeqCst))
+    }
+
+    /// Goes on to a stage. It never goes back to an earlier one.
+    pub fn go_to(&self, stage: Stage) {
+        self.stage.fetch_max(stage.number(), Ordering::SeqCst);
+    }
+
+    /// The channels whose reading pauses, one bit each.
+    pub fn paused(&self) -> u64 {
+        self.paused.load(Ordering::SeqCst)
+    }
+
+    /// Has reading pause at the channels of this mask, and at no other.
+    pub(crate) fn pause(&self, channels: u64) {
+        self.paused.store(channels, Ordering::SeqCst);
+    }
+
+    /// How many connections are open.
+    pub fn open(&self) -> u32 {
+        self.open.load(Ordering::SeqCst)
+    }
+
+    /// Counts a connection that was opened.
+    pub(crate) fn count_opened(&self) {
+        self.open.fetch_add(1, Ordering::SeqCst);
+    }
+
+    /// Counts a connection that ended.
+    pub(crate) fn count_ended(&self) {
+        self.open.fetch_sub(1, Ordering::SeqCst);
+    }
+
+    /// Counts a connection that was closed because no number was left for it or memory was refused.
+    pub(crate) fn count_refused(&self) {
+        self.tallies.count_refused();
+    }
+
+    /// How many connections were closed because no number was left for them or memory was refused.
+    pub fn refused(&self) -> u64 {
+        self.tallies.refused()
+    }
+
+    /// Counts a message that was not booked.
+    pub(crate) fn count_unbooked(&self, cause: NotBooked) {
+        self.tallies.count_unbooked(cause);
+    }
+
+    /// How many messages were not booked, by cause. Each was acknowledged so.
+    pub fn unbooked(&self) -> Unbooked {
+        self.tallies.unbooked()
+    }
+
+    /// The time by the system's clock in seconds since 1970; 0 where it can't be read.
+    fn seconds(&self) -> u64 {
+        match self.rt.since_1970() {
+            Ok(time) => time.as_secs(),
+            Err(_) => 0,
+        }
+    }
+
+    /// Notes that a message is received on the channel at this index.
+    pub(crate) fn note_received(&self, channel: u32) {
+        self.tallies.note_received(channel, self.seconds());
+    }
+
+    /// When the last message was received on the channel at this index, in seconds since 1970; 0 where none was.
+    pub fn last_received(&self, channel: u32) -> u64 {
+        self.tallies.received(channel)
+    }
+
+    /// Notes that a message is delivered at the destination at this index.
+    pub(crate) fn note_delivered(&self, destination: u32) {
+        self.tallies.note_delivered(destination, self.seconds());
+    }
+
+    /// When the last message was delivered at the destination at this index, in seconds since 1970; 0 where none was.
+    pub fn last_delivered(&self, destination: u32) -> u64 {
+        self.tallies.delivered(destination)
+    }
+
+    /// How many places work.
+    pub fn places(&self) -> u32 {
+        self.places.load(Ordering::SeqCst)
+    }
+
+    /// Counts a place that begins to work.
+    pub fn begin_place(&self) {
+        self.places.fetch_add(1, Ordering::SeqCst);
+    }
+
+    /// Counts a place that ended.
+    pub fn end_place(&self) {
+        self.places.fetch_sub(1, Ordering::SeqCst);
+    }
+
+    /// How many posts work.
+    pub fn posts(&self) -> u32 {
+        self.posts.load(Ordering::SeqCst)
+    }
+
+    /// Counts a post that begins to work.
+    pub fn begin_post(&self) {
+        self.posts.fetch_add(1, Ordering::SeqCst);
+    }
+
+    /// Counts a post that ended.
+    pub fn end_post(&self) {
+        self.posts.fetch_sub(1, Ordering::SeqCst);
+    }
+}

@@ -1,0 +1,82 @@
+//! How all workers end.
+
+use crate::gate::Gate;
+use crate::place::Place;
+use crate::site::{Crew, Site};
+use crate::stage::Stage;
+use book_lock::Opening;
+use std::net::Shutdown;
+use std::sync::ledger::Ledger;
+use std::thread;
+use std::time::{Duration, Instant};
+
+/// How long to wait between two looks at the workers, in milliseconds.
+const LOOK_MILLIS: u64 = 10;
+
+/// Waits until no place works any more, for the grace at most. Whether none does.
+fn wait_for_places<A: Opening, T: Ledger, U: Ledger, H: Crew>(
+    site: &Site<'_, A, T, U, H>,
+    grace: Duration,
+) -> bool {
+    let Ok(start) = Instant::now(site.rt) else {
+        return false;
+    };
+    for _ in site.rt.forever() {
+        if site.places() == 0 {
+            return true;
+        }
+        match start.elapsed(site.rt) {
+            Ok(passed) if passed < grace => {
+                thread::sleep(site.rt, Duration::from_millis(LOOK_MILLIS));
+            }
+            _ => return false,
+        }
+    }
+    false
+}
+
+/// Accepts no further connection and reads no further block: what was read is answered within `grace`, and then each
+/// connection that has not ended is cut.
+fn close<A: Opening, T: Ledger, U: Ledger, H: Crew>(
+    site: &Site<'_, A, T, U, H>,
+    gates: &[Gate],
+    places: &[Place<A>],
+    grace: Duration,
+) {
+    site.go_to(Stage::Closing);
+    for gate in gates {
+        gate.shut();
+    }
+    for place in places {
+        place.hold().shut(site.rt, Shutdown::Read);
+    }
+    if !wait_for_places(site, grace) {
+        for place in places {
+            place.hold().shut(site.rt, Shutdown::Both);
+        }
+    }
+    site.shared.finish(site.rt);
+}
+
+/// Ends all workers. With `drains` the posts go on until nothing waits; else no further attempt begins, and a destination that
+/// doesn't answer is not waited for.
+pub fn stop<A: Opening, T: Ledger, U: Ledger, H: Crew>(
+    site: &Site<'_, A, T, U, H>,
+    gates: &[Gate],
+    places: &[Place<A>],
+    drains: bool,
+    grace: Duration,
+) {
+    if site.stage() == Stage::Open {
+        close(site, gates, places, grace);
+    }
+    if !drains {
+        site.go_to(Stage::Halted);
+        site.shared.finish(site.rt);
+    }
+}
+
+/// Whether all places and posts have ended.
+pub fn has_ended<A: Opening, T: Ledger, U: Ledger, H: Crew>(site: &Site<'_, A, T, U, H>) -> bool {
+    site.places() == 0 && site.posts() == 0
+}

@@ -1,0 +1,117 @@
+//! What the workers of a service count.
+
+use book_core::NotBooked;
+use fixed_numbers::{CHANNELS, DESTINATIONS};
+use std::array;
+use std::sync::atomic::{AtomicU64, Ordering};
+
+/// How many messages were answered that they are not booked, by cause.
+#[derive(Clone, Copy, Debug, PartialEq, Eq)]
+pub struct Unbooked {
+    /// The book was full.
+    pub full: u64,
+    /// The plan changed between judging and booking.
+    pub plan_changed: u64,
+    /// Memory was refused.
+    pub no_memory: u64,
+}
+
+impl Unbooked {
+    /// How many there were of all causes.
+    pub fn total(self) -> u64 {
+        self.full
+            .saturating_add(self.plan_changed)
+            .saturating_add(self.no_memory)
+    }
+}
+
+/// The counters of a service since it started. Each is read and written by itself.
+#[derive(Drop)]
+pub struct Tallies {
+    full: AtomicU64,
+    plan_changed: AtomicU64,
+    no_memory: AtomicU64,
+    refused: AtomicU64,
+    /// By channel, when its last message was received, in seconds since 1970; 0 where none was.
+    received: [AtomicU64; CHANNELS as usize],
+    /// By destination, when the last message was delivered there, in seconds since 1970; 0 where none was.
+    delivered: [AtomicU64; DESTINATIONS as usize],
+}
+
+/// The value of a counter of these, or 0 where there is none at this index.
+fn value_at(counters: &[AtomicU64], index: u32) -> u64 {
+    match counters.get(index as usize) {
+        Some(counter) => counter.load(Ordering::SeqCst),
+        None => 0,
+    }
+}
+
+/// Sets the counter at an index of these, if there is one.
+fn set_at(counters: &[AtomicU64], index: u32, value: u64) {
+    if let Some(counter) = counters.get(index as usize) {
+        counter.store(value, Ordering::SeqCst);
+    }
+}
+
+impl Tallies {
+    /// The counters of a service that has done nothing yet.
+    pub fn new() -> Self {
+        Tallies {
+            full: AtomicU64::new(0),
+            plan_changed: AtomicU64::new(0),
+            no_memory: AtomicU64::new(0),
+            refused: AtomicU64::new(0),
+            received: array::from_fn(|_| AtomicU64::new(0)),
+            delivered: array::from_fn(|_| AtomicU64::new(0)),
+        }
+    }
+
+    /// Counts a message that was not booked.
+    pub fn count_unbooked(&self, cause: NotBooked) {
+        let counter = match cause {
+            NotBooked::Full => &self.full,
+            NotBooked::PlanChanged => &self.plan_changed,
+            NotBooked::NoMemory => &self.no_memory,
+        };
+        counter.fetch_add(1, Ordering::SeqCst);
+    }
+
+    /// How many messages were not booked, by cause.
+    pub fn unbooked(&self) -> Unbooked {
+        Unbooked {
+            full: self.full.load(Ordering::SeqCst),
+            plan_changed: self.plan_changed.load(Ordering::SeqCst),
+            no_memory: self.no_memory.load(Ordering::SeqCst),
+        }
+    }
+
+    /// Counts a connection that was closed and not served.
+    pub fn count_refused(&self) {
+        self.refused.fetch_add(1, Ordering::SeqCst);
+    }
+
+    /// How many connections were closed and not served.
+    pub fn refused(&self) -> u64 {
+        self.refused.load(Ordering::SeqCst)
+    }
+
+    /// Notes when a message was received on a channel.
+    pub fn note_received(&self, channel: u32, seconds: u64) {
+        set_at(&self.received, channel, seconds);
+    }
+
+    /// When the last message was received on a channel, in seconds since 1970; 0 where none was.
+    pub fn received(&self, channel: u32) -> u64 {
+        value_at(&self.received, channel)
+    }
+
+    /// Notes when a message was delivered at a destination.
+    pub fn note_delivered(&self, destination: u32, seconds: u64) {
+        set_at(&self.delivered, destination, seconds);
+    }
+
+    /// When the last message was delivered at a destination, in seconds since 1970; 0 where none was.
+    pub fn delivered(&self, destination: u32) -> u64 {
+        value_at(&self.delivered, destination)
+    }
+}

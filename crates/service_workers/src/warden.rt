@@ -1,0 +1,190 @@
+//! The warden: it has reading pause where the book has no room, and reports what runs out.
+
+use crate::pauses::{PauseCause, frees_enough, has_channel, is_overfull, pause_cause, paused_by};
+use crate::site::{Crew, Site};
+use crate::stage::Stage;
+use book_lock::{Gauge, Opening, Status};
+use fixed_numbers::{DEPLOYMENTS_MAX, DESTINATIONS, PRUNINGS_MAX};
+use log::{Log, info, warn};
+use plan_text::{Channel, Plan};
+use std::sync::ledger::Ledger;
+use std::thread;
+use std::time::Duration;
+
+/// How many milliseconds pass between two looks.
+const LOOK_MILLIS: u64 = 50;
+
+/// How few prunings or deployments are left where that is logged first: a tenth.
+const FEW: u32 = 100;
+
+/// How few are left where it is logged again.
+const VERY_FEW: u32 = 10;
+
+/// How little is left of what can be done a limited number of times.
+#[derive(Clone, Copy, PartialEq, Eq, PartialOrd, Ord)]
+enum Left {
+    Many,
+    Few,
+    VeryFew,
+}
+
+impl Left {
+    /// How little a number is.
+    fn of(left: u32) -> Left {
+        if left <= VERY_FEW {
+            Left::VeryFew
+        } else if left <= FEW {
+            Left::Few
+        } else {
+            Left::Many
+        }
+    }
+}
+
+/// What the last look found, so that each change is logged once.
+#[derive(Clone, Copy)]
+struct Watch {
+    paused: u64,
+    prunings: Left,
+    deployments: Left,
+}
+
+impl Watch {
+    fn new() -> Self {
+        Watch {
+            paused: 0,
+            prunings: Left::Many,
+            deployments: Left::Many,
+        }
+    }
+
+    /// Logs that few prunings or deployments are left, where fewer are than at the last look.
+    fn log_left<H: Log>(&mut self, rt: &H, gauge: Gauge) {
+        let left = PRUNINGS_MAX.saturating_sub(gauge.prunings);
+        if Left::of(left) > self.prunings {
+            warn!(rt; left; "few prunings are left");
+            self.prunings = Left::of(left);
+        }
+        let left = DEPLOYMENTS_MAX.saturating_sub(gauge.deployments);
+        if Left::of(left) > self.deployments {
+            warn!(rt; left; "few deployments are left");
+            self.deployments = Left::of(left);
+        }
+    }
+}
+
+/// The first destination with this message at the front of its queue.
+fn first_at(status: &Status, number: u32) -> Option<u32> {
+    for (index, front) in (0..DESTINATIONS).zip(status.fronts.iter()) {
+        if let Some(front) = front
+            && front.number == number
+        {
+            return Some(index);
+        }
+    }
+    None
+}
+
+/// The message that a pause waits for, with the index of the destination that holds it up, where they are known.
+fn holder(status: &Status, cause: PauseCause) -> Option<(u32, u32)> {
+    match cause {
+        PauseCause::Queue(index) => {
+            let front = (*status.fronts.get(index as usize)?)?;
+            Some((front.number, index))
+        }
+        PauseCause::Remembered => {
+            let number = status.first_live?;
+            Some((number, first_at(status, number)?))
+        }
+    }
+}
+
+/// Logs that the reading of a channel begins to pause, why, and which message holds it up at which destination.
+fn log_pause<H: Log>(rt: &H, plan: &Plan, status: &Status, keep: u32, channel: &Channel) {
+    let Some(cause) = pause_cause(plan, status, keep, channel) else {
+        return;
+    };
+    let why = match cause {
+        PauseCause::Remembered => "as many messages are remembered as may be",
+        PauseCause::Queue(_) => "what waits for a destination may take half of the book",
+    };
+    let channel = channel.name();
+    if let Some((message, index)) = holder(status, cause)
+        && let Some(destination) = plan.destination(index)
+    {
+        let destination = destination.name();
+        warn!(rt; channel, destination, message; "reading paused: {why}");
+    } else {
+        warn!(rt; channel; "reading paused: {why}");
+    }
+}
+
+/// Logs which channels pause that didn't at the last look, and which go on.
+fn log_changes<H: Log>(rt: &H, plan: &Plan, status: &Status, keep: u32, before: u64, after: u64) {
+    plan.rules();
+    for index in 0..plan.channels() {
+        let Some(channel) = plan.channel(index) else {
+            return;
+        };
+        match (has_channel(before, index), has_channel(after, index)) {
+            (false, true) => log_pause(rt, plan, status, keep, channel),
+            (true, false) => info!(rt; channel = channel.name(); "reading again"),
+            _ => {}
+        }
+    }
+}
+
+/// Forgets what is settled, where as many messages are remembered as may be. No arrival does it then, since no channel is
+/// read.
+fn make_room<A: Opening, T: Ledger, U: Ledger, H: Crew>(
+    site: &Site<'_, A, T, U, H>,
+    status: &Status,
+) {
+    if !is_overfull(status.gauge, site.keep)
+        || status.gauge.prunings >= PRUNINGS_MAX
+        || !frees_enough(status, site.keep)
+    {
+        return;
+    }
+    match site.shared.prune_settled(site.rt, site.keep) {
+        Ok(before) => info!(site.rt; before; "settled messages forgotten"),
+        Err(refusal) => warn!(site.rt; "settled messages can't be forgotten: {refusal}"),
+    }
+}
+
+/// Looks at the book once: which channels pause, and what runs out.
+fn look<A: Opening, T: Ledger, U: Ledger, H: Crew>(site: &Site<'_, A, T, U, H>, watch: &mut Watch) {
+    // Where the plan can't be shared, all stays as it is until the next look.
+    let Ok((status, plan)) = site.shared.status(site.rt) else {
+        return;
+    };
+    let paused = paused_by(&plan, &status, site.keep, watch.paused);
+    site.pause(paused);
+    log_changes(site.rt, &plan, &status, site.keep, watch.paused, paused);
+    watch.paused = paused;
+    watch.log_left(site.rt, status.gauge);
+    make_room(site, &status);
+    site.rt.flush();
+}
+
+/// Whether nothing is left to look after: the service is halted, or it closes and no post works.
+fn is_over<A: Opening, T: Ledger, U: Ledger, H: Crew>(site: &Site<'_, A, T, U, H>) -> bool {
+    match site.stage() {
+        Stage::Open => false,
+        Stage::Closing => site.posts() == 0,
+        Stage::Halted => true,
+    }
+}
+
+/// Looks at the book 20 times a second, until the service is halted, or closes and no post works. Reading pauses at the
+/// channels that the book has no room for, and goes on once it has. Lines that the log holds back are written at each look.
+pub fn work_warden<A: Opening, T: Ledger, U: Ledger, H: Crew>(site: &Site<'_, A, T, U, H>) {
+    let mut watch = Watch::new();
+    for _ in site.rt.forever() {
+        if is_over(site) {
+            return;
+        }
+        look(site, &mut watch);
+        thread::sleep(site.rt, Duration::from_millis(LOOK_MILLIS));
+    }
+}

@@ -1,0 +1,77 @@
+//! The way to a destination, as the plan in force has it.
+
+use crate::site::{Crew, Site};
+use crate::stage::Stage;
+use book_lock::Opening;
+use delivery_worker::Way;
+use dest_queue::Outcome;
+use plan_text::{Destination, Plan};
+use std::sync::Arc;
+use std::sync::ledger::Ledger;
+
+/// The way to the destination at an index of the plan in force.
+#[derive(Drop)]
+pub struct PlanWay<'s, 'x, A: Opening, T: Ledger, U: Ledger, H> {
+    site: &'s Site<'x, A, T, U, H>,
+    index: u32,
+    /// The plan that was taken up last, if one could be.
+    plan: Option<Arc<Plan>>,
+}
+
+/// Whether two plans have the same address and timeout of a destination, or neither has it.
+fn is_same_way(old: &Plan, new: &Plan, index: u32) -> bool {
+    match (old.destination(index), new.destination(index)) {
+        (Some(before), Some(after)) => {
+            before.address() == after.address() && before.timeout() == after.timeout()
+        }
+        (None, None) => true,
+        _ => false,
+    }
+}
+
+impl<'s, 'x, A: Opening, T: Ledger, U: Ledger, H: Crew> PlanWay<'s, 'x, A, T, U, H> {
+    /// The way by the plan in force at this moment.
+    pub fn new(site: &'s Site<'x, A, T, U, H>, index: u32) -> Self {
+        PlanWay {
+            site,
+            index,
+            plan: site.shared.plan(site.rt).ok(),
+        }
+    }
+}
+
+impl<A: Opening, T: Ledger, U: Ledger, H: Crew> Way for PlanWay<'_, '_, A, T, U, H> {
+    fn destination(&self) -> Option<&Destination> {
+        match &self.plan {
+            Some(plan) => plan.destination(self.index),
+            None => None,
+        }
+    }
+
+    fn renew(&mut self) -> bool {
+        // Where the plan can't be shared, the one before stays.
+        let Ok(new) = self.site.shared.plan(self.site.rt) else {
+            return false;
+        };
+        let is_changed = match &self.plan {
+            Some(old) => !is_same_way(old, &new, self.index),
+            None => true,
+        };
+        self.plan = Some(new);
+        is_changed
+    }
+
+    fn is_halted(&self) -> bool {
+        self.site.stage() == Stage::Halted
+    }
+
+    fn can_halt(&self) -> bool {
+        true
+    }
+
+    fn note(&mut self, outcome: Outcome) {
+        if outcome == Outcome::Delivered {
+            self.site.note_delivered(self.index);
+        }
+    }
+}
