@@ -1,34 +1,49 @@
 //! What came of a new plan, and of a cancellation.
 
+use event_log::DeployRefusal;
 use log_text::Escaped;
 use plan_text::{Plan, PlanFault};
 use service_commands::Refused;
 use std::alloc::{AllocError, Global};
 use std::io;
 
-/// Adds a line for each channel whose address differs: its listener stays where it is.
-fn add_listeners(text: &mut String, before: &Plan, after: &Plan) -> Result<(), AllocError> {
-    for index in 0..after.channels() {
-        if let (Some(old), Some(new)) = (before.channel(index), after.channel(index))
-            && old.listen() != new.listen()
-        {
-            let (name, listen) = (new.name(), old.listen());
-            writeln!(text, "channel {name} still listens at {listen}")?;
-        }
-    }
-    Ok(())
-}
-
-/// The answer to a plan that is deployed in place of the plan before.
+/// Begins the answer to a plan that is deployed.
 ///
 /// # Errors
 ///
 /// Where memory is refused.
-pub fn deployed_text(alloc: Global, before: &Plan, after: &Plan) -> Result<String, AllocError> {
-    let mut text = format!(in alloc; "deployed\n")?;
-    add_listeners(&mut text, before, after)?;
-    writeln!(text, "")?;
-    Ok(text)
+pub fn deployed_text(alloc: Global) -> Result<String, AllocError> {
+    format!(in alloc; "deployed\n")
+}
+
+/// Adds that a channel listens on where it did, whatever a new plan says.
+///
+/// # Errors
+///
+/// Where memory is refused.
+pub fn add_listener(text: &mut String, name: &str, listen: &str) -> Result<(), AllocError> {
+    writeln!(text, "channel {name} still listens at {listen}")
+}
+
+/// The answer to a plan that the book refuses, where `before` is the plan in force: a destination that is in use is named.
+///
+/// # Errors
+///
+/// Where memory is refused.
+pub fn refused_plan_text(
+    alloc: Global,
+    before: &Plan,
+    refusal: DeployRefusal,
+) -> Result<String, AllocError> {
+    if let DeployRefusal::DestinationInUse(index) = refusal
+        && let Some(destination) = before.destination(index)
+    {
+        let name = destination.name();
+        return format!(in alloc;
+            "refused: messages wait for {name}, so its place, name and attempts have to stay\n\n"
+        );
+    }
+    format!(in alloc; "{}", Refused(refusal))
 }
 
 /// The answer to a file that can't be read.

@@ -1,5 +1,6 @@
 //! The end of a service: what was left undelivered, and the closed book.
 
+use crate::output::{tell, write_text};
 use crate::questions::queued;
 use crate::service::RunEnd;
 use crate::workers::Returned;
@@ -12,7 +13,8 @@ use stat_count::{Counts, DestinationCounts};
 use std::alloc::{AllocError, Global};
 use std::sync::ledger::Ledger;
 
-/// Names each message that is left undelivered at a destination, a line each on standard error. How many there are.
+/// Names each message that is left undelivered at a destination, a line each on standard error, as long as it is read. How many
+/// there are.
 fn name_left_at<A: Opening, T: Ledger, U: Ledger, H: Crew>(
     rt: &HostRuntime,
     site: &Site<'_, A, T, U, H>,
@@ -24,7 +26,9 @@ fn name_left_at<A: Opening, T: Ledger, U: Ledger, H: Crew>(
     for front in left {
         let found = site.shared.message(site.rt, front.number)?;
         let line = left_behind(site.alloc, name, &Listed { front, found })?;
-        let _ = eprintln!(rt; "{line}");
+        if !tell(rt, &line) {
+            break;
+        }
     }
     Ok(count)
 }
@@ -69,7 +73,8 @@ fn is_any_left(plan: &Plan, counts: &Counts) -> bool {
 ///
 /// # Errors
 ///
-/// `Audit` where the shares of the workers don't add up, `Write` where standard output can't be written, `Memory`.
+/// `Audit` where the shares of the workers don't add up, `Write` where standard output can't be written or nobody reads it for
+/// five seconds, `Memory`.
 pub fn conclude<'f, A: Opening, T: Ledger, U: Ledger>(
     rt: &HostRuntime,
     alloc: Global,
@@ -83,7 +88,7 @@ pub fn conclude<'f, A: Opening, T: Ledger, U: Ledger>(
     };
     let (_rows, counts) = closed.promise();
     let text = statistics_text(alloc, plan, counts)?;
-    print!(rt; "{text}").map_err(|_| Fault::Write)?;
+    write_text(rt, &text).map_err(|_| Fault::Write)?;
     if is_any_left(plan, counts) {
         Ok(RunEnd::Undelivered)
     } else {

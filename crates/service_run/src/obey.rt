@@ -1,6 +1,6 @@
 //! The commands on standard input.
 
-use crate::output::{answer, write_text};
+use crate::output::{answer, say};
 use crate::questions::{
     ask_find, ask_message, ask_metrics, ask_status, ask_waiting, do_cancel, do_deploy, do_prune,
 };
@@ -9,7 +9,7 @@ use crate::workers::Workers;
 use book_lock::Opening;
 use log::{Log, info};
 use service_commands::{Command, Input, UNKNOWN, read_command, read_line};
-use service_workers::{Crew, Site, Stage, StandardInput, has_ended, stop};
+use service_workers::{Crew, Gate, Site, Stage, StandardInput, has_ended, stop};
 use std::str;
 use std::sync::ledger::Ledger;
 use std::time::Duration;
@@ -24,11 +24,12 @@ const LOOK_MILLIS: u64 = 100;
 fn deploy<A: Opening, T: Ledger, U: Ledger, H: Crew>(
     rt: &HostRuntime,
     site: &Site<'_, A, T, U, H>,
+    gates: &[Gate],
     path: &[u8],
 ) {
     match str::from_utf8(path) {
-        Ok(path) => answer(rt, do_deploy(rt, site, path)),
-        Err(_) => write_text(rt, "refused: the path is not UTF-8\n\n"),
+        Ok(path) => answer(rt, do_deploy(rt, site, gates, path)),
+        Err(_) => say(rt, "refused: the path is not UTF-8\n\n"),
     }
 }
 
@@ -47,12 +48,12 @@ fn obey<A: Opening, T: Ledger, U: Ledger, H: Crew>(
         Command::Message(number) => answer(rt, ask_message(site, number)),
         Command::Find(id) => answer(rt, ask_find(site, id)),
         Command::Waiting(name) => answer(rt, ask_waiting(site, name)),
-        Command::Deploy(path) => deploy(rt, site, path),
+        Command::Deploy(path) => deploy(rt, site, &workers.gates, path),
         Command::Prune => answer(rt, do_prune(site)),
         Command::Cancel(number) => answer(rt, do_cancel(site, number)),
         Command::Stop => begin_stop(rt, site, workers, true, settings.grace),
         Command::StopNow => begin_stop(rt, site, workers, false, settings.grace),
-        Command::Unknown => write_text(rt, UNKNOWN),
+        Command::Unknown => say(rt, UNKNOWN),
     }
 }
 
@@ -69,7 +70,7 @@ fn begin_stop<A: Opening, T: Ledger, U: Ledger, H: Crew>(
     } else {
         info!(site.rt; "stopping now");
     }
-    write_text(rt, "stopping\n\n");
+    say(rt, "stopping\n\n");
     let grace = Duration::from_secs(u64::from(grace));
     stop(site, &workers.gates, &workers.places, drains, grace);
 }
@@ -101,7 +102,7 @@ pub fn obey_all<A: Opening, T: Ledger, U: Ledger, H: Crew>(
                 let command = read_command(&line[..len]);
                 obey(rt, site, workers, settings, started, command);
             }
-            Ok(Input::TooLong) => write_text(rt, UNKNOWN),
+            Ok(Input::TooLong) => say(rt, UNKNOWN),
             Ok(Input::End) | Err(_) => return wait_for_end(site),
         }
     }

@@ -7,13 +7,14 @@ use log::{Log, info, warn};
 use log_text::Escaped;
 use plan_text::Plan;
 use service_answers::{
-    Listed, SHOWN_MAX, bad_plan_text, cancelled_text, deployed_text, found_text, message_text,
-    metrics_text, no_file_text, pruned_text, status_text, waiting_text,
+    Listed, SHOWN_MAX, add_listener, bad_plan_text, cancelled_text, deployed_text, found_text,
+    message_text, metrics_text, no_file_text, pruned_text, refused_plan_text, status_text,
+    waiting_text,
 };
 use service_commands::Refused;
-use service_workers::{Crew, Site};
+use service_workers::{Crew, Gate, Site};
 use stat_count::{Counts, DestinationCounts};
-use std::alloc::AllocError;
+use std::alloc::{AllocError, Global};
 use std::fs;
 use std::io::ErrorKind;
 use std::sync::Arc;
@@ -176,10 +177,25 @@ fn read_plan<A: Opening, T: Ledger, U: Ledger, H: Crew>(
     }
 }
 
+/// The answer to a plan that is deployed: for each channel whose address it changes, that the listener stays.
+fn deployed(alloc: Global, gates: &[Gate], plan: &Plan) -> Result<String, AllocError> {
+    let mut text = deployed_text(alloc)?;
+    for gate in gates {
+        if let Some(channel) = plan.channel(gate.channel())
+            && channel.listen() != gate.listen()
+        {
+            add_listener(&mut text, gate.name(), gate.listen())?;
+        }
+    }
+    writeln!(text, "")?;
+    Ok(text)
+}
+
 /// Puts the plan in a file in place of the plan in force, and says what came of it.
 pub fn do_deploy<A: Opening, T: Ledger, U: Ledger, H: Crew>(
     rt: &HostRuntime,
     site: &Site<'_, A, T, U, H>,
+    gates: &[Gate],
     path: &str,
 ) -> Result<String, AllocError> {
     let plan = match read_plan(rt, site, path)? {
@@ -187,7 +203,7 @@ pub fn do_deploy<A: Opening, T: Ledger, U: Ledger, H: Crew>(
         Err(refused) => return Ok(refused),
     };
     let before = site.shared.plan(site.rt)?;
-    let text = deployed_text(site.alloc, &before, &plan)?;
+    let text = deployed(site.alloc, gates, &plan)?;
     let path = Escaped(path);
     match site.shared.deploy(site.rt, plan) {
         Ok(()) => {
@@ -196,7 +212,7 @@ pub fn do_deploy<A: Opening, T: Ledger, U: Ledger, H: Crew>(
         }
         Err(refusal) => {
             warn!(site.rt; target: "always", path:% = path; "plan not deployed: {refusal}");
-            format!(in site.alloc; "{}", Refused(refusal))
+            refused_plan_text(site.alloc, &before, refusal)
         }
     }
 }

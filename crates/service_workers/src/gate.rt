@@ -17,6 +17,7 @@ const INTERRUPTIONS_MAX: u32 = 1_000;
 #[derive(Drop)]
 pub struct Gate {
     name: String,
+    listen: String,
     channel: u32,
     listener: TcpListener,
     failures: AtomicU32,
@@ -37,10 +38,12 @@ impl Gate {
         ensures { IfOk result (λ opened. IfOk opened (λ gate. gate.channel ≡ index)) }
     {
         let name = channel.name().to_string(alloc)?;
+        let listen = channel.listen().to_string(alloc)?;
         let listener: io::Result<TcpListener> = TcpListener::bind(rt, channel.listen());
         Ok(match listener {
             Ok(listener) => Ok(Gate {
                 name,
+                listen,
                 channel: index,
                 listener,
                 failures: AtomicU32::new(0),
@@ -54,6 +57,11 @@ impl Gate {
         self.name.as_str()
     }
 
+    /// The address that it listens at, as the plan had it at the start. A later plan changes nothing of that.
+    pub fn listen(&self) -> &str {
+        self.listen.as_str()
+    }
+
     /// The channel's index in the plan.
     pub fn channel(&self) -> u32
         ensures { result ≡ self.now.channel }
@@ -61,7 +69,7 @@ impl Gate {
         self.channel
     }
 
-    /// The address that it listens at.
+    /// The address that it listens at, as the system has it.
     ///
     /// # Errors
     ///
