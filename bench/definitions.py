@@ -1,5 +1,5 @@
 #!/usr/bin/env python3
-"""Lists the definitions that the claims of the README stand on, as the tables of docs/ARCHITECTURE.md. Plain Python 3.
+"""Lists the definitions that the claims of docs/PROVED.md stand on, as the tables of docs/ARCHITECTURE.md. Plain Python 3.
 
 Usage: bench/definitions.py [--write]
 

@@ -72,7 +72,7 @@ def conversation(program, folder):
 
 
 def example(program, folder):
-    """The example of two channels, at other ports: what the README shows comes out as it says."""
+    """The example of two channels, at other ports: what docs/USE.md shows comes out as it says."""
     peers = {6661: Destination(lambda text, before: b'AA'), 6662: Destination(lambda text, before: SILENCE),
              6663: Destination(lambda text, before: b'AA')}
     doors = dict(zip((6660, 6670), free_ports(2)))
