@@ -452,7 +452,7 @@ def unread(program, folder):
 
 
 def tools(program, folder):
-    """Prometheus' own tool accepts the metrics, systemd the unit, and hl7ctl sends a command by the FIFOs; each where it is installed."""
+    """Prometheus' own tool accepts the metrics and the alert rules, systemd the unit, and hl7ctl sends a command by the FIFOs; each where it is installed."""
     here, found = os.path.dirname(os.path.abspath(__file__)), []
     examples = os.path.join(here, '..', 'examples', 'service')
     control = os.path.join(examples, 'hl7ctl')
@@ -462,8 +462,11 @@ def tools(program, folder):
         done = subprocess.run(['promtool', 'check', 'metrics'], input=text.encode(), capture_output=True, timeout=LIMIT, check=False)
         if done.returncode or done.stdout or done.stderr:
             found.append(f'tools: promtool: {done}')
+        done = subprocess.run(['promtool', 'check', 'rules', os.path.join(examples, 'alerts.yml')], capture_output=True, timeout=LIMIT, check=False)
+        if done.returncode:
+            found.append(f'tools: promtool: {done}')
     else:
-        print('tools: no promtool, the metrics are not checked by it')
+        print('tools: no promtool, metrics and alert rules are not checked by it')
     if shutil.which('systemd-analyze'):
         with open(os.path.join(examples, 'hl7-service.service'), encoding='utf-8') as file:
             text = file.read().replace('/usr/local/bin/hl7_service', program).replace('/usr/local/bin/hl7ctl', control)

@@ -1,0 +1,214 @@
+#!/usr/bin/env python3
+"""Plays the configurations of examples/tls around the built service: a sender and a destination by TLS, through stunnel and
+through HAProxy, with certificates of an authority that it makes. Whichever of the two, or openssl, isn't installed is left
+out, which is said.
+
+Usage: peers/tls.py [PROGRAM]
+
+PROGRAM is the built service, crates/hl7_service/out/hl7_service where left out ('rt run' in crates/hl7_service builds it).
+Plain Python 3, no packages, bounded in time. The exit status is 0 where all went as it should, else 1.
+"""
+import os
+import shutil
+import socket
+import ssl
+import subprocess
+import sys
+import tempfile
+import threading
+import time
+
+from engine import one_channel
+from mllp import answer, block, blocks, field, free_ports, message
+from service import PROGRAM, Service, came
+from mllp import Destination
+
+EXAMPLES = os.path.join(os.path.dirname(os.path.abspath(__file__)), '..', 'examples', 'tls')
+LIMIT = 20
+
+
+def openssl(folder, *words):
+    subprocess.run(['openssl', *words], cwd=folder, check=True, capture_output=True, timeout=LIMIT)
+
+
+def certificates(folder):
+    """An authority, and a certificate of it for each of the engine, two senders and LAB; and one of another authority."""
+    os.mkdir(folder)
+    for authority in ('ca', 'other'):
+        openssl(folder, 'req', '-x509', '-newkey', 'ec', '-pkeyopt', 'ec_paramgen_curve:P-256', '-nodes', '-days', '2', '-subj',
+                f'/CN={authority}', '-keyout', f'{authority}.key', '-out', f'{authority}.crt')
+    for name, by in (('engine', 'ca'), ('adt-sender', 'ca'), ('guest', 'ca'), ('lab', 'ca'), ('forged', 'other')):
+        subject = 'adt-sender' if name == 'forged' else name
+        openssl(folder, 'req', '-newkey', 'ec', '-pkeyopt', 'ec_paramgen_curve:P-256', '-nodes', '-subj', f'/CN={subject}',
+                '-keyout', f'{name}.key', '-out', f'{name}.csr')
+        with open(os.path.join(folder, f'{name}.ext'), 'w', encoding='utf-8') as file:
+            file.write(f'subjectAltName=DNS:{subject}\n')
+        openssl(folder, 'x509', '-req', '-in', f'{name}.csr', '-CA', f'{by}.crt', '-CAkey', f'{by}.key', '-CAcreateserial',
+                '-days', '2', '-extfile', f'{name}.ext', '-out', f'{name}.crt')
+        with open(os.path.join(folder, f'{name}.pem'), 'wb') as both:
+            for part in ('crt', 'key'):
+                with open(os.path.join(folder, f'{name}.{part}'), 'rb') as file:
+                    both.write(file.read())
+
+
+class SecureLab:
+    """A destination that speaks TLS, wants a certificate of the authority, and answers AA."""
+
+    def __init__(self, port, folder):
+        self.came, self.listener = [], socket.create_server(('127.0.0.1', port))
+        self.context = ssl.SSLContext(ssl.PROTOCOL_TLS_SERVER)
+        self.context.load_cert_chain(os.path.join(folder, 'lab.crt'), os.path.join(folder, 'lab.key'))
+        self.context.load_verify_locations(os.path.join(folder, 'ca.crt'))
+        self.context.verify_mode = ssl.CERT_REQUIRED
+        threading.Thread(target=self.listen, daemon=True).start()
+
+    def listen(self):
+        while True:
+            try:
+                peer, _ = self.listener.accept()
+            except OSError:
+                return
+            threading.Thread(target=self.talk, args=(peer,), daemon=True).start()
+
+    def talk(self, peer):
+        try:
+            with self.context.wrap_socket(peer, server_side=True) as secure:
+                for text in blocks(secure):
+                    self.came.append(text)
+                    secure.sendall(block(answer(text, b'AA')))
+        except OSError:
+            pass
+
+    def close(self):
+        self.listener.shutdown(socket.SHUT_RDWR)
+        self.listener.close()
+
+
+def sent(port, folder, name, text):
+    """The code that a message is answered by over TLS, with the certificate of this name, if any; or why there is none."""
+    context = ssl.SSLContext(ssl.PROTOCOL_TLS_CLIENT)
+    context.load_verify_locations(os.path.join(folder, 'ca.crt'))
+    if name:
+        context.load_cert_chain(os.path.join(folder, f'{name}.crt'), os.path.join(folder, f'{name}.key'))
+    try:
+        with socket.create_connection(('127.0.0.1', port), timeout=LIMIT) as plain, \
+                context.wrap_socket(plain, server_hostname='engine') as secure:
+            secure.sendall(block(text))
+            reply = next(blocks(secure), None)
+            return field(reply, b'MSA', 1) if reply else 'closed'
+    except OSError:
+        return 'closed'
+
+
+def sent_plain(port, text):
+    """The same by plain MLLP."""
+    try:
+        with socket.create_connection(('127.0.0.1', port), timeout=LIMIT) as peer:
+            peer.sendall(block(text))
+            reply = next(blocks(peer), None)
+            return field(reply, b'MSA', 1) if reply else 'closed'
+    except OSError:
+        return 'closed'
+
+
+class Proxy:
+    """A proxy by one of the examples, at other ports, once its port for senders takes connections."""
+
+    def __init__(self, tool, example, folder, places):
+        with open(os.path.join(EXAMPLES, example), encoding='utf-8') as file:
+            text = file.read()
+        for number, port in places.items():
+            text = text.replace(f'127.0.0.1:{number}\n', f'127.0.0.1:{port}\n').replace(f'127.0.0.1:{number} ', f'127.0.0.1:{port} ')
+        with open(os.path.join(folder, example), 'w', encoding='utf-8') as file:
+            file.write(text)
+        words = [tool, example] if tool.endswith('stunnel') else [tool, '-f', example]
+        self.process = subprocess.Popen(words, cwd=folder, stdout=subprocess.DEVNULL, stderr=subprocess.DEVNULL)
+        until = time.monotonic() + LIMIT
+        while time.monotonic() < until and self.process.poll() is None:
+            try:
+                socket.create_connection(('127.0.0.1', places[2576]), timeout=1).close()
+                return
+            except OSError:
+                time.sleep(0.05)
+        raise RuntimeError(f'{tool} does not listen')
+
+    def __enter__(self):
+        return self
+
+    def __exit__(self, *_):
+        self.process.kill()
+        self.process.wait()
+
+
+def ports():
+    """A free port for each number of the examples."""
+    return dict(zip((2576, 2577, 6660, 6661, 6760), free_ports(5)))
+
+
+def by_stunnel(program, folder):
+    """A sender with the right certificate, then those without, and LAB by TLS."""
+    places, tls = ports(), os.path.join(folder, 'tls')
+    lab = SecureLab(places[2577], tls)
+    with Service(program, one_channel(places[6660], [('LAB', places[6661], [])]), folder) as service, \
+            Proxy(shutil.which('stunnel'), 'stunnel.conf', folder, places):
+        codes = [sent(places[2576], tls, 'adt-sender', message(b'S1')), sent(places[2576], tls, None, message(b'S2')),
+                 sent(places[2576], tls, 'guest', message(b'S3')), sent(places[2576], tls, 'forged', message(b'S4')),
+                 sent_plain(places[2576], message(b'S5'))]
+        whole = came(lab, 1)
+        service.ask('stop now')
+    lab.close()
+    wanted = [b'CA', 'closed', 'closed', 'closed', 'closed']
+    return [] if codes == wanted and whole and lab.came == [message(b'S1')] else [f'stunnel: {codes}, {len(lab.came)} came']
+
+
+def by_haproxy(program, folder):
+    """The same through HAProxy; then the first service ends, and the second takes over."""
+    places, tls, found = ports(), os.path.join(folder, 'tls'), []
+    lab, spare = SecureLab(places[2577], tls), Destination(lambda *_: b'AA')
+    second = os.path.join(folder, 'second')
+    os.mkdir(second)
+    with Service(program, one_channel(places[6660], [('LAB', places[6661], [])]), folder) as service, \
+            Service(program, one_channel(places[6760], [('SPARE', spare.port, [])]), second) as other, \
+            Proxy(shutil.which('haproxy'), 'haproxy.cfg', folder, places):
+        checked = subprocess.run(['haproxy', '-c', '-f', 'haproxy.cfg'], cwd=folder, capture_output=True, timeout=LIMIT, check=False)
+        codes = [sent(places[2576], tls, 'adt-sender', message(b'H1')), sent(places[2576], tls, None, message(b'H2')),
+                 sent(places[2576], tls, 'guest', message(b'H3')), sent(places[2576], tls, 'forged', message(b'H4')),
+                 sent_plain(places[2576], message(b'H5'))]
+        whole = came(lab, 1)
+        service.ask('stop')
+        until, code = time.monotonic() + LIMIT, 'closed'
+        while code == 'closed' and time.monotonic() < until:
+            code = sent(places[2576], tls, 'adt-sender', message(b'H6'))
+        took_over = came(spare, 1)
+        other.ask('stop now')
+    lab.close()
+    spare.close()
+    if checked.returncode or codes != [b'CA', 'closed', 'closed', 'closed', 'closed'] or not whole or lab.came != [message(b'H1')]:
+        found.append(f'haproxy: {checked.returncode}, {codes}, {len(lab.came)} came')
+    if code != b'CA' or not took_over:
+        found.append(f'haproxy: the second service was not reached: {code}')
+    return found
+
+
+def main():
+    program, lines = os.path.abspath(sys.argv[1] if len(sys.argv) > 1 else PROGRAM), []
+    for tool, scene in (('stunnel', by_stunnel), ('haproxy', by_haproxy)):
+        if not shutil.which(tool) or not shutil.which('openssl'):
+            print(f'{tool}: not played, {tool} or openssl is not installed')
+            continue
+        began = time.monotonic()
+        with tempfile.TemporaryDirectory() as folder:
+            certificates(os.path.join(folder, 'tls'))
+            try:
+                found = scene(program, folder)
+            except (OSError, RuntimeError, subprocess.SubprocessError) as error:
+                found = [f'{tool}: {error!r}']
+        print(f'{tool}: {"as it should be" if not found else "WRONG"}, {time.monotonic() - began:.1f} seconds', flush=True)
+        lines += found
+    for line in lines:
+        print(line)
+    return 1 if lines else 0
+
+
+if __name__ == '__main__':
+    sys.exit(main())
