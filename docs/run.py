@@ -16,7 +16,7 @@ import tempfile
 
 HERE = os.path.dirname(os.path.abspath(__file__))
 PROGRAM = os.path.join(HERE, '..', 'crates', 'hl7_service', 'out', 'hl7_service')
-PAGES = ['GUIDE.md']
+PAGES = ['GUIDE.md', 'EXAMPLES.md']
 BLOCK = re.compile(r'(?:<!-- file (\S+) -->\n)?```(\w*)\n(.*?)```\n', re.S)
 
 
