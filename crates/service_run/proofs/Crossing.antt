@@ -11,7 +11,17 @@ use Rattle.std.proofs.Crossing.{crosses}
 use Rattle.std.specs.declared.sync.ledger.Ledger as Ledger
 use Rattle.book_lock.specs.declared.locked.Opening as Opening
 use Rattle.book_lock.proofs.Sent.{shared_sync, tuple_send}
+use Rattle.record_list.specs.contracts.record_list.RecordList as RecordList
+use Rattle.record_list.proofs.record_list.RecordList.TheSendSync as record_list
+use Rattle.dest_queue.specs.contracts.slots.Addressed as Addressed
+use Rattle.dest_queue.proofs.slots.Addressed.TheSendSync as addressed
+use Rattle.book_core.specs.contracts.letter.Letter as Letter
+use Rattle.book_core.proofs.letter.Letter.TheSendSync as letter
 use Rattle.service_workers.specs.contracts.site.Site as Site
+
+-- the store of the rows may be given to another thread
+rows_send : IsSend (RecordList.the_row (Addressed.the_row Letter.the_row))
+rows_send = search (sendable, crosses, record_list.the_send, addressed.the_send, letter.the_send) depth 60 fits 30000
 
 module _ (A T U H : RattleType) (o : Opening.Ghosts A.Denot) (a : Ledger.Ghosts A.Denot) (t : Ledger.Ghosts T.Denot)
     (u : Ledger.Ghosts U.Denot) where
@@ -24,7 +34,7 @@ module _ (A T U H : RattleType) (o : Opening.Ghosts A.Denot) (a : Ledger.Ghosts 
         (
           search (sendable, crosses) depth 20,
           (
-            shr_sync _ _ _ (shared_sync A T U _ o a t u _ (search (sendable, crosses) depth 60 fits 30000)),
+            shr_sync _ _ _ (shared_sync A T U _ o a t u _ rows_send),
             search (sendable, crosses) depth 60 fits 30000,
           ),
         ),

@@ -41,8 +41,8 @@ fn name_left_at<A: Opening, T: Ledger, U: Ledger, H: Crew>(
 pub fn name_left<A: Opening, T: Ledger, U: Ledger, H: Crew>(
     rt: &HostRuntime,
     site: &Site<'_, A, T, U, H>,
-    plan: &Plan,
 ) -> Result<usize, AllocError> {
+    let plan = site.shared.plan(site.rt)?;
     let mut count: usize = 0;
     for index in 0..plan.destinations() {
         if let Some(destination) = plan.destination(index) {

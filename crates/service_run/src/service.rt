@@ -44,6 +44,27 @@ pub enum RunEnd {
     Undelivered,
 }
 
+/// Runs all workers over a shared book until they have ended, and names what is left undelivered. Whether enough threads could
+/// be started.
+fn run_workers<A: Opening + Sync, T: Ledger + Sync, U: Ledger + Sync, H: Crew + Threads + Sync>(
+    rt: &HostRuntime,
+    handle: &H,
+    settings: &Settings,
+    shared: &Shared<A, T, U, ServiceRows>,
+    workers: &Workers<A, T, U>,
+) -> bool {
+    let alloc = rt.alloc();
+    let started = seconds_now(handle);
+    let site = Site::new(handle, alloc, shared, settings.keep, settings.idle);
+    let is_staffed = work(rt, handle, &site, workers, settings, started);
+    if let Ok(undelivered) = name_left(rt, &site)
+        && undelivered > 0
+    {
+        warn!(handle; target: "always", undelivered; "messages are left undelivered");
+    }
+    is_staffed
+}
+
 /// Shares the book, runs all workers over it, closes it, and prints the statistics.
 fn serve<'f, A: Opening + Sync, T: Ledger + Sync, U: Ledger + Sync, H: Crew + Threads + Sync>(
     rt: &HostRuntime,
@@ -77,16 +98,8 @@ fn serve<'f, A: Opening + Sync, T: Ledger + Sync, U: Ledger + Sync, H: Crew + Th
         return Err(Fault::Memory);
     };
     let workers = Workers::new(alloc, gates, desks, stations)?;
-    let started = seconds_now(handle);
-    let site = Site::new(handle, alloc, &shared, settings.keep, settings.idle);
-    let is_staffed = work(rt, handle, &site, &workers, settings, started);
+    let is_staffed = run_workers(rt, handle, settings, &shared, &workers);
     let plan = shared.plan(handle)?;
-    let named = name_left(rt, &site, &plan);
-    if let Ok(undelivered) = named
-        && undelivered > 0
-    {
-        warn!(handle; target: "always", undelivered; "messages are left undelivered");
-    }
     let returned = workers.into_returned(alloc)?;
     let ended = conclude(rt, alloc, &plan, shared, returned)?;
     if is_staffed {
@@ -124,7 +137,8 @@ fn log_start<H: Log>(handle: &H, path: &str, plan: &Plan, settings: &Settings) {
         grace,
     } = *settings;
     let (version, path) = (VERSION, Escaped(path));
-    info!(handle; version, plan:% = path, channels, destinations, connections, events, keep, idle, grace; "the service starts");
+    info!(handle; version, plan:% = path, channels, destinations; "the service starts");
+    info!(handle; connections, events, keep, idle, grace; "the bounds of the service");
 }
 
 /// Runs the service by a plan, with its log in a journal.

@@ -115,24 +115,52 @@ fn start_all<
 
 /// Starts all workers, and obeys commands until they have ended. Whether enough threads could be started; where not, those that
 /// were are ended.
-pub fn work<A: Opening + Sync, T: Ledger + Sync, U: Ledger + Sync, H: Crew + Threads + Sync>(
+fn work_within<
+    's,
+    'x: 's,
+    E: 's,
+    A: Opening + Sync + 's,
+    T: Ledger + Sync + 's,
+    U: Ledger + Sync + 's,
+    H: Crew + Sync + 's,
+>(
+    scope: &Scope<'s, E>,
     rt: &HostRuntime,
-    handle: &H,
-    site: &Site<'_, A, T, U, H>,
-    workers: &Workers<A, T, U>,
+    site: &'s Site<'x, A, T, U, H>,
+    workers: &'s Workers<A, T, U>,
     settings: &Settings,
     started: u64,
 ) -> bool {
-    let mut is_staffed = true;
+    let is_staffed = start_all(scope, site, workers);
+    if is_staffed {
+        info!(site.rt; "the service is ready");
+        obey_all(rt, site, workers, settings, started);
+    } else {
+        stop(site, &workers.gates, &workers.places, false, Duration::ZERO);
+    }
+    is_staffed
+}
+
+/// Works until all workers have ended. Whether enough threads could be started.
+pub fn work<
+    'y,
+    'x: 'y,
+    A: Opening + Sync,
+    T: Ledger + Sync,
+    U: Ledger + Sync,
+    H: Crew + Threads + Sync,
+>(
+    rt: &HostRuntime,
+    handle: &H,
+    site: &'y Site<'x, A, T, U, H>,
+    workers: &'y Workers<A, T, U>,
+    settings: &Settings,
+    started: u64,
+) -> bool {
+    let mut is_staffed = false;
     let staffed = &mut is_staffed;
     thread::scope(thread::scope_env(), handle, |scope| {
-        if start_all(scope, site, workers) {
-            info!(site.rt; "the service is ready");
-            obey_all(rt, site, workers, settings, started);
-        } else {
-            *staffed = false;
-            stop(site, &workers.gates, &workers.places, false, Duration::ZERO);
-        }
+        *staffed = work_within(scope, rt, site, workers, settings, started);
     });
     is_staffed
 }

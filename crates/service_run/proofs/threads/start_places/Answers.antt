@@ -6,8 +6,8 @@ use Rattle.service_workers.proofs.place.Place.TheSendSync as place
 use Rattle.service_run.proofs.Crossing.{at_site_send}
 use Rattle.service_run.proofs.threads.start_places.Goals as goal
 
-pub spawn_scoped-requires-send-F : goal.spawn_scoped-requires-send-F
-spawn_scoped-requires-send-F g c κs within =
+pub spawn_scoped-started-requires-send-F : goal.spawn_scoped-started-requires-send-F
+spawn_scoped-started-requires-send-F g c κs within =
     let b = c.type_bounds in
     param_send 1 _ (arg_send _ no _ (
     at_site_send (param 1 g.row.A) (param 2 g.row.T) (param 3 g.row.U) (param 4 g.row.H) g.A.Opening g.A.Ledger g.T.Ledger g.U.Ledger _ _ _ _ _
