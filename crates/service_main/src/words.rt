@@ -1,6 +1,6 @@
 //! Doing what the command line asks.
 
-ghost use Rattle.std.specs.Prelude.{◌≡◌, ◌≤◌, IfErr, IfOk};
+ghost use Rattle.std.specs.Prelude.{◌≡◌, IfErr, IfOk};
 ghost use Rattle.std.specs.Process.{exit_status};
 ghost use Rattle.service_main.specs.Ending.{ended_status, trouble_status};
 
@@ -54,10 +54,7 @@ fn serve<'a, H: Crew + Threads + Eprint + Copy + Sync>(
     handle: &H,
     path: &'a str,
     settings: &Settings,
-) -> Result<Ended, Trouble<'a>>
-    requires some { 1 ≤ settings.now.events }
-    requires few { settings.now.events ≤ 1_000_000 }
-{
+) -> Result<Ended, Trouble<'a>> {
     let plan = warned_plan(rt, path, settings.events)?;
     match run(rt, handle, path, plan, settings)? {
         RunEnd::Drained => Ok(Ended::Done),

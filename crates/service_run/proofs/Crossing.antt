@@ -34,7 +34,7 @@ module _ (A T U H : RattleType) (o : Opening.Ghosts A.Denot) (a : Ledger.Ghosts 
         (
           search (sendable, crosses) depth 20,
           (
-            shr_sync _ _ _ (shared_sync A T U _ o a t u _ rows_send),
+            shr_sync _ _ _ (shared_sync A T U _ o a t u (record { rows = λ s. s.0; room = λ s. 0 }) rows_send),
             search (sendable, crosses) depth 60 fits 30000,
           ),
         ),

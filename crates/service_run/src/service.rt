@@ -1,6 +1,6 @@
 //! The service, from its start to its end.
 
-ghost use Rattle.std.specs.Prelude.{◌≡◌, ◌+◌, ◌≤◌, length};
+ghost use Rattle.std.specs.Prelude.{◌≡◌, ◌+◌, length};
 ghost use Rattle.event_log.specs.History.{next_place, plan_in_force};
 ghost use Rattle.event_log.specs.Counting.{counted};
 
@@ -9,7 +9,7 @@ use crate::listeners::open_gates;
 use crate::settings::Settings;
 use crate::threads::work;
 use crate::workers::Workers;
-use book_core::Book;
+use book_core::{Book, EVENTS_MAX};
 use book_lock::{Opening, Shared};
 use descriptors::allowed;
 use engine_journal::{Journal, Outbox, Repeats};
@@ -148,10 +148,7 @@ fn run_by<'f, H: Crew + Threads + Sync>(
     path: &str,
     plan: &Arc<Plan>,
     settings: &Settings,
-) -> Result<RunEnd, Fault<'f>>
-    requires some { 1 ≤ settings.now.events }
-    requires few { settings.now.events ≤ 1_000_000 }
-{
+) -> Result<RunEnd, Fault<'f>> {
     let alloc = rt.alloc();
     let desks = connections_of(plan, settings.connections)?;
     log_start(handle, path, plan, settings);
@@ -159,7 +156,9 @@ fn run_by<'f, H: Crew + Threads + Sync>(
     let hasher = hasher(rt)?;
     let shared_plan = Arc::try_clone(plan)?;
     let gates = open_gates(rt, handle, plan)?;
-    let book = Book::<ServiceRows>::new(alloc, shared_plan, settings.events, hasher);
+    // The words of the command line have these bounds already.
+    let events = settings.events.clamp(1, EVENTS_MAX);
+    let book = Book::<ServiceRows>::new(alloc, shared_plan, events, hasher);
     serve::<Brand, Brand, Brand, _>(
         rt,
         handle,
@@ -186,10 +185,7 @@ pub fn run<'f, H: Crew + Threads + Eprint + Copy + Sync>(
     path: &str,
     plan: Plan,
     settings: &Settings,
-) -> Result<RunEnd, Fault<'f>>
-    requires some { 1 ≤ settings.now.events }
-    requires few { settings.now.events ≤ 1_000_000 }
-{
+) -> Result<RunEnd, Fault<'f>> {
     let alloc = rt.alloc();
     let plan = Arc::new(alloc, plan).map_err(AllocError::from)?;
     let repeats = Mutex::new(Repeats::new(alloc)?);
