@@ -45,3 +45,9 @@ module _ (A T U H : RattleType) (o : Opening.Ghosts A.Denot) (a : Ledger.Ghosts 
       → IsSend (TupleAt ν (ShrRef ℓ κ (Site.the_row x A T U H o a t u) ∷ Ts))
   at_site_send ν ℓ κ x Ts h ts =
       tuple_send ν (ShrRef ℓ κ (Site.the_row x A T U H o a t u) ∷ Ts) (shr_send ℓ κ (Site.the_row x A T U H o a t u) (site_sync x h), ts)
+
+  -- a thread that is given it, a value that others may read, and what else crosses
+  pub at_place_send : (ν : Sym) (ℓ ℓ2 : Lifetime) (κ κ2 : Lft) (x : NamedLft) (Y : RattleType) (Ts : List RattleType)
+      → IsSync H → IsSync Y → AllSend Ts
+      → IsSend (TupleAt ν (ShrRef ℓ κ (Site.the_row x A T U H o a t u) ∷ ShrRef ℓ2 κ2 Y ∷ Ts))
+  at_place_send ν ℓ ℓ2 κ κ2 x Y Ts h y ts = at_site_send ν ℓ κ x (ShrRef ℓ2 κ2 Y ∷ Ts) h (shr_send ℓ2 κ2 Y y, ts)
