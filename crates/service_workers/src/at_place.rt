@@ -1,5 +1,6 @@
 //! A desk of a shared book that prunes itself, as the place where the messages of a channel are booked.
 
+use crate::pauses::paused_by;
 use crate::site::{Crew, Site};
 use book_core::{NotBooked, Receipt};
 use book_lock::{Desk, Opening, Tidied, Tidying};
@@ -13,7 +14,7 @@ use std::alloc::AllocError;
 use std::sync::Arc;
 use std::sync::ledger::Ledger;
 
-/// How many entries lie between two looks at how full the book is, for the log.
+/// How many entries lie between two looks at how full the book is, for the log and for pausing.
 const FILL_STEP: usize = 16;
 
 /// A desk of a shared book. An arrival that finds the book tight first forgets what is settled, but for the last messages
@@ -30,6 +31,15 @@ fn log_tidying<H: Log>(rt: &H, tidying: Tidying) {
         Tidying::NotTight => {}
         Tidying::Pruned { before } => info!(rt; before; "settled messages forgotten"),
         Tidying::Refused(refusal) => warn!(rt; "the book is tight and can't be pruned: {refusal}"),
+    }
+}
+
+/// Has reading pause at the channels that the book has no room for, at once: many messages may be received before the warden
+/// looks. It is the warden that logs it, and has reading go on.
+fn pause_early<A: Opening, T: Ledger, U: Ledger, H: Crew>(site: &Site<'_, A, T, U, H>) {
+    // Where the plan can't be shared, the warden looks soon.
+    if let Ok((status, plan)) = site.shared.status(site.rt) {
+        site.pause_also(paused_by(&plan, &status, site.keep, site.paused()));
     }
 }
 
@@ -61,6 +71,7 @@ impl<'a, 'x, A: Opening, T: Ledger, U: Ledger, H: Crew> Booking for AtPlace<'a, 
         match &receipt {
             Ok(receipt) if receipt.entry % FILL_STEP == 0 => {
                 log_fill(self.site.rt, self.site.shared.gauge(self.site.rt));
+                pause_early(self.site);
             }
             Ok(_) => {}
             Err(cause) => self.site.count_unbooked(*cause),

@@ -103,6 +103,11 @@ impl<'x, A: Opening, T: Ledger, U: Ledger, H: Crew> Site<'x, A, T, U, H> {
         self.paused.store(channels, Ordering::SeqCst);
     }
 
+    /// Has reading pause at the channels of this mask too.
+    pub(crate) fn pause_also(&self, channels: u64) {
+        self.paused.fetch_or(channels, Ordering::SeqCst);
+    }
+
     /// How many connections are open.
     pub fn open(&self) -> u32 {
         self.open.load(Ordering::SeqCst)
