@@ -1,5 +1,5 @@
 -- Histories that are alike answer alike.
-use Rattle.std.proofs.Common.{◌≡◌, ℕ, Bool, true, false, cond, List, Option, None, Some, Ok, Err, refl, ◌∙◌, ap, nat_lt, ◌&&◌, not, ◌==◌, length}
+use Rattle.std.proofs.Common.{◌≡◌, ℕ, ◌+◌, Bool, true, false, cond, List, [], Option, None, Some, Result, Ok, Err, IfOk, refl, sym, ◌∙◌, ap, nat_lt, ◌&&◌, not, ◌==◌, length}
 use Rattle.std.specs.Prelude.{find, is_some, slice_get}
 use Rattle.std.specs.List.{range_with_len}
 use Rattle.std.specs.Option.{option_map_or}
@@ -11,14 +11,40 @@ use Rattle.event_log.specs.declared.entry.Ticket.{Ticket}
 use Rattle.event_log.specs.declared.entry.Told.TheVariants as told
 use Rattle.event_log.specs.declared.refusal.CancelRefusal.TheVariants.{NoSuchMessage, NothingWaiting}
 use Rattle.event_log.specs.declared.refusal.DeployRefusal.TheVariants.{ChannelsDiffer, DestinationInUse, TooMany}
+use Rattle.dest_queue.specs.declared.SlotState.{SlotState}
+use Rattle.dest_queue.specs.declared.SlotState.TheVariants.{Waiting, InFlight, Delivered, Failed}
+use Rattle.event_log.specs.declared.refusal.TakeRefusal.{TakeRefusal}
 use Rattle.event_log.specs.declared.refusal.TakeRefusal.TheVariants.{Idle}
+use Rattle.event_log.specs.declared.refusal.TakeRefusal.TheVariants as take_refusal
 use Rattle.hl7_head.specs.declared.ack.Cause.TheVariants.{IdReused}
-use Rattle.event_log.specs.History.{History, is_queued, message_at, message_count, plan_in_force, queue, slot}
-use Rattle.event_log.specs.Alike.{AnswersAlike, Aside, IsAlike, IsApart}
+use Rattle.event_log.specs.History.{History, control_id_of, is_queued, message_at, message_count, plan_in_force, queue, slot}
+use Rattle.event_log.specs.Alike.{AnswersAlike, Aside, IsAlike, IsApart, SendsAlike}
 use Rattle.event_log.specs.Answers.{answer, attempts_max, cancel_answer, front_answer, interval, known, mask_where, settle_answer, take_answer, told_again, told_by, waits}
 use Rattle.event_log.specs.Deployment.{deploy_answer, is_lost, same_channels, stays}
 use Rattle.event_log.specs.Replay.{Request, asked, came, ended, planned, revoked}
 use Rattle.event_log.proofs.Reading.{front-lives}
+
+-- the front that was taken
+pub record Taken (h : History) (d : ℕ) (ticket : Ticket) : Type 0 where
+  pub front : slice_get (queue h d) 0 ≡ Some ticket.number
+  pub there : ticket.destination ≡ d
+
+pub taken : (h : History) (d now : ℕ) (ticket : Ticket) → take_answer h d now ≡ Ok ticket → Taken h d ticket
+taken h d now ticket is = by (slice_get (queue h d) 0) refl is
+  where
+    at : (n : ℕ) (s : Option SlotState) → front_answer d now n s ≡ Ok ticket → (n ≡ ticket.number) × (ticket.destination ≡ d)
+    at n None is = absurd cc
+    at n (Some (Waiting attempts due)) is = elim (nat_lt now due) as (λ b. cond b (Err (take_refusal.NotDue due)) (Ok (record { number = n; destination = d; attempt = attempts + 1 })) ≡ Ok ticket → (n ≡ ticket.number) × (ticket.destination ≡ d)) [
+      | true ↦ λ e. absurd cc
+      | false ↦ λ e. let same : ◌≡◌ {A = Ticket} (record { number = n; destination = d; attempt = attempts + 1 }) ticket = cc in (ap (λ t. t.number) same, sym (ap (λ t. t.destination) same))
+    ] is
+    at n (Some (InFlight attempt)) is = absurd cc
+    at n (Some Delivered) is = absurd cc
+    at n (Some (Failed cause)) is = absurd cc
+
+    by : (o : Option ℕ) → slice_get (queue h d) 0 ≡ o → option_map_or (λ n. front_answer d now n (slot h n d)) o (Err Idle) ≡ Ok ticket → Taken h d ticket
+    by None first is = absurd cc
+    by (Some n) first is = let e = at n (slot h n d) is in record { front = first ∙ ap (λ x. Some x) e.0; there = e.1 }
 
 module _ (aside : Aside) (h k : History) (alike : IsAlike aside h k) where
   -- a message that stands in a queue isn't left aside
@@ -33,12 +59,26 @@ module _ (aside : Aside) (h k : History) (alike : IsAlike aside h k) where
   pub front-outside : (n d : ℕ) → slice_get (queue h d) 0 ≡ Some n → aside.messages n ≡ false
   front-outside n d front = let lives = front-lives h d n front in queued-outside n d (ap (λ o. option_map_or is_live o false) lives.1 ∙ lives.2)
 
-  take-alike : (d now : ℕ) → take_answer k d now ≡ take_answer h d now
+  pub take-alike : (d now : ℕ) → take_answer k d now ≡ take_answer h d now
   take-alike d now = ap (λ ns. option_map_or (λ n. front_answer d now n (slot k n d)) (slice_get ns 0) (Err Idle)) (alike.queues d) ∙ by (slice_get (queue h d) 0) refl
     where
       by : (o : Option ℕ) → slice_get (queue h d) 0 ≡ o → option_map_or (λ n. front_answer d now n (slot k n d)) o (Err Idle) ≡ option_map_or (λ n. front_answer d now n (slot h n d)) o (Err Idle)
       by None is = refl
       by (Some n) is = ap (front_answer d now n) (alike.slots n d (front-outside n d is))
+
+  -- and sends the same
+  sends-alike : (d now : ℕ) → IfOk (take_answer h d now) (SendsAlike h k)
+  sends-alike d now = by (take_answer h d now) refl
+    where
+      by : (r : Result Ticket TakeRefusal) → take_answer h d now ≡ r → IfOk r (SendsAlike h k)
+      by (Err e) is = tt
+      by (Ok ticket) is =
+          let apart = front-outside ticket.number d (taken h d now ticket is).front in
+          record {
+            id = ap (λ o. option_map_or (λ m. control_id_of m.raw) o []) (alike.message ticket.number apart);
+            text = ap (λ o. option_map_or (λ x. x.payload) (find (λ x. x.destination == ticket.destination) (option_map_or (λ m. m.deliveries) o [])) []) (alike.message ticket.number apart);
+            destination = ap (λ plan. slice_get plan.destinations ticket.destination) alike.plan;
+          }
 
   settle-alike : (ticket : Ticket) (outcome : Outcome) (now : ℕ) → aside.messages ticket.number ≡ false → settle_answer k ticket outcome now ≡ settle_answer h ticket outcome now
   settle-alike ticket outcome now apart =
@@ -76,7 +116,7 @@ module _ (aside : Aside) (h k : History) (alike : IsAlike aside h k) where
   -- an event that names nothing left aside gets the same answer
   pub answers-alike : (request : Request) → IsApart aside request → AnswersAlike h k request
   answers-alike (came conn channel raw) apart = answer-alike channel raw apart
-  answers-alike (asked d now) apart = take-alike d now
+  answers-alike (asked d now) apart = (take-alike d now, sends-alike d now)
   answers-alike (ended ticket outcome now) apart = settle-alike ticket outcome now apart
   answers-alike (revoked n) apart = cancel-alike n apart
   answers-alike (planned plan) apart = deploy-alike plan

@@ -353,7 +353,6 @@ module _ (h : History) (sound : IsSound h) (bound : ℕ) (may : prune_answer h b
   pub pruned-alike : IsAlike (forgotten_by bound h) h (pruned bound h)
   pruned-alike = record {
     plan = refl;
-    bound = refl;
     places = omega arith;
     messages = same-count;
     deployments = omega arith;

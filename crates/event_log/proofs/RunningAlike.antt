@@ -18,15 +18,15 @@ use Rattle.event_log.specs.declared.entry.Entry.TheVariants.{Arrival, Take, Sett
 use Rattle.event_log.specs.declared.entry.Ticket.{Ticket}
 use Rattle.event_log.specs.declared.entry.Told.{Told}
 use Rattle.event_log.specs.declared.refusal.CancelRefusal.TheVariants.{NoSuchMessage, NothingWaiting}
-use Rattle.event_log.specs.declared.refusal.TakeRefusal.TheVariants.{Idle}
-use Rattle.event_log.specs.declared.refusal.TakeRefusal.TheVariants as take_refusal
+use Rattle.event_log.specs.declared.refusal.DeployRefusal.{DeployRefusal}
 use Rattle.event_log.specs.History.{History, Remembered, followed_by, is_for, is_queued, message_at, next_place, plan_in_force, queue, slot}
 use Rattle.event_log.specs.Alike.{AllAnswerAlike, AreMet, Aside, IsAlike, IsMet}
 use Rattle.event_log.specs.Answers.{answer, attempts_max, cancel_answer, front_answer, has_key, interval, keeps, known, known_before, mask_where, settle_answer, take_answer, waits}
 use Rattle.event_log.specs.Deployment.{deploy_answer}
 use Rattle.event_log.specs.Legal.{IsSound}
 use Rattle.event_log.specs.Replay.{Request, answered_by, asked, came, ended, next, planned, revoked, run}
-use Rattle.event_log.proofs.AnsweringAlike.{answers-alike, front-outside}
+use Rattle.event_log.specs.Room.{exceeds}
+use Rattle.event_log.proofs.AnsweringAlike.{Taken, answers-alike, front-outside, take-alike, taken}
 use Rattle.event_log.proofs.Reading.{front-exists, front-lives, message-exists, slot-exists}
 use Rattle.event_log.proofs.StayingAlike.{Moves, Orderly, added-alike, moved-alike}
 
@@ -60,28 +60,6 @@ sound-orderly h sound =
     record { places = within; inside = known-inside h within; to_come = sound.to_come }
 
 -- ---- the entry of an answer
-
--- the front that was taken
-record Taken (h : History) (d : ℕ) (ticket : Ticket) : Type 0 where
-  front : slice_get (queue h d) 0 ≡ Some ticket.number
-  there : ticket.destination ≡ d
-
-taken : (h : History) (d now : ℕ) (ticket : Ticket) → take_answer h d now ≡ Ok ticket → Taken h d ticket
-taken h d now ticket is = by (slice_get (queue h d) 0) refl is
-  where
-    at : (n : ℕ) (s : Option SlotState) → front_answer d now n s ≡ Ok ticket → (n ≡ ticket.number) × (ticket.destination ≡ d)
-    at n None is = absurd cc
-    at n (Some (Waiting attempts due)) is = elim (nat_lt now due) as (λ b. cond b (Err (take_refusal.NotDue due)) (Ok (record { number = n; destination = d; attempt = attempts + 1 })) ≡ Ok ticket → (n ≡ ticket.number) × (ticket.destination ≡ d)) [
-      | true ↦ λ e. absurd cc
-      | false ↦ λ e. let same : ◌≡◌ {A = Ticket} (record { number = n; destination = d; attempt = attempts + 1 }) ticket = cc in (ap (λ t. t.number) same, sym (ap (λ t. t.destination) same))
-    ] is
-    at n (Some (InFlight attempt)) is = absurd cc
-    at n (Some Delivered) is = absurd cc
-    at n (Some (Failed cause)) is = absurd cc
-
-    by : (o : Option ℕ) → slice_get (queue h d) 0 ≡ o → option_map_or (λ n. front_answer d now n (slot h n d)) o (Err Idle) ≡ Ok ticket → Taken h d ticket
-    by None first is = absurd cc
-    by (Some n) first is = let e = at n (slot h n d) is in record { front = first ∙ ap (λ x. Some x) e.0; there = e.1 }
 
 -- the attempt that was settled
 settled-flew : (o : Option SlotState) (outcome : Outcome) (attempt now max interval : ℕ) (s : SlotState) → slot_answer o outcome attempt now max interval ≡ Ok s → (a : ℕ) × (o ≡ Some (InFlight a))
@@ -166,6 +144,13 @@ pub record Both (aside : Aside) (h k : History) : Type 0 where
 both : (aside : Aside) (h k : History) → IsAlike aside h k × Orderly h × Orderly k → Both aside h k
 both aside h k w = record { alike = w.0; orderly = w.1; its_orderly = w.2 }
 
+-- what is refused is not booked, whether or not there is room for it
+room-or-refused : (full : Bool) (refusal : Option DeployRefusal) (entry : Option Entry) → (refusal ≡ None → full ≡ false)
+    → cond full None (cond (is_none refusal) entry None) ≡ cond (is_none refusal) entry None
+room-or-refused full None entry room = ap (λ b. cond b None entry) (room refl)
+room-or-refused true (Some refusal) entry room = refl
+room-or-refused false (Some refusal) entry room = refl
+
 module _ (aside : Aside) (h k : History) (now_both : Both aside h k) where
   -- an entry that touches no slot is booked by both
   came-both : (conn channel : ℕ) (raw : List ℕ) → IsMet aside h k (came conn channel raw) → Both aside (next h (came conn channel raw)) (next k (came conn channel raw))
@@ -195,11 +180,11 @@ module _ (aside : Aside) (h k : History) (now_both : Both aside h k) where
       (by (is_none (deploy_answer h plan))))
     where
       mine : answered_by h (planned plan) ≡ cond (is_none (deploy_answer h plan)) (Some (Deploy plan)) None
-      mine = ap (λ b. cond b None (cond (is_none (deploy_answer h plan)) (Some (Deploy plan)) None)) met.room
+      mine = room-or-refused (exceeds h 0) (deploy_answer h plan) (Some (Deploy plan)) met.room
 
       yours : answered_by k (planned plan) ≡ cond (is_none (deploy_answer h plan)) (Some (Deploy plan)) None
       yours =
-          ap (λ b. cond b None (cond (is_none (deploy_answer k plan)) (Some (Deploy plan)) None)) met.its_room
+          room-or-refused (exceeds k 0) (deploy_answer k plan) (Some (Deploy plan)) met.its_room
           ∙ ap (λ o. cond (is_none o) (Some (Deploy plan)) None) (answers-alike aside h k now_both.alike (planned plan) met.apart)
 
       by : (b : Bool) → Both aside (option_map_or (λ e. followed_by h e) (cond b (Some (Deploy plan)) None) h) (option_map_or (λ e. followed_by k e) (cond b (Some (Deploy plan)) None) k)
@@ -222,7 +207,7 @@ module _ (aside : Aside) (h k : History) (now_both : Both aside h k) where
   next-both (planned plan) met = planned-both plan met
   next-both (asked d now) met =
       moved-both (λ ticket. Take ticket now) (λ ticket. ticket.number) (take_answer h d now) (take_answer k d now)
-      (answers-alike aside h k now_both.alike (asked d now) met.apart) (λ ticket is. take-moves aside h k now_both.alike d now ticket is)
+      (take-alike aside h k now_both.alike d now) (λ ticket is. take-moves aside h k now_both.alike d now ticket is)
   next-both (ended ticket outcome now) met =
       moved-both (λ s. Settle outcome ticket now s) (λ s. ticket.number) (settle_answer h ticket outcome now) (settle_answer k ticket outcome now)
       (answers-alike aside h k now_both.alike (ended ticket outcome now) met.apart) (λ s is. settle-moves aside h ticket outcome now s met.apart is)

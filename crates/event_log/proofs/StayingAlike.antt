@@ -251,7 +251,6 @@ module _ (aside : Aside) (h k : History) (alike : IsAlike aside h k) (orderly : 
   stays-alike changes = (
     record {
       plan = plan-followed_by k e ∙ (ap (λ p. plan_after p e) alike.plan ∙ sym (plan-followed_by h e));
-      bound = alike.bound;
       places = place-followed_by k e ∙ (ap (λ p. p + 1) alike.places ∙ sym (place-followed_by h e));
       messages = count-followed_by k e ∙ ((λ i. alike.messages i + length (option_to_list (same-message i))) ∙ sym (count-followed_by h e));
       deployments = deployments-followed_by k e ∙ (ap (λ n. n + length (option_to_list (deployed_by e))) alike.deployments ∙ sym (deployments-followed_by h e));

@@ -1,8 +1,9 @@
 -- Histories that are alike outside what one of them has forgotten.
-use Rattle.std.specs.Prelude.{◌≡◌, ◌<◌, ℕ, Bool, true, false, ◌&&◌, nat_lt, List, [], ◌∷◌, Some}
+use Rattle.std.specs.Prelude.{◌≡◌, ◌<◌, ℕ, Bool, true, false, ◌&&◌, nat_lt, slice_get, IfOk, List, [], ◌∷◌, None, Some}
 use Rattle.std.specs.List.{list_any}
 use Rattle.judge_core.specs.Judging.{key_of}
-use Rattle.event_log.specs.History.{History, entry_at, is_queued, message_at, message_count, next_place, plan_in_force, queue, slot}
+use Rattle.event_log.specs.declared.entry.Ticket.{Ticket}
+use Rattle.event_log.specs.History.{History, control_id, entry_at, is_queued, message_at, message_count, next_place, payload, plan_in_force, queue, slot}
 use Rattle.event_log.specs.Answers.{answer, brings_at, cancel_answer, has_key, known, settle_answer, take_answer}
 use Rattle.event_log.specs.Counting.{channel_counts, destination_counts}
 use Rattle.event_log.specs.Deployment.{deploy_answer, deployments}
@@ -27,7 +28,6 @@ forgotten_by bound h = record {
 -- two histories are alike, but for earlier messages, keys and places that are left aside, and no such message stands in a queue
 pub record IsAlike (aside : Aside) (h k : History) : Type 0 where
   pub plan : plan_in_force k ≡ plan_in_force h
-  pub bound : k.opening.events_max ≡ h.opening.events_max
   pub places : next_place k ≡ next_place h
   pub messages : message_count k ≡ message_count h
   pub deployments : deployments k ≡ deployments h
@@ -53,13 +53,14 @@ IsApart aside (ended ticket outcome now) = aside.messages ticket.number ≡ fals
 IsApart aside (revoked number) = aside.messages number ≡ false
 IsApart aside (planned plan) = Unit {0}
 
--- there is room for an event; a take, a settlement and a cancellation need none
+-- There is room for an event: for an arrival, and for a deployment that nothing else refuses. A take, a settlement and a
+-- cancellation need none.
 abbrev pub Fits : History → Request → Type 0
 Fits h (came conn channel raw) = is_full h channel raw ≡ false
 Fits h (asked d now) = Unit {0}
 Fits h (ended ticket outcome now) = Unit {0}
 Fits h (revoked number) = Unit {0}
-Fits h (planned plan) = exceeds h 0 ≡ false
+Fits h (planned plan) = deploy_answer h plan ≡ None → exceeds h 0 ≡ false
 
 -- an event that names nothing aside and for which both histories have room
 pub record IsMet (aside : Aside) (h k : History) (request : Request) : Type 0 where
@@ -67,10 +68,17 @@ pub record IsMet (aside : Aside) (h k : History) (request : Request) : Type 0 wh
   pub room : Fits h request
   pub its_room : Fits k request
 
--- both histories give the same answer to an event, also where they refuse it
+-- a ticket has the same control id and the same payload, and the plan in force has its destination with the same entry, so that
+-- an acknowledgment is expected by both or by neither
+pub record SendsAlike (h k : History) (ticket : Ticket) : Type 0 where
+  pub id : control_id k ticket.number ≡ control_id h ticket.number
+  pub text : payload k ticket.number ticket.destination ≡ payload h ticket.number ticket.destination
+  pub destination : slice_get (plan_in_force k).destinations ticket.destination ≡ slice_get (plan_in_force h).destinations ticket.destination
+
+-- both histories give the same answer to an event, also where they refuse it, and a take sends the same
 abbrev pub AnswersAlike : History → History → Request → Type 0
 AnswersAlike h k (came conn channel raw) = answer k channel raw ≡ answer h channel raw
-AnswersAlike h k (asked d now) = take_answer k d now ≡ take_answer h d now
+AnswersAlike h k (asked d now) = (take_answer k d now ≡ take_answer h d now) × IfOk (take_answer h d now) (SendsAlike h k)
 AnswersAlike h k (ended ticket outcome now) = settle_answer k ticket outcome now ≡ settle_answer h ticket outcome now
 AnswersAlike h k (revoked number) = cancel_answer k number ≡ cancel_answer h number
 AnswersAlike h k (planned plan) = deploy_answer k plan ≡ deploy_answer h plan

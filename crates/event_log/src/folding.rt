@@ -20,6 +20,9 @@ pub fn folding_rules()
     // A pruned history is alike the one that was pruned, but for what was forgotten.
     ensures folded { (h : History) (bound : ℕ) → IsSound h → prune_answer h bound ≡ None → IsAlike (forgotten_by bound h) h (pruned bound h) }
 
+    // It has the same bound of entries.
+    ensures bound_kept { (h : History) (bound : ℕ) → (pruned bound h).opening.events_max ≡ h.opening.events_max }
+
     // What remains is remembered in order of place and of number, each arrival as an opening may have it, with a key
     // of its own. As much is owed as before.
     ensures memories { (h : History) (bound : ℕ) → IsSound h → All (IsMemory (plan_in_force h)) (folded bound h).remembered }

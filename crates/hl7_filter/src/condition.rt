@@ -42,8 +42,13 @@ fn lacks(bytes: &[u8], byte: u8) -> bool
     memchr(byte, bytes).is_none()
 }
 
-/// The value of a piece, copied only where an escape character stands in the piece.
-fn value<'m>(message: &'m Message, path: &Path) -> Result<CowSlice<'m, u8>, AllocError>
+/// The value of a piece, the bytes that its escape sequences mean (HL7 v2.5.1, 2.7). It is copied only where the piece
+/// holds an escape character.
+///
+/// # Errors
+///
+/// Where the memory for that copy is refused.
+pub fn value<'m>(message: &'m Message, path: &Path) -> Result<CowSlice<'m, u8>, AllocError>
     ensures value { IfOk result (λ v. cow_slice_items v ≡ value message.now path.now) }
     ensures unescaped { IsTrue (is_unescaped message.now path.now) → IsOk result }
 {

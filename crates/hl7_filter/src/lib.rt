@@ -4,5 +4,5 @@
 mod condition;
 mod text;
 
-pub use condition::Cond;
+pub use condition::{Cond, value};
 pub use text::Bytes;

@@ -1,5 +1,5 @@
 -- The steps of a transformer, and the message after them.
-use Rattle.std.specs.Prelude.{◌≡◌, ◌⊎◌, ℕ, ◌+◌, Bool, true, false, List, [], ◌∷◌, Option, option_map, find, Result, Ok, Err, is_ok, IsOkAnd}
+use Rattle.std.specs.Prelude.{◌≡◌, ◌⊎◌, ℕ, ◌+◌, Bool, true, false, not, ◌||◌, List, [], ◌∷◌, Option, option_map, find, Result, Ok, Err, is_ok, IsOkAnd}
 use Rattle.std.specs.Option.{ok_or, option_or}
 use Rattle.std.specs.Result.{result_map_both}
 use Rattle.std.specs.Str.{bytes_eq}
@@ -7,6 +7,7 @@ use Rattle.er7_tree.specs.declared.refusal.Refusal.{Refusal}
 use Rattle.er7_tree.specs.Edit as edit
 use Rattle.er7_tree.specs.Path.{Place, value}
 use Rattle.er7_tree.specs.Tree.{Tree}
+use Rattle.hl7_filter.specs.Condition.{is_unescaped}
 use Rattle.hl7_transform.specs.declared.fault.StepFault.{StepFault}
 use Rattle.hl7_transform.specs.declared.fault.StepFault.TheVariants.{Stopped}
 use Rattle.hl7_transform.specs.declared.fault.StopCause.{StopCause}
@@ -44,16 +45,16 @@ change (clear place) t = made (edit.clear t place)
 change (lookup place table default) t = ok_or (partner table default (value t place)) NotInTable >>= λ text. made (edit.set t place text)
 change (remove name) t = made (edit.remove_segments t name)
 
--- A step may want memory for the piece that it writes, so only where it can be taken: a clear only for a piece that is there,
--- a removal of segments never. A lookup reads a value first, and may want memory for that too.
+-- A step may request memory for the piece that it writes, so only where it can be taken: a clear only for a piece that is
+-- there, a removal of segments never. A lookup reads a value first, which is copied only where the piece has an escape character.
 abbrev pub wants_memory : Edit → Tree → Bool
 wants_memory (set place text) t = is_ok (change (set place text) t)
 wants_memory (copy from to) t = is_ok (change (copy from to) t)
 wants_memory (clear place) t = edit.has t place
-wants_memory (lookup place table default) t = true
+wants_memory (lookup place table default) t = not (is_unescaped t place) || is_ok (change (lookup place table default) t)
 wants_memory (remove name) t = false
 
--- Some step that is reached may want memory: the first, or one of the others, after the first.
+-- Some step that is reached may request memory: the first, or one of the others, after the first.
 abbrev pub SomeWantsMemory : List Edit → Tree → Type 0
 SomeWantsMemory [] t = ⊥
 SomeWantsMemory (step ∷ steps) t = (wants_memory step t ≡ true) ⊎ IsOkAnd (change step t) (SomeWantsMemory steps)

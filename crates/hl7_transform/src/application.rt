@@ -1,6 +1,8 @@
-ghost use Rattle.std.specs.Prelude.{◌≡◌, IsTrue};
+ghost use Rattle.std.specs.Prelude.{◌≡◌, IfOk, IsOk, IsTrue};
 ghost use Rattle.std.specs.Option.{option_copied};
 ghost use Rattle.std.specs.List.{list_all};
+ghost use Rattle.er7_tree.specs.Path.{value};
+ghost use Rattle.hl7_filter.specs.Condition.{is_unescaped};
 ghost use Rattle.hl7_transform.specs.Check.{may_stand};
 ghost use Rattle.hl7_transform.specs.Outcome.{Gives, Takes};
 ghost use Rattle.hl7_transform.specs.Step.{partner};
@@ -9,8 +11,9 @@ ghost use Rattle.hl7_transform.specs.View.{view, steps_view, table_view};
 use crate::fault::{StepFault, StopCause};
 use crate::step::{Pair, Step};
 use crate::stop::Stop;
-use er7_tree::Message;
-use hl7_filter::Bytes;
+use er7_tree::{Message, Path};
+use hl7_filter::{Bytes, value};
+use std::alloc::AllocError;
 
 /// The partner of a value, that of the first pair that has it, else the default.
 fn partner<'t>(table: &'t [Pair], default: Option<&'t Bytes>, value: &[u8]) -> Option<&'t Bytes>
@@ -22,6 +25,25 @@ fn partner<'t>(table: &'t [Pair], default: Option<&'t Bytes>, value: &[u8]) -> O
         }
     }
     default
+}
+
+/// The partner of the value of a piece.
+///
+/// # Errors
+///
+/// Where the piece holds an escape character, and the memory for its value is refused.
+fn look_up<'t>(
+    message: &Message,
+    path: &Path,
+    table: &'t [Pair],
+    default: Option<&'t Bytes>,
+) -> Result<Option<&'t Bytes>, AllocError>
+    ensures partner { IfOk result (λ text. option_copied text
+        ≡ partner (table_view table.now) (option_copied default.entry) (value message.now path.now)) }
+    ensures unescaped { IsTrue (is_unescaped message.now path.now) → IsOk result }
+{
+    let value = value(message, path)?;
+    Ok(partner(table, default, &value))
 }
 
 /// Takes one step.
@@ -37,8 +59,7 @@ fn take(step: &Step, message: &mut Message) -> Result<(), Stop>
             table,
             default,
         } => {
-            let value = message.get(path)?;
-            let Some(text) = partner(table, default.as_ref(), &value) else {
+            let Some(text) = look_up(message, path, table, default.as_ref())? else {
                 return Err(Stop::Cause(StopCause::NotInTable));
             };
             message.set(path, text.as_slice())?;
@@ -50,8 +71,11 @@ fn take(step: &Step, message: &mut Message) -> Result<(), Stop>
 
 /// The message after the steps, each of which sees the result of the one before.
 ///
-/// `Stopped` tells the first step that can't be taken, and `NoMemory` that a growth was refused for a step that could be, or
-/// for the value that a lookup reads. On a fault the message is dropped.
+/// # Errors
+///
+/// `Stopped` is the first step that can't be taken, with its index from 0 and the cause. `NoMemory` is answered where memory
+/// was refused for a step that could be taken, or for the value that a lookup reads from a piece with escape sequences. On a
+/// fault the message is dropped.
 pub fn apply(steps: &[Step], mut message: Message) -> Result<Message, StepFault>
     requires { IsTrue (list_all may_stand (steps_view steps.now)) }
     ensures { Gives (steps_view steps.now) message result }

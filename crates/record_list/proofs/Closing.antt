@@ -44,9 +44,10 @@ module _ {T : Type 0} where
     pub rest : (e : ℕ) → d ≤ e → IsSameChain e s t
     pub items_same : items_at t.nodes.held ≡ items_at s.nodes.held
     pub visits_most : t.visits ≤ s.visits + (d + d)
+    pub visits_least : s.visits ≤ t.visits
 
-  pub step_closed : (d : ℕ) (s m t : Links T) → Closed d s m → IsLinked d t → ((e : ℕ) → e ≢ d → IsSameChain e m t) → items_at t.nodes.held ≡ items_at m.nodes.held → t.visits ≤ m.visits + 2 → Closed (d + 1) s t
-  step_closed d s m t a l others items visits = record {
+  pub step_closed : (d : ℕ) (s m t : Links T) → Closed d s m → IsLinked d t → ((e : ℕ) → e ≢ d → IsSameChain e m t) → items_at t.nodes.held ≡ items_at m.nodes.held → t.visits ≤ m.visits + 2 → m.visits ≤ t.visits → Closed (d + 1) s t
+  step_closed d s m t a l others items visits rises = record {
     apart = apart_like m.nodes.held t.nodes.held items a.apart;
     linked = λ e lt. (elim (e == d) as (λ b. (e == d) ≡ b → IsLinked e t) [
       | true ↦ λ q. subst (λ k. IsLinked k t) (sym (same e d q)) l
@@ -55,6 +56,7 @@ module _ {T : Type 0} where
     rest = λ e le. same_then e s m t (a.rest e (omega (arith, le))) (others e (above e d le));
     items_same = items ∙ a.items_same;
     visits_most = omega (arith, visits, a.visits_most);
+    visits_least = omega (arith, rises, a.visits_least);
   }
 
   pub skip_closed : (d : ℕ) (s m : Links T) → Closed d s m → IsLinked d s → Closed (d + 1) s m
@@ -67,6 +69,7 @@ module _ {T : Type 0} where
     rest = λ e le. a.rest e (omega (arith, le));
     items_same = a.items_same;
     visits_most = omega (arith, a.visits_most);
+    visits_least = a.visits_least;
   }
 
   -- a node that is dropped is gone from each chain

@@ -22,10 +22,11 @@ module _ {T : Type 0} where
     pub members_same : (e : ℕ) → members e t.nodes.held ≡ members e s.nodes.held
     pub items_same : items_at t.nodes.held ≡ items_at s.nodes.held
     pub visits_most : t.visits ≤ s.visits + d
+    pub visits_least : s.visits ≤ t.visits
 
   pub step_entered : (d : ℕ) (s m t : Links T) → Entered d s m → IsLinked d t → members d t.nodes.held ≡ members d m.nodes.held → ((e : ℕ) → e ≢ d → IsSameChain e m t) → IsApart (places t.nodes.held) → items_at t.nodes.held ≡ items_at m.nodes.held
-      → t.visits ≤ m.visits + 1 → Entered (d + 1) s t
-  step_entered d s m t a l ms others apart items visits = record {
+      → t.visits ≤ m.visits + 1 → m.visits ≤ t.visits → Entered (d + 1) s t
+  step_entered d s m t a l ms others apart items visits rises = record {
     apart = apart;
     linked = λ e lt. (elim (e == d) as (λ b. (e == d) ≡ b → IsLinked e t) [
       | true ↦ λ q. subst (λ k. IsLinked k t) (sym (same e d q)) l
@@ -38,6 +39,7 @@ module _ {T : Type 0} where
     ]) refl;
     items_same = items ∙ a.items_same;
     visits_most = omega (arith, visits, a.visits_most);
+    visits_least = omega (arith, rises, a.visits_least);
   }
     where
       below : (e d : ℕ) → e < d + 1 → e ≢ d → e < d
@@ -57,6 +59,7 @@ module _ {T : Type 0} where
     members_same = a.members_same;
     items_same = a.items_same;
     visits_most = omega (arith, a.visits_most);
+    visits_least = a.visits_least;
   }
     where
       below : (e d : ℕ) → e < d + 1 → e ≢ d → e < d

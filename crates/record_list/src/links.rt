@@ -41,6 +41,7 @@ impl<T> Links<T> {
     pub(crate) fn new() -> Links<T>
         ensures nodes { result.nodes.held ≡ [] }
         ensures ends { (result.heads ≡ replicate 32 None) × (result.tails ≡ replicate 32 None) }
+        ensures visits { result.visits ≡ 0 }
     {
         Links {
             nodes: Nodes::new(),
@@ -55,6 +56,7 @@ impl<T> Links<T> {
         requires { IsHeld at.ptr self.old.nodes.held }
         ensures* writes_back { sem 𝓛 (lends_visit T.row self.entry at.ptr (min (self.old.visits + 1) (2 ^ 64 - 1)) result) }
         ensures value { find_node at.ptr self.old.nodes.held ≡ Some result.now }
+        ensures fits { self.old.visits < 2 ^ 64 }
     {
         self.visits = self.visits.saturating_add(1);
         self.nodes.get_mut(at)
@@ -65,7 +67,7 @@ impl<T> Links<T> {
         requires { IsHeld at.ptr self.old.nodes.held }
         ensures number { MatchOption (find_node at.ptr self.old.nodes.held) (result ≡ 0) (λ n. result ≡ n.row.number) }
         ensures rest { (self.new.nodes.held ≡ self.old.nodes.held) × (self.new.heads ≡ self.old.heads) × (self.new.tails ≡ self.old.tails) }
-        ensures visits { self.new.visits ≤ self.old.visits + 1 }
+        ensures visits { self.new.visits ≡ min (self.old.visits + 1) (2 ^ 64 - 1) }
     {
         self.visit(at).row.number
     }
@@ -78,6 +80,7 @@ impl<T> Links<T> {
         ensures heads { self.new.heads ≡ end_after prev d next self.old.heads }
         ensures tails { self.new.tails ≡ self.old.tails }
         ensures visits { self.new.visits ≤ self.old.visits + 1 }
+        ensures rises { self.old.visits ≤ self.new.visits }
     {
         match prev {
             Some(at) => {
@@ -102,6 +105,7 @@ impl<T> Links<T> {
         ensures heads { self.new.heads ≡ self.old.heads }
         ensures tails { self.new.tails ≡ end_after next d prev self.old.tails }
         ensures visits { self.new.visits ≤ self.old.visits + 1 }
+        ensures rises { self.old.visits ≤ self.new.visits }
     {
         match next {
             Some(at) => {
@@ -128,6 +132,7 @@ impl<T> Links<T> {
         ensures others { (e : ℕ) → e ≢ d → IsSameChain e self.old self.new }
         ensures items { items_at self.new.nodes.held ≡ items_at self.old.nodes.held }
         ensures visits { self.new.visits ≤ self.old.visits + 2 }
+        ensures rises { self.old.visits ≤ self.new.visits }
     {
         self.point_on(d, prev, next);
         self.point_back(d, prev, next);
@@ -143,6 +148,7 @@ impl<T> Links<T> {
         ensures others { (e : ℕ) → e ≢ d → IsSameChain e self.old self.new }
         ensures items { items_at self.new.nodes.held ≡ items_at self.old.nodes.held }
         ensures visits { self.new.visits ≤ self.old.visits + 1 }
+        ensures rises { self.old.visits ≤ self.new.visits }
     {
         let last = self.tails[d];
         self.point_on(d, last, Some(at));
@@ -175,6 +181,7 @@ impl<T> Links<T> {
         ensures members { (d : ℕ) → d < 32 → members d self.new.nodes.held ≡ members d self.old.nodes.held }
         ensures items { items_at self.new.nodes.held ≡ items_at self.old.nodes.held }
         ensures visits { self.new.visits ≤ self.old.visits + 32 }
+        ensures rises { self.old.visits ≤ self.new.visits }
     {
         for d in 0..32 {
             if stands(mask, d) {
@@ -195,6 +202,7 @@ impl<T> Links<T> {
         ensures linked { IsLinked d self.new }
         ensures others { (e : ℕ) → e ≢ d → IsSameChain e self.old self.new }
         ensures visits { self.new.visits ≤ self.old.visits + 3 }
+        ensures rises { self.old.visits ≤ self.new.visits }
     {
         let node = self.visit(at);
         let Some(link) = node.links.get(d as usize) else {
@@ -244,6 +252,7 @@ impl<T: Drop> Links<T> {
         ensures whole { IsWhole self.new }
         ensures items { items_at self.new.nodes.held ≡ items_at (drop_node at.ptr self.old.nodes.held) }
         ensures visits { self.new.visits ≤ self.old.visits + 65 }
+        ensures rises { self.old.visits ≤ self.new.visits }
     {
         self.visit(at);
         let node = self.withdraw(at, alloc);
@@ -258,6 +267,7 @@ impl<T: Drop> Links<T> {
         ensures linked { (d : ℕ) → d < 32 → IsLinked d self.new }
         ensures items { items_at self.new.nodes.held ≡ items_at self.old.nodes.held }
         ensures visits { self.new.visits ≤ self.old.visits + 64 }
+        ensures rises { self.old.visits ≤ self.new.visits }
     {
         for d in 0..32 {
             if let Some(link) = gaps.get(d) {

@@ -1,10 +1,11 @@
 //! The store of linked rows.
 
-ghost use Rattle.std.specs.Prelude.{ℕ, ◌≡◌, ◌<◌, ◌≤◌, ◌+◌, ◌∷◌, ◌++◌, [], All, IfErr, OnOk, OnErr, OnSome, option_copied};
+ghost use Rattle.std.specs.Prelude.{ℕ, ◌≡◌, ◌<◌, ◌≤◌, ◌+◌, ◌-◌, ◌^◌, ◌∷◌, ◌++◌, [], All, IfErr, OnOk, OnErr, OnSome, is_some, min, if◌then◌else◌, option_copied};
 ghost use Rattle.std.specs.Borrow.{LendsSo, sem};
 ghost use Rattle.std.specs.Option.{option_copied_mut};
 ghost use Rattle.row_store.specs.declared.Row.{Row};
-ghost use Rattle.row_store.specs.Rows.{front_of, is_linked, unlinked, item_at, removed};
+ghost use Rattle.row_store.specs.Rows.{front_of, is_linked, unlinked, item_at, removed, with_item};
+ghost use Rattle.record_list.specs.contracts.record_list.RecordList.{the_row};
 
 use crate::directory::Directory;
 use crate::links::{Links, Node};
@@ -13,7 +14,7 @@ use std::alloc::{AllocFailed, Global};
 use std::marker::Model;
 
 /// The rows, each in a node of its own that is linked in each queue where the row stands, and the directory, which leads
-/// from a number to its node and has all nodes in the order of the rows. No call searches.
+/// from a number to its node by binary search and has all nodes in the order of the rows. No call goes over the rows.
 pub struct RecordList<T: Drop> {
     links: Links<T>,
     directory: Directory,
@@ -47,7 +48,10 @@ impl<T: Drop> RowStore<T> for RecordList<T> {
 
     ghost room = { λ _. 0 };
 
-    fn make(alloc: Global) -> Self {
+    fn make(alloc: Global) -> Self
+        ensures rows { result.0 ≡ [] }
+        ensures visits { result.1 ≡ 0 }
+    {
         RecordList {
             links: Links::new(),
             directory: Directory::new(alloc),
@@ -66,6 +70,8 @@ impl<T: Drop> RowStore<T> for RecordList<T> {
         ensures missing { OnErr result (◌≡◌ {A = ℕ} 0 0) }
         ensures item_returned { IfErr result (λ failed. failed.value ≡ item) }
         ensures visits { self.new.1 ≤ self.old.1 + 32 }
+        ensures rises { self.old.1 ≤ self.new.1 }
+        ensures unread { OnErr result (self.new.1 ≡ self.old.1) }
     {
         let Ok(links) = self.links.last_links(self.alloc, mask) else {
             return Err(AllocFailed { value: item });
@@ -95,7 +101,8 @@ impl<T: Drop> RowStore<T> for RecordList<T> {
     fn front(&mut self, d: u32) -> Option<u32>
         ensures first { result ≡ front_of d self.old.0 }
         ensures unchanged { self.new.0 ≡ self.old.0 }
-        ensures visits { self.new.1 ≤ self.old.1 + 1 }
+        ensures visits { self.new.1
+            ≡ (if is_some result then min (self.old.1 + 1) (2 ^ 64 - 1) else self.old.1) }
     {
         let links = &mut self.links;
         if d >= QUEUES {
@@ -113,7 +120,13 @@ impl<T: Drop> RowStore<T> for RecordList<T> {
         Some(&node.row.item)
     }
 
-    fn get_mut(&mut self, number: u32) -> Option<&mut T> {
+    fn get_mut(&mut self, number: u32) -> Option<&mut T>
+        ensures* writes_back { sem 𝓛 (LendsSo (the_row T.row) T.row self.entry result
+            (λ after item. OnSome result
+            ((after.0 ≡ with_item number item self.old.0) × (after.1 ≡ self.old.1)))
+            (λ after. after ≡ self.old)) }
+        ensures item { option_copied_mut result ≡ item_at number self.old.0 }
+    {
         let at = self.directory.look_up(number)?;
         let node = self.links.nodes.get_mut(at);
         Some(&mut node.row.item)
@@ -123,6 +136,7 @@ impl<T: Drop> RowStore<T> for RecordList<T> {
         ensures stood { result ≡ is_linked number d self.old.0 }
         ensures unlinked { self.new.0 ≡ unlinked number d self.old.0 }
         ensures visits { self.new.1 ≤ self.old.1 + 3 }
+        ensures rises { self.old.1 ≤ self.new.1 }
     {
         let Some(at) = self.directory.look_up(number) else {
             return false;
@@ -137,6 +151,7 @@ impl<T: Drop> RowStore<T> for RecordList<T> {
         ensures item { result ≡ item_at number self.old.0 }
         ensures removed { self.new.0 ≡ removed number self.old.0 }
         ensures visits { self.new.1 ≤ self.old.1 + 65 }
+        ensures rises { self.old.1 ≤ self.new.1 }
     {
         let at = self.directory.find(number)?;
         let node = self.links.take_out(at, self.alloc);

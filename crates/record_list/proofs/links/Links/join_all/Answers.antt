@@ -14,7 +14,7 @@ join-requires-clause-gap g c = same_open c.loop-d.d c.args.self.now c.loop-d.sel
 pub loop-d-preserved : goal.loop-d-preserved
 loop-d-preserved g c = elim c.match-get.branch [
   | in-Some w ↦ subst (λ t. Closed (c.loop-d.d + 1) c.args.self.now t) (sym w.self-is)
-      (step_closed c.loop-d.d c.args.self.now c.loop-d.self w.join.new.self c.loop-d.invariant w.join.ensures.linked w.join.ensures.others w.join.ensures.items w.join.ensures.visits)
+      (step_closed c.loop-d.d c.args.self.now c.loop-d.self w.join.new.self c.loop-d.invariant w.join.ensures.linked w.join.ensures.others w.join.ensures.items w.join.ensures.visits w.join.ensures.rises)
   | in_default w ↦ subst (λ t. Closed (c.loop-d.d + 1) c.args.self.now t) (sym w.self-is)
       (skip_closed c.loop-d.d c.args.self.now c.loop-d.self c.loop-d.invariant (subst (IsOpen c.loop-d.d c.args.self.now) (sym c.get.ensures ∙ w.in_default.is) (c.requires.gaps c.loop-d.d (search rules))))
 ]
