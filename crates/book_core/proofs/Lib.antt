@@ -27,3 +27,4 @@ pub mod Remembering
 pub mod LeftOut
 pub mod Folded
 pub mod Asked
+pub mod Settled

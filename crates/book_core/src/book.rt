@@ -6,6 +6,7 @@ ghost use Rattle.std.specs.Option.{option_map};
 ghost use Rattle.std.specs.Arc.{arc_value};
 ghost use Rattle.judge_core.specs.Delivering.{destinations_of};
 ghost use Rattle.judge_core.specs.Judging.{is_bookable, verdict};
+ghost use Rattle.dest_queue.specs.States.{is_live};
 ghost use Rattle.event_log.specs.History.{control_id, control_id_of, deliveries, entry_at, followed_by, message_at, message_count, names, next_place, opened_by, payload, plan_in_force, queue, remaining, slot};
 ghost use Rattle.event_log.specs.Answers.{answer, cancel_answer, settle_answer, take_answer};
 ghost use Rattle.event_log.specs.Deployment.{deploy_answer, deployments, first_lost, is_lost};
@@ -557,6 +558,10 @@ impl<S: RowStore<Addressed<Letter>>> Book<S> {
         now: Moment,
     ) -> Result<SlotState, SettleRefusal>
         ensures answer { result ≡ settle_answer self.old ticket.now outcome now }
+
+        // A retry is due on the day after the last moment of the calendar at the latest.
+        ensures due { (attempts due : ℕ) → result ≡ Ok (SlotState.Waiting attempts due)
+            → due ≤ 253370851199 }
         ensures booked { IfOk result (λ state. self.new ≡ followed_by self.old (Entry.Settle outcome ticket.now now state)) }
         ensures err { OnErr result (self.new ≡ self.old) }
     {
@@ -680,6 +685,10 @@ impl<S: RowStore<Addressed<Letter>>> Book<S> {
     pub fn prune(&mut self, before: u32) -> Result<(), PruneRefusal>
         ensures answer { OnOk result (prune_answer self.old before ≡ None) }
         ensures folded { OnOk result (self.new ≡ pruned before self.old) }
+
+        // Each slot of a forgotten message was delivered or had failed.
+        ensures settled { OnOk result ((n d : ℕ) → n < before
+            → IfSome (slot self.old n d) (λ state. is_live state ≡ false)) }
         ensures refused { IfErr result (λ e.
             (prune_answer self.old before ≡ Some e)
             ⊎ (prune_answer self.old before ≡ None) × (e ≡ PruneRefusal.NoMemory)) }
@@ -693,7 +702,7 @@ impl<S: RowStore<Addressed<Letter>>> Book<S> {
         let remembered = recall_since(self.alloc, &self.log, &self.rows, floor)?;
         let forgotten = unremembered(&self.counts, &remembered);
         self.log.fold(self.flights as usize, forgotten, remembered)?;
-        // All growths are made: nothing below is refused.
+        // All growths are made: nothing below is refused. Where the index of keys is refused a smaller block, it keeps its own.
         forget_rows(&mut self.rows, first, before);
         self.keys.drop_before(floor);
         Ok(())

@@ -1,8 +1,11 @@
-use Rattle.std.proofs.Common.{◌≡◌, not, nat_lt, None, sym, ◌∙◌, ap, subst}
+use Rattle.std.proofs.Common.{◌≡◌, false, not, nat_lt, None, IfSome, sym, ◌∙◌, ap, subst}
 use Rattle.std.specs.Prelude.{filter}
 use Rattle.event_log.specs.Folding.{prune_answer, pruned}
-use Rattle.event_log.specs.History.{begun}
+use Rattle.dest_queue.specs.States.{is_live}
+use Rattle.event_log.specs.History.{begun, slot}
+use Rattle.event_log.proofs.FoldedAlike.{quiet}
 use Rattle.event_log.proofs.FoldedGood.{prunings-left}
+use Rattle.book_core.proofs.Settled.{not-live}
 use Rattle.book_core.specs.Pruning.{LeavesOut}
 use Rattle.book_core.proofs.Folded.{closing-is, closing-owed, closing-places, kept-folded}
 use Rattle.book_core.proofs.book.Book.prune.Goals as goal
@@ -44,3 +47,9 @@ returns-clause-folded g c =
     c.in_ok-fold.ensures.history
     ∙ (ap begun (closing-is _ _ _ _ _ _ c.self.invariant c.args.before may _ c.arrival_place-floor.ensures _ c.in_ok-remembered.ensures _ leaves)
     ∙ ap (pruned c.args.before) c.self.view_is)
+
+pub returns-clause-settled : goal.returns-clause-settled
+returns-clause-settled g c = λ n d below.
+    let may : prune_answer c.self.inside.log.history c.args.before ≡ None = sym c.prune_refusal.ensures.answer ∙ c.in_default.is in
+    subst (λ h. IfSome (slot h n d) (λ state. is_live state ≡ false)) c.self.view_is
+    (not-live (slot c.self.inside.log.history n d) (quiet c.self.inside.log.history c.self.invariant.sound c.args.before may n d below))

@@ -1,10 +1,11 @@
-use Rattle.std.proofs.Common.{◌≡◌, ◌+◌, ◌-◌, Ok, ◌∙◌, ap, sym, refl}
+use Rattle.std.proofs.Common.{◌≡◌, ◌≤◌, ◌+◌, ◌-◌, arith, Ok, ◌∙◌, ap, sym, refl}
 use Rattle.std.proofs.lemmas.Result.{err_from_is_err_and}
 use Rattle.dest_queue.specs.declared.SlotState.TheVariants.{InFlight}
 use Rattle.event_log.specs.Answers.{attempts_max, interval, settle_answer}
 use Rattle.event_log.specs.History.{plan_in_force}
 use Rattle.event_log.specs.Room.{owed, slot_owed}
 use Rattle.book_core.proofs.Keeping.{asked-settle, kept-settled, settled-flies, settled-flights, settled-inside, settled-less, settled-owed, settled-reserved, settled-within}
+use Rattle.book_core.proofs.Settled.{settled-due}
 use Rattle.book_core.proofs.book.Book.settle.Goals as goal
 
 pub returns-in_err-state-clause-answer : goal.returns-in_err-state-clause-answer
@@ -89,3 +90,8 @@ returns-clause-answer g c =
     let asked : settle_answer c.self.inside.log.history c.args.ticket.now c.args.outcome c.args.now ≡ Ok c.in_ok-state.state =
     sym (asked-settle _ _ _ _ _ _ c.self.invariant c.args.ticket.now c.args.outcome c.args.now) ∙ sym (rw (max, wait, c.secs.ensures.value) at c.in_ok-state.ensures.answer) in
     sym asked ∙ ap (λ h. settle_answer h c.args.ticket.now c.args.outcome c.args.now) c.self.view_is
+
+pub returns-clause-due : goal.returns-clause-due
+returns-clause-due g c = λ attempts due is.
+    let within : c.secs.result + c.interval-interval.result ≤ 253370851199 = omega (arith, c.secs.ensures.bound, c.interval-interval.ensures.bound) in
+    settled-due _ c.args.outcome c.args.ticket.now.attempt c.secs.result c.attempts_max-max.result c.interval-interval.result _ attempts due within (sym c.in_ok-state.ensures.answer ∙ is)
