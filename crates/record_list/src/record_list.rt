@@ -4,8 +4,7 @@ ghost use Rattle.std.specs.Prelude.{ℕ, ◌≡◌, ◌<◌, ◌≤◌, ◌+◌,
 ghost use Rattle.std.specs.Borrow.{LendsSo, sem};
 ghost use Rattle.std.specs.Option.{option_copied_mut};
 ghost use Rattle.row_store.specs.declared.Row.{Row};
-ghost use Rattle.row_store.specs.Rows.{front_of, is_linked, unlinked, item_at, removed, with_item};
-ghost use Rattle.record_list.specs.contracts.record_list.RecordList.{the_row};
+ghost use Rattle.row_store.specs.Rows.{front_of, is_linked, unlinked, item_at, removed};
 
 use crate::directory::Directory;
 use crate::links::{Links, Node};
@@ -120,13 +119,7 @@ impl<T: Drop> RowStore<T> for RecordList<T> {
         Some(&node.row.item)
     }
 
-    fn get_mut(&mut self, number: u32) -> Option<&mut T>
-        ensures* writes_back { sem 𝓛 (LendsSo (the_row T.row) T.row self.entry result
-            (λ after item. OnSome result
-            ((after.0 ≡ with_item number item self.old.0) × (after.1 ≡ self.old.1)))
-            (λ after. after ≡ self.old)) }
-        ensures item { option_copied_mut result ≡ item_at number self.old.0 }
-    {
+    fn get_mut(&mut self, number: u32) -> Option<&mut T> {
         let at = self.directory.look_up(number)?;
         let node = self.links.nodes.get_mut(at);
         Some(&mut node.row.item)

@@ -14,7 +14,7 @@ returns-in_err-at g c =
     let shown = ap (λ s. s.0) c.self.view_is in
     let absent = (absent_of c.args.number c.self.inside.links c.self.inside.directory c.self.invariant c.in_err-at.ensures.place) in
     let none = absent.row_is in
-    rw c.from_residual.ensures ((refl, (λ w. tt), c.self.view_is), record { writes_back = tt; item = rw (← shown, none) refl })
+    rw c.from_residual.ensures ((refl, (λ w. tt), shown), record { writes_back = tt; item = rw (← shown, none) refl })
 
 pub get_mut-node-requires : goal.get_mut-node-requires
 get_mut-node-requires g c = let on = (node_of c.args.number c.in_ok-at.at c.self.inside.links c.self.inside.directory c.self.invariant c.in_ok-at.ensures.place) in (on.node, on.found)
@@ -37,4 +37,4 @@ returns g c =
     let is : Some on.node ≡ Some x = sym on.found ∙ c.get_mut-node.ensures.value in
     let node : on.node ≡ x = cc in
     let held = c.self.inside.links.nodes.held in
-    ((refl, (λ w. (rw (← shown) (ap rows_of (set_change c.in_ok-at.at.ptr (λ y. record y { row = record y.row { item = w } }) x (record x { row = record x.row { item = w } }) held c.get_mut-node.ensures.value refl) ∙ on.changed_is (λ y. record y { row = record y.row { item = w } }) (λ row. record row { item = w }) (λ y. refl)), ap (λ s. s.1) c.self.view_is)), refl), record { writes_back = tt; item = rw (← shown, on.row_is, node) refl })
+    ((refl, (λ w. rw (← shown) (ap rows_of (set_change c.in_ok-at.at.ptr (λ y. record y { row = record y.row { item = w } }) x (record x { row = record x.row { item = w } }) held c.get_mut-node.ensures.value refl) ∙ on.changed_is (λ y. record y { row = record y.row { item = w } }) (λ row. record row { item = w }) (λ y. refl))), refl), record { writes_back = tt; item = rw (← shown, on.row_is, node) refl })
