@@ -14,7 +14,7 @@ pub not-live : (o : Option SlotState) → option_map_or is_live o false ≡ fals
 not-live None is = tt
 not-live (Some state) is = is
 
-due_of : SlotState → ℕ
+abbrev due_of : SlotState → ℕ
 due_of (Waiting attempts due) = due
 due_of (InFlight attempt) = 0
 due_of Delivered = 0
