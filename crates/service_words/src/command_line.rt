@@ -5,16 +5,16 @@ ghost use Rattle.clap.specs.declared.builder.command.Command.TheViews.{out-Comma
 ghost use Rattle.clap.specs.declared.builder.value_parser.ValueParser.TheVariants as parser;
 ghost use Rattle.clap.specs.Words.{FailsBy, app_of, fault_of, found_of, new_app, new_rule, rows_of, rule_of, subcommand_of, subcommand_rows_of, with_rule, with_subcommand};
 ghost use Rattle.service_words.specs.Request.{IsWithinLimits};
-ghost use Rattle.service_words.specs.Words.{channel_rule, check_app, connections_rule, events_rule, grace_rule, idle_rule, keep_rule, plan_rule, program, run_app, top, try_app, Asks, AsksBy, AsksRun, AsksTry, IsWithin, IsKept};
+ghost use Rattle.service_words.specs.Words.{channel_rule, check_app, connections_rule, events_rule, grace_rule, idle_rule, keep_rule, plan_rule, program, run_app, top, try_app, verbose_rule, Asks, AsksBy, AsksCheck, AsksRun, AsksTry, IsWithin, IsKept};
 
-use crate::help::{RUNNING, STATUSES, TRYING};
+use crate::help::{CHECKING, RUNNING, STATUSES, TRYING};
 use clap::builder::ValueParser;
-use clap::{Arg, ArgMatches, Command, Error, value_parser};
+use clap::{Arg, ArgAction, ArgMatches, Command, Error, value_parser};
 use fixed_numbers::EVENTS_MAX;
 use std::alloc::{AllocError, Global};
 
-/// The version that `--version` tells.
-const VERSION: &str = "0.2.0";
+/// What `--version` prints after the program's name: its version, and the toolchain's logic by which its proofs were checked.
+const VERSION: &str = "0.2.0 (toolchain logic dac8208d650f15bf)";
 
 /// What the program is asked to do.
 #[derive(Clone, Copy, Debug, PartialEq, Eq)]
@@ -41,10 +41,12 @@ pub enum Request<'a> {
         /// The channel's name; the plan's first channel where left out.
         channel: Option<&'a str>,
     },
-    /// Read the plan in a file, and tell its size or its first fault.
+    /// Read the plan in a file, and print its size or its first fault.
     Check {
         /// The plan's file.
         plan: &'a str,
+        /// Whether to print which messages go where as well.
+        verbose: bool,
     },
 }
 
@@ -155,6 +157,16 @@ fn channel_option<'a>(alloc: Global) -> Arg<'a>
         .help("The channel by whose rules the messages are judged [default: the plan's first]")
 }
 
+fn verbose_option<'a>(alloc: Global) -> Arg<'a>
+    ensures rule { rule_of result ≡ verbose_rule }
+    ensures local { result.global ≡ false }
+{
+    Arg::new(alloc, "verbose")
+        .long("verbose")
+        .action(ArgAction::SetTrue)
+        .help("Prints as well which messages go from each channel to which destination")
+}
+
 /// The plan's file, which has to be given.
 fn plan_word<'a>(alloc: Global) -> Arg<'a>
     ensures rule { rule_of result ≡ plan_rule }
@@ -179,10 +191,11 @@ fn check_command<'a>(alloc: Global) -> Result<Command<'a>, AllocError>
     ensures app { IfOk result (λ c. app_of c ≡ check_app) }
     ensures local { IfOk result (λ c. (fields_of c).has_globals ≡ false) }
 {
-    let command = Command::new(alloc, "check").about(
-        "Reads a plan and tells its size, or its first fault and where it is",
-    );
-    with_word(command, plan_word(alloc))
+    let command = Command::new(alloc, "check")
+        .about("Reads a plan, and prints its size or its first fault")
+        .after_help(CHECKING);
+    let command = with_word(command, plan_word(alloc))?;
+    with_word(command, verbose_option(alloc))
 }
 
 fn try_command<'a>(alloc: Global) -> Result<Command<'a>, AllocError>
@@ -306,19 +319,31 @@ fn try_request<'a>(matches: &ArgMatches<'a>) -> Request<'a>
     }
 }
 
+/// What the words of `check` ask.
+fn check_request<'a>(matches: &ArgMatches<'a>) -> Request<'a>
+    ensures limits { IsWithinLimits result }
+    ensures written { AsksCheck result (rows_of (found_of matches.now)) }
+{
+    Request::Check {
+        plan: matches.get_str("PLAN").unwrap_or(""),
+        verbose: matches.get_flag("verbose"),
+    }
+}
+
 /// What the words of a command ask, by its name.
 fn request_of<'a>(matches: &ArgMatches<'a>) -> Request<'a>
     ensures limits { IsWithinLimits result }
     ensures written { AsksBy result (subcommand_rows_of matches.now) }
 {
     match matches.subcommand() {
-        Some(("check", given)) => Request::Check {
-            plan: given.get_str("PLAN").unwrap_or(""),
-        },
+        Some(("check", given)) => check_request(given),
         Some(("try", given)) => try_request(given),
         Some((_, given)) => run_request(given),
         // The parse fails where no command is given.
-        None => Request::Check { plan: "" },
+        None => Request::Check {
+            plan: "",
+            verbose: false,
+        },
     }
 }
 

@@ -42,3 +42,13 @@ payload for each destination, a segment a line, and the acknowledgment. Nothing 
 The status is 1 where a message was refused or couldn't be read.
 
 Example: hl7_service try plan.toml --channel ADT < message.hl7";
+
+/// What the help of `check` tells beside its words.
+pub const CHECKING: &str = "\
+On success standard output has one line, 'plan ok: N channels, M destinations'. With --verbose a table follows: a row for
+each route, with the channel's name, its message types, whether a message has to meet a condition of the channel or of the
+route, and the destination. A fault is one line on standard error, status 1: 'plan: NAME at PATH', after notes of what was
+found and what is wanted there. Warnings of what a plan is unlikely to mean come on standard error too, and leave the
+status 0.
+
+Example: hl7_service check plan.toml --verbose";
