@@ -63,9 +63,9 @@ def wrong(program, row):
         at, _, value = expected.partition('=')
         if field(found[destination], at) != value.encode():
             return f'{name}: {destination} gets {field(found[destination], at)} in {at}, and not {value}'
-    # ARCHIVE gets each message as it came, byte for byte, which 'try' prints a segment a line.
-    came = [segment for segment in given.replace(b'\n', b'\r').split(b'\r') if segment]
-    if 'ARCHIVE' in found and found['ARCHIVE'] != came:
+    # ARCHIVE gets each message as it was received, byte for byte, which 'try' prints a segment a line.
+    received = [segment for segment in given.replace(b'\n', b'\r').split(b'\r') if segment]
+    if 'ARCHIVE' in found and found['ARCHIVE'] != received:
         return f'{name}: ARCHIVE gets {found["ARCHIVE"]}'
     return ''
 

@@ -19,7 +19,7 @@ const VERSION: &str = "0.2.0 (toolchain logic dac8208d650f15bf)";
 /// What the program is asked to do.
 #[derive(Clone, Copy, Debug, PartialEq, Eq)]
 pub enum Request<'a> {
-    /// Listen by the plan in a file, and serve, deliver and obey commands until told to stop.
+    /// Listen by the plan in a file, and serve, deliver and obey commands until a command stops it.
     Run {
         /// The plan's file.
         plan: &'a str,
@@ -292,7 +292,7 @@ fn keep_of(given: Option<u32>, events: u32) -> u32
     given.unwrap_or((events / 4).min(100_000)).min(1_000_000)
 }
 
-/// What the words of `run` ask.
+/// The request that the words of `run` make.
 fn run_request<'a>(matches: &ArgMatches<'a>) -> Request<'a>
     ensures limits { IsWithinLimits result }
     ensures written { AsksRun result (rows_of (found_of matches.now)) }
@@ -308,7 +308,7 @@ fn run_request<'a>(matches: &ArgMatches<'a>) -> Request<'a>
     }
 }
 
-/// What the words of `try` ask.
+/// The request that the words of `try` make.
 fn try_request<'a>(matches: &ArgMatches<'a>) -> Request<'a>
     ensures limits { IsWithinLimits result }
     ensures written { AsksTry result (rows_of (found_of matches.now)) }
@@ -319,7 +319,7 @@ fn try_request<'a>(matches: &ArgMatches<'a>) -> Request<'a>
     }
 }
 
-/// What the words of `check` ask.
+/// The request that the words of `check` make.
 fn check_request<'a>(matches: &ArgMatches<'a>) -> Request<'a>
     ensures limits { IsWithinLimits result }
     ensures written { AsksCheck result (rows_of (found_of matches.now)) }
@@ -330,7 +330,7 @@ fn check_request<'a>(matches: &ArgMatches<'a>) -> Request<'a>
     }
 }
 
-/// What the words of a command ask, by its name.
+/// The request that the words of a command make, by its name.
 fn request_of<'a>(matches: &ArgMatches<'a>) -> Request<'a>
     ensures limits { IsWithinLimits result }
     ensures written { AsksBy result (subcommand_rows_of matches.now) }
@@ -355,12 +355,12 @@ fn parse<'a>(alloc: Global, words: &'a [String]) -> Result<ArgMatches<'a>, Error
     program_command(alloc)?.try_get_matches_from(words)
 }
 
-/// What the words ask, of which the first is the program's name.
+/// The request that the words make, of which the first is the program's name.
 ///
 /// # Errors
 ///
-/// The error has the text to be printed: the help, or what is wrong and what the program takes. Where memory isn't
-/// refused, it comes exactly for the words that have a fault, and is of that fault's kind.
+/// The error has the text to be printed: the help, or what is wrong and what the program takes. Unless the system is out of
+/// memory, there is an error exactly where the words have a fault, and it is of that fault's kind.
 pub fn ask<'a>(alloc: Global, words: &'a [String]) -> Result<Request<'a>, Error>
     ensures limits { IfOk result IsWithinLimits }
     ensures written { IfOk result (λ request. Asks request (map string_bytes words.entry.now)) }
