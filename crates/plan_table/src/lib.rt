@@ -1,6 +1,8 @@
 //! Which messages go where by a plan, as a table.
 #![tactic(auto)]
 
+ghost use Rattle.std.specs.Prelude.{◌≡◌, ◌||◌, is_some};
+
 use plan_text::{Channel, MessageType, Plan, Route};
 use std::alloc::{AllocError, Global};
 
@@ -88,7 +90,9 @@ fn add_types(text: &mut String, types: &[MessageType]) -> Result<(), AllocError>
 }
 
 /// Whether a message has to meet a condition on the way, of the channel or of the route.
-fn is_filtered(channel: &Channel, route: &Route) -> bool {
+fn is_filtered(channel: &Channel, route: &Route) -> bool
+    ensures { result ≡ (is_some channel.now.filter || is_some route.now.filter) }
+{
     channel.filter().is_some() || route.filter().is_some()
 }
 
