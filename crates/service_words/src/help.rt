@@ -46,9 +46,8 @@ Example: hl7_service try plan.toml --channel ADT < message.hl7";
 /// The text after the words in the help of `check`.
 pub const CHECKING: &str = "\
 On success standard output has one line, 'plan ok: N channels, M destinations'. With --verbose a table follows: a row for
-each route, with the channel's name, its message types, whether a message has to meet a condition of the channel or of the
-route, and the destination. A fault is one line on standard error, status 1: 'plan: NAME at PATH', after notes of what was
-found and what is wanted there. Warnings of what a plan is unlikely to mean come on standard error too, and leave the
-status 0.
+each route, with the channel, the destination, whether a filter of the channel or of the route has to hold, and the message
+types of the channel. A fault is one line on standard error, status 1: 'plan: NAME at PATH', after notes of what was found
+and what is wanted there. Warnings about what a plan is unlikely to mean are on standard error too, and leave the status 0.
 
 Example: hl7_service check plan.toml --verbose";
