@@ -147,8 +147,8 @@ def wrong_counts(counts, channels, wanted):
         due = destination_counts(0 if name == 'REJECTS' else all_of, failed=all_of if name == 'REJECTS' else 0,
                                  attempts=TIMES[name] * all_of)
         if name == 'UP':
-            # It was asked in vain while it was down, and once when it hung up.
-            due['attempts'] = max(got.get('attempts', 0), all_of + 1 + (all_of > HUNG_UP))
+            # At least one attempt failed while it was down. Where it hung up, the message was sent again within the attempt.
+            due['attempts'] = max(got.get('attempts', 0), all_of + 1)
         if got != due:
             lines.append(f'destination {name}: {got}, not {due}')
     return lines

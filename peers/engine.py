@@ -8,6 +8,13 @@ import time
 PROGRAM = os.path.join(os.path.dirname(os.path.abspath(__file__)), '..', 'crates', 'hl7_engine', 'out', 'hl7_engine')
 
 
+def checks_accesses(program):
+    """Whether a program checks each of its memory accesses when it runs, as './build --unproved' makes it: it is slower then, and
+    takes more memory."""
+    with open(program, 'rb') as file:
+        return b'AddressSanitizer' in file.read()
+
+
 def plan(channels, destinations):
     """A plan: channels as (name, port, [(destination, filter, steps)]), destinations as (name, port, [more lines])."""
     lines = []

@@ -8,7 +8,7 @@ import struct
 import subprocess
 import time
 
-from engine import Engine, channel_counts, one_channel, plan
+from engine import Engine, channel_counts, checks_accesses, one_channel, plan
 from mllp import Destination, Sender, block, free_ports, message
 
 
@@ -106,7 +106,10 @@ def failed_accept(program, folder):
 
 def refused_thread(program, folder):
     """Where the system gives no further thread, no further worker is started, which is logged; the others go on to their end.
-    Then memory is the fault."""
+    Then memory is the fault. Not tried where the program checks its memory accesses, since it needs more than it is left."""
+    if checks_accesses(program):
+        print('a refused thread: not tried, this program checks its memory accesses')
+        return []
     lab, port = Destination(lambda text, before: b'AA'), free_ports(1)[0]
     with Engine(program, one_channel(port, [('LAB', lab.port, [])]), 3, folder) as engine:
         pid, texts = engine.process.pid, [message(b'A%d' % n) for n in range(2)]

@@ -19,7 +19,7 @@ import tempfile
 import threading
 import time
 
-from engine import one_channel, plan
+from engine import checks_accesses, one_channel, plan
 from mllp import SILENCE, Destination, Sender, field, free_ports, message
 
 PROGRAM = os.path.join(os.path.dirname(os.path.abspath(__file__)), '..', 'crates', 'hl7_service', 'out', 'hl7_service')
@@ -313,8 +313,10 @@ def forgets(program, folder):
     words = ('--events', '64', '--keep', '4')
     with Service(program, one_channel(port, [('LAB', lab.port, ['attempts = 1'])]), folder, *words) as service:
         begun, replies = 0, []
+        # Of a slow program the book would be full before the first of a large piece is delivered.
+        size = 5 if checks_accesses(program) else 50
         while begun < len(texts):
-            piece = exchange(port, texts[begun:begun + 50])
+            piece = exchange(port, texts[begun:begun + size])
             codes = [field(reply, b'MSA', 1) for reply in piece]
             booked = codes.index(b'CE') if b'CE' in codes else len(codes)
             replies += piece[:booked]
@@ -512,7 +514,7 @@ def words(program, folder):
     many = plan([(f'C{n}', free_ports(1)[0], [('LAB', None, None)]) for n in range(10)], [('LAB', port, [])])
     with socket.create_server(('127.0.0.1', port)):
         for text, given, status, said in [
-                ('', ['--version'], 0, 'hl7_service 0.2.0'), ('', ['run', 'no/such.toml'], 3, 'file: no/such.toml'),
+                ('', ['--version'], 0, 'hl7_service 0.2.0 (toolchain logic dac8208d650f15bf)'), ('', ['run', 'no/such.toml'], 3, 'file: no/such.toml'),
                 ('x', ['run', 'plan.toml'], 1, 'plan: NotToml'), (many, ['run', 'plan.toml', '--connections', '1000'], 2, 'limit: connections'),
                 (one_channel(port, [('LAB', port, [])]), ['run', 'plan.toml'], 3, 'device: listen ADT'),
                 ('', ['run', 'plan.toml', '--connections', '0'], 2, "For more information, try '--help'."),

@@ -184,6 +184,13 @@ impl Channel {
         self.listen.as_str()
     }
 
+    /// The message types that are taken, in the order of the plan.
+    pub fn types(&self) -> &[MessageType]
+        ensures { result.now ≡ self.now.types }
+    {
+        self.types.as_slice()
+    }
+
     /// The condition of the messages that pass; none where all of them do.
     pub fn filter(&self) -> Option<&Cond>
         ensures { option_map (λ c. condition_view c.now) result ≡ self.now.filter }

@@ -70,7 +70,7 @@ fn read_input<'a>(rt: &HostRuntime) -> Result<Vec<u8>, Fault<'a>> {
     }
 }
 
-/// The fault that is told where trying ends early.
+/// The fault that is reported where trying ends early.
 fn fault_of<'a>(fault: TryFault) -> Fault<'a> {
     match fault {
         TryFault::Memory => Fault::Memory,

@@ -71,7 +71,7 @@ pub fn perform<'a, H: Crew + Threads + Eprint + Copy + Sync>(
 ) -> Result<Ended, Trouble<'a>> {
     match ask(rt.alloc(), words) {
         Ok(Request::Try { plan, channel }) => try_messages(rt, plan, channel),
-        Ok(Request::Check { plan }) => check(rt, plan),
+        Ok(Request::Check { plan, verbose }) => check(rt, plan, verbose),
         Ok(
             Request::Run {
                 plan,

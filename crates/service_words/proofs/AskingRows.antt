@@ -56,3 +56,15 @@ too-long-a-grace = refl
 another-option : fault_of program (codes "hl7_service" ∷ codes "run" ∷ codes "a.toml" ∷ codes "--accept" ∷ codes "1" ∷ []) ≡ UnknownArgument ∷ []
 unfolding clap_on_literals
 another-option = refl
+
+-- the command that words name, with its plan and what is written for --verbose
+abbrev read-check : List Text → Option (Text × Option Text × Option Text)
+read-check words = option_map (λ p. (p.0, first_of (codes "PLAN") p.1, one_of (codes "verbose") p.1)) (subcommand_of program words)
+
+checked : read-check (codes "hl7_service" ∷ codes "check" ∷ codes "a.toml" ∷ []) ≡ Some (codes "check", Some (codes "a.toml"), Some (codes "false"))
+unfolding clap_on_literals
+checked = refl
+
+checked-with-table : read-check (codes "hl7_service" ∷ codes "check" ∷ codes "--verbose" ∷ codes "a.toml" ∷ []) ≡ Some (codes "check", Some (codes "a.toml"), Some (codes "true"))
+unfolding clap_on_literals
+checked-with-table = refl

@@ -8,4 +8,4 @@ abbrev pub IsWithinLimits : Request → Type 0
 IsWithinLimits (Run plan connections events keep idle grace) =
     (1 ≤ connections) × (connections ≤ 1_000) × (1 ≤ events) × (events ≤ 1_000_000) × (keep ≤ 1_000_000) × (idle ≤ 86_400) × (grace ≤ 3_600)
 IsWithinLimits (Try plan channel) = Unit {0}
-IsWithinLimits (Check plan) = Unit {0}
+IsWithinLimits (Check plan verbose) = Unit {0}

@@ -1,7 +1,8 @@
 -- The words of the command line: the program's commands, and what they ask.
-use Rattle.std.specs.Prelude.{◌≡◌, ◌≤◌, ◌<◌, ◌^◌, ◌/◌, ℕ, List, Option, None, Some, option_map, min, codes, pos, true, unwrap_or, [], ⊤}
+use Rattle.std.specs.Prelude.{◌≡◌, ◌≤◌, ◌<◌, ◌^◌, ◌/◌, ℕ, Bool, List, Option, None, Some, option_map, min, codes, false, pos, true, unwrap_or, [], ⊤}
 use Rattle.std.specs.Option.{SomeIff}
 use Rattle.std.specs.Str.Parse.{IsNumeral, digits_value, without_leading_plus}
+use Rattle.clap.specs.declared.builder.action.ArgAction.TheVariants.{SetTrue}
 use Rattle.clap.specs.declared.builder.value_parser.ValueParser.TheVariants as parser
 use Rattle.clap.specs.Words.{App, Row, Rule, Text, first_of, new_app, new_rule, one_of, subcommand_of, with_rule, with_subcommand}
 use Rattle.service_words.specs.declared.command_line.Request.{Request}
@@ -35,6 +36,10 @@ grace_rule = number_rule (codes "grace") 0 3_600
 abbrev pub channel_rule : Rule
 channel_rule = record (new_rule (codes "channel")) { long = Some (codes "channel"); value_names = 1 }
 
+-- an option that takes nothing
+abbrev pub verbose_rule : Rule
+verbose_rule = record (new_rule (codes "verbose")) { long = Some (codes "verbose"); action = Some SetTrue }
+
 -- run PLAN [--connections N] [--events N] [--keep N] [--idle SECONDS] [--grace SECONDS]
 abbrev pub run_app : App
 run_app = with_rule (with_rule (with_rule (with_rule (with_rule (with_rule (new_app (codes "run")) plan_rule) connections_rule) events_rule) keep_rule) idle_rule) grace_rule
@@ -43,9 +48,9 @@ run_app = with_rule (with_rule (with_rule (with_rule (with_rule (with_rule (new_
 abbrev pub try_app : App
 try_app = with_rule (with_rule (new_app (codes "try")) plan_rule) channel_rule
 
--- check PLAN
+-- check PLAN [--verbose]
 abbrev pub check_app : App
-check_app = with_rule (new_app (codes "check")) plan_rule
+check_app = with_rule (with_rule (new_app (codes "check")) plan_rule) verbose_rule
 
 -- the program, which tells its version, and takes a command
 abbrev pub top : App
@@ -97,13 +102,25 @@ AsksTry (Try plan channel) rows =
     (plan.now ≡ unwrap_or (first_of (codes "PLAN") rows) []) × (option_map (λ c. c.now) channel ≡ first_of (codes "channel") rows)
 AsksTry _ rows = ⊥
 
+-- whether an option is given that takes nothing: the parser writes "true" for it where it is given, and "false" where it isn't
+pub record IsFlag (written : Option Text) (flag : Bool) : Type 0 where
+  pub none : written ≡ None → flag ≡ false
+  pub given : written ≡ Some (codes "true") → flag ≡ true
+  pub left_out : written ≡ Some (codes "false") → flag ≡ false
+
+-- what the words of `check` ask: the plan as it is written, and whether --verbose is given
+abbrev pub AsksCheck : Request → List Row → Type 0
+AsksCheck (Check plan verbose) rows =
+    (plan.now ≡ unwrap_or (first_of (codes "PLAN") rows) []) × IsFlag (one_of (codes "verbose") rows) verbose
+AsksCheck _ rows = ⊥
+
 -- what the words of a command ask, by the command's name. Words without a command have a fault.
 abbrev pub AsksBy : Request → Option (Text × List Row) → Type 0
 AsksBy request None = ⊤
 AsksBy (Run plan connections events keep idle grace) (Some (name, rows)) =
     (name ≡ codes "check" → ⊥) × (name ≡ codes "try" → ⊥) × AsksRun (Run plan connections events keep idle grace) rows
 AsksBy (Try plan channel) (Some (name, rows)) = (name ≡ codes "try") × AsksTry (Try plan channel) rows
-AsksBy (Check plan) (Some (name, rows)) = (name ≡ codes "check") × (plan.now ≡ unwrap_or (first_of (codes "PLAN") rows) [])
+AsksBy (Check plan verbose) (Some (name, rows)) = (name ≡ codes "check") × AsksCheck (Check plan verbose) rows
 
 -- what the words ask
 abbrev pub Asks : Request → List Text → Type 0

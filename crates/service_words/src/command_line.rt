@@ -5,21 +5,21 @@ ghost use Rattle.clap.specs.declared.builder.command.Command.TheViews.{out-Comma
 ghost use Rattle.clap.specs.declared.builder.value_parser.ValueParser.TheVariants as parser;
 ghost use Rattle.clap.specs.Words.{FailsBy, app_of, fault_of, found_of, new_app, new_rule, rows_of, rule_of, subcommand_of, subcommand_rows_of, with_rule, with_subcommand};
 ghost use Rattle.service_words.specs.Request.{IsWithinLimits};
-ghost use Rattle.service_words.specs.Words.{channel_rule, check_app, connections_rule, events_rule, grace_rule, idle_rule, keep_rule, plan_rule, program, run_app, top, try_app, Asks, AsksBy, AsksRun, AsksTry, IsWithin, IsKept};
+ghost use Rattle.service_words.specs.Words.{channel_rule, check_app, connections_rule, events_rule, grace_rule, idle_rule, keep_rule, plan_rule, program, run_app, top, try_app, verbose_rule, Asks, AsksBy, AsksCheck, AsksRun, AsksTry, IsWithin, IsKept};
 
-use crate::help::{RUNNING, STATUSES, TRYING};
+use crate::help::{CHECKING, RUNNING, STATUSES, TRYING};
 use clap::builder::ValueParser;
-use clap::{Arg, ArgMatches, Command, Error, value_parser};
+use clap::{Arg, ArgAction, ArgMatches, Command, Error, value_parser};
 use fixed_numbers::EVENTS_MAX;
 use std::alloc::{AllocError, Global};
 
-/// The version that `--version` tells.
-const VERSION: &str = "0.2.0";
+/// What `--version` prints after the program's name: its version, and the toolchain's logic by which its proofs were checked.
+const VERSION: &str = "0.2.0 (toolchain logic dac8208d650f15bf)";
 
 /// What the program is asked to do.
 #[derive(Clone, Copy, Debug, PartialEq, Eq)]
 pub enum Request<'a> {
-    /// Listen by the plan in a file, and serve, deliver and obey commands until told to stop.
+    /// Listen by the plan in a file, and serve, deliver and obey commands until a command stops it.
     Run {
         /// The plan's file.
         plan: &'a str,
@@ -41,10 +41,12 @@ pub enum Request<'a> {
         /// The channel's name; the plan's first channel where left out.
         channel: Option<&'a str>,
     },
-    /// Read the plan in a file, and tell its size or its first fault.
+    /// Read the plan in a file, and print its size or its first fault.
     Check {
         /// The plan's file.
         plan: &'a str,
+        /// Whether to print which messages go where as well.
+        verbose: bool,
     },
 }
 
@@ -155,6 +157,16 @@ fn channel_option<'a>(alloc: Global) -> Arg<'a>
         .help("The channel by whose rules the messages are judged [default: the plan's first]")
 }
 
+fn verbose_option<'a>(alloc: Global) -> Arg<'a>
+    ensures rule { rule_of result ≡ verbose_rule }
+    ensures local { result.global ≡ false }
+{
+    Arg::new(alloc, "verbose")
+        .long("verbose")
+        .action(ArgAction::SetTrue)
+        .help("Prints as well which messages go from each channel to which destination")
+}
+
 /// The plan's file, which has to be given.
 fn plan_word<'a>(alloc: Global) -> Arg<'a>
     ensures rule { rule_of result ≡ plan_rule }
@@ -179,10 +191,11 @@ fn check_command<'a>(alloc: Global) -> Result<Command<'a>, AllocError>
     ensures app { IfOk result (λ c. app_of c ≡ check_app) }
     ensures local { IfOk result (λ c. (fields_of c).has_globals ≡ false) }
 {
-    let command = Command::new(alloc, "check").about(
-        "Reads a plan and tells its size, or its first fault and where it is",
-    );
-    with_word(command, plan_word(alloc))
+    let command = Command::new(alloc, "check")
+        .about("Reads a plan, and prints its size or its first fault")
+        .after_help(CHECKING);
+    let command = with_word(command, plan_word(alloc))?;
+    with_word(command, verbose_option(alloc))
 }
 
 fn try_command<'a>(alloc: Global) -> Result<Command<'a>, AllocError>
@@ -279,7 +292,7 @@ fn keep_of(given: Option<u32>, events: u32) -> u32
     given.unwrap_or((events / 4).min(100_000)).min(1_000_000)
 }
 
-/// What the words of `run` ask.
+/// The request that the words of `run` make.
 fn run_request<'a>(matches: &ArgMatches<'a>) -> Request<'a>
     ensures limits { IsWithinLimits result }
     ensures written { AsksRun result (rows_of (found_of matches.now)) }
@@ -295,7 +308,7 @@ fn run_request<'a>(matches: &ArgMatches<'a>) -> Request<'a>
     }
 }
 
-/// What the words of `try` ask.
+/// The request that the words of `try` make.
 fn try_request<'a>(matches: &ArgMatches<'a>) -> Request<'a>
     ensures limits { IsWithinLimits result }
     ensures written { AsksTry result (rows_of (found_of matches.now)) }
@@ -306,19 +319,31 @@ fn try_request<'a>(matches: &ArgMatches<'a>) -> Request<'a>
     }
 }
 
-/// What the words of a command ask, by its name.
+/// The request that the words of `check` make.
+fn check_request<'a>(matches: &ArgMatches<'a>) -> Request<'a>
+    ensures limits { IsWithinLimits result }
+    ensures written { AsksCheck result (rows_of (found_of matches.now)) }
+{
+    Request::Check {
+        plan: matches.get_str("PLAN").unwrap_or(""),
+        verbose: matches.get_flag("verbose"),
+    }
+}
+
+/// The request that the words of a command make, by its name.
 fn request_of<'a>(matches: &ArgMatches<'a>) -> Request<'a>
     ensures limits { IsWithinLimits result }
     ensures written { AsksBy result (subcommand_rows_of matches.now) }
 {
     match matches.subcommand() {
-        Some(("check", given)) => Request::Check {
-            plan: given.get_str("PLAN").unwrap_or(""),
-        },
+        Some(("check", given)) => check_request(given),
         Some(("try", given)) => try_request(given),
         Some((_, given)) => run_request(given),
         // The parse fails where no command is given.
-        None => Request::Check { plan: "" },
+        None => Request::Check {
+            plan: "",
+            verbose: false,
+        },
     }
 }
 
@@ -330,12 +355,12 @@ fn parse<'a>(alloc: Global, words: &'a [String]) -> Result<ArgMatches<'a>, Error
     program_command(alloc)?.try_get_matches_from(words)
 }
 
-/// What the words ask, of which the first is the program's name.
+/// The request that the words make, of which the first is the program's name.
 ///
 /// # Errors
 ///
-/// The error has the text to be printed: the help, or what is wrong and what the program takes. Where memory isn't
-/// refused, it comes exactly for the words that have a fault, and is of that fault's kind.
+/// The error has the text to be printed: the help, or what is wrong and what the program takes. Unless the system is out of
+/// memory, there is an error exactly where the words have a fault, and it is of that fault's kind.
 pub fn ask<'a>(alloc: Global, words: &'a [String]) -> Result<Request<'a>, Error>
     ensures limits { IfOk result IsWithinLimits }
     ensures written { IfOk result (λ request. Asks request (map string_bytes words.entry.now)) }

@@ -1,18 +1,18 @@
-//! What the help of the service tells beside its words.
+//! The texts that the help of the service prints after its words.
 
-/// What the help of the program tells beside its commands.
+/// The text after the commands in the help of the program.
 pub const STATUSES: &str = "\
 Each fault is a line on standard error. The exit status:
   0  done
   1  plan: NAME at PATH; try: a message was refused or couldn't be read
-  2  words that aren't taken; limit: connections
+  2  wrong words on the command line; limit: connections
   3  file: PLAN; device: read, write, random or listen NAME; memory
   4  audit: NAME
   5  stop now: messages were left undelivered, each named on standard error
 
 Example: hl7_service run plan.toml --connections 16";
 
-/// What the help of `run` tells beside its words.
+/// The text after the words in the help of `run`.
 pub const RUNNING: &str = "\
 N connections times the channels of the plan are at most 9999; else 'limit: connections', status 2.
 
@@ -29,16 +29,25 @@ line. The end of standard input ends nothing.
   stop           reads no further block, delivers what waits, and ends
   stop now       ends without waiting for deliveries
 
-Standard error has a line for each thing that an operator has to know.
+Standard error has a log: a line for each event that an operator has to know of.
 
 Example: hl7_service run plan.toml --connections 16 --idle 600 < commands > answers";
 
-/// What the help of `try` tells beside its words.
+/// The text after the words in the help of `try`.
 pub const TRYING: &str = "\
-Standard input has MLLP blocks; or, where its first byte isn't 0x0B, one message as text, whose segments end by CR, LF
+Standard input holds MLLP blocks; or, where its first byte isn't 0x0B, one message as text, whose segments end with CR, LF
 or CR LF. For each message standard output has the verdict with its cause, whether each route's filter was true, the
 payload for each destination, a segment a line, and the acknowledgment. Nothing is kept and nothing is sent.
 
 The status is 1 where a message was refused or couldn't be read.
 
 Example: hl7_service try plan.toml --channel ADT < message.hl7";
+
+/// The text after the words in the help of `check`.
+pub const CHECKING: &str = "\
+On success standard output has one line, 'plan ok: N channels, M destinations'. With --verbose a table follows: a row for
+each route, with the channel, the destination, whether a filter of the channel or of the route has to hold, and the message
+types of the channel. A fault is one line on standard error, status 1: 'plan: NAME at PATH', after notes of what was found
+and what is wanted there. Warnings about what a plan is unlikely to mean are on standard error too, and leave the status 0.
+
+Example: hl7_service check plan.toml --verbose";

@@ -1,0 +1,86 @@
+#!/usr/bin/env python3
+"""Tries each message of examples/messages against examples/hospital.toml, and compares its verdict, its destinations and some of
+their fields with the table of examples/messages/README.md. Plain Python 3, no packages.
+
+Usage: tests/messages.py [PROGRAM]
+
+PROGRAM is the built service, crates/hl7_service/out/hl7_service where left out ('rt run' in crates/hl7_service builds it).
+The exit status is 0 where all is as the table says, else 1.
+"""
+import os
+import subprocess
+import sys
+
+HERE = os.path.dirname(os.path.abspath(__file__))
+PROGRAM = os.path.join(HERE, '..', 'crates', 'hl7_service', 'out', 'hl7_service')
+EXAMPLES = os.path.join(HERE, '..', 'examples')
+
+
+def rows():
+    """The table's rows, a list of cells each."""
+    with open(os.path.join(EXAMPLES, 'messages', 'README.md'), encoding='utf-8') as file:
+        return [[cell.strip() for cell in line.split('|')[1:-1]] for line in file if '.hl7 |' in line]
+
+
+def field(segments, path):
+    """A field of the first segment of that name, as MSH-5; empty where there is none."""
+    name, _, number = path.partition('-')
+    for fields in (segment.split(b'|') for segment in segments):
+        if fields[0] == name.encode():
+            at = int(number or 0) - (name == 'MSH')
+            return fields[at] if at < len(fields) else b''
+    return b''
+
+
+def payloads(printed):
+    """The verdict that 'try' printed, and the segments for each destination."""
+    verdict, found, now = '', {}, None
+    for line in printed.split(b'\n'):
+        if line.startswith(b'verdict: '):
+            verdict = line[9:].decode()
+        elif line.startswith(b'payload for '):
+            now = found.setdefault(line[12:-1].decode(), [])
+        elif line.startswith(b'  ') and now is not None:
+            now.append(line[2:])
+        else:
+            now = None
+    return verdict, found
+
+
+def wrong(program, row):
+    """What differs from a row of the table, or an empty text."""
+    name, _, channel, verdict, to, looks = row
+    path = os.path.join(EXAMPLES, 'messages', name)
+    with open(path, 'rb') as file:
+        given = file.read()
+    words = [program, 'try', os.path.join(EXAMPLES, 'hospital.toml'), '--channel', channel]
+    done = subprocess.run(words, input=given, capture_output=True, timeout=60, check=False)
+    got, found = payloads(done.stdout)
+    if (got, list(found), done.returncode) != (verdict, to.split(), int(verdict.startswith('refused'))):
+        return f'{name}: {got}, to {list(found)}, status {done.returncode}'
+    for look in filter(None, looks.split(', ')):
+        destination, _, expected = look.partition(' ')
+        at, _, value = expected.partition('=')
+        if field(found[destination], at) != value.encode():
+            return f'{name}: {destination} gets {field(found[destination], at)} in {at}, and not {value}'
+    # ARCHIVE gets each message as it was received, byte for byte, which 'try' prints a segment a line.
+    received = [segment for segment in given.replace(b'\n', b'\r').split(b'\r') if segment]
+    if 'ARCHIVE' in found and found['ARCHIVE'] != received:
+        return f'{name}: ARCHIVE gets {found["ARCHIVE"]}'
+    return ''
+
+
+def main():
+    program, table = os.path.abspath(sys.argv[1] if len(sys.argv) > 1 else PROGRAM), rows()
+    lines = [line for row in table if (line := wrong(program, row))]
+    files = {name for name in os.listdir(os.path.join(EXAMPLES, 'messages')) if name.endswith('.hl7')}
+    if files != {row[0] for row in table}:
+        lines.append(f'not in both the folder and the table: {files ^ {row[0] for row in table}}')
+    for line in lines:
+        print(line)
+    print(f'examples/messages: {len(table)} messages, {"as the table says" if not lines else "WRONG"}')
+    return 1 if lines else 0
+
+
+if __name__ == '__main__':
+    sys.exit(main())
