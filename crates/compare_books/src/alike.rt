@@ -4,13 +4,13 @@ use book_core::{Book, Letter};
 use dest_queue::{Addressed, Outcome, SlotState};
 use event_log::{Entry, Ticket, Told};
 use hl7_head::Moment;
-use row_store::PlainRows;
+use record_list::RecordList;
 use sequential_book::SequentialBook;
 use std::alloc::AllocError;
 
 /// Whether a slot, a queue and the number of entries are the same in a book and in the sequential engine.
 pub fn is_alike(
-    book: &Book<PlainRows<Addressed<Letter>>>,
+    book: &Book<RecordList<Addressed<Letter>>>,
     other: &SequentialBook,
     number: u32,
     d: u32,

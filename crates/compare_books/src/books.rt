@@ -14,7 +14,8 @@ use event_log::{TakeRefusal, Ticket, Told};
 use hl7_head::Moment;
 use judge_core::Judged;
 use plan_text::Plan;
-use row_store::{PlainRows, QUEUES};
+use record_list::RecordList;
+use row_store::QUEUES;
 use sequential_book::{NotBooked as OtherRefusal, NotSettled, SequentialBook};
 use std::alloc::Global;
 use std::hash::RandomState;
@@ -29,7 +30,7 @@ const MANY_ENTRIES: u32 = 1000;
 /// The number of the connection by which all messages come.
 const CONNECTION: u32 = 7;
 
-type Engine = Book<PlainRows<Addressed<Letter>>>;
+type Engine = Book<RecordList<Addressed<Letter>>>;
 
 /// A book and the sequential engine, if it is asked, and a book of which the messages below a number are forgotten, all
 /// of one plan. The first of the control ids of messages, and the ticket that was taken last.

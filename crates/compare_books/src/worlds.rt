@@ -10,12 +10,12 @@ use dest_queue::Addressed;
 use engine_model::{Step, World, steps_of};
 use event_log::Ticket;
 use hl7_head::Moment;
-use row_store::PlainRows;
+use record_list::RecordList;
 use sequential_book::SequentialBook;
 use std::alloc::{AllocError, Global};
 use std::hash::RandomState;
 
-type Engine = World<PlainRows<Addressed<Letter>>>;
+type Engine = World<RecordList<Addressed<Letter>>>;
 
 /// How many entries the engines may hold.
 const ENTRIES: u32 = 60;

@@ -10,7 +10,7 @@ use conn_worker::{Counted, ServeReport, Still, TURNS_MAX, nearest, serve_within}
 use dest_queue::Addressed;
 use plan_text::Plan;
 use play_script::bytes_of;
-use row_store::PlainRows;
+use record_list::RecordList;
 use stat_count::DESTINATIONS;
 use std::alloc::{AllocError, Global};
 use std::hash::RandomState;
@@ -21,7 +21,7 @@ use std::{fs, mem};
 const ANSWERED_AT: u64 = 1_700_000_000;
 
 /// The book that connections are served from.
-type EngineBook = Book<PlainRows<Addressed<Letter>>>;
+type EngineBook = Book<RecordList<Addressed<Letter>>>;
 
 /// The plan in a file.
 fn plan_in(rt: &HostRuntime, name: &str) -> Result<Plan> {

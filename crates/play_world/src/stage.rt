@@ -11,7 +11,7 @@ use engine_model::{Step, World, steps_of};
 use hl7_head::Moment;
 use plan_text::Plan;
 use play_script::bytes_of;
-use row_store::PlainRows;
+use record_list::RecordList;
 use stat_count::{CHANNELS, DESTINATIONS};
 use std::alloc::{AllocError, Global};
 use std::fmt::Write;
@@ -24,7 +24,7 @@ use std::sync::Arc;
 #[derive(Drop)]
 pub struct Stage {
     alloc: Global,
-    world: World<PlainRows<Addressed<Letter>>>,
+    world: World<RecordList<Addressed<Letter>>>,
     entries: usize,
     sent: Vec<usize>,
 }
@@ -55,7 +55,7 @@ fn world_of(
     plan: Arc<Plan>,
     events_max: u32,
     channels: &[u32],
-) -> Result<World<PlainRows<Addressed<Letter>>>> {
+) -> Result<World<RecordList<Addressed<Letter>>>> {
     if events_max == 0 || events_max > EVENTS_MAX || !are_known(channels, plan.channels()) {
         bail!("there is no such world");
     }
