@@ -58,6 +58,8 @@ FAULTS = [
     # UnknownKey
     (destination('atempts = 3'), 'plan: UnknownKey at destination[0].atempts',
      [IS_LAB, 'note: a destination has no key "atempts" here; the nearest is attempts', DESTINATION_KEYS]),
+    (destination('retry = 1'), 'plan: UnknownKey at destination[0].retry',
+     [IS_LAB, 'note: a destination has no key "retry" here; the nearest is address', DESTINATION_KEYS]),
     ('chanel = []', 'plan: UnknownKey at chanel',
      ['note: a plan has no key "chanel" here; the nearest is channel', 'note: the keys of a plan here: destination, channel']),
     (channel('type = ["ADT"]'), 'plan: UnknownKey at channel[0].type',
@@ -76,6 +78,9 @@ FAULTS = [
     (channel('"filter.x" = 1'), 'plan: UnknownKey at channel[0].filter.x',
      [IS_ADT, 'note: a channel has no key "filter.x" here; the nearest is filter', CHANNEL_KEYS]),
     # Missing
+    ('', 'plan: Missing at destination',
+     ['note: destination: the peers that messages go to; wanted: a list of 0 to 32 tables (destination = [] where there is none), '
+      'as [[destination]]']),
     (changed(('listen = "127.0.0.1:6660"\n', '')), 'plan: Missing at channel[0].listen',
      [IS_ADT, 'note: listen: the address at which the channel takes connections; wanted: a text HOST:PORT of 1 to 255 bytes, '
               'as listen = "127.0.0.1:6660"']),
@@ -141,6 +146,8 @@ FAULTS = [
      [IS_ADT, 'note: the path "PID-3..1" is none: its component "" is not a number from 1 to 999 without leading zeros', PATHS]),
     (channel('steps = [{ copy = ["PID-3", "PID-2.1"] }]'), 'plan: BadPath at channel[0].steps[0].copy',
      [IS_ADT, 'note: "PID-3" is a field and "PID-2.1" a component; a copy keeps the level']),
+    (channel('steps = [{ copy = ["PID-3", "PID-4.1"] }]'), 'plan: BadPath at channel[0].steps[0].copy',
+     [IS_ADT, 'note: "PID-3" is a field and "PID-4.1" a component; a copy keeps the level']),
     (channel('steps = [{ copy = ["MSH-2", "PID-2"] }]'), 'plan: BadPath at channel[0].steps[0].copy',
      [IS_ADT, 'note: MSH-1 and MSH-2 declare the delimiters; no step copies from or to them']),
     (channel('steps = [{ lookup = "MSH[2]-3", table = [] }]'), 'plan: BadPath at channel[0].steps[0].lookup',

@@ -1,16 +1,20 @@
-//! Where a book and the sequential engine stand alike.
+//! Whether books and the sequential engine are alike.
 
-use book_core::{Book, Letter};
+use book_core::{Book, Job, Letter, PruneRefusal, TakeRefusal};
 use dest_queue::{Addressed, Outcome, SlotState};
 use event_log::{Entry, Ticket, Told};
 use hl7_head::Moment;
-use row_store::PlainRows;
+use record_list::RecordList;
+use row_store::QUEUES;
 use sequential_book::SequentialBook;
 use std::alloc::AllocError;
 
+/// The book of the engines, with the rows of the program.
+pub type Engine = Book<RecordList<Addressed<Letter>>>;
+
 /// Whether a slot, a queue and the number of entries are the same in a book and in the sequential engine.
 pub fn is_alike(
-    book: &Book<PlainRows<Addressed<Letter>>>,
+    book: &Engine,
     other: &SequentialBook,
     number: u32,
     d: u32,
@@ -23,7 +27,44 @@ pub fn is_alike(
     )
 }
 
-/// Whether two entries are the same. Where one is a deployment they aren't: nothing is deployed where entries are compared.
+/// Whether two takes gave jobs that send the same, or were refused for the same reason.
+pub fn is_same_take(one: &Result<Job, TakeRefusal>, other: &Result<Job, TakeRefusal>) -> bool {
+    match (one, other) {
+        (Ok(one), Ok(other)) => is_same_job(one, other),
+        (Err(one), Err(other)) => one == other,
+        _ => false,
+    }
+}
+
+/// Whether two jobs are of the same attempt, with the same control id and text, and both or neither answered.
+fn is_same_job(one: &Job, other: &Job) -> bool {
+    one.ticket == other.ticket
+        && one.control_id.as_slice() == other.control_id.as_slice()
+        && one.payload.as_slice() == other.payload.as_slice()
+        && one.ack == other.ack
+}
+
+/// Why the messages below a number may not be forgotten where those below `forgotten` are, by a book that keeps all. None that
+/// is forgotten was live.
+pub fn prune_refusal(book: &Engine, forgotten: u32, before: u32) -> Option<PruneRefusal> {
+    if before > book.message_count() {
+        return Some(PruneRefusal::NoSuchMessage);
+    }
+    let live = (forgotten..before).find(|number| is_live(book, *number));
+    live.map(PruneRefusal::StillLive)
+}
+
+/// Whether a message is still to be delivered.
+fn is_live(book: &Engine, number: u32) -> bool {
+    (0..QUEUES).any(|d| {
+        matches!(
+            book.status(number, d),
+            Some(SlotState::Waiting { .. } | SlotState::InFlight { .. })
+        )
+    })
+}
+
+/// Whether two entries are the same.
 pub fn is_same(one: &Entry, other: &Entry) -> bool {
     match one {
         Entry::Arrival {
@@ -44,7 +85,9 @@ pub fn is_same(one: &Entry, other: &Entry) -> bool {
         Entry::Cancel { number, mask } => {
             matches!(other, Entry::Cancel { number: of, mask: at } if number == of && mask == at)
         }
-        Entry::Deploy { .. } => false,
+        Entry::Deploy { plan } => {
+            matches!(other, Entry::Deploy { plan: due } if plan.plan().same(due.plan()))
+        }
     }
 }
 

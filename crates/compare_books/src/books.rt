@@ -3,18 +3,17 @@
 ghost use Rattle.std.specs.Prelude.{IsTrue};
 ghost use Rattle.judge_core.specs.Judging.{is_bookable};
 
-use crate::alike::is_alike;
+use crate::alike::{Engine, is_alike, is_same_take, prune_refusal};
 use crate::dice::{Dice, NO_TICKET};
 use crate::known::{Key, Keys};
 use crate::plan::{Said, judged_by, plan_of};
 use anyhow::{Result, bail};
-use book_core::{Book, CancelRefusal, DeployRefusal, EVENTS_MAX, Letter, NotBooked, PruneRefusal};
-use dest_queue::{Addressed, SettleRefusal, SlotState};
+use book_core::{Book, CancelRefusal, DeployRefusal, EVENTS_MAX, Job, NotBooked};
+use dest_queue::SettleRefusal;
 use event_log::{TakeRefusal, Ticket, Told};
 use hl7_head::Moment;
 use judge_core::Judged;
 use plan_text::Plan;
-use row_store::{PlainRows, QUEUES};
 use sequential_book::{NotBooked as OtherRefusal, NotSettled, SequentialBook};
 use std::alloc::Global;
 use std::hash::RandomState;
@@ -29,10 +28,9 @@ const MANY_ENTRIES: u32 = 1000;
 /// The number of the connection by which all messages come.
 const CONNECTION: u32 = 7;
 
-type Engine = Book<PlainRows<Addressed<Letter>>>;
-
 /// A book and the sequential engine, if it is asked, and a book of which the messages below a number are forgotten, all
-/// of one plan. The first of the control ids of messages, and the ticket that was taken last.
+/// of one plan. The keys of messages, the ticket that was taken last, and how many attempts were taken of messages that a
+/// pruning had kept.
 #[derive(Drop)]
 pub struct Books {
     book: Box<Engine>,
@@ -40,8 +38,8 @@ pub struct Books {
     pruned: Box<Engine>,
     forgotten: u32,
     keys: Keys,
-    first_id: u32,
     last: Ticket,
+    recalled: u32,
 }
 
 /// A book of a plan in which nothing is booked.
@@ -67,9 +65,12 @@ fn told(book: &mut Engine, judged: &Judged) -> Result<(Told, usize), NotBooked>
     Ok((receipt.told, receipt.entry))
 }
 
-/// The attempt that begins where a book takes the front of a queue.
-fn taken(book: &mut Engine, d: u32, now: Moment) -> Result<Ticket, TakeRefusal> {
-    Ok(book.take(d, now)?.ticket)
+/// The attempt that begins with a job, or why there is none.
+fn ticket_of(answer: &Result<Job, TakeRefusal>) -> Result<Ticket, TakeRefusal> {
+    match answer {
+        Ok(job) => Ok(job.ticket),
+        Err(refusal) => Err(*refusal),
+    }
 }
 
 /// A book deploys a plan, of which it becomes another owner.
@@ -93,8 +94,8 @@ impl Books {
             pruned: empty_book(rt, &plan, room)?,
             forgotten: 0,
             keys: Keys::new(alloc),
-            first_id: 0,
             last: NO_TICKET,
+            recalled: 0,
         })
     }
 
@@ -144,14 +145,12 @@ impl Books {
         let Some((told, place)) = self.told(judged)? else {
             return Ok(false);
         };
-        if let Told::Accepted(_) | Told::Filtered = told {
-            self.keys.push(Key {
-                channel,
-                id,
-                place,
-                told,
-            })?;
-        }
+        self.keys.note(Key {
+            channel,
+            id,
+            place,
+            told,
+        })?;
         Ok(true)
     }
 
@@ -160,29 +159,45 @@ impl Books {
     /// things.
     pub fn arrive(&mut self, alloc: Global, dice: &mut Dice) -> Result<bool> {
         let channel = dice.roll(8) / 7;
-        let id = self.first_id.saturating_add(dice.roll(12));
-        let id = self.keys.unforgotten(channel, id)?;
+        let id = self.keys.pick(dice, channel)?;
         let raw = dice.message(alloc, id, "")?.into_bytes();
         let judged = judged_by(alloc, self.book.plan(), channel, raw)?;
         self.book(&judged, channel, id)
     }
 
-    /// Whether all take the front of a queue. An error where they don't take the same, or refuse it for two reasons.
+    /// Whether all take the front of a queue. An error where they don't take the same, don't send the same, or refuse it
+    /// for two reasons.
     pub fn take(&mut self, dice: &mut Dice) -> Result<bool> {
         let d = dice.roll(5);
         let now = dice.now()?;
-        let ticket = taken(&mut self.book, d, now);
+        let answer = self.book.take(d, now);
+        let ticket = ticket_of(&answer);
         let other = match &mut self.other {
             Some(other) => other.take(d, now),
             None => ticket,
         };
-        if taken(&mut self.pruned, d, now) != ticket || other != ticket {
+        if !is_same_take(&self.pruned.take(d, now), &answer) || other != ticket {
             bail!("a take has two answers");
         }
         if let Ok(ticket) = ticket {
-            self.last = ticket;
+            self.note_taken(ticket);
         }
         Ok(ticket.is_ok())
+    }
+
+    /// Notes an attempt, and whether it is of a message that a pruning has kept.
+    fn note_taken(&mut self, ticket: Ticket) {
+        self.last = ticket;
+        if let Some(letter) = self.pruned.message(ticket.number)
+            && letter.place < self.pruned.first_place()
+        {
+            self.recalled = self.recalled.saturating_add(1);
+        }
+    }
+
+    /// How many attempts were taken of messages that a pruning had kept.
+    pub fn recalled(&self) -> u32 {
+        self.recalled
     }
 
     /// Whether all settle an attempt, that of the last ticket or another. An error where they leave its slot in two
@@ -256,35 +271,14 @@ impl Books {
     pub fn prune(&mut self, dice: &mut Dice) -> Result<bool> {
         let before = self.forgotten.saturating_add(dice.roll(4));
         let answer = self.pruned.prune(before);
-        if answer.err() != self.prune_refusal(before) {
+        if answer.err() != prune_refusal(&self.book, self.forgotten, before) {
             bail!("a pruning has two answers");
         }
         if answer.is_ok() {
             self.forgotten = before;
             self.keys.forget(before, self.book.len())?;
-            self.first_id = self.first_id.saturating_add(2);
         }
         Ok(answer.is_ok())
-    }
-
-    /// Why the messages below a number may not be forgotten, by the book that keeps them. None that is forgotten was
-    /// live.
-    fn prune_refusal(&self, before: u32) -> Option<PruneRefusal> {
-        if before > self.book.message_count() {
-            return Some(PruneRefusal::NoSuchMessage);
-        }
-        let live = (self.forgotten..before).find(|number| self.is_live(*number));
-        live.map(PruneRefusal::StillLive)
-    }
-
-    /// Whether a message is still to be delivered.
-    fn is_live(&self, number: u32) -> bool {
-        (0..QUEUES).any(|d| {
-            matches!(
-                self.book.status(number, d),
-                Some(SlotState::Waiting { .. } | SlotState::InFlight { .. })
-            )
-        })
     }
 
     /// Whether a slot, a queue, the number of entries and the statistics are the same where messages are forgotten;

@@ -101,6 +101,9 @@ fn make_calls(rt: &HostRuntime, seed: u32, calls: u32, books: &mut Books) -> Res
         call(rt, &mut dice, books, &mut scores)?;
         books.compare(&mut dice)?;
     }
+    if books.recalled() == 0 {
+        bail!("no message was taken that a pruning had kept");
+    }
     scores.check()
 }
 

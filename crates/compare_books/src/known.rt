@@ -1,5 +1,6 @@
 //! The keys by which messages are known again, and which of them are forgotten.
 
+use crate::dice::Dice;
 use anyhow::{Result, bail};
 use event_log::Told;
 use std::alloc::{AllocError, Global};
@@ -16,12 +17,13 @@ pub struct Key {
     pub told: Told,
 }
 
-/// The keys that are known, and those that are forgotten.
+/// The keys that are known, those that are forgotten, and the first of the twelve control ids that messages have now.
 #[derive(Drop)]
 pub struct Keys {
     alloc: Global,
     known: Vec<Key>,
     forgotten: Vec<Key>,
+    first_id: u32,
 }
 
 impl Keys {
@@ -31,13 +33,23 @@ impl Keys {
             alloc,
             known: Vec::new(alloc),
             forgotten: Vec::new(alloc),
+            first_id: 0,
         }
     }
 
-    /// One more is known.
-    pub fn push(&mut self, key: Key) -> Result<(), AllocError> {
-        self.known.push(key)?;
+    /// Keeps the key of a message that was accepted or filtered; other keys aren't known later.
+    pub fn note(&mut self, key: Key) -> Result<(), AllocError> {
+        if let Told::Accepted(_) | Told::Filtered = key.told {
+            self.known.push(key)?;
+        }
         Ok(())
+    }
+
+    /// A control id for a message on a channel: one of twelve, so that some come again, or the next one that wasn't forgotten
+    /// there.
+    pub fn pick(&self, dice: &mut Dice, channel: u32) -> Result<u32> {
+        let id = self.first_id.saturating_add(dice.roll(12));
+        self.unforgotten(channel, id)
     }
 
     /// Whether the key of a control id on a channel was forgotten.
@@ -48,7 +60,7 @@ impl Keys {
     }
 
     /// The first control id from `id` on whose key on a channel wasn't forgotten.
-    pub fn unforgotten(&self, channel: u32, id: u32) -> Result<u32> {
+    fn unforgotten(&self, channel: u32, id: u32) -> Result<u32> {
         match (id..u32::MAX).find(|id| !self.is_forgotten(channel, *id)) {
             Some(id) => Ok(id),
             None => bail!("all control ids were forgotten"),
@@ -56,7 +68,7 @@ impl Keys {
     }
 
     /// Forgets the keys of the messages numbered below `before`, and of those that were filtered before message
-    /// `before` came: before `next`, the next place, where it is still to come.
+    /// `before` came: before `next`, the next index, where it is still to come. Later messages have later control ids.
     pub fn forget(&mut self, before: u32, next: usize) -> Result<(), AllocError> {
         let accepted = Told::Accepted(before);
         let floor = match self.known.iter().find(|key| key.told == accepted) {
@@ -72,6 +84,7 @@ impl Keys {
             }
         }
         self.known = staying;
+        self.first_id = self.first_id.saturating_add(2);
         Ok(())
     }
 }

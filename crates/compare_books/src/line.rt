@@ -1,11 +1,20 @@
 //! What comes on a connection.
 
 use crate::dice::Dice;
+use crate::known::Keys;
+use anyhow::Result;
 use std::alloc::{AllocError, Global};
 use std::mem;
 
 /// A block is cut into pieces of at most so many bytes.
 const PIECE: u32 = 120;
+
+/// A block that comes: the control id of its text, where it is a message, and the text.
+#[derive(Drop)]
+pub struct Block {
+    pub id: u32,
+    pub raw: Vec<u8>,
+}
 
 /// What comes on a connection next: so many bytes of a text came already. At its end these blocks have ended.
 #[derive(Drop)]
@@ -14,7 +23,7 @@ pub struct Line {
     channel: u32,
     coming: Vec<u8>,
     came: usize,
-    blocks: Vec<Vec<u8>>,
+    blocks: Vec<Block>,
 }
 
 /// A piece that comes on a channel, and the blocks that it ends.
@@ -22,15 +31,15 @@ pub struct Line {
 pub struct Piece {
     pub channel: u32,
     pub bytes: Vec<u8>,
-    pub ended: Vec<Vec<u8>>,
+    pub ended: Vec<Block>,
 }
 
-/// The text of a block: a message, or what is not answered.
-fn text(alloc: Global, dice: &mut Dice) -> Result<String, AllocError> {
+/// The text of a block: a message under a control id, or what is not answered.
+fn text(alloc: Global, dice: &mut Dice, id: u32) -> Result<String, AllocError> {
     match dice.roll(8) {
         0 => dice.unanswered(alloc),
         _ => {
-            let (id, asked) = (dice.roll(12), dice.asked());
+            let asked = dice.asked();
             dice.message(alloc, id, asked)
         }
     }
@@ -49,10 +58,12 @@ impl Line {
     }
 
     /// Another block is to come, with a message or without.
-    fn add_block(&mut self, dice: &mut Dice) -> Result<(), AllocError> {
-        let text = text(self.alloc, dice)?;
+    fn add_block(&mut self, dice: &mut Dice, keys: &Keys) -> Result<()> {
+        let id = keys.pick(dice, self.channel)?;
+        let text = text(self.alloc, dice, id)?;
         self.come(dice.between(), &text)?;
-        self.blocks.push(text.into_bytes())?;
+        let raw = text.into_bytes();
+        self.blocks.push(Block { id, raw })?;
         Ok(())
     }
 
@@ -63,7 +74,7 @@ impl Line {
     }
 
     /// Where all came, another block is to come: a few of them now and then.
-    fn add_blocks(&mut self, dice: &mut Dice) -> Result<(), AllocError> {
+    fn add_blocks(&mut self, dice: &mut Dice, keys: &Keys) -> Result<()> {
         self.coming.clear();
         self.came = 0;
         let blocks = match dice.roll(6) {
@@ -71,22 +82,33 @@ impl Line {
             _ => 1,
         };
         for _ in 0..blocks {
-            self.add_block(dice)?;
+            self.add_block(dice, keys)?;
         }
         Ok(())
     }
 
-    /// The next piece. A few blocks come as one.
-    pub fn next(&mut self, dice: &mut Dice) -> Result<Piece, AllocError> {
+    /// The next piece, of messages whose keys weren't forgotten. A few blocks come as one.
+    pub fn next(&mut self, dice: &mut Dice, keys: &Keys) -> Result<Piece> {
         if self.came >= self.coming.len() {
-            self.add_blocks(dice)?;
+            self.add_blocks(dice, keys)?;
         }
-        let rest = self.coming.get(self.came..).unwrap_or(&[]);
         let len = if self.blocks.len() > 1 {
-            rest.len()
+            usize::MAX
         } else {
-            rest.len().min(dice.roll(PIECE) as usize)
+            dice.roll(PIECE) as usize
         };
+        Ok(self.piece(len)?)
+    }
+
+    /// What is left of the blocks that began.
+    pub fn rest(&mut self) -> Result<Piece, AllocError> {
+        self.piece(usize::MAX)
+    }
+
+    /// A piece of at most so many bytes.
+    fn piece(&mut self, most: usize) -> Result<Piece, AllocError> {
+        let rest = self.coming.get(self.came..).unwrap_or(&[]);
+        let len = rest.len().min(most);
         let (piece, later) = rest.split_at(len);
         let bytes = Vec::from_slice(self.alloc, piece)?;
         let ended = if later.is_empty() {

@@ -28,9 +28,9 @@ impl Said {
     };
 }
 
-/// Inpatients go to A, outpatients to B, patients with an identifier to C, and updates to D, twice at most. A channel
-/// of its own takes everything for C. The name, the attempts and the interval of A and the name of the first channel
-/// are given.
+/// Inpatients go to A, outpatients to B, with the name of a ward, patients with an identifier to C, and updates to D, which
+/// doesn't answer. A channel of its own takes everything for C. The name, the attempts and the interval of A and the name
+/// of the first channel are given.
 fn text_of(alloc: Global, said: Said) -> Result<String, AllocError> {
     format!(in alloc;
         r#"
@@ -64,7 +64,7 @@ processing = ["P"]
 versions = ["2.5.1"]
 route = [
     {{ to = "{}", filter = {{ equals = ["PV1-2", "I"] }} }},
-    {{ to = "B", filter = {{ equals = ["PV1-2", "O"] }} }},
+    {{ to = "B", filter = {{ equals = ["PV1-2", "O"] }}, steps = [{{ set = ["PV1-3", "WARD"] }}] }},
     {{ to = "C", filter = {{ exists = "PID-3.1" }} }},
     {{ to = "D", filter = {{ equals = ["MSH-9.2", "A08"] }} }},
 ]

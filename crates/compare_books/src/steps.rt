@@ -1,6 +1,6 @@
 //! Takes steps at random with two worlds, of which one hears pieces as they come and the other byte by byte, and with
 //! the sequential engine, which is handed whole messages; compares what was booked, counted and sent; and takes the
-//! steps of each history again.
+//! steps of each history again. In every second run the other world forgets messages in between.
 
 use crate::dice::Dice;
 use crate::worlds::Worlds;
@@ -12,16 +12,19 @@ const RUNS: u32 = 24;
 /// How many steps a run takes.
 const STEPS: u32 = 250;
 
-/// Takes a step at random.
-fn step(dice: &mut Dice, worlds: &mut Worlds) -> Result<()> {
-    match dice.roll(12) {
+/// Takes a step at random. None forgets messages where none are to be forgotten.
+fn step(dice: &mut Dice, worlds: &mut Worlds, forgets: bool) -> Result<()> {
+    let kinds = if forgets { 14 } else { 13 };
+    match dice.roll(kinds) {
         0..7 => worlds.chunk(dice),
         7..9 => worlds.take(dice),
         9..11 => worlds.settle(dice),
-        _ => {
+        11 => {
             worlds.cancel(dice);
             Ok(())
         }
+        12 => worlds.deploy(dice),
+        _ => worlds.prune(dice),
     }
 }
 
@@ -35,26 +38,45 @@ fn compare_ends(rt: &HostRuntime, worlds: &Worlds) -> Result<()> {
     Ok(())
 }
 
-/// Takes the steps of one run, and compares what came of them.
-fn take_steps(rt: &HostRuntime, seed: u32, worlds: &mut Worlds) -> Result<()> {
+/// Takes the steps of one run.
+fn take_steps(seed: u32, worlds: &mut Worlds, forgets: bool) -> Result<()> {
     let mut dice = Dice::new(seed);
     for _ in 0..STEPS {
-        step(&mut dice, worlds)?;
+        step(&mut dice, worlds, forgets)?;
         worlds.compare(&mut dice)?;
     }
-    compare_ends(rt, worlds)
+    Ok(())
 }
 
-/// Takes the steps of one run with engines in which nothing came.
-fn run(rt: &HostRuntime, seed: u32) -> Result<()> {
-    let mut worlds = Worlds::new(rt)?;
-    take_steps(rt, seed, &mut worlds)
+/// How many plans were deployed, and how many messages forgotten.
+#[derive(Clone, Copy)]
+struct Made {
+    deployments: u32,
+    forgotten: u32,
 }
 
-/// Takes the steps of all runs, and says how many they were.
+/// Takes the steps of one run with engines in which nothing came, and compares what came of them.
+fn run(rt: &HostRuntime, seed: u32) -> Result<Made> {
+    let forgets = seed % 2 == 1;
+    let mut worlds = Worlds::new(rt, forgets)?;
+    take_steps(seed, &mut worlds, forgets)?;
+    compare_ends(rt, &worlds)?;
+    Ok(Made {
+        deployments: worlds.deployments(),
+        forgotten: worlds.forgotten(),
+    })
+}
+
+/// Takes the steps of all runs, and says how many they were. An error where no plan was deployed, or no message forgotten.
 pub fn compare_steps(rt: &HostRuntime) -> Result<()> {
+    let (mut deployments, mut forgotten) = (0_u32, 0_u32);
     for seed in 0..RUNS {
-        run(rt, seed)?;
+        let made = run(rt, seed)?;
+        deployments = deployments.saturating_add(made.deployments);
+        forgotten = forgotten.saturating_add(made.forgotten);
+    }
+    if deployments == 0 || forgotten == 0 {
+        bail!("{deployments} plans were deployed, and {forgotten} messages forgotten");
     }
     println!(rt; "{} steps, no difference", RUNS * STEPS)?;
     Ok(())

@@ -1,56 +1,68 @@
 //! Worlds and the sequential engine, to which the same happens.
 
-use crate::alike::{is_alike, is_same};
+use crate::alike::{is_alike, is_same, prune_refusal};
 use crate::dice::{Dice, NO_TICKET};
-use crate::line::{Line, Piece};
+use crate::known::{Key, Keys};
+use crate::line::{Block, Line, Piece};
 use crate::plan::{Said, judged_by, plan_of};
 use anyhow::{Result, bail};
-use book_core::Letter;
+use book_core::{EVENTS_MAX, Letter};
 use dest_queue::Addressed;
 use engine_model::{Step, World, steps_of};
 use event_log::Ticket;
 use hl7_head::Moment;
-use row_store::PlainRows;
+use record_list::RecordList;
 use sequential_book::SequentialBook;
 use std::alloc::{AllocError, Global};
 use std::hash::RandomState;
+use std::sync::Arc;
 
-type Engine = World<PlainRows<Addressed<Letter>>>;
+type Engine = World<RecordList<Addressed<Letter>>>;
 
-/// How many entries the engines may hold.
+/// How many entries the engines may hold where no message is forgotten.
 const ENTRIES: u32 = 60;
+
+/// How many entries the engines may hold where messages are forgotten: more than a run books and owes, since the folded history
+/// has room where the whole one is full.
+const MANY_ENTRIES: u32 = 10_000;
 
 /// The channels of the connections.
 const CHANNELS: [u32; 4] = [0, 1, 0, 0];
 
-/// A world that hears pieces as they come, one that hears them byte by byte, and the sequential engine, which is handed
-/// each message when its block has ended. Further what comes on the connections, and the ticket that was taken last.
+/// A world that hears pieces as they come, one that hears them byte by byte and of which the messages below a number are
+/// forgotten, and the sequential engine, which is handed each message when its block has ended. Further what comes on the
+/// connections, the keys of messages, and the ticket that was taken last.
 #[derive(Drop)]
 pub struct Worlds {
     alloc: Global,
+    room: u32,
     whole: Box<Engine>,
     bytewise: Box<Engine>,
     other: Box<SequentialBook>,
     lines: Vec<Line>,
+    keys: Keys,
+    forgotten: u32,
     last: Ticket,
 }
 
-/// A world in which nothing came.
-fn silent(rt: &HostRuntime) -> Result<Box<Engine>> {
+/// A world in which nothing came, with room for so many entries.
+fn silent(rt: &HostRuntime, room: u32) -> Result<Box<Engine>> {
     let alloc = rt.alloc();
     let hasher = RandomState::new(rt)?;
     let plan = plan_of(alloc, Said::FIRST)?;
     if plan.channels() != 2 {
         bail!("the plan has two channels");
     }
-    let world = World::new(alloc, plan, &CHANNELS, ENTRIES, hasher)?;
+    let room = room.clamp(1, EVENTS_MAX);
+    let world = World::new(alloc, plan, &CHANNELS, room, hasher)?;
     Ok(Box::new(alloc, world)?)
 }
 
-/// The sequential engine in which nothing came.
-fn sequential(alloc: Global) -> Result<Box<SequentialBook>> {
+/// The sequential engine in which nothing came, with room for so many entries.
+fn sequential(alloc: Global, room: u32) -> Result<Box<SequentialBook>> {
     let plan = plan_of(alloc, Said::FIRST)?;
-    Ok(Box::new(alloc, SequentialBook::new(alloc, plan, ENTRIES))?)
+    let room = room.min(EVENTS_MAX);
+    Ok(Box::new(alloc, SequentialBook::new(alloc, plan, room))?)
 }
 
 /// A line for each connection.
@@ -84,17 +96,27 @@ fn is_entry_alike(world: &Engine, other: &SequentialBook, place: usize) -> bool 
 }
 
 impl Worlds {
-    /// Three engines in which nothing came.
-    pub fn new(rt: &HostRuntime) -> Result<Worlds> {
+    /// Three engines in which nothing came, with room for a run in which messages are forgotten or for one in which none is.
+    pub fn new(rt: &HostRuntime, forgets: bool) -> Result<Worlds> {
         let alloc = rt.alloc();
+        let room = if forgets { MANY_ENTRIES } else { ENTRIES };
         Ok(Worlds {
             alloc,
+            room,
             lines: lines(alloc)?,
-            other: sequential(alloc)?,
-            whole: silent(rt)?,
-            bytewise: silent(rt)?,
+            other: sequential(alloc, room)?,
+            whole: silent(rt, room)?,
+            bytewise: silent(rt, room)?,
+            keys: Keys::new(alloc),
+            forgotten: 0,
             last: NO_TICKET,
         })
+    }
+
+    /// The number of a message, forgotten or not.
+    fn number(&self, dice: &mut Dice) -> u32 {
+        let above = self.forgotten.saturating_add(dice.roll(16));
+        above.saturating_sub(4)
     }
 
     /// A piece comes on a connection.
@@ -104,9 +126,23 @@ impl Worlds {
         let Some(line) = self.lines.get_mut(conn as usize) else {
             bail!("there is no such connection");
         };
-        let piece = line.next(dice)?;
+        let piece = line.next(dice, &self.keys)?;
+        self.come(conn, &piece, now)
+    }
+
+    /// What is left of the blocks that began on a connection comes.
+    fn end_blocks(&mut self, conn: u32, now: Moment) -> Result<()> {
+        let Some(line) = self.lines.get_mut(conn as usize) else {
+            bail!("there is no such connection");
+        };
+        let piece = line.rest()?;
+        self.come(conn, &piece, now)
+    }
+
+    /// A piece comes on a connection of all.
+    fn come(&mut self, conn: u32, piece: &Piece, now: Moment) -> Result<()> {
         self.hear(conn, &piece.bytes, now)?;
-        self.book(conn, &piece)
+        self.book(conn, piece)
     }
 
     /// Bytes come on a connection of both worlds.
@@ -119,18 +155,27 @@ impl Worlds {
 
     /// The sequential engine books the messages that a piece ends.
     fn book(&mut self, conn: u32, piece: &Piece) -> Result<()> {
-        for raw in &piece.ended {
-            self.arrive(conn, piece.channel, raw)?;
+        for block in &piece.ended {
+            self.arrive(conn, piece.channel, block)?;
         }
         Ok(())
     }
 
-    /// The sequential engine books a message, if it is one.
-    fn arrive(&mut self, conn: u32, channel: u32, raw: &[u8]) -> Result<()> {
-        let raw = Vec::from_slice(self.alloc, raw)?;
+    /// The sequential engine books a message, if it is one. A new key is kept.
+    fn arrive(&mut self, conn: u32, channel: u32, block: &Block) -> Result<()> {
+        let raw = Vec::from_slice(self.alloc, &block.raw)?;
         let judged = judged_by(self.alloc, self.other.plan(), channel, raw)?;
-        if judged.bookable() {
-            let _ = self.other.arrive(conn, &judged);
+        let place = self.other.entries().len();
+        if judged.bookable()
+            && let Ok(told) = self.other.arrive(conn, &judged)
+        {
+            let id = block.id;
+            self.keys.note(Key {
+                channel,
+                id,
+                place,
+                told,
+            })?;
         }
         Ok(())
     }
@@ -148,7 +193,7 @@ impl Worlds {
 
     /// An attempt is settled, that of the last ticket or another.
     pub fn settle(&mut self, dice: &mut Dice) -> Result<()> {
-        let number = dice.roll(16);
+        let number = self.number(dice);
         let ticket = dice.ticket(self.last, number);
         let outcome = dice.outcome();
         let now = dice.now()?;
@@ -163,9 +208,52 @@ impl Worlds {
 
     /// A message is cancelled.
     pub fn cancel(&mut self, dice: &mut Dice) {
-        let number = dice.roll(16);
+        let number = self.number(dice);
         let _ = self.other.cancel(number);
         self.step(Step::Cancel { number });
+    }
+
+    /// A plan is deployed.
+    pub fn deploy(&mut self, dice: &mut Dice) -> Result<()> {
+        let plan = plan_of(self.alloc, dice.said())?;
+        let _ = self.other.deploy(Arc::try_clone(&plan)?);
+        self.step(Step::Deploy { plan });
+        Ok(())
+    }
+
+    /// Messages are forgotten in the second world, once the blocks that began have ended: those under way may be of keys that
+    /// are forgotten. An error where messages are forgotten that may not be, or kept that may be forgotten.
+    pub fn prune(&mut self, dice: &mut Dice) -> Result<()> {
+        let now = dice.now()?;
+        for conn in 0..4 {
+            self.end_blocks(conn, now)?;
+        }
+        self.forget(self.forgotten.saturating_add(dice.roll(4)))
+    }
+
+    /// The messages below a number are forgotten in the second world, if they may be.
+    fn forget(&mut self, before: u32) -> Result<()> {
+        let due = prune_refusal(self.whole.book(), self.forgotten, before);
+        let prunings = self.bytewise.book().prunings();
+        self.bytewise.step(Step::Prune { before });
+        if (self.bytewise.book().prunings() == prunings) != due.is_some() {
+            bail!("a pruning is made or refused against the rules");
+        }
+        if due.is_none() {
+            self.forgotten = before;
+            self.keys.forget(before, self.other.entries().len())?;
+        }
+        Ok(())
+    }
+
+    /// How many plans were deployed.
+    pub fn deployments(&self) -> u32 {
+        self.whole.book().deployments()
+    }
+
+    /// How many messages were forgotten.
+    pub fn forgotten(&self) -> u32 {
+        self.forgotten
     }
 
     /// Both worlds take a step.
@@ -175,15 +263,22 @@ impl Worlds {
         self.bytewise.run(&steps);
     }
 
-    /// An error where there are two numbers of entries, or where the worlds count a destination or a channel in two
-    /// ways.
+    /// An error where there are two numbers of entries, two plans in force, or two lengths of a queue, or where the worlds
+    /// count a destination or a channel in two ways.
     pub fn compare(&self, dice: &mut Dice) -> Result<()> {
         let (book, bytewise) = (self.whole.book(), self.bytewise.book());
         let len = self.other.entries().len();
         if book.len() != len || bytewise.len() != len {
             bail!("there are two numbers of entries");
         }
+        let plan = self.other.plan();
+        if !book.plan().same(plan) || !bytewise.plan().same(plan) {
+            bail!("two plans are in force");
+        }
         let d = dice.roll(4);
+        if book.queue_len(d) != bytewise.queue_len(d) {
+            bail!("a queue has two lengths");
+        }
         let (counts, again) = (book.counts(), bytewise.counts());
         if counts.destination(d) != again.destination(d)
             || counts.channel(d / 2) != again.channel(d / 2)
@@ -223,13 +318,13 @@ impl Worlds {
         Ok(sent)
     }
 
-    /// How many entries a world has. An error where the sequential engine has others.
+    /// How many entries a world has booked. An error where the sequential engine has others than those that the world holds.
     fn compare_history(&self, world: &Engine) -> Result<usize> {
         let len = world.book().len();
         if len != self.other.entries().len() {
             bail!("there are two numbers of entries");
         }
-        for place in 0..len {
+        for place in world.book().first_place()..len {
             if !is_entry_alike(world, &self.other, place) {
                 bail!("entry {place} isn't the same");
             }
@@ -248,7 +343,7 @@ impl Worlds {
     pub fn compare_entries(&self, rt: &HostRuntime) -> Result<usize> {
         self.compare_history(&self.whole)?;
         self.compare_history(&self.bytewise)?;
-        let mut again = silent(rt)?;
+        let mut again = silent(rt, self.room)?;
         self.compare_again(&mut again)
     }
 }

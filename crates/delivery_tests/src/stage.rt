@@ -14,7 +14,8 @@ use dest_queue::Addressed;
 use judge_core::{Judged, fits_block, judge};
 use log::Log;
 use plan_text::Plan;
-use row_store::{PlainRows, RowStore};
+use record_list::RecordList;
+use row_store::RowStore;
 use std::alloc::Global;
 use std::hash::RandomState;
 use std::marker::Brand;
@@ -23,7 +24,7 @@ use std::sync::{Arc, Wait};
 use std::time;
 
 /// The rows of the tests' books.
-pub type Rows = PlainRows<Addressed<Letter>>;
+pub type Rows = RecordList<Addressed<Letter>>;
 
 /// Messages with the control ids M1 and M2.
 pub const MESSAGES: [&str; 2] = [

@@ -15,7 +15,7 @@ use engine_workers::{
 };
 use log::Log;
 use plan_text::Plan;
-use row_store::PlainRows;
+use record_list::RecordList;
 use stat_count::Counts;
 use std::alloc::Global;
 use std::hash::RandomState;
@@ -26,7 +26,7 @@ use std::test::Fail;
 use std::thread::Threads;
 use std::time;
 
-type Rows = PlainRows<Addressed<Letter>>;
+type Rows = RecordList<Addressed<Letter>>;
 
 /// A channel whose messages all go to both of two destinations.
 const PLAN: &str =

@@ -7,6 +7,8 @@ mod audits;
 #[cfg(test)]
 mod calls;
 #[cfg(test)]
+mod changes;
+#[cfg(test)]
 mod deploys;
 #[cfg(test)]
 mod devices;

@@ -11,7 +11,8 @@ use dest_queue::Addressed;
 use judge_core::{Judged, fits_block, judge};
 use log::Log;
 use plan_text::Plan;
-use row_store::{PlainRows, RowStore};
+use record_list::RecordList;
+use row_store::RowStore;
 use std::alloc::Global;
 use std::hash::RandomState;
 use std::marker::Brand;
@@ -20,7 +21,7 @@ use std::sync::{Arc, Wait};
 use std::test::Fail;
 
 /// The rows of the tests' books.
-pub type Rows = PlainRows<Addressed<Letter>>;
+pub type Rows = RecordList<Addressed<Letter>>;
 
 /// A message with the control id M1, which asks for accept acknowledgments (HL7 v2.5.1, 2.9.3).
 pub const M1: &str =

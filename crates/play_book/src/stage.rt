@@ -12,7 +12,8 @@ use event_log::{Ticket, Told};
 use hl7_head::Moment;
 use judge_core::{Judged, fits_block, judge};
 use plan_text::Plan;
-use row_store::{PlainRows, RowStore};
+use record_list::RecordList;
+use row_store::RowStore;
 use stat_count::{CHANNELS, DESTINATIONS};
 use std::alloc::{AllocError, Global};
 use std::fmt::Debug;
@@ -27,7 +28,7 @@ const CONNECTION: u32 = 3;
 #[derive(Drop)]
 pub struct Stage {
     alloc: Global,
-    book: Book<PlainRows<Addressed<Letter>>>,
+    book: Book<RecordList<Addressed<Letter>>>,
     plan: Arc<Plan>,
 }
 

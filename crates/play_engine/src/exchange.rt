@@ -1,16 +1,19 @@
 //! The book that connections are served from, what comes by the next one, and what came of it.
 
+ghost use Rattle.std.specs.Prelude.{◌≤◌};
+
 use crate::pieces::Pieces;
 use crate::script::{Call, Coming, Cut, Setting};
-use crate::shown::{payload_shown, served_shown};
+use crate::shown::{add_end, add_entries, add_receipts, payload_shown, replies_shown};
 use anyhow::{Result, bail};
 use book_core::{Book, EVENTS_MAX, Letter};
 use conn_core::Line;
 use conn_worker::{Counted, ServeReport, Still, TURNS_MAX, nearest, serve_within};
 use dest_queue::Addressed;
+use engine_report::answer_stream;
 use plan_text::Plan;
 use play_script::bytes_of;
-use row_store::PlainRows;
+use record_list::RecordList;
 use stat_count::DESTINATIONS;
 use std::alloc::{AllocError, Global};
 use std::hash::RandomState;
@@ -21,7 +24,7 @@ use std::{fs, mem};
 const ANSWERED_AT: u64 = 1_700_000_000;
 
 /// The book that connections are served from.
-type EngineBook = Book<PlainRows<Addressed<Letter>>>;
+type EngineBook = Book<RecordList<Addressed<Letter>>>;
 
 /// The plan in a file.
 fn plan_in(rt: &HostRuntime, name: &str) -> Result<Plan> {
@@ -56,7 +59,7 @@ pub struct Exchange {
     plan: Arc<Plan>,
     events: u32,
     clock: u64,
-    bound: u64,
+    bound: Option<u64>,
     stream: Vec<u8>,
     book: EngineBook,
 }
@@ -72,7 +75,7 @@ impl Exchange {
             plan,
             events: EVENTS_MAX,
             clock: ANSWERED_AT,
-            bound: TURNS_MAX,
+            bound: None,
             stream: Vec::new(alloc),
             book,
         })
@@ -113,7 +116,7 @@ impl Exchange {
             Setting::Plan(name) => self.begin_with(rt, name)?,
             Setting::Events(events) => self.begin_within(rt, events)?,
             Setting::Clock(seconds) => self.clock = seconds,
-            Setting::Bound(bound) => self.bound = bound,
+            Setting::Bound(bound) => self.bound = Some(bound),
         }
         Ok(String::new(self.alloc))
     }
@@ -199,11 +202,34 @@ impl Exchange {
 
     /// Serves a stream, and gives the replies and the report.
     fn told(&mut self, cut: Cut, stream: &[u8]) -> Result<String, AllocError> {
+        match self.bound {
+            Some(bound) => self.told_within(cut, stream, bound.min(TURNS_MAX)),
+            None => self.answered(cut, stream),
+        }
+    }
+
+    /// Answers a stream as the program does, and gives the replies and the report, with the entries of the book for receipts.
+    fn answered(&mut self, cut: Cut, stream: &[u8]) -> Result<String, AllocError> {
+        let alloc = self.alloc;
+        let first = self.book.len();
+        let mut reader = Counted::new(Pieces { rest: stream, cut });
+        let mut writer = Counted::new(Vec::new(alloc));
+        let mut clock = Still(nearest(self.clock));
+        let report = answer_stream(alloc, &mut self.book, &mut reader, &mut writer, &mut clock);
+        let mut text = replies_shown(alloc, &writer.into_inner())?;
+        add_entries(&mut text, &self.book, first)?;
+        add_end(&mut text, &report)?;
+        Ok(text)
+    }
+
+    /// Serves a stream by at most so many reads and events, and gives the replies and the report with its receipts.
+    fn told_within(&mut self, cut: Cut, stream: &[u8], bound: u64) -> Result<String, AllocError>
+        requires { bound ≤ TURNS_MAX }
+    {
         let alloc = self.alloc;
         let mut reader = Counted::new(Pieces { rest: stream, cut });
         let mut writer = Counted::new(Vec::new(alloc));
         let mut clock = Still(nearest(self.clock));
-        let bound = self.bound.min(TURNS_MAX);
         let (conn, channel) = (0, 0);
         self.book.plan().rules();
         let report: ServeReport = serve_within(
@@ -218,7 +244,10 @@ impl Exchange {
             &mut clock,
             bound,
         );
-        served_shown(alloc, &writer.into_inner(), &report)
+        let mut text = replies_shown(alloc, &writer.into_inner())?;
+        add_receipts(&mut text, &report.receipts)?;
+        add_end(&mut text, &report)?;
+        Ok(text)
     }
 
     /// Adds what the channel counts.

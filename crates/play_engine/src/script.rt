@@ -17,7 +17,7 @@ pub enum Setting<'a> {
     Events(u32),
     /// `clock SECS`: acknowledgments are of this moment.
     Clock(u64),
-    /// `bound N`: so many reads and so many events are a connection's.
+    /// `bound N`: at most so many reads and so many events are a connection's, until the next plan.
     Bound(u64),
 }
 

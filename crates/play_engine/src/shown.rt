@@ -1,12 +1,15 @@
 //! How answers are written.
 
-use book_core::Receipt;
+use book_core::{Book, Letter, Receipt, Told};
 use conn_worker::ServeReport;
+use dest_queue::Addressed;
+use event_log::Entry;
 use play_script::shown;
+use row_store::RowStore;
 use std::alloc::{AllocError, Global};
 
 /// Replies, a block a line.
-fn replies_shown(alloc: Global, bytes: &[u8]) -> Result<String, AllocError> {
+pub fn replies_shown(alloc: Global, bytes: &[u8]) -> Result<String, AllocError> {
     if bytes.is_empty() {
         return Ok(String::new(alloc));
     }
@@ -15,37 +18,66 @@ fn replies_shown(alloc: Global, bytes: &[u8]) -> Result<String, AllocError> {
     format!(in alloc; "  {lines}\n")
 }
 
-/// Adds the entry that a message got, and what its sender was told.
-fn add_receipt(text: &mut String, receipt: &Receipt) -> Result<(), AllocError> {
-    let len = receipt.raw.as_slice().len();
+/// Adds an arrival: its entry, the connection and the channel by which so many bytes came, and what their sender was told.
+fn add_arrival(
+    text: &mut String,
+    entry: usize,
+    conn: u32,
+    channel: u32,
+    len: usize,
+    told: Told,
+) -> Result<(), AllocError> {
     writeln!(
         text,
-        "  entry {}: connection {}, channel {}, {len} bytes, {:?}",
-        receipt.entry, receipt.conn, receipt.channel, receipt.told
+        "  entry {entry}: connection {conn}, channel {channel}, {len} bytes, {told:?}"
     )
 }
 
-/// Adds the entries and what was told, and what the blocks and their end were.
-fn add_report(text: &mut String, report: &ServeReport) -> Result<(), AllocError> {
-    for receipt in &report.receipts {
-        add_receipt(text, receipt)?;
+/// Adds the arrivals of which receipts were kept.
+pub fn add_receipts(text: &mut String, receipts: &[Receipt]) -> Result<(), AllocError> {
+    for receipt in receipts {
+        let len = receipt.raw.as_slice().len();
+        add_arrival(
+            text,
+            receipt.entry,
+            receipt.conn,
+            receipt.channel,
+            len,
+            receipt.told,
+        )?;
     }
+    Ok(())
+}
+
+/// Adds the arrivals that a book holds from an entry on.
+pub fn add_entries<S: RowStore<Addressed<Letter>>>(
+    text: &mut String,
+    book: &Book<S>,
+    first: usize,
+) -> Result<(), AllocError> {
+    for place in first..book.len() {
+        if let Some(
+            Entry::Arrival {
+                conn,
+                channel,
+                raw,
+                told,
+            },
+        ) = book.entry(place)
+        {
+            add_arrival(text, place, *conn, *channel, raw.as_slice().len(), *told)?;
+        }
+    }
+    Ok(())
+}
+
+/// Adds what the blocks of a connection and its end were.
+pub fn add_end<K>(text: &mut String, report: &ServeReport<K>) -> Result<(), AllocError> {
     writeln!(
         text,
         "  unreadable {}, strays {}, breaks {}, unbooked {}, end {:?}",
         report.unreadable, report.strays, report.breaks, report.unbooked, report.end
     )
-}
-
-/// What a connection wrote, and the report of it.
-pub fn served_shown(
-    alloc: Global,
-    replies: &[u8],
-    report: &ServeReport,
-) -> Result<String, AllocError> {
-    let mut text = replies_shown(alloc, replies)?;
-    add_report(&mut text, report)?;
-    Ok(text)
 }
 
 /// What is sent of a message.

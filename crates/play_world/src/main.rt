@@ -13,13 +13,19 @@
 //! - `take D MOMENT`: the front of a destination's queue is taken.
 //! - `settle NUMBER D ATTEMPT OUTCOME MOMENT`: an attempt is settled, as `delivered`, `again` or `rejected`.
 //! - `cancel NUMBER`: a message is cancelled.
+//! - `deploy PLAN`: a plan is deployed, the one `built-in` or that in a file.
+//! - `deploys COUNT PLAN`: a plan is deployed as often as this.
 //! - `prune NUMBER`: the messages numbered below this are forgotten.
+//! - `prunes COUNT NUMBER`: the messages numbered below this are forgotten, as often as this; the history is folded each time.
+//!
+//! A step that is refused adds no entry. A pruning adds none either: it tells whether the history was folded.
 //!
 //! Questions:
 //!
 //! - `output CONN` and `ended CONN`: all that a connection was sent, and whether it has ended.
 //! - `slot NUMBER D`: the slot of a message at a destination.
 //! - `channel CHANNEL` and `destination D`: what was counted there.
+//! - `plan`: the plan in force.
 //! - `entries`: how many entries there are.
 //! - `steps`: the steps by which the history of the book comes.
 #![tactic(auto)]

@@ -4,6 +4,7 @@ use dest_queue::Outcome;
 use engine_model::Step;
 use event_log::{Entry, Ticket};
 use hl7_head::Moment;
+use plan_text::{Channel, Destination, Plan};
 use play_script::shown;
 use std::alloc::{AllocError, Global};
 
@@ -21,6 +22,54 @@ fn settlement_shown(
         ticket.attempt,
         now.secs()
     )
+}
+
+/// A channel, by its name.
+fn channel_shown(alloc: Global, channel: Option<&Channel>) -> Result<String, AllocError> {
+    match channel {
+        Some(channel) => String::from_str(alloc, channel.name()),
+        None => Ok(String::new(alloc)),
+    }
+}
+
+/// A destination, by its name, its attempts and the seconds between two of them.
+fn destination_shown(
+    alloc: Global,
+    destination: Option<&Destination>,
+) -> Result<String, AllocError> {
+    match destination {
+        Some(destination) => format!(in alloc;
+            "{} (attempts {}, interval {})",
+            destination.name(),
+            destination.attempts(),
+            destination.interval()
+        ),
+        None => Ok(String::new(alloc)),
+    }
+}
+
+/// A plan, by its channels and its destinations.
+pub fn plan_shown(alloc: Global, plan: &Plan) -> Result<String, AllocError> {
+    let mut text = String::new(alloc);
+    for place in 0..plan.channels() {
+        let channel = channel_shown(alloc, plan.channel(place))?;
+        write!(text, "{}{channel}", if place == 0 { "" } else { ", " })?;
+    }
+    for place in 0..plan.destinations() {
+        let destination = destination_shown(alloc, plan.destination(place))?;
+        write!(
+            text,
+            "{}{destination}",
+            if place == 0 { " to " } else { ", " }
+        )?;
+    }
+    Ok(text)
+}
+
+/// A plan that is deployed.
+fn deployment_shown(alloc: Global, plan: &Plan) -> Result<String, AllocError> {
+    let plan = plan_shown(alloc, plan)?;
+    format!(in alloc; "deploy {plan}")
 }
 
 /// An entry.
@@ -52,7 +101,7 @@ pub fn entry_shown(alloc: Global, entry: &Entry) -> Result<String, AllocError> {
             format!(in alloc; "{settlement}, {state:?}")
         }
         Entry::Cancel { number, mask } => format!(in alloc; "cancel {number}, mask {mask}"),
-        Entry::Deploy { .. } => format!(in alloc; "deploy"),
+        Entry::Deploy { plan } => deployment_shown(alloc, plan.plan()),
     }
 }
 
@@ -70,7 +119,7 @@ pub fn step_shown(alloc: Global, step: &Step) -> Result<String, AllocError> {
             now,
         } => settlement_shown(alloc, ticket, *outcome, *now),
         Step::Cancel { number } => format!(in alloc; "cancel {number}"),
-        Step::Deploy { .. } => format!(in alloc; "deploy"),
+        Step::Deploy { plan } => deployment_shown(alloc, plan),
         Step::Prune { before } => format!(in alloc; "prune {before}"),
     }
 }

@@ -2,7 +2,7 @@
 
 ghost use Rattle.std.specs.Prelude.{◌<◌, All, IsTrue};
 
-use crate::shown::{entry_shown, sent_shown, step_shown};
+use crate::shown::{entry_shown, plan_shown, sent_shown, step_shown};
 use crate::words::{moment, number, numbers, outcome, ticket, word};
 use anyhow::{Result, bail};
 use book_core::{EVENTS_MAX, Letter};
@@ -11,7 +11,7 @@ use engine_model::{Step, World, steps_of};
 use hl7_head::Moment;
 use plan_text::Plan;
 use play_script::bytes_of;
-use row_store::PlainRows;
+use record_list::RecordList;
 use stat_count::{CHANNELS, DESTINATIONS};
 use std::alloc::{AllocError, Global};
 use std::fmt::Write;
@@ -24,7 +24,7 @@ use std::sync::Arc;
 #[derive(Drop)]
 pub struct Stage {
     alloc: Global,
-    world: World<PlainRows<Addressed<Letter>>>,
+    world: World<RecordList<Addressed<Letter>>>,
     entries: usize,
     sent: Vec<usize>,
 }
@@ -42,6 +42,11 @@ fn plan_named(rt: &HostRuntime, name: &str) -> Result<Plan> {
     }
 }
 
+/// A plan by its name, to be shared.
+fn shared_plan(rt: &HostRuntime, name: &str) -> Result<Arc<Plan>> {
+    Ok(Arc::new(rt.alloc(), plan_named(rt, name)?)?)
+}
+
 /// Whether these are channels of a plan that has so many.
 fn are_known(channels: &[u32], count: u32) -> bool
     ensures { IsTrue result → All (λ channel. channel < count) channels.now }
@@ -55,7 +60,7 @@ fn world_of(
     plan: Arc<Plan>,
     events_max: u32,
     channels: &[u32],
-) -> Result<World<PlainRows<Addressed<Letter>>>> {
+) -> Result<World<RecordList<Addressed<Letter>>>> {
     if events_max == 0 || events_max > EVENTS_MAX || !are_known(channels, plan.channels()) {
         bail!("there is no such world");
     }
@@ -99,7 +104,7 @@ impl Stage {
     fn on(rt: &HostRuntime, name: &str, events_max: u32, channels: &[u32]) -> Result<Stage> {
         let alloc = rt.alloc();
         let sent = vec![in alloc; 0; channels.len()]?;
-        let plan = Arc::new(alloc, plan_named(rt, name)?)?;
+        let plan = shared_plan(rt, name)?;
         Ok(Stage {
             alloc,
             world: world_of(rt, plan, events_max, channels)?,
@@ -127,7 +132,10 @@ impl Stage {
             "take" => self.take(&mut words),
             "settle" => self.settle(&mut words),
             "cancel" => self.cancel(&mut words),
+            "deploy" => self.deploy(rt, &mut words),
+            "deploys" => self.deploys(rt, &mut words),
             "prune" => self.prune(&mut words),
+            "prunes" => self.prunes(&mut words),
             question => self.asked(question, &mut words),
         }
     }
@@ -140,6 +148,7 @@ impl Stage {
             "slot" => self.slot(words),
             "channel" => self.channel(words),
             "destination" => self.destination(words),
+            "plan" => self.plan(),
             "entries" => self.entries(),
             "steps" => self.steps(),
             _ => bail!("{question} is no call"),
@@ -204,10 +213,52 @@ impl Stage {
         self.step(Step::Cancel { number })
     }
 
+    /// A plan is deployed.
+    fn deploy(&mut self, rt: &HostRuntime, words: &mut SplitWhitespace<'_>) -> Result<String> {
+        let plan = shared_plan(rt, word(words)?)?;
+        self.step(Step::Deploy { plan })
+    }
+
+    /// A plan is deployed as often as a number says.
+    fn deploys(&mut self, rt: &HostRuntime, words: &mut SplitWhitespace<'_>) -> Result<String> {
+        let count = number(words)?;
+        let plan = shared_plan(rt, word(words)?)?;
+        Ok(self.deploy_again(count, &plan)?)
+    }
+
+    /// How many of so many deployments of a plan are booked.
+    fn deploy_again(&mut self, count: u32, plan: &Arc<Plan>) -> Result<String, AllocError> {
+        let before = self.world.book().deployments();
+        for _ in 0..count {
+            let plan = Arc::try_clone(plan)?;
+            self.world.step(Step::Deploy { plan });
+        }
+        let booked = self.world.book().deployments().saturating_sub(before);
+        self.entries = self.world.book().len();
+        format!(in self.alloc; "  {booked} deployed\n")
+    }
+
     /// Messages are forgotten.
     fn prune(&mut self, words: &mut SplitWhitespace<'_>) -> Result<String> {
         let before = number(words)?;
-        self.step(Step::Prune { before })
+        self.prune_again(1, before)
+    }
+
+    /// Messages are forgotten as often as a number says.
+    fn prunes(&mut self, words: &mut SplitWhitespace<'_>) -> Result<String> {
+        let count = number(words)?;
+        let before = number(words)?;
+        self.prune_again(count, before)
+    }
+
+    /// How many of so many prunings are made.
+    fn prune_again(&mut self, count: u32, before: u32) -> Result<String> {
+        let made = self.world.book().prunings();
+        for _ in 0..count {
+            self.world.step(Step::Prune { before });
+        }
+        let made = self.world.book().prunings().saturating_sub(made);
+        Ok(format!(in self.alloc; "  {made} pruned\n")?)
     }
 
     /// What came of a step.
@@ -294,6 +345,12 @@ impl Stage {
             "  waiting {}, inflight {}, delivered {}, failed {}, attempts {}\n",
             counts.waiting, counts.inflight, counts.delivered, counts.failed, counts.attempts
         )?)
+    }
+
+    /// The plan in force.
+    fn plan(&self) -> Result<String> {
+        let plan = plan_shown(self.alloc, self.world.book().plan())?;
+        Ok(format!(in self.alloc; "  {plan}\n")?)
     }
 
     /// How many entries there are.

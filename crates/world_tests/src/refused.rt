@@ -7,7 +7,7 @@ use engine_model::{Step, World};
 use event_log::Entry;
 use hl7_head::Moment;
 use plan_text::Plan;
-use row_store::PlainRows;
+use record_list::RecordList;
 use std::alloc::Global;
 use std::hash::RandomState;
 use std::sync::Arc;
@@ -44,7 +44,7 @@ const DUES: [Due; 2] = [
     },
 ];
 
-type Engine = World<PlainRows<Addressed<Letter>>>;
+type Engine = World<RecordList<Addressed<Letter>>>;
 
 /// The steps by which each message comes on its connection, in pieces that alternate.
 fn pieces(alloc: Global, now: Moment) -> Option<Vec<Step>> {
