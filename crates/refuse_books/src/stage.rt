@@ -1,12 +1,14 @@
 //! The book of a script, and calls on it.
 
 use crate::answers::{arrived, cancelled, deployed, fronts, numbers, pruned, taken};
+use crate::rows::rows_after;
 use crate::words::{moment, number, outcome, ticket, word};
 use anyhow::{Result, bail};
 use book_core::{Book, EVENTS_MAX, Letter};
 use book_state::push_book;
-use call_window::Window;
+use call_window::{Window, done};
 use dest_queue::Addressed;
+use event_log::Log;
 use judge_core::{Judged, fits_block, judge};
 use plan_text::Plan;
 use play_script::bytes_of;
@@ -53,6 +55,18 @@ fn judged(alloc: Global, plan: &Arc<Plan>, text: &str) -> Result<Judged> {
         bail!("it can't be judged");
     }
     Ok(judge(alloc, plan, 0, bytes)?)
+}
+
+/// Makes room for so many entries in an empty history of the built-in plan.
+fn entries(alloc: Global, window: &Window, count: usize) -> Result<String> {
+    let plan = Arc::new(alloc, Plan::built_in(alloc)?)?;
+    let mut log = Log::new(alloc, plan, EVENTS_MAX);
+    window.begin()?;
+    let made = log.reserve(count);
+    window.end()?;
+    let told = done(alloc, made)?;
+    let (entries, owed) = (log.len(), log.owed());
+    Ok(format!(in alloc; "{told}, {entries} entries, {owed} owed")?)
 }
 
 impl Stage {
@@ -171,6 +185,8 @@ impl Stage {
                 self.deploy(window, plan)
             }
             "state" => self.state(),
+            "rows" => rows_after(self.alloc, window, number(words)?),
+            "log" => entries(self.alloc, window, number(words)? as usize),
             "queued" => self.queued(window, words),
             "find" => self.find(window, words),
             _ => bail!("{name} is no call"),

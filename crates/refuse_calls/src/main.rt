@@ -8,15 +8,12 @@
 //! - `plan FILE`: reads a plan. `holds` and `apply`: the filter and the steps of its first channel, on the message.
 //!   `judge TEXT`: a message that comes on that channel.
 //! - `feed BYTES`, and `events`: the next piece of a stream, and the events to come.
-//! - `rows COUNT`: a row behind so many in the store of linked rows, what the store is before and after, that row once more,
-//!   and then all queues, row by row.
-//! - `keys COUNT` and `log COUNT`: room for so many more keys or entries. `key TEXT` adds a key, `place TEXT` finds one.
-//! - `state`: the message and what the stores hold.
+//! - `keys COUNT`: room for so many more keys. `key TEXT` adds a key, and `place TEXT` finds one.
+//! - `state`: the message, and how many keys there are.
 #![tactic(auto)]
 
 mod heads;
 mod plans;
-mod rows;
 mod stores;
 mod texts;
 

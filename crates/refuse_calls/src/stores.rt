@@ -1,17 +1,13 @@
-//! The framer, the keys and the history of a script, and calls on them.
+//! The framer and the keys of a script, and calls on them.
 
-use crate::rows::rows_after;
 use anyhow::Result;
 use call_window::{Window, done, no_memory};
 use dup_index::Keys;
-use event_log::Log;
 use mllp_frame::{FrameEvent, FrameFault, Framer};
-use plan_text::Plan;
 use play_script::{bytes_of, shown};
 use std::alloc::{AllocError, Global};
 use std::fmt::Write;
 use std::hash::RandomState;
-use std::sync::Arc;
 
 /// The stores that calls are made on.
 #[derive(Drop)]
@@ -20,7 +16,6 @@ pub struct Stores {
     framer: Framer,
     keys: Keys,
     added: usize,
-    log: Log,
 }
 
 /// An event of a stream.
@@ -42,12 +37,6 @@ fn fed(alloc: Global, fault: FrameFault) -> Result<String, AllocError> {
     }
 }
 
-/// An empty history of the built-in plan.
-fn empty_log(alloc: Global) -> Result<Log, AllocError> {
-    let plan = Arc::new(alloc, Plan::built_in(alloc)?)?;
-    Ok(Log::new(alloc, plan, 1_000_000))
-}
-
 impl Stores {
     /// Empty stores.
     pub fn new(rt: &HostRuntime) -> Result<Stores> {
@@ -57,14 +46,12 @@ impl Stores {
             framer: Framer::new(alloc),
             keys: Keys::new(alloc, RandomState::new(rt)?),
             added: 0,
-            log: empty_log(alloc)?,
         })
     }
 
     /// What the stores hold.
     pub fn state(&self) -> Result<String, AllocError> {
-        let (entries, owed) = (self.log.len(), self.log.owed());
-        format!(in self.alloc; "{entries} entries, {owed} owed, {} keys", self.added)
+        format!(in self.alloc; "{} keys", self.added)
     }
 
     /// Feeds a piece of a stream.
@@ -97,15 +84,6 @@ impl Stores {
         Ok(done(self.alloc, made)?)
     }
 
-    /// Makes room for so many more entries.
-    fn reserve_entries(&mut self, window: &Window, count: &str) -> Result<String> {
-        let count = count.parse()?;
-        window.begin()?;
-        let made = self.log.reserve(count);
-        window.end()?;
-        Ok(done(self.alloc, made)?)
-    }
-
     /// Adds a key at the next place, unless it is known. Its place is told.
     fn add_key(&mut self, text: &str) -> Result<String> {
         let key = Vec::from_slice(self.alloc, text.as_bytes())?;
@@ -131,8 +109,6 @@ impl Stores {
             "keys" => Some(self.reserve_keys(window, words)?),
             "key" => Some(self.add_key(words)?),
             "place" => Some(self.place(words)?),
-            "log" => Some(self.reserve_entries(window, words)?),
-            "rows" => Some(rows_after(self.alloc, window, words.parse()?)?),
             _ => None,
         })
     }
