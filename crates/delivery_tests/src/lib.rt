@@ -6,6 +6,8 @@ mod delivering;
 #[cfg(test)]
 mod halting;
 #[cfg(test)]
+mod lost;
+#[cfg(test)]
 mod played;
 #[cfg(test)]
 mod refused_delivering;

@@ -2,6 +2,10 @@
 #![tactic(auto)]
 
 #[cfg(test)]
+mod crowd;
+#[cfg(test)]
 mod held;
+#[cfg(test)]
+mod many;
 #[cfg(test)]
 mod stage;

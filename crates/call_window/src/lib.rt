@@ -1,0 +1,60 @@
+//! The lines around a call whose requests for memory may be refused, and how its answer is written.
+#![tactic(auto)]
+
+use play_script::shown;
+use std::alloc::{AllocError, Global};
+use std::io;
+
+/// What a call is answered with where it was refused memory.
+const NO_MEMORY: &str = "out of memory";
+
+/// Whether a call's requests may be refused, and where that is written.
+#[derive(Clone, Copy)]
+pub struct Window<'a> {
+    rt: &'a HostRuntime,
+    tried: bool,
+}
+
+impl<'a> Window<'a> {
+    /// Lines are written where a call is tried, and else none.
+    pub fn new(rt: &'a HostRuntime, tried: bool) -> Window<'a> {
+        Window { rt, tried }
+    }
+
+    /// Writes that the call's requests begin.
+    pub fn begin(&self) -> io::Result<()> {
+        if self.tried {
+            println!(self.rt; "begin")?;
+        }
+        Ok(())
+    }
+
+    /// Writes that the call's requests have ended.
+    pub fn end(&self) -> io::Result<()> {
+        if self.tried {
+            println!(self.rt; "end")?;
+        }
+        Ok(())
+    }
+}
+
+/// That a call was refused memory.
+pub fn no_memory(alloc: Global) -> Result<String, AllocError> {
+    String::from_str(alloc, NO_MEMORY)
+}
+
+/// That a call was made, or was refused memory.
+pub fn done(alloc: Global, made: Result<(), AllocError>) -> Result<String, AllocError> {
+    match made {
+        Ok(()) => String::from_str(alloc, "ok"),
+        Err(AllocError) => no_memory(alloc),
+    }
+}
+
+/// The bytes that a call made, or that it was refused memory.
+pub fn made(alloc: Global, bytes: Result<Vec<u8>, AllocError>) -> Result<String, AllocError> {
+    match bytes {
+        Ok(bytes) => shown(alloc, &bytes),
+        Err(AllocError) => no_memory(alloc),
+    }
+}

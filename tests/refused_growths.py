@@ -1,0 +1,264 @@
+#!/usr/bin/env python3
+"""Refuses each request for memory of a call in turn, until a run meets no refusal, and compares what is before and after it.
+
+Usage: tests/refused_growths.py [WORD]
+
+The scripts of the programs refuse_calls, refuse_books, refuse_worlds and refuse_delivery have calls behind 'try '. For each of
+them the built program makes the calls before it, and then that call under a small C library, tests/refuse.c, which refuses the
+Nth request for memory that the call makes. A call that was refused memory says so, has changed nothing that can be seen, and
+made again it answers as if it had never been refused; or it goes on without that memory, and answers as it does with it. Then
+the program hl7_engine answers a stream while each of its own requests is refused in turn. With a WORD, only lines that have it
+are tried. Where there is no C compiler, that is told and nothing is tried. The exit status is 0 where all was so. Plain
+Python 3, no packages.
+"""
+import os
+import shutil
+import subprocess
+import sys
+import tempfile
+
+HERE = os.path.dirname(os.path.abspath(__file__))
+CRATES = os.path.join(HERE, '..', 'crates')
+NO_MEMORY = 'out of memory'
+# More requests than any call makes.
+MOST = 5_000
+
+
+class Wrong(Exception):
+    """A run that isn't as it has to be."""
+
+
+def ran(name, lines, library, variable=None, number=None):
+    """What a program wrote on a script, and whether a request was refused."""
+    folder = os.path.join(CRATES, name)
+    data = os.path.join(folder, 'data')
+    env = dict(os.environ, LD_PRELOAD=library)
+    if variable:
+        env[variable] = str(number)
+    done = subprocess.run([os.path.abspath(os.path.join(folder, 'out', name))], input='\n'.join(lines) + '\n', env=env,
+                          cwd=data if os.path.isdir(data) else folder, capture_output=True, text=True, timeout=60)
+    if done.returncode != 0:
+        raise Wrong(f'status {done.returncode}: {done.stderr.strip()}')
+    return done.stdout.splitlines(), 'refused' in done.stderr
+
+
+def answers(lines, calls):
+    """What each of these calls was answered, the last lines of a script."""
+    told = [line for line in lines if line not in ('begin', 'end')][-len(calls):]
+    for line, call in zip(told, calls):
+        if not line.startswith(call + ': '):
+            raise Wrong(f'{line!r} in place of the answer to {call!r}')
+    return [line[len(call) + 2:] for line, call in zip(told, calls)]
+
+
+def plain(call, library, name, before):
+    """A call that changes nothing where it is refused memory."""
+    calls = ['state', f'try {call}', 'state', call, 'state']
+    was, due, became, _, _ = answers(ran(name, before + calls, library)[0], calls)
+
+    def look(number):
+        lines, refused = ran(name, before + calls, library, 'REFUSE', number)
+        first, answer, after, again, last = answers(lines, calls)
+        if first != was:
+            raise Wrong(f'it began with {first}')
+        if answer == NO_MEMORY and refused:
+            if (after, again, last) != (was, due, became):
+                raise Wrong(f'refused, {after}; then {again}, {last}')
+        elif (answer, after) != (due, became):
+            raise Wrong(f'{answer}, {after}')
+        return refused, answer == NO_MEMORY
+    return look
+
+
+def rows(call, library, name, before):
+    """A row that isn't added where it is refused memory: the program shows the store, and adds the row again."""
+    calls = [f'try {call}']
+    (due,) = answers(ran(name, before + calls, library)[0], calls)
+    was, _, became = due.partition('; ok')
+
+    def look(number):
+        lines, refused = ran(name, before + calls, library, 'REFUSE', number)
+        (told,) = answers(lines, calls)
+        lacking = f'; {NO_MEMORY}' in told
+        if told != (f'{was}; {NO_MEMORY}{was}{became}' if lacking and refused else due):
+            raise Wrong(told)
+        return refused, lacking
+    return look
+
+
+def feed(call, library, name, before):
+    """A piece of a stream that is refused memory: the stream has failed from then on, and its first events can be taken."""
+    calls = [f'try {call}', call, 'events']
+    due = answers(ran(name, before + calls[:1], library)[0], calls[:1])
+    whole = answers(ran(name, before + [call, 'events'], library)[0], ['events'])[0]
+
+    def look(number):
+        lines, refused = ran(name, before + calls, library, 'REFUSE', number)
+        answer, again, events = answers(lines, calls)
+        if answer == NO_MEMORY and refused:
+            if again != 'failed' or not whole.startswith(events):
+                raise Wrong(f'refused; then {again}, {events} in place of {whole}')
+        elif [answer] != due:
+            raise Wrong(answer)
+        return refused, answer == NO_MEMORY
+    return look
+
+
+def parts(state):
+    """What the book of a world shows, and what each connection was sent."""
+    book, *sent = state.split('; to ')
+    return book, sent
+
+
+def chunk(call, library, name, before):
+    """A message that comes on a connection: its sender is told NoMemory and nothing is booked, or it is booked; or the
+    connection has ended with the first of its replies."""
+    calls = ['state', f'try {call}']
+    was, became = (parts(state) for state in answers(ran(name, before + calls, library)[0], calls))
+    conn = int(call.split()[1])
+    due = became[1][conn].removesuffix(', ended false').removeprefix(was[1][conn].removesuffix(', ended false').removesuffix('<>'))
+    block = due.split('<FS>')[0] + '<FS><CR>'
+    front, _, id = block.removesuffix('<CR><FS><CR>').rpartition('MSA|CA|')
+    refusal = f'{front}MSA|CE|{id}|NoMemory<CR><FS><CR>'
+
+    def look(number):
+        lines, refused = ran(name, before + calls, library, 'REFUSE', number)
+        book, sent = parts(answers(lines, calls)[1])
+        if [s for c, s in enumerate(sent) if c != conn] != [s for c, s in enumerate(was[1]) if c != conn]:
+            raise Wrong('another connection was sent something')
+        told, _, ended = sent[conn].rpartition(', ended ')
+        told = told.removeprefix(was[1][conn].removesuffix(', ended false').removesuffix('<>')).replace('<>', '')
+        booked = book == became[0]
+        if not booked and book != was[0]:
+            raise Wrong(book)
+        fine = {'false': (told == due and booked) or (told == refusal and not booked),
+                'true': due.startswith(told) and (booked or not told)}[ended]
+        if not fine or (not refused and told != due):
+            raise Wrong(f'{sent[conn]}, {"booked" if booked else "not booked"}')
+        return refused, told != due
+    return look
+
+
+def step(call, library, name, before):
+    """A step of a world, which tells what all is then: as before where it was refused memory."""
+    calls = ['state', f'try {call}', call]
+    was, became, _ = answers(ran(name, before + calls, library)[0], calls)
+
+    def look(number):
+        lines, refused = ran(name, before + calls, library, 'REFUSE', number)
+        first, after, again = answers(lines, calls)
+        if first != was or after != became and not (refused and (after, again) == (was, became)):
+            raise Wrong(f'{after}; then {again}')
+        return refused, after != became
+    return look
+
+
+def delivery(call, library, name, before):
+    """A delivery of messages that wait: each is delivered, in order, with at most one attempt more."""
+    calls = [f'try {call}']
+    (due,) = answers(ran(name, before + calls, library)[0], calls)
+    if not due.endswith(' as it has to be'):
+        raise Wrong(due)
+
+    def look(number):
+        lines, refused = ran(name, before + calls, library, 'REFUSE', number)
+        (told,) = answers(lines, calls)
+        if not told.endswith(' as it has to be') or not refused and told != due:
+            raise Wrong(told)
+        return refused, told != due
+    return look
+
+
+def kind(name, call):
+    """How a call is looked at."""
+    if name == 'refuse_worlds':
+        return {'chunk': chunk, 'steps': plain}.get(call.split()[0], step)
+    if name == 'refuse_delivery':
+        return delivery
+    return {'feed': feed, 'rows': rows}.get(call.split()[0], plain)
+
+
+def each_in_turn(look):
+    """How many requests were refused, how many of them the call told, and at which it wasn't as it has to be."""
+    told = 0
+    for number in range(1, MOST):
+        try:
+            refused, lacked = look(number)
+        except (Wrong, OSError, subprocess.SubprocessError, ValueError, KeyError, IndexError) as fault:
+            return number, told, f'request {number}: {fault}'
+        if not refused:
+            return number - 1, told, None
+        told += lacked
+    return MOST, told, 'no run was without a refusal'
+
+
+def tries(name):
+    """The calls of a program's script that are tried, each with the lines before it."""
+    with open(os.path.join(CRATES, name, 'stdin'), encoding='utf-8') as script:
+        lines = script.read().splitlines()
+    for place, line in enumerate(lines):
+        if line.startswith('try '):
+            yield line[4:], [before.removeprefix('try ') for before in lines[:place]]
+
+
+def message(number):
+    return (f'\x0bMSH|^~\\&|REG|HOSP|ENG|HUB|20231114221300||ADT^A01^ADT_A01|M{number}|P|2.5.1|||AL|NE\r'
+            f'PID|1||{"7" * (number * 90)}^^^H\r\x1c\r').encode()
+
+
+def answering(library):
+    """The program's own service of one connection, from its start to its end."""
+    program = os.path.abspath(os.path.join(CRATES, 'hl7_engine', 'out', 'hl7_engine'))
+    stream = b''.join(message(number) for number in range(4))
+
+    def run(number):
+        done = subprocess.run([program], input=stream, capture_output=True, timeout=60,
+                              env=dict(os.environ, LD_PRELOAD=library, REFUSE_FROM=str(number)))
+        return done.returncode, done.stdout.split(b'\x1c\r'), done.stderr.replace(b'refused\n', b''), b'refused\n' in done.stderr
+    status, dues, _, _ = run(0)
+    if status != 0 or len(dues) != 5:
+        raise Wrong(f'with memory: status {status}, {len(dues) - 1} replies')
+
+    def look(number):
+        status, replies, err, refused = run(number)
+        rest = replies.pop()
+        for message, (got, due) in enumerate(zip(replies, dues)):
+            if got not in (due, due.replace(b'MSA|CA|M%d\r' % message, b'MSA|CE|M%d|NoMemory\r' % message)):
+                raise Wrong(got)
+        whole = (status, err, len(replies)) == (0, b'', 4)
+        if rest or not whole and (status, err) != (3, b'memory\n'):
+            raise Wrong(f'status {status}, {err}, {len(replies)} replies')
+        return refused, not whole or any(b'NoMemory' in got for got in replies)
+    return look
+
+
+def main():
+    compiler = shutil.which('cc') or shutil.which('gcc') or shutil.which('clang')
+    if compiler is None:
+        print('NOT TRIED: there is no C compiler for the library that refuses requests for memory')
+        return 0
+    wanted, wrong, calls, requests = (sys.argv + [''])[1], 0, 0, 0
+    with tempfile.TemporaryDirectory() as folder:
+        library = os.path.join(folder, 'refuse.so')
+        subprocess.run([compiler, '-shared', '-fPIC', '-O1', '-o', library, os.path.join(HERE, 'refuse.c')], check=True)
+        looks = [(name, call, lambda name=name, call=call, before=before: kind(name, call)(call, library, name, before))
+                 for name in ('refuse_calls', 'refuse_books', 'refuse_worlds', 'refuse_delivery')
+                 if os.path.isdir(os.path.join(CRATES, name))
+                 for call, before in tries(name)]
+        looks.append(('hl7_engine', 'answer', lambda: answering(library)))
+        for name, call, look in looks:
+            if wanted not in f'{name} {call}':
+                continue
+            try:
+                refused, told, fault = each_in_turn(look())
+            except (Wrong, OSError, subprocess.SubprocessError, ValueError) as broken:
+                refused, told, fault = 0, 0, f'with memory: {broken}'
+            wrong, calls, requests = wrong + (fault is not None), calls + 1, requests + refused
+            print(f'{name}: {call[:60]}: {refused} requests refused, {told} told' + (f'; WRONG: {fault}' if fault else ''),
+                  flush=True)
+    print(f'{calls} calls, {requests} requests refused: {"as it should be" if not wrong else f"{wrong} WRONG"}')
+    return 1 if wrong else 0
+
+
+if __name__ == '__main__':
+    sys.exit(main())
