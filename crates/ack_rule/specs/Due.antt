@@ -14,26 +14,28 @@ use Rattle.ack_rule.specs.declared.mode.AckMode.TheVariants.{Original, Enhanced}
 use Rattle.ack_rule.specs.declared.verdictum.Verdictum.{Verdictum}
 use Rattle.ack_rule.specs.declared.verdictum.Verdictum.TheVariants.{Success, Reject, Error}
 
--- a value of MSH-15 or MSH-16: one outside the table asks always, and one that isn't there, beside one that is, asks never
+-- a value of MSH-15 or MSH-16: one outside the table means always, and one that isn't there, beside one that is,
+-- means never
 abbrev pub ack_type : List ℕ → AckType
 ack_type raw =
     if is_vacant raw || bytes_eq raw (codes "NE") then NE
     else (if bytes_eq raw (codes "ER") then ER
     else (if bytes_eq raw (codes "SU") then SU else AL))
 
--- the mode that MSH-15 and MSH-16 ask for: original mode where neither has a value
+-- the mode that MSH-15 and MSH-16 request: original mode where neither has a value
 abbrev pub ack_mode : List ℕ → List ℕ → AckMode
 ack_mode accept application =
     if is_vacant accept && is_vacant application then Original
     else Enhanced (ack_type accept) (ack_type application)
 
--- By which codes a refusal is told: C, the commit codes CR and CE; A, the application codes AR and AE; or not at all.
+-- By which codes a refusal is acknowledged: C, the commit codes CR and CE; A, the application codes AR and AE; or not
+-- at all.
 pub data Refusal : Type 0 where
   C : Refusal
   A : Refusal
   untold : Refusal
 
--- What is told in enhanced mode. MSH-15, MSH-16: the codes on success, and those on a refusal.
+-- What is acknowledged in enhanced mode. MSH-15, MSH-16: the codes on success, and those on a refusal.
 abbrev pub table : AckType → AckType → List AckCode × Refusal
 table AL AL = (CA ∷ AA ∷ [], C)
 table AL NE = (CA ∷ [], C)
@@ -78,26 +80,26 @@ verdictum_of UnsupportedProcessing = Reject UnsupportedProcessing
 verdictum_of UnsupportedVersion = Reject UnsupportedVersion
 verdictum_of cause = Error cause
 
--- an acknowledgment of this type tells of success
+-- an acknowledgment of this type is sent on success
 abbrev pub tells_success : AckType → Bool
 tells_success AL = true
 tells_success NE = false
 tells_success ER = false
 tells_success SU = true
 
--- an acknowledgment of this type tells of a refusal
+-- an acknowledgment of this type is sent on a refusal
 abbrev pub tells_refusal : AckType → Bool
 tells_refusal AL = true
 tells_refusal NE = false
 tells_refusal ER = true
 tells_refusal SU = false
 
--- success is told by each of the two acknowledgments that asks for it
+-- success is reported by each of the two acknowledgments that is requested on success
 abbrev pub success_codes : AckType → AckType → List AckCode
 success_codes accept application =
     (if tells_success accept then CA ∷ [] else []) ++ (if tells_success application then AA ∷ [] else [])
 
--- a refusal is told once, by the accept acknowledgment where that asks for it
+-- a refusal is reported once, by the accept acknowledgment where that is requested on a refusal
 abbrev pub refusal_told : AckType → AckType → Refusal
 refusal_told accept application =
     if tells_refusal accept then C else (if tells_refusal application then A else untold)

@@ -13,7 +13,7 @@ use Rattle.event_log.specs.declared.entry.Told.TheVariants as told
 use Rattle.event_log.specs.History.{History}
 use Rattle.event_log.specs.Counting.{channel_counts, destination_counts}
 
--- the three sums of the statistics rise by so many arrivals, attempts begun and attempts settled
+-- the three sums of the statistics rise by that many arrivals, attempts begun and attempts settled
 pub record SumsRise (came begun ended : ℕ) (old new : Statistics) : Type 0 where
   pub arrivals : arrivals new ≡ arrivals old + came
   pub takes : takes new ≡ takes old + begun
@@ -26,7 +26,7 @@ pub record AreCounted (h : History) (tally : Statistics) : Type 0 where
   pub channel : (c : ℕ) → c < 64 → channel_at c tally ≡ channel_counts h c
   pub destination : (d : ℕ) → d < 32 → destination_at d tally ≡ destination_counts h d
 
--- the counters of a channel of which one more arrival was told so
+-- the counters of a channel on which one more arrival has this answer
 abbrev pub told_one : Told → ChannelCounts → ChannelCounts
 told_one (told.Accepted number) counts = accepted_one counts
 told_one told.Filtered counts = filtered_one counts

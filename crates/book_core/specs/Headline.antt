@@ -32,17 +32,17 @@ pub record KeepsItsPromise (h : History) (rows : List (Row (Addressed Letter))) 
   -- an arrival acknowledged as filtered goes nowhere, and is no message
   pub filtered : (place conn channel : ℕ) (raw : List ℕ) → entry_at h place ≡ Some (Arrival conn channel raw told.Filtered)
       → (deliveries_of (decided (plan_in_force (before h place)) channel raw) ≡ []) × (accepted (before h (place + 1)) ≡ accepted (before h place))
-  -- an arrival acknowledged as a repeat repeats an arrival before it, or one that is remembered: of the same message, told Accepted or Filtered, and
-  -- byte for byte the same
+  -- an arrival acknowledged as a repeat repeats an arrival before it, or one that is remembered: of the same message,
+  -- answered Accepted or Filtered, and byte for byte the same
   pub repeated : (place conn channel first : ℕ) (raw : List ℕ) → entry_at h place ≡ Some (Arrival conn channel raw (told.Repeat first))
       → (first < place) × (is_first h channel raw first ≡ true)
   -- each message that is not forgotten has one row, and the rows are in order of acceptance
   pub one_row : numbers_of rows ≡ remaining h
-  -- the row says how it stands with the message at each destination, waiting, in flight, delivered or failed, as the history does
+  -- the row has the state of the message at each destination, waiting, in flight, delivered or failed, as the history does
   pub standing : (n d : ℕ) → slot_of n d rows ≡ slot h n d
-  -- it stands there once
+  -- it has at most one slot at each destination
   pub once : All (λ row. AllPairs (λ a b. a.destination ≢ b.destination) row.item.slots) rows
-  -- it stands for each destination that its channel names, and for no other
+  -- it has a slot for each destination that its channel names, and for no other
   pub for_no_other : (n d : ℕ) → is_some (slot_of n d rows) ≡ names d (deliveries h n)
   -- each queue is linked as the history has it: the messages that wait or are in flight at its destination
   pub queued : (d : ℕ) → d < 32 → queue_of d rows ≡ queue h d

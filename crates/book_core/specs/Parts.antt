@@ -14,7 +14,7 @@ use Rattle.event_log.specs.Legal.{IsSound}
 use Rattle.book_core.specs.declared.letter.Letter.{Letter}
 use Rattle.book_core.specs.Counting.{AreCounted}
 
--- the row of a message is what the history says of it: its slots, the queues that it stands in, and what is sent
+-- the row of a message is what the history says of it: its slots, the queues that it is in, and what is sent
 pub record IsAsTold (h : History) (row : Row (Addressed Letter)) : Type 0 where
   pub slots : row.item.slots ≡ slots_by (state h row.number) (named h row.number)
   pub queues : (d : ℕ) → d < 32 → stands_in d row ≡ is_queued h d row.number

@@ -17,7 +17,7 @@ lesser None b = b
 lesser (Some first) None = Some first
 lesser (Some first) (Some second) = if nat_lt second first then Some second else Some first
 
--- the arrivals that stood at a place or later
+-- the arrivals whose index is this one or a later one
 abbrev pub since : ℕ → List Remembered → List Remembered
 since floor arrivals = filter (λ r. not (nat_lt r.place floor)) arrivals
 

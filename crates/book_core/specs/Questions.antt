@@ -1,4 +1,4 @@
--- What can be asked of a history without a change to it.
+-- Questions about a history, which don't change it.
 use Rattle.std.specs.Prelude.{◌≡◌, ◌≤◌, ◌<◌, ◌+◌, ◌-◌, ◌*◌, ℕ, Bool, false, ◌&&◌, not, nat_lt, if◌then◌else◌, List, length, filter, find, slice_get, Option, None, Some, option_and_then}
 use Rattle.std.specs.List.{filter_map, range_with_len}
 use Rattle.std.specs.Option.{option_map, option_map_or}
@@ -49,11 +49,11 @@ is_tight h = nat_lt (3 * h.opening.events_max) (4 * (length h.entries + owed h))
 
 -- ---- what is remembered
 
--- what came of a message, by what is kept of it
+-- what was received as a message, by what is kept of it
 abbrev pub came_as : Letter → Accepted
 came_as letter = record { channel = letter.channel; raw = letter.raw; deliveries = letter.deliveries }
 
--- message n came by a connection, as the entry of its arrival says
+-- message n arrived over a connection, as the entry of its arrival says
 pub record CameBy (h : History) (n conn : ℕ) : Type 0 where
   pub place : ℕ
   pub channel : ℕ

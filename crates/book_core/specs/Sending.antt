@@ -33,14 +33,14 @@ is_ack await.None = false
 abbrev pub awaits_ack : PlanEntry → ℕ → Bool
 awaits_ack plan d = option_map_or (λ x. is_ack x.wait) (slice_get plan.destinations d) false
 
--- whether a verdict is fit for what the sender is told: an accepted message goes somewhere
+-- whether a verdict fits the answer to its sender: an accepted message goes somewhere
 abbrev pub IsAccepting : Told → Verdict → Type 0
 IsAccepting (told.Accepted number) v = (deliveries : List Delivery) × (v ≡ verdict.Accept deliveries)
 IsAccepting told.Filtered v = Unit {0}
 IsAccepting (told.Refused cause) v = Unit {0}
 IsAccepting (told.Repeat place) v = Unit {0}
 
--- a row was added for a message of this number, which came so and waits wherever it goes
+-- a row was added for a message of this number, which was received so and waits wherever it goes
 pub record AddsRow (number channel : ℕ) (raw control_id : List ℕ) (deliveries : List Delivery) (old new : List (Row (Addressed Letter))) : Type 0 where
   pub place : ℕ
   pub mask : ℕ
@@ -54,7 +54,7 @@ pub record AddsRow (number channel : ℕ) (raw control_id : List ℕ) (deliverie
     mask = mask;
   } ∷ []
 
--- what is added by an arrival that is told so, of a message with this control id and this verdict
+-- what is added by an arrival with this answer, of a message with this control id and this verdict
 abbrev pub IsGain : Told → List ℕ → Verdict → Gain → Type 0
 IsGain (told.Accepted number) control_id v (gain.Message own_number own_id deliveries) =
     (own_number ≡ number) × (own_id.now ≡ control_id) × (deliveries.now ≡ deliveries_of v)

@@ -15,7 +15,7 @@ fault_code (Missing place) = 1
 fault_code (Doubled place) = 2
 fault_code (Differs place) = 3
 
--- the receipt of an entry at this place, if it is an arrival
+-- the receipt of an entry at this index, if it is an arrival
 abbrev pub receipt_at : ℕ → Entry → Option Receipt
 receipt_at place (Arrival conn channel raw told) = Some (record { entry = place; conn = conn; channel = channel; raw = raw; told = told })
 receipt_at place (Take ticket now) = None
@@ -23,7 +23,7 @@ receipt_at place (Settle outcome ticket now state) = None
 receipt_at place (Cancel number mask) = None
 receipt_at place (Deploy plan) = None
 
--- the receipt that is due at a place of the history: that of its arrival
+-- the receipt that is due at an index of the history: that of its arrival
 abbrev pub receipt_due : Held → ℕ → Option Receipt
 receipt_due h place = option_and_then (receipt_at place) (entry_at h.book place)
 
@@ -31,38 +31,38 @@ receipt_due h place = option_and_then (receipt_at place) (entry_at h.book place)
 abbrev pub receipts_due : Held → List Receipt
 receipts_due h = filter_map (receipt_due h) (range_with_len h.first (next_place h.book - h.first))
 
--- whether a place was folded since the book was shared
+-- whether an index was folded since the book was shared
 abbrev pub is_folded : Held → ℕ → Bool
 is_folded h place = not (nat_lt place h.first) && nat_lt place h.book.opening.places
 
--- the receipts without those that name a folded place
+-- the receipts without those that name a folded index
 abbrev pub unfolded : Held → List Receipt → List Receipt
 unfolded h receipts = filter (λ r. not (is_folded h r.entry)) receipts
 
--- the receipts that name a place
+-- the receipts that name an index
 abbrev pub naming : ℕ → List Receipt → List Receipt
 naming place receipts = filter (λ r. r.entry == place) receipts
 
--- the place of a fault
+-- the index of a fault
 abbrev pub place_of : AuditFault → ℕ
 place_of (Missing place) = place
 place_of (Doubled place) = place
 place_of (Differs place) = place
 
--- the receipts that name a place are those that are due there, if it isn't folded
+-- the receipts that name an index are those that are due there, if it isn't folded
 abbrev pub IsRightAt : Held → List Receipt → ℕ → Type 0
 IsRightAt h receipts place = is_folded h place ≡ false → naming place receipts ≡ naming place (receipts_due h)
 
--- a fault is at a place that isn't folded
+-- a fault is at an index that isn't folded
 abbrev pub IsUnfolded : Held → AuditFault → Type 0
 IsUnfolded h fault = is_folded h (place_of fault) ≡ false
 
--- what is wrong with the receipts that name the fault's place
+-- what is wrong with the receipts that name the fault's index
 abbrev pub IsFault : Held → List Receipt → AuditFault → Type 0
 IsFault h receipts (Missing place) = (naming place receipts ≡ []) × (naming place (receipts_due h) ≢ [])
 IsFault h receipts (Doubled place) = 1 < length (naming place receipts)
 IsFault h receipts (Differs place) = (length (naming place receipts) ≡ 1) × (naming place receipts ≢ naming place (receipts_due h))
 
--- it is the first: at each place before it that isn't folded, the receipts are those that are due
+-- it is the first: at each index before it that isn't folded, the receipts are those that are due
 abbrev pub IsFirstFault : Held → List Receipt → AuditFault → Type 0
 IsFirstFault h receipts fault = (IsFault h receipts fault × IsUnfolded h fault) × ((p : ℕ) → p < place_of fault → IsRightAt h receipts p)

@@ -1,4 +1,4 @@
--- How shared books are told apart.
+-- How shared books are distinguished.
 use Rattle.std.specs.Prelude.{ℕ, refl}
 use Rattle.std.specs.Coded.{Coded, code_by, coded×, coded_ℕ}
 use Rattle.stat_count.specs.Statistics.{Statistics}
@@ -6,7 +6,8 @@ use Rattle.event_log.specs.Coding.{history_code, statistics_code}
 use Rattle.event_log.specs.History.{History}
 use Rattle.book_lock.specs.Rises.{Held}
 
--- a shared book as the book, the statistics and the place that it had when it was shared, and the connections admitted since
+-- a shared book as the book, the statistics and the next index that it had when it was shared, and the connections
+-- admitted since
 abbrev pub held_code : Coded Held
 held_code =
     code_by (History × (Statistics × (ℕ × ℕ))) (coded× history_code (coded× statistics_code (coded× coded_ℕ coded_ℕ)))

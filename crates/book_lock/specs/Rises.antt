@@ -18,7 +18,8 @@ taken h = takes (counted h)
 unfoldable pub settled : History → ℕ
 settled h = settlements (counted h)
 
--- a shared book: the book, the statistics and the next place that it had when it was shared, and how many connections were admitted since
+-- a shared book: the book, the statistics and the next index that it had when it was shared, and how many connections
+-- were admitted since
 pub record Held : Type 0 where
   pub book : History
   pub opening : Statistics
@@ -45,7 +46,7 @@ pub record AddsUp (h : Held) (desks : List ℕ) (stations : List Made) : Type 0 
 abbrev pub with_book : Held → History → Held
 with_book h book = record h { book = book }
 
--- a book shared with these statistics, at this place, with so many channels
+-- a book shared with these statistics, at this index, with that many channels
 pub record IsOpened (h : Held) (counts : Statistics) (first channels : ℕ) : Type 0 where
   pub opening : h.opening ≡ counts
   pub all_channels : length h.opening.channels ≡ 64

@@ -8,7 +8,7 @@ use Rattle.book_lock.specs.declared.tidying.Tidying.{Tidying}
 use Rattle.book_lock.specs.declared.tidying.Tidying.TheVariants.{NotTight, Pruned, Refused}
 use Rattle.book_lock.specs.Rises.{Held, with_book}
 
--- what a pruning came to
+-- the outcome of a pruning
 abbrev pub tidying_of : Result ℕ PruneRefusal → Tidying
 tidying_of (Ok before) = Pruned before
 tidying_of (Err refusal) = Refused refusal

@@ -1,4 +1,4 @@
--- What a table tells of the receipts that name a place.
+-- What a table says of the receipts that name an index.
 use Rattle.std.specs.Prelude.{◌≡◌, ◌≢◌, ℕ, ◌+◌, ◌<◌, Bool, true, false, if◌then◌else◌, List, [], Option, Some, None, length, slice_index_or}
 use Rattle.book_core.specs.declared.receipt.Receipt.{Receipt}
 use Rattle.book_lock.specs.declared.windows.Named.{Named}
@@ -8,18 +8,18 @@ use Rattle.book_lock.specs.declared.receipt_audit.AuditFault.TheVariants.{Missin
 use Rattle.book_lock.specs.Auditing.{naming, receipts_due}
 use Rattle.book_lock.specs.Rises.{Held}
 
--- how the receipts that name a place stand to the one that is due there
+-- how the receipts that name an index agree with the one that is due there
 abbrev pub IsNamed : Held → List Receipt → ℕ → Named → Type 0
 IsNamed h receipts place Never = naming place receipts ≡ []
 IsNamed h receipts place Right = (length (naming place receipts) ≡ 1) × (naming place receipts ≡ naming place (receipts_due h))
 IsNamed h receipts place Wrong = (length (naming place receipts) ≡ 1) × (naming place receipts ≢ naming place (receipts_due h))
 IsNamed h receipts place Often = 1 < length (naming place receipts)
 
--- a table tells it of the places from one on
+-- a table says it of the indices from one on
 abbrev pub Tells : Held → List Receipt → ℕ → List Named → Type 0
 Tells h receipts from table = (k : ℕ) → k < length table → IsNamed h receipts (from + k) (slice_index_or table k Never)
 
--- with one more receipt that names the place, which is due there or not
+-- with one more receipt that names the index, which is due there or not
 abbrev pub named_again : Named → Bool → Named
 named_again Never true = Right
 named_again Never false = Wrong
@@ -27,7 +27,7 @@ named_again Right is_due = Often
 named_again Wrong is_due = Often
 named_again Often is_due = Often
 
--- what is wrong at a place that is named so, where a receipt is due or not
+-- what is wrong at an index that is named so, where a receipt is due or not
 abbrev pub fault_at : ℕ → Named → Bool → Option AuditFault
 fault_at place Never is_due = if is_due then Some (Missing place) else None
 fault_at place Right is_due = None

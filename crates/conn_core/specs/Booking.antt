@@ -22,7 +22,7 @@ abbrev pub receipts_of : Result Receipt NotBooked → List Receipt
 receipts_of (Ok r) = r ∷ []
 receipts_of (Err refusal) = []
 
--- the entry of an arrival that a receipt stands for
+-- the entry of an arrival that a receipt is of
 abbrev pub arrival_by : Receipt → Entry
 arrival_by r = Arrival r.conn r.channel r.raw r.told
 
@@ -31,8 +31,9 @@ pub record Books (old new : History) (receipts : List Receipt) : Type 0 where
   pub history : new ≡ record old { entries = old.entries ++ map arrival_by receipts }
   pub places : map (λ r. r.entry) receipts ≡ range_with_len (next_place old) (length receipts)
 
--- What becomes of a message: it is told the answer of the history, or not booked: because it was judged by another plan
--- than the one in force, exactly where it was; then for want of room, exactly where there is none; or of memory.
+-- What becomes of a message: it gets the answer of the history, or is not booked: because it was judged by another
+-- plan than the one in force, exactly where it was; then because there is no room, exactly where there is none; or
+-- because memory is refused.
 pub record BookAnswers (book : History) (judged : Judgement) (outcome : Result Told NotBooked) : Type 0 where
   pub told : IfOk outcome (λ told. answer book judged.channel judged.raw ≡ Some told)
   pub plan : IsErrOf outcome PlanChanged ↔ judged.plan ≢ plan_in_force book

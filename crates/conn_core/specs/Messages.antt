@@ -27,7 +27,7 @@ abbrev pub is_unreadable : Event → Bool
 is_unreadable (block raw) = is_unreadable_text raw
 is_unreadable (broken cause) = false
 
--- a block that is an acknowledgment, which asks for no answer
+-- a block that is an acknowledgment, which requests no answer
 abbrev pub is_stray : Event → Bool
 is_stray (block raw) = is_stray_text raw
 is_stray (broken cause) = false
@@ -37,7 +37,7 @@ abbrev pub is_break : Event → Bool
 is_break (block raw) = false
 is_break (broken cause) = true
 
--- a message that was booked, wherever: connection, channel, text and what its sender is told
+-- a message that was booked, wherever: connection, channel, text and answer
 pub record BookedMessage : Type 0 where
   pub conn : ℕ
   pub channel : ℕ

@@ -14,7 +14,7 @@ use Rattle.plan_text.specs.Entries.{PlanEntry}
 use Rattle.conn_core.specs.declared.replies.Replies.{Replies}
 use Rattle.conn_core.specs.Replies.{Due, answer_to, dues_of, numbered, told_by}
 
--- This is the header of a message that came in a block, so that its acknowledgments can be framed.
+-- This is the header of a message that was received in a block, so that its acknowledgments can be framed.
 pub record CameInBlock (h : Msh) : Type 0 where
   pub raw : List ℕ
   pub header_is : header_of raw ≡ Some h

@@ -8,8 +8,8 @@ use Rattle.conn_worker.specs.declared.dialogue.Dialogue.{Dialogue}
 use Rattle.conn_core.specs.Replies.{Answer, dues, replies}
 use Rattle.conn_worker.specs.Serving.{Tells}
 
--- The dialogue stands where these events were handled and this text was written. The receipts of their messages, and of no
--- others, were booked, as `books` says it, and handed in, as `has` says it.
+-- The dialogue is at the point where these events were handled and this text was written. The receipts of their
+-- messages, and of no others, were booked, as `books` says it, and handed in, as `has` says it.
 pub record Stands {B K : Type 0} (books : B → List Receipt → Type 0) (has : K → List Receipt → Type 0) (conn channel : ℕ)
     (events : List Event) (text : List ℕ) (book : B) (d : Dialogue K) : Type 0 where
   pub receipts : List Receipt
@@ -36,7 +36,7 @@ HandlesAll {B} books has conn channel events book book' old new =
     (first : B) (before : List Event) (text : List ℕ) → Stands (books first) has conn channel before text book old
     → Stands (books first) has conn channel (before ++ events) text book' new
 
--- The dialogue stands where the first of these events were handled, with some replies missing.
+-- The dialogue is at the point where the first of these events were handled, with some replies missing.
 pub record StandsAmid {B K : Type 0} (books : B → List Receipt → Type 0) (has : K → List Receipt → Type 0) (conn channel : ℕ)
     (before events : List Event) (text : List ℕ) (book : B) (d : Dialogue K) : Type 0 where
   pub handled : List Event

@@ -1,4 +1,4 @@
--- What serving a connection comes to.
+-- What serving a connection reads, books and writes.
 use Rattle.std.specs.Prelude.{◌≡◌, ℕ, List, [], ◌++◌, map, Option, count_by}
 use Rattle.std.specs.Result.{is_err}
 use Rattle.std.specs.Io.KnownBytes.{Consumes, Appends, IsAtEnd}
@@ -10,7 +10,7 @@ use Rattle.conn_core.specs.Replies.{Answer, replies}
 use Rattle.conn_worker.specs.declared.report.ServeReport.{ServeReport}
 use Rattle.conn_worker.specs.declared.report.ServeEnd.TheVariants.{End}
 
--- A report tells of these events, of which the messages got these answers, and the booked ones these receipts.
+-- A report is of these events, of which the messages got these answers, and the booked ones these receipts.
 pub record Tells {K : Type 0} (conn channel : ℕ) (events : List Event) (answers : List Answer) (receipts : List Receipt)
     (r : ServeReport K) : Type 0 where
   pub messages : messages_of events ≡ map (λ a. a.raw) answers
@@ -20,7 +20,7 @@ pub record Tells {K : Type 0} (conn channel : ℕ) (events : List Event) (answer
   pub stray_ones : r.strays ≡ count_by is_stray events
   pub broken_ones : r.breaks ≡ count_by is_break events
 
--- The events at the front of those read were handled and are told of, and the front of their replies was written. At the
+-- A prefix of the events read was handled and reported, and a prefix of their replies was written. At the
 -- reader's end nothing is left out: all that it had was read, all events were handled and all replies written.
 pub record Serves {K : Type 0} (conn channel : ℕ) (to_read left held holds : Option (List ℕ)) (receipts : List Receipt)
     (r : ServeReport K) : Type 0 where

@@ -18,7 +18,7 @@ StopsWriting WriteFault before after = Rose before after
 StopsWriting TurnBound before after = ⊤
 StopsWriting _ before after = ⊥
 
--- The front of a text was written.
+-- A prefix of a text was written.
 pub record WritesFront (held holds : Option (List ℕ)) (text : List ℕ) : Type 0 where
   pub written : List ℕ
   pub unwritten : List ℕ

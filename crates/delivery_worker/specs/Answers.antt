@@ -1,4 +1,4 @@
--- What the answers of a destination come to.
+-- What the answers of a destination mean.
 use Rattle.std.specs.Prelude.{ℕ, Bool, ◌||◌, List, Option, None, if◌then◌else◌, codes, find, take}
 use Rattle.std.specs.List.{flat_map}
 use Rattle.std.specs.Option.{option_map_or, option_to_list}
@@ -9,7 +9,7 @@ use Rattle.hl7_head.specs.Msa.{MsaFields}
 use Rattle.hl7_head.specs.Laws.{msa_of}
 use Rattle.mllp_frame.specs.Event.{Event, block, broken}
 
--- what an acknowledgment code of table 0008 comes to: accepted is delivered, rejected stays rejected, and on an error,
+-- what an acknowledgment code of table 0008 means: accepted is delivered, rejected stays rejected, and on an error,
 -- as on any other code, the message is sent again
 abbrev pub code_outcome : List ℕ → Outcome
 code_outcome code =

@@ -1,4 +1,4 @@
--- What an attempt to deliver a message comes to, and what a report tells of attempts.
+-- The outcome of an attempt to deliver a message, and what a report says of attempts.
 use Rattle.std.specs.Prelude.{◌≡◌, ℕ, ◌+◌, Bool, true, false, if◌then◌else◌, List, [], ◌∷◌, ◌++◌, ⊤, Option, None, All, is_some, length, count_by, flat_map, map}
 use Rattle.std.specs.Io.KnownBytes.{Appends, Keeps}
 use Rattle.dest_queue.specs.declared.Outcome.{Outcome}
@@ -30,7 +30,7 @@ abbrev pub sent_in : Sending → List ℕ
 sent_in s = if s.sent then block_bytes s.payload else []
 
 -- an attempt to deliver a message: its last sending, whether that went over a new connection, and whether the block went
--- over the connection that was kept before, of which nothing came then
+-- over the connection that was kept before, over which nothing was received then
 pub record Attempt : Type 0 where
   pub last : Sending
   pub anew : Bool
@@ -40,7 +40,7 @@ pub record Attempt : Type 0 where
 abbrev pub attempt_outcome : Attempt → Outcome
 attempt_outcome a = sending_outcome a.last
 
--- the block that went over a connection of which nothing came, or none
+-- the block that went over a connection over which nothing was received, or none
 abbrev pub block_if : Bool → List ℕ → List ℕ
 block_if spent payload = if spent then block_bytes payload else []
 
@@ -93,7 +93,8 @@ attempts_in visits = flat_map (λ v. v.attempts) visits
 abbrev pub received_in : List Visit → List ℕ
 received_in visits = flat_map (λ v. v.received) visits
 
--- One sending, over the connection that was open, a new one, or none: what it came to, sent, received and read.
+-- One sending, over the connection that was open, a new one, or none: what its outcome is, and what it sent, received
+-- and read.
 pub record Sends (old new : Option Framed) (sent sends log logs : Option (List ℕ)) (o : Outcome) : Type 0 where
   pub sending : Sending
   pub outcome : sending_outcome sending ≡ o
@@ -106,8 +107,8 @@ pub record Sends (old new : Option Framed) (sent sends log logs : Option (List �
 abbrev pub IsOf : Sending → List ℕ → List ℕ → Bool → Type 0
 IsOf s control_id payload ack = (s.control_id ≡ control_id) × (s.payload ≡ payload) × (s.ack ≡ ack)
 
--- The connection that was open is of no use any more, or there was none: the text may have gone over it, and then bytes were
--- asked for once, but not one came.
+-- The connection that was open is of no use any more, or there was none: the text may have gone over it, and then one
+-- receive was made, but it gave no byte.
 pub record Spends (old : Option Framed) (sent sends log logs : Option (List ℕ)) (calls call : Option ℕ) (payload : List ℕ) : Type 0 where
   pub spent : Bool
   pub sends_block : Appends sent sends (block_if spent payload)
@@ -115,8 +116,8 @@ pub record Spends (old : Option Framed) (sent sends log logs : Option (List ℕ)
   pub asked : spent ≡ true → CallsMore calls call 1
   pub was_kept : spent ≡ true → is_some old ≡ true
 
--- One attempt, over the connection that was open, a new one, none, or first the one that was open and then, since not a byte
--- came of it, a new one: what it came to, sent, received and read.
+-- One attempt, over the connection that was open, a new one, none, or first the one that was open and then, since no byte
+-- was received over it, a new one: what its outcome is, and what it sent, received and read.
 pub record Tries (old new : Option Framed) (sent sends log logs : Option (List ℕ)) (o : Outcome) : Type 0 where
   pub attempt : Attempt
   pub outcome : attempt_outcome attempt ≡ o
@@ -140,7 +141,7 @@ abbrev pub is_rejected : Outcome → Bool
 is_rejected Rejected = true
 is_rejected _ = false
 
--- The report counts these attempts by what they came to.
+-- The report counts these attempts by their outcomes.
 pub record Tells (attempts : List Attempt) (r : DeliverReport) : Type 0 where
   pub taken : r.taken ≡ length attempts
   pub delivered : r.delivered ≡ count_by (λ a. is_delivered (attempt_outcome a)) attempts
@@ -161,7 +162,7 @@ pub record Delivers (sent sends log logs : Option (List ℕ)) (r : DeliverReport
 abbrev pub no_attempts : DeliverReport
 no_attempts = record { taken = 0; delivered = 0; again = 0; rejected = 0; end = TurnsSpent }
 
--- with one more attempt, by what it came to
+-- with one more attempt, by its outcome
 abbrev pub counted : Outcome → DeliverReport → DeliverReport
 counted Delivered r = record r { taken = r.taken + 1; delivered = r.delivered + 1 }
 counted Again r = record r { taken = r.taken + 1; again = r.again + 1 }
@@ -177,7 +178,7 @@ abbrev pub IsFresh : Exchanged → Type 0
 IsFresh e = IsFrontOf e.received e.attempt.last.read
 
 -- The attempts were made that the report counts, each with nothing left of what was received before it: they sent what was
--- sent, and what was received came in them.
+-- sent, and what was received was received in them.
 pub record DeliversAfresh (sent sends log logs : Option (List ℕ)) (r : DeliverReport) : Type 0 where
   pub exchanges : List Exchanged
   pub fresh : All IsFresh exchanges

@@ -1,4 +1,4 @@
--- What is read of the stream that comes by a connection.
+-- What is read of the stream that is received over a connection.
 use Rattle.std.specs.Prelude.{◌≡◌, ℕ, List, [], ◌++◌, map, Option, None, Some}
 use Rattle.std.specs.Io.KnownBytes.{Appends}
 use Rattle.hl7_head.specs.Msa.{MsaFields}
@@ -16,7 +16,7 @@ pub record Stands (received : List ℕ) (passed : List Event) (f : Framed) : Typ
 abbrev pub IsFrontOf : List ℕ → List Event → Type 0
 IsFrontOf received passed = (later : List Event) × (blocks received ≡ passed ++ later)
 
--- what came by a connection, by its framer, as long as it is open: where none is open, nothing yet
+-- what was received over a connection, by its framer, as long as it is open: where none is open, nothing yet
 abbrev pub Before : Option Framed → List ℕ → List Event → Type 0
 Before None received passed = (received ≡ []) × (passed ≡ [])
 Before (Some f) received passed = Stands received passed f

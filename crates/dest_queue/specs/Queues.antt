@@ -30,7 +30,7 @@ WaitsBelow max (Failed cause) = ⊥
 abbrev pub put : {T : Type 0} → ℕ → SlotState → Row (Addressed T) → Row (Addressed T)
 put d state row = record row { item = record row.item { slots = with_state d state row.item.slots } }
 
--- the same, and the row leaves queue d where that state is settled for good; else it stays at its place
+-- the same, and the row leaves queue d where that state is settled for good; else it keeps its position
 abbrev pub settle : {T : Type 0} → ℕ → SlotState → Row (Addressed T) → Row (Addressed T)
 settle d state row = record (put d state row) { mask = if is_live state then row.mask else without d row.mask }
 

@@ -15,7 +15,7 @@ is_waiting (InFlight attempt) = false
 is_waiting Delivered = false
 is_waiting (Failed cause) = false
 
--- whether a slot stands in its destination's queue: it waits or is in flight
+-- whether a slot is in its destination's queue: it waits or is in flight
 abbrev pub is_live : SlotState → Bool
 is_live (Waiting attempts due) = true
 is_live (InFlight attempt) = true

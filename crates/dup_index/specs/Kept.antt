@@ -8,7 +8,7 @@ abbrev pub bytes_of : Bytes → List ℕ
 bytes_of (Short len bytes) = take len bytes
 bytes_of (Long bytes) = bytes.items
 
--- no more bytes stand in place than there is room for
+-- no more bytes are kept inline than there is room for
 abbrev pub IsKept : Bytes → Type 0
 IsKept (Short len bytes) = len ≤ 30
 IsKept (Long bytes) = Unit {0}

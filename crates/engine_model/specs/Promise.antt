@@ -20,7 +20,7 @@ abbrev pub AreRead : Bool → List ℕ → List Answer → Type 0
 AreRead false stream answers = messages stream ≡ map (λ a. a.raw) answers
 AreRead true stream answers = AreFirst (map (λ a. a.raw) answers) (messages stream)
 
--- what a connection was sent are the replies to its answers; where it has ended, their front
+-- what a connection was sent are the replies to its answers; where it has ended, a prefix of them
 abbrev pub AreWritten : Bool → ℕ → List Answer → List ℕ → Type 0
 AreWritten false conn answers output = output ≡ replies conn answers
 AreWritten true conn answers output = RepliesFront conn 1 answers output
@@ -35,16 +35,16 @@ pub record KeepsItsWord (r : Run) : Type 0 where
   -- first of its replies
   pub written : (conn : ℕ) (c : Connection) → slice_get r.connections conn ≡ Some c → AreWritten c.ended conn c.answers c.output
   -- the booked ones of its answers since the history was last folded are its arrivals that the history holds, in order, with
-  -- channel, bytes and what its sender was told: all of its answers, where it never was folded; a number that no connection
+  -- channel, bytes and answer: all of its answers, where it never was folded; a number that no connection
   -- has has none
   pub booked : (conn : ℕ) → arrivals conn r.history ≡ option_map_or (booked_since (folded_at r conn) conn) (slice_get r.connections conn) []
   pub before : (conn : ℕ) (c : Connection) → slice_get r.connections conn ≡ Some c → folded_at r conn ≤ length c.answers
 
--- a text is the front of another
+-- a text is a prefix of another
 pub record IsFrontOf (text whole : List ℕ) : Type 0 where
   pub rest : List ℕ
   pub goes_on : whole ≡ text ++ rest
 
--- no message was told that memory was refused
+-- no message was answered that memory was refused
 abbrev pub NoneLacked : List Answer → Type 0
 NoneLacked answers = AllByRecursion (λ a. a.outcome ≢ Err NoMemory) answers

@@ -1,4 +1,4 @@
--- A run so far: what was booked, and what every connection read, was told and was sent.
+-- A run so far: what was booked, and what every connection read, was answered and was sent.
 use Rattle.std.specs.Prelude.{ℕ, Bool, false, ◌==◌, if◌then◌else◌, List, [], drop, map, slice_get, slice_index_or, Option, None, Some}
 use Rattle.std.specs.List.{filter_map}
 use Rattle.std.specs.Option.{option_map_or}
@@ -9,7 +9,7 @@ use Rattle.plan_text.specs.Entries.{PlanEntry}
 use Rattle.conn_core.specs.Messages.{BookedMessage, booked}
 use Rattle.conn_core.specs.Replies.{Answer}
 
--- a connection: its channel, all bytes that came, the messages that were answered, all bytes that were sent, and whether
+-- a connection: its channel, all bytes received, the messages that were answered, all bytes that were sent, and whether
 -- it has ended
 pub record Connection : Type 0 where
   pub channel : ℕ
@@ -18,14 +18,14 @@ pub record Connection : Type 0 where
   pub output : List ℕ
   pub ended : Bool
 
--- What was booked, and the connections; a connection's number is its place. So many of the answers of each were given before the
--- history was last folded; none, where it never was.
+-- What was booked, and the connections; a connection's number is its index. `folded` is how many of the answers of
+-- each were given before the history was last folded; none, where it never was.
 pub record Run : Type 0 where
   pub history : History
   pub connections : List Connection
   pub folded : List ℕ
 
--- a connection on which nothing came yet
+-- a connection on which nothing was received yet
 abbrev pub silent : ℕ → Connection
 silent channel = record { channel = channel; stream = []; answers = []; output = []; ended = false }
 
@@ -54,7 +54,7 @@ arrivals conn h = filter_map (arrival_on conn) h.entries
 abbrev pub folded_at : Run → ℕ → ℕ
 folded_at r conn = slice_index_or r.folded conn 0
 
--- what the answers of a connection book, but for so many at their beginning
+-- what the answers of a connection book, but for the first few of them, as many as are given
 abbrev pub booked_since : ℕ → ℕ → Connection → List BookedMessage
 booked_since n conn c = booked conn c.channel (drop n c.answers)
 

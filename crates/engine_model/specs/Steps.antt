@@ -1,4 +1,4 @@
--- Which run comes of which by a step.
+-- Which run follows from which by a step.
 use Rattle.std.specs.Prelude.{◌≡◌, ◌<◌, ◌≤◌, ◌⊎◌, ◌+◌, ℕ, Bool, true, false, List, [], ◌∷◌, ◌++◌, length, map, set, slice_get, Option, None, Some, Result, Ok, Err, ⊤}
 use Rattle.book_core.specs.declared.receipt.NotBooked.{NotBooked}
 use Rattle.book_core.specs.declared.receipt.NotBooked.TheVariants.{NoMemory, Full, PlanChanged}
@@ -16,12 +16,12 @@ use Rattle.conn_core.specs.Replies.{Answer, Due, dues, numbered}
 use Rattle.engine_model.specs.Run.{Connection, Run}
 use Rattle.engine_model.specs.Turn.{Turn, chunk, taking, settling, cancelling, deploying, pruning}
 
--- the most frame events of a connection: having had so many it ends
+-- the most frame events of a connection: having had that many it ends
 unfoldable pub frame_events_max : ℕ
 frame_events_max = 1_000_000_000
 
--- What may become of a message that comes on a channel: it is booked, and told the answer; where there is no room, it is
--- told so; and only where there is room it may be told that memory was refused. The plan is the one in force.
+-- What may become of a message that arrives on a channel: it is booked, with the answer; where there is no room, it is
+-- answered so; and only where there is room it may be answered that memory was refused. The plan is the one in force.
 abbrev pub MayBeTold : History → ℕ → List ℕ → Result Told NotBooked → Type 0
 MayBeTold h channel raw (Ok told) = MayArrive h channel raw told
 MayBeTold h channel raw (Err Full) = is_full h channel raw ≡ true
@@ -47,7 +47,7 @@ AreAnswered conn channel now h [] = ⊤
 AreAnswered conn channel now h (a ∷ answers) =
     MayBeTold h channel a.raw a.outcome × (a.moment ≡ now) × AreAnswered conn channel now (after_answer conn channel h a) answers
 
--- The front of the replies to these answers, numbered from here on: whole acknowledgments, and all but some of the last
+-- A prefix of the replies to these answers, numbered from here on: whole acknowledgments, and all but some of the last
 -- message's.
 pub record RepliesFront (conn first : ℕ) (answers : List Answer) (text : List ℕ) : Type 0 where
   pub replied : List Answer
@@ -92,7 +92,7 @@ pub record EndsWithin (conn : ℕ) (bytes : List ℕ) (now : ℕ) (h h' : Histor
   pub replies : RepliesFront conn (1 + length (dues c.answers)) new added
   pub stops : c'.ended ≡ true
 
--- A piece that comes on an open connection changes that connection and what is booked, and nothing else.
+-- A piece that is received on an open connection changes that connection and what is booked, and nothing else.
 pub record Hears (conn : ℕ) (bytes : List ℕ) (now : ℕ) (r r' : Run) (c : Connection) : Type 0 where
   pub to : Connection
   pub only : r'.connections ≡ set r.connections conn to

@@ -1,4 +1,4 @@
--- What the program's values stand for.
+-- What the program's values mean.
 use Rattle.std.specs.Prelude.{◌≡◌, ◌<◌, ◌≤◌, ◌*◌, ℕ, false, List, [], length, map}
 use Rattle.std.specs.Arc.{arc_value}
 use Rattle.std.specs.List.{AllByRecursion}
@@ -25,7 +25,7 @@ pub record IsOpen (c : Connected) : Type 0 where
   pub few : c.events < 1_000_000_000
   pub made : c.words.replies.made ≤ 2 * c.events
 
--- a connection is on one of so many channels, and has ended or is open
+-- a connection is on one of that many channels, and has ended or is open
 pub record IsFit (channels : ℕ) (c : Connected) : Type 0 where
   pub known : c.channel < channels
   pub stands : c.ended ≡ false → IsOpen c

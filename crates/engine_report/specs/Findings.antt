@@ -21,7 +21,7 @@ finding_of (audit.Missing place) = finding.Missing
 finding_of (audit.Doubled place) = finding.Doubled
 finding_of (audit.Differs place) = finding.Differs
 
--- what came of a connection, with its receipts
+-- what became of a connection, with its receipts
 abbrev pub Served : Type 0
 Served = ServeReport (Vec Receipt)
 
@@ -60,18 +60,18 @@ failed_channel p = if nat_lt 0 p.1 then Some p.0.name else None
 abbrev pub failed_channels : List ChannelEntry → List ℕ → List (List ℕ)
 failed_channels channels faults = filter_map failed_channel (zip channels faults)
 
--- the fault that tells of a finding
+-- the fault that reports a finding
 abbrev pub audit_faults : Option Finding → List Fault
 audit_faults None = []
 audit_faults (Some found) = fault.Audit found ∷ []
 
--- what is given back where each fault is told before the next
+-- what is returned where each fault is printed before the next
 abbrev pub last_told : Result (Unit {0}) Fault → List Fault → Result (Unit {0}) Fault
 last_told before [] = before
 last_told before (f ∷ fs) = last_told (Err f) fs
 
--- how a run ends: what is wrong with the receipts is told last, before that the doors that failed, and before these that
--- the statistics couldn't be written
+-- how a run ends: what is wrong with the receipts is reported last, before that the doors that failed, and before
+-- these that the statistics couldn't be written
 pub record Concludes (closed : Option Held) (served : List Served) (failed : List Fault) (result : Result (Unit {0}) Fault) : Type 0 where
   pub found : Option Finding
   pub is_found : IsFinding closed served found

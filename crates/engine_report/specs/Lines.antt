@@ -1,4 +1,4 @@
--- The lines that tell the statistics of a book.
+-- The lines that show the statistics of a book.
 use Rattle.std.specs.Prelude.{ℕ, ◌+◌, List, [], ◌∷◌, ◌++◌, Option, None, Some, codes}
 use Rattle.std.specs.Fmt.{decimal}
 use Rattle.plan_text.specs.Entries.{PlanEntry}
@@ -24,7 +24,7 @@ destination_line name d =
     codes "destination " ++ name ++ numbered (codes "waiting") d.waiting ++ numbered (codes "inflight") d.inflight
     ++ numbered (codes "delivered") d.delivered ++ numbered (codes "failed") d.failed ++ numbered (codes "attempts") d.attempts ++ codes "\n"
 
--- a line for each item, by its place and what it is
+-- a line for each item, by its index and what it is
 abbrev pub lines_from : {X : Type 0} → (ℕ → X → List ℕ) → ℕ → List X → List ℕ
 lines_from line place [] = []
 lines_from line place (x ∷ xs) = line place x ++ lines_from line (place + 1) xs

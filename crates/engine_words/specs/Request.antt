@@ -1,13 +1,13 @@
--- What the command line may ask.
+-- What the command line may request.
 use Rattle.std.specs.Prelude.{◌≤◌, None, Some}
 use Rattle.engine_words.specs.declared.command_line.Request.{Request}
 use Rattle.engine_words.specs.declared.command_line.Request.TheVariants.{Answer, Check, Run}
 
--- the built-in plan, one moment and the longest book: what is asked where there are no words
+-- the built-in plan, one moment and the longest book: what is requested where there are no words
 abbrev pub without_words : Request
 without_words = Answer None (Some 1_700_000_000) 1_000_000
 
--- the book that is asked for holds at least one entry and at most a million, and each channel takes 1 to 9,999 connections
+-- the requested book holds at least one entry and at most a million, and each channel takes 1 to 9,999 connections
 abbrev pub IsWithinLimits : Request → Type 0
 IsWithinLimits (Answer plan now events) = (1 ≤ events) × (events ≤ 1_000_000)
 IsWithinLimits (Check plan) = Unit {0}

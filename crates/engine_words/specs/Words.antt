@@ -1,4 +1,4 @@
--- The words of the command line: the program's commands, and what they ask.
+-- The words of the command line: the program's commands, and what they request.
 use Rattle.std.specs.Prelude.{◌≡◌, ◌≤◌, ◌<◌, ◌^◌, ℕ, List, Option, None, Some, option_map, min, codes, pos, true, unwrap_or, []}
 use Rattle.std.specs.Option.{SomeIff}
 use Rattle.std.specs.Str.Parse.{IsNumeral, digits_value, without_leading_plus}
@@ -8,7 +8,7 @@ use Rattle.engine_words.specs.declared.command_line.Request.{Request}
 use Rattle.engine_words.specs.declared.command_line.Request.TheVariants.{Answer, Check, Run}
 use Rattle.engine_words.specs.Request.{without_words}
 
--- a word that stands for itself: the plan's file
+-- a word with a value of its own: the plan's file
 abbrev pub plan_rule : Rule
 plan_rule = new_rule (codes "PLAN")
 
@@ -41,7 +41,7 @@ check_app = with_rule (new_app (codes "check")) (record plan_rule { required = t
 abbrev pub run_app : App
 run_app = with_rule (with_rule (with_rule (new_app (codes "run")) (record plan_rule { required = true })) accept_rule) events_rule
 
--- the program, which tells its version
+-- the program, which prints its version
 abbrev pub top : App
 top = let app : App = new_app (codes "hl7_engine") in record app { top = record app.top { has_version = true } }
 
@@ -61,7 +61,7 @@ pub record IsBound (given : Option ℕ) (events : ℕ) : Type 0 where
   pub default : given ≡ None → events ≡ 1_000_000
   pub as_given : (n : ℕ) → given ≡ Some n → 1 ≤ n → n ≤ 1_000_000 → events ≡ n
 
--- what the words of `answer` ask: the plan, the moment and the most entries as they are written
+-- what the words of `answer` request: the plan, the moment and the most entries as they are written
 pub record AsWritten (plan : Option Text) (now : Option ℕ) (events : ℕ) (rows : List Row) : Type 0 where
   pub plan_is : plan ≡ first_of (codes "PLAN") rows
   pub seconds : Option ℕ
@@ -75,7 +75,7 @@ pub record AsWritten (plan : Option Text) (now : Option ℕ) (events : ℕ) (row
 abbrev pub IsAccept : Option ℕ → ℕ → Type 0
 IsAccept given accept = (n : ℕ) → given ≡ Some n → 1 ≤ n → n ≤ 9_999 → accept ≡ n
 
--- what the words of `run` ask: the plan, the connections and the most entries as they are written
+-- what the words of `run` request: the plan, the connections and the most entries as they are written
 pub record AsToRun (plan : Text) (accept events : ℕ) (rows : List Row) : Type 0 where
   pub plan_is : plan ≡ unwrap_or (first_of (codes "PLAN") rows) []
   pub connections : Option ℕ
@@ -93,7 +93,7 @@ abbrev pub AsksAnswer : Request → List Row → Type 0
 AsksAnswer (Answer plan now events) rows = AsWritten (option_map (λ p. p.now) plan) now events rows
 AsksAnswer _ rows = ⊥
 
--- what the words of a command ask, by the command's name
+-- what the words of a command request, by the command's name
 abbrev pub AsksBy : Request → Option (Text × List Row) → Type 0
 AsksBy request None = request ≡ without_words
 AsksBy (Answer plan now events) (Some (name, rows)) =
@@ -101,6 +101,6 @@ AsksBy (Answer plan now events) (Some (name, rows)) =
 AsksBy (Check plan) (Some (name, rows)) = (name ≡ codes "check") × (plan.now ≡ unwrap_or (first_of (codes "PLAN") rows) [])
 AsksBy (Run plan accept events) (Some (name, rows)) = (name ≡ codes "run") × AsksRun (Run plan accept events) rows
 
--- what the words ask
+-- what the words request
 abbrev pub Asks : Request → List Text → Type 0
 Asks request words = AsksBy request (subcommand_of program words)

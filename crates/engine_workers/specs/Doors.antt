@@ -4,7 +4,7 @@ use Rattle.std.specs.Prelude.{Bool, true, false}
 use Rattle.engine_workers.specs.declared.door.DoorFault.{DoorFault}
 use Rattle.engine_workers.specs.declared.door.DoorFault.TheVariants.{Device, NoMemory}
 
--- Whether the device failed: want of memory is no fault of the device's.
+-- Whether the device failed: a refusal for memory is no fault of the device's.
 abbrev pub is_device_fault : {X : Type 0} → Result X DoorFault → Bool
 is_device_fault (Ok _) = false
 is_device_fault (Err Device) = true

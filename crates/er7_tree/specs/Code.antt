@@ -3,7 +3,7 @@ use Rattle.std.specs.Prelude.{ℕ}
 use Rattle.er7_tree.specs.declared.refusal.Refusal.{Refusal}
 use Rattle.er7_tree.specs.declared.refusal.Refusal.TheVariants.{NoHeader, BadDelimiters, BadSegmentName, TooManySegments, BadPath, NoSuchSegment, NoMemory}
 
--- by which a refusal is told
+-- that names a refusal
 abbrev pub code_of : Refusal → ℕ
 code_of NoHeader = 1
 code_of BadDelimiters = 2

@@ -19,7 +19,7 @@ has_other_use b = list_any (λ c. c == b) (codes "\"+.")
 abbrev pub is_delimiter : ℕ → Bool
 is_delimiter b = is_ascii_graphic b && not (is_ascii_alphanumeric b || has_other_use b)
 
--- the byte stands nowhere in these
+-- the byte is none of these
 abbrev pub lacks : ℕ → List ℕ → Bool
 lacks b bs = list_all (λ c. not (c == b)) bs
 

@@ -18,7 +18,7 @@ abbrev pub hex_onto : Option ℕ → Option ℕ → Option (List ℕ) → Option
 hex_onto (Some high) (Some low) (Some bytes) = Some ((16 * high + low) ∷ bytes)
 hex_onto _ _ _ = None
 
--- the bytes that pairs of hexadecimal digits stand for
+-- the bytes that pairs of hexadecimal digits mean
 abbrev pub hex_bytes : List ℕ → Option (List ℕ)
 hex_bytes [] = Some []
 hex_bytes (high ∷ []) = None
@@ -28,7 +28,7 @@ hex_bytes (high ∷ low ∷ digits) = hex_onto (hex_value high) (hex_value low) 
 abbrev pub sequence : Delims → List ℕ → List ℕ
 sequence d inner = d.escape ∷ inner ++ d.escape ∷ []
 
--- the letters of escape sequences, each with the delimiter that it stands for (HL7 v2.5.1, 2.7.1)
+-- the letters of escape sequences, each with the delimiter that it means (HL7 v2.5.1, 2.7.1)
 abbrev pub letters : Delims → List (ℕ × ℕ)
 letters d = zip (codes "FSTRE") (d.field ∷ d.component ∷ d.subcomponent ∷ d.repetition ∷ d.escape ∷ [])
 
@@ -46,7 +46,7 @@ letter_meaning d c = option_map_or (λ b. b ∷ []) (meant_by d c) (sequence d (
 abbrev pub hexadecimal : ℕ
 hexadecimal = 88
 
--- what stands between two escape characters means; what has no meaning is kept as it is written
+-- what the text between two escape characters means; what has no meaning is kept as it is written
 abbrev pub meaning : Delims → List ℕ → List ℕ
 meaning d [] = sequence d []
 meaning d (c ∷ []) = letter_meaning d c

@@ -23,7 +23,7 @@ pub record Place : Type 0 where
 abbrev pub segment_at : List ℕ → ℕ → List (List ℕ) → List ℕ
 segment_at name n segments = piece_at n (filter (has_name name) segments)
 
--- where a field stands among the pieces of its segment, of which the name is the first; MSH counts its separator as a field
+-- the index of a field among the pieces of its segment, of which the name is the first; MSH counts its separator as a field
 abbrev pub field_place : List ℕ → ℕ → ℕ
 field_place segment field = if is_header segment then field else field + 1
 
@@ -85,7 +85,7 @@ abbrev pub is_whole : Part → Bool
 is_whole Whole = true
 is_whole _ = false
 
--- MSH stands once, and MSH-1 and MSH-2 have no parts
+-- there is one MSH, and MSH-1 and MSH-2 have no parts
 abbrev pub is_path : Place → Bool
 is_path p =
     is_name p.segment

@@ -12,13 +12,13 @@ covered text span = slice_range text span.start span.end
 abbrev pub spanned : Delims → List ℕ → List Span → Tree
 spanned d text spans = record { delims = d; segments = map (covered text) spans }
 
--- the span stands between two places
+-- the span lies between two offsets
 pub record IsBetween (from to : ℕ) (span : Span) : Type 0 where
   pub behind : from ≤ span.start
   pub ordered : span.start ≤ span.end
   pub within : span.end ≤ to
 
--- the spans follow one another between two places
+-- the spans follow one another between two offsets
 abbrev pub InOrder : ℕ → ℕ → List Span → Type 0
 InOrder from to [] = from ≤ to
 InOrder from to (span ∷ spans) = IsBetween from to span × InOrder span.end to spans

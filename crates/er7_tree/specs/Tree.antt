@@ -71,7 +71,7 @@ abbrev pub first_of : List (List ℕ) → List ℕ
 first_of [] = []
 first_of (first ∷ _) = first
 
--- the place of the nth segment of a name: it has that name, and so have n - 1 of those before it
+-- the index of the nth segment of a name: it has that name, and so have n - 1 of those before it
 pub record IsOccurrence (name : List ℕ) (n : ℕ) (segments : List (List ℕ)) (place : ℕ) : Type 0 where
   pub within : place < length segments
   pub named : has_name name (slice_index_or segments place []) ≡ true
@@ -86,26 +86,26 @@ pub record IsMessage (t : Tree) : Type 0 where
   pub few : length t.segments ≤ segments_max
   pub unbroken : list_all (lacks carriage_return) t.segments ≡ true
 
--- what follows an answer; a refusal stands
+-- what follows an answer; a refusal stays
 infixl 10 ◌>>=◌
 abbrev pub ◌>>=◌ : {A B : Type 0} → Result A Refusal → (A → Result B Refusal) → Result B Refusal
 (Ok x) >>= f = f x
 (Err e) >>= f = Err e
 
--- the header, which stands first
+-- the header, which is the first segment
 abbrev pub header_of : List (List ℕ) → Result (List ℕ) Refusal
 header_of segments = if is_header (first_of segments) then Ok (first_of segments) else Err NoHeader
 
--- the place of the first segment that may not follow the header, where they are numbered from this place on
+-- the index of the first segment that may not follow the header, where they are numbered from this index on
 abbrev pub bad_name_place : ℕ → Delims → List (List ℕ) → Option ℕ
 bad_name_place place d segments = position_from (λ segment. not (is_body d segment)) place segments
 
--- the message, where there is no such place
+-- the message, where there is no such index
 abbrev pub unless_bad : Tree → Option ℕ → Result Tree Refusal
 unless_bad t None = Ok t
 unless_bad t (Some place) = Err (BadSegmentName place)
 
--- the message, where it has not too many segments and each but the first, the header, may follow it; places count from 1
+-- the message, where it has not too many segments and each but the first, the header, may follow it; indices count from 1
 abbrev pub checked : Tree → Result Tree Refusal
 checked t =
     if nat_le (length t.segments) segments_max then unless_bad t (bad_name_place 2 t.delims (drop 1 t.segments))
@@ -134,7 +134,7 @@ written segments = flat_map ended segments
 abbrev pub text_of : Tree → List ℕ
 text_of t = written t.segments
 
--- What was answered is this answer; want of memory stands only where there would have been a value.
+-- What was answered is this answer; out of memory is answered only where there would have been a value.
 abbrev pub Gives : {X : Type 0} → Result X Refusal → Result X Refusal → Type 0
 Gives (Ok x) answer = answer ≡ Ok x
 Gives (Err NoMemory) answer = IsOk answer

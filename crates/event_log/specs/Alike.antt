@@ -11,7 +11,7 @@ use Rattle.event_log.specs.Folding.{arrivals, is_forgotten}
 use Rattle.event_log.specs.Replay.{Request, asked, came, ended, next, planned, revoked}
 use Rattle.event_log.specs.Room.{exceeds, is_full}
 
--- messages, keys and places that are left aside
+-- messages, keys and indices that are left aside
 pub record Aside : Type 0 where
   pub messages : ℕ → Bool
   pub keys : List ℕ → Bool
@@ -25,7 +25,8 @@ forgotten_by bound h = record {
   places = λ place. nat_lt place (next_place h);
 }
 
--- two histories are alike, but for earlier messages, keys and places that are left aside, and no such message stands in a queue
+-- two histories are alike, but for earlier messages, keys and indices that are left aside, and no such message is in
+-- a queue
 pub record IsAlike (aside : Aside) (h k : History) : Type 0 where
   pub plan : plan_in_force k ≡ plan_in_force h
   pub places : next_place k ≡ next_place h
@@ -45,7 +46,8 @@ pub record IsAlike (aside : Aside) (h k : History) : Type 0 where
   pub keys : (key : List ℕ) → aside.keys key ≡ false → known k key ≡ known h key
   pub bytes : (key raw : List ℕ) (place : ℕ) → aside.keys key ≡ false → known h key ≡ Some place → brings_at k raw place ≡ brings_at h raw place
 
--- an event names nothing that is left aside: not the key of the text that came, and not the message of a settlement or a cancellation
+-- an event names nothing that is left aside: not the key of the text that arrived, and not the message of a
+-- settlement or a cancellation
 abbrev pub IsApart : Aside → Request → Type 0
 IsApart aside (came conn channel raw) = aside.keys (key_of channel raw) ≡ false
 IsApart aside (asked d now) = Unit {0}

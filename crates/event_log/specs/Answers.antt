@@ -33,7 +33,7 @@ is_kept told.Filtered = true
 is_kept (told.Refused cause) = false
 is_kept (told.Repeat place) = false
 
--- whether an entry is the arrival of a message with this key, told Accepted or Filtered
+-- whether an entry is the arrival of a message with this key, answered Accepted or Filtered
 abbrev pub keeps : List ℕ → Entry → Bool
 keeps key (Arrival conn channel raw told) = is_kept told && bytes_eq key (key_of channel raw)
 keeps key (Take ticket now) = false
@@ -45,11 +45,11 @@ keeps key (Deploy plan) = false
 abbrev pub has_key : List ℕ → Remembered → Bool
 has_key key r = bytes_eq key (key_of r.channel r.raw)
 
--- the place of the remembered arrival with this key
+-- the index of the remembered arrival with this key
 abbrev pub known_before : Opening → List ℕ → Option ℕ
 known_before opening key = option_map (λ r. r.place) (find (has_key key) opening.remembered)
 
--- the place of the message with this key, if one was accepted or filtered and isn't forgotten
+-- the index of the arrival with this key, if one was accepted or filtered and isn't forgotten
 abbrev pub known : History → List ℕ → Option ℕ
 known h key =
     option_map_or (λ place. Some place) (known_before h.opening key)
@@ -63,26 +63,27 @@ brings raw (Settle outcome ticket now state) = false
 brings raw (Cancel number mask) = false
 brings raw (Deploy plan) = false
 
--- whether a remembered arrival stood at this place and brought these bytes
+-- whether a remembered arrival had this index and these bytes
 abbrev pub brought_before : ℕ → List ℕ → Remembered → Bool
 brought_before place raw r = (r.place == place) && bytes_eq raw r.raw
 
--- whether these bytes came at this place, as a remembered arrival or as an entry says
+-- whether the arrival at this index has these bytes, as a remembered arrival or as an entry says
 abbrev pub brings_at : History → List ℕ → ℕ → Bool
 brings_at h raw place = list_any (brought_before place raw) h.opening.remembered || option_map_or (brings raw) (entry_at h place) false
 
--- whether these bytes came on this channel at this place and were accepted or filtered, as a remembered arrival or as an entry says
+-- whether the arrival at this index has this channel and these bytes and was accepted or filtered, as a remembered
+-- arrival or as an entry says
 abbrev pub is_first : History → ℕ → List ℕ → ℕ → Bool
 is_first h channel raw place =
     list_any (λ r. has_key (key_of channel raw) r && brought_before place raw r) h.opening.remembered
     || option_map_or (λ e. keeps (key_of channel raw) e && brings raw e) (entry_at h place) false
 
--- what the sender is told of a message whose key is known: the same bytes are a repeat, others a control id used again
+-- the answer to a message whose key is known: the same bytes are a repeat, others a control id used again
 abbrev pub told_again : History → List ℕ → ℕ → Told
 told_again h raw place = if brings_at h raw place then told.Repeat place else told.Refused IdReused
 
--- what the sender is told of a text with this verdict, where the next message gets this number;
--- nothing of a text that is no message, or an acknowledgment
+-- the answer to a text with this verdict, where the next message gets this number;
+-- none to a text that is no message, or an acknowledgment
 abbrev pub told_by : ℕ → Verdict → Option Told
 told_by number verdict.Unreadable = None
 told_by number verdict.Stray = None

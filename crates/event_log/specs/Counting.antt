@@ -47,7 +47,7 @@ is_acceptance (Settle outcome ticket now state) = false
 is_acceptance (Cancel number mask) = false
 is_acceptance (Deploy plan) = false
 
--- whether an entry is an arrival on the channel that was told so
+-- whether an entry is an arrival on the channel with such an answer
 abbrev pub is_told : ℕ → (Told → Bool) → Entry → Bool
 is_told c so (Arrival conn channel raw told) = (channel == c) && so told
 is_told c so (Take ticket now) = false
@@ -55,7 +55,7 @@ is_told c so (Settle outcome ticket now state) = false
 is_told c so (Cancel number mask) = false
 is_told c so (Deploy plan) = false
 
--- how many arrivals on the channel were told so since the opening
+-- how many arrivals on the channel since the opening have such an answer
 abbrev pub told_count : History → ℕ → (Told → Bool) → ℕ
 told_count h c so = count_by (is_told c so) h.entries
 
@@ -101,7 +101,7 @@ is_take_at d (Deploy plan) = false
 abbrev pub destination_before : History → ℕ → DestinationCounts
 destination_before h d = destination_at d h.opening.forgotten
 
--- how it stands with the messages of a destination
+-- the counters of the messages of a destination
 abbrev pub destination_counts : History → ℕ → DestinationCounts
 destination_counts h d = record {
   waiting = slot_count h d is_waiting;

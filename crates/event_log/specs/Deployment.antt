@@ -1,4 +1,4 @@
--- Whether a plan may take the place of the one in force.
+-- Whether a plan may replace the one in force.
 use Rattle.std.specs.Prelude.{ℕ, ◌+◌, Bool, false, not, ◌&&◌, ◌==◌, nat_lt, if◌then◌else◌, length, find, slice_get, Option, None, Some}
 use Rattle.std.specs.Cmp.Lexicographic.{pointwise}
 use Rattle.std.specs.List.{range_with_len}

@@ -55,7 +55,7 @@ abbrev pub recalled : History → ℕ → ℕ → List ℕ → Told → Remember
 recalled h place channel raw told =
     record { place = place; channel = channel; raw = raw; told = told; deliveries = told_deliveries h told; slots = told_slots h told }
 
--- what is remembered of the entry at a place: an arrival told Accepted or Filtered
+-- what is remembered of the entry at an index: an arrival answered Accepted or Filtered
 abbrev pub recalled_from : History → ℕ → Entry → Option Remembered
 recalled_from h place (Arrival conn channel raw told) = if is_kept told then Some (recalled h place channel raw told) else None
 recalled_from h place (Take ticket now) = None
@@ -63,7 +63,8 @@ recalled_from h place (Settle outcome ticket now state) = None
 recalled_from h place (Cancel number mask) = None
 recalled_from h place (Deploy plan) = None
 
--- all arrivals told Accepted or Filtered that are not forgotten yet, in order of place: those remembered at the opening, and those booked since
+-- all arrivals answered Accepted or Filtered that are not forgotten yet, in order of index: those remembered at the
+-- opening, and those booked since
 abbrev pub arrivals : History → List Remembered
 arrivals h =
     map (λ r. recalled h r.place r.channel r.raw r.told) h.opening.remembered
@@ -71,14 +72,14 @@ arrivals h =
 
 -- ---- what is forgotten
 
--- the place of the arrival of message n, or of the next entry where it is still to come; 0 where it is forgotten, since
--- all that came before it is forgotten too
+-- the index of the arrival of message n, or of the next entry where it is still to come; 0 where it is forgotten, since
+-- all that arrived before it is forgotten too
 abbrev pub arrival_place : History → ℕ → ℕ
 arrival_place h n =
     option_map_or (λ r. r.place) (find (λ r. is_numbered n r.told) (arrivals h)) (if nat_lt n (message_count h) then 0 else next_place h)
 
--- whether an arrival told so is forgotten, where the messages below a bound are: an accepted one by its number, and a filtered one that came before
--- the message of that number did
+-- whether an arrival with this answer is forgotten, where the messages below a bound are: an accepted one by its
+-- number, and a filtered one that arrived before the message of that number did
 abbrev pub goes_with : History → ℕ → ℕ → Told → Bool
 goes_with h bound place (told.Accepted number) = nat_lt number bound
 goes_with h bound place told.Filtered = nat_lt place (arrival_place h bound)

@@ -21,8 +21,8 @@ use Rattle.event_log.specs.declared.entry.Told.TheVariants as told
 use Rattle.event_log.specs.declared.entry.Entry.{Entry}
 use Rattle.event_log.specs.declared.entry.Entry.TheVariants.{Arrival, Take, Settle, Cancel, Deploy}
 
--- an arrival that is remembered of entries that were folded: where it stood, what came and what its sender was told, Accepted or Filtered,
--- where it goes, and how it stood with it there
+-- an arrival that is remembered of entries that were folded: its index, its channel and bytes, its answer, Accepted
+-- or Filtered, where it goes, and the states of its slots there
 pub record Remembered : Type 0 where
   pub place : ℕ
   pub channel : ℕ
@@ -82,7 +82,7 @@ opened_by plan events_max = history_of plan events_max []
 abbrev pub followed_by : History → Entry → History
 followed_by h e = record { opening = h.opening; entries = h.entries ++ e ∷ [] }
 
--- the history before the entry at this place
+-- the history before the entry at this index
 abbrev pub before : History → ℕ → History
 before h place = record { opening = h.opening; entries = take (place - h.opening.places) h.entries }
 
@@ -111,25 +111,25 @@ deployed h = filter_map deployed_by h.entries
 abbrev pub plan_in_force : History → PlanEntry
 plan_in_force h = last_from h.opening.plan (deployed h)
 
--- the place of the next entry; places go on from the folded entries
+-- the index of the next entry; indices go on from the folded entries
 abbrev pub next_place : History → ℕ
 next_place h = h.opening.places + length h.entries
 
--- the entry at this place; a folded one is gone
+-- the entry at this index; a folded one is gone
 abbrev pub entry_at : History → ℕ → Option Entry
 entry_at h place = if nat_lt place h.opening.places then None else slice_get h.entries (place - h.opening.places)
 
--- an accepted message: the channel and the bytes that came, and where it goes
+-- an accepted message: the channel and the bytes received, and where it goes
 pub record Accepted : Type 0 where
   pub channel : ℕ
   pub raw : List ℕ
   pub deliveries : List Delivery
 
--- a message that came under a plan
+-- a message that arrived under a plan
 abbrev pub accepted_under : PlanEntry → ℕ → List ℕ → Accepted
 accepted_under plan channel raw = record { channel = channel; raw = raw; deliveries = deliveries_of (decided plan channel raw) }
 
--- the message that an entry brings, if it is an arrival told Accepted
+-- the message that an entry brings, if it is an arrival answered Accepted
 abbrev pub accepted_by : PlanEntry → Entry → Option Accepted
 accepted_by plan (Arrival conn channel raw (told.Accepted number)) = Some (accepted_under plan channel raw)
 accepted_by plan (Arrival conn channel raw told.Filtered) = None
@@ -153,14 +153,14 @@ accepted h = accepted_from h.opening.plan h.entries
 abbrev pub message_count : History → ℕ
 message_count h = h.opening.messages + length (accepted h)
 
--- the number that a sender was told
+-- the number that an answer gives
 abbrev pub number_told : Told → Option ℕ
 number_told (told.Accepted number) = Some number
 number_told told.Filtered = None
 number_told (told.Refused cause) = None
 number_told (told.Repeat place) = None
 
--- whether a sender was told that its message has this number
+-- whether an answer says that the message has this number
 abbrev pub is_numbered : ℕ → Told → Bool
 is_numbered n (told.Accepted number) = number == n
 is_numbered n told.Filtered = false

@@ -19,7 +19,7 @@ use Rattle.event_log.specs.Counting.{destination_counts}
 use Rattle.event_log.specs.Deployment.{deploy_answer}
 use Rattle.event_log.specs.Room.{exceeds, is_full, owed}
 
--- an arrival that may be booked next: it can have come in a block, there is room, and its sender is told the answer
+-- an arrival that may be booked next: it can have been in a block, there is room, and its reply is the answer
 pub record MayArrive (h : History) (channel : ℕ) (raw : List ℕ) (reply : Told) : Type 0 where
   pub fits : IsBlockData raw
   pub room : is_full h channel raw ≡ false
@@ -43,7 +43,7 @@ MayFollow h (Deploy plan) = MayDeploy h plan
 pub record IsLegal (h : History) : Type 0 where
   pub follows : (place : ℕ) (e : Entry) → entry_at h place ≡ Some e → MayFollow (before h place) e
 
--- the arrival of message n, whose sender was told this number
+-- the arrival of message n, which was answered with this number
 pub record HasArrival (h : History) (n : ℕ) (m : Accepted) : Type 0 where
   pub place : ℕ
   pub conn : ℕ
@@ -62,8 +62,8 @@ IsWithin max (InFlight attempt) = attempt ≤ max
 IsWithin max Delivered = Unit {0}
 IsWithin max (Failed cause) = Unit {0}
 
--- what is remembered of an arrival, where this plan is in force: it can have come in a block, it was accepted or
--- filtered, and a filtered one goes nowhere; it stands once at each destination that it names, within the attempts that
+-- what is remembered of an arrival, where this plan is in force: it can have been in a block, it was accepted or
+-- filtered, and a filtered one goes nowhere; it has one slot for each destination that it names, within the attempts that
 -- the plan allows
 pub record IsMemory (plan : PlanEntry) (r : Remembered) : Type 0 where
   pub fits : IsBlockData r.raw
@@ -73,8 +73,8 @@ pub record IsMemory (plan : PlanEntry) (r : Remembered) : Type 0 where
   pub slots : map (λ s. s.destination) r.slots ≡ destinations_of r.deliveries
   pub attempts : All (λ s. IsWithin (attempts_max plan s.destination) s.state) r.slots
 
--- what is counted of what was folded, where so many messages are forgotten: no more than could be. No forgotten message waits or is in flight, and
--- each was delivered or failed once at most at a destination
+-- what is counted of what was folded, where that many messages are forgotten: no more than could be. No forgotten
+-- message waits or is in flight, and each was delivered or failed once at most at a destination
 pub record AreForgotten (places messages : ℕ) (forgotten : Statistics) : Type 0 where
   pub statistics : IsStatistics forgotten
   pub received : All (λ c. c.received + c.repeats ≤ places) forgotten.channels
@@ -82,8 +82,8 @@ pub record AreForgotten (places messages : ℕ) (forgotten : Statistics) : Type 
   pub named : All (λ d. d.delivered + d.failed ≤ messages) forgotten.destinations
   pub taken : All (λ d. d.attempts ≤ places) forgotten.destinations
 
--- an opening that a book may go on from: its plan is one; what is remembered has places, numbers and keys of its own,
--- in order; no message is forgotten that came after one that is remembered; what its messages owe is within the bound;
+-- an opening that a book may go on from: its plan is one; what is remembered has indices, numbers and keys of its own,
+-- in order; no message is forgotten that arrived after one that is remembered; what its messages owe is within the bound;
 -- no more of them were delivered or are in flight than attempts were begun
 pub record IsGoodOpening (opening : Opening) : Type 0 where
   pub plan : IsPlan opening.plan

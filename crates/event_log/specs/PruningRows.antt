@@ -44,7 +44,7 @@ may_go = refl
 
 -- ---- the first is forgotten
 
--- no entry is held, and places go on counting
+-- no entry is held, and indices go on counting
 pub no_entry : entry_at (pruned 1 settled) 1 ≡ None
 no_entry = refl
 
@@ -75,7 +75,7 @@ pub second_queued : queue (pruned 1 settled) 0 ≡ 1 ∷ []
 unfolding verdict header_fault
 second_queued = refl
 
--- its key is known at its place, so it is a repeat; the first is a message again
+-- its key is known at its index, so it is a repeat; the first is a message again
 pub second_known : known (pruned 1 settled) (key_of 0 second) ≡ Some 1
 unfolding verdict header_fault key_of
 second_known = refl
@@ -103,14 +103,15 @@ one_waits = refl
 
 -- ---- what was filtered
 
--- the first was delivered and is forgotten, and then the second came, under a plan that filtered it
+-- the first was delivered and is forgotten, and then the second arrived, under a plan that filtered it
 abbrev pub delivered : History
 delivered = history_of built_in 100 (Arrival 0 0 first (Accepted 0) ∷ (Take (attempt 1) 0 ∷ (Settle outcome.Delivered (attempt 1) 0 Delivered ∷ [])))
 
 abbrev pub filtered_later : History
 filtered_later = continued (folded 1 delivered) (Arrival 0 0 second Filtered ∷ [])
 
--- it came after message 0, which is forgotten already, so nothing is forgotten where no more messages are; before the next message it is
+-- it arrived after message 0, which is forgotten already, so nothing is forgotten where no more messages are; before
+-- the next message it is
 pub filtered_stays : known (pruned 0 filtered_later) (key_of 0 second) ≡ Some 3
 unfolding verdict header_fault key_of
 filtered_stays = refl

@@ -12,7 +12,7 @@ use Rattle.event_log.specs.Answers.{answer, cancel_answer, settle_answer, take_a
 use Rattle.event_log.specs.Deployment.{deploy_answer}
 use Rattle.event_log.specs.Room.{exceeds, is_full}
 
--- what a reply answers: a text came by a connection on a channel, the front of a queue was asked for at a moment,
+-- what a reply answers: a text arrived over a connection on a channel, the front of a queue was requested at a moment,
 -- an attempt ended so at a moment, a message was to be cancelled, or a plan was to be deployed
 pub data Request : Type 0 where
   came : ℕ → ℕ → List ℕ → Request
@@ -29,7 +29,7 @@ request_of (entry.Settle outcome ticket now state) = ended ticket outcome now
 request_of (entry.Cancel number mask) = revoked number
 request_of (entry.Deploy plan) = planned plan
 
--- what is asked, with its answer; nothing where it is refused
+-- what is requested, with its answer; nothing where it is refused
 abbrev pub answered_by : History → Request → Option Entry
 answered_by h (came conn channel raw) =
     if is_full h channel raw then None else option_map (λ told. entry.Arrival conn channel raw told) (answer h channel raw)

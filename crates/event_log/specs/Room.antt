@@ -19,7 +19,7 @@ message_total weight slots = sum_by (λ d. option_map_or (weight d) (slots d) 0)
 unfoldable pub total : (ℕ → SlotState → ℕ) → History → ℕ
 total weight h = sum_by (λ n. message_total weight (slot h n)) (numbers h)
 
--- the entries that may still come of a slot, if it may have so many attempts: a take and a settlement for each attempt
+-- the entries that may still follow from a slot, if it may have `max` attempts: a take and a settlement for each attempt
 -- to come, a cancellation, and the settlement of the attempt under way
 abbrev pub slot_owed : ℕ → SlotState → ℕ
 slot_owed max (Waiting attempts due) = 2 * (max - attempts) + 1
@@ -27,7 +27,7 @@ slot_owed max (InFlight attempt) = 2 * (max - attempt) + 2
 slot_owed max Delivered = 0
 slot_owed max (Failed cause) = 0
 
--- the entries that may still come of all slots
+-- the entries that may still follow from all slots
 abbrev pub owed : History → ℕ
 owed h = total (λ d. slot_owed (attempts_max (plan_in_force h) d)) h
 
@@ -57,7 +57,7 @@ slots_added plan channel raw (told.Repeat place) = []
 abbrev pub own : History → ℕ → List ℕ → ℕ
 own h channel raw = option_map_or (λ told. own_owed (plan_in_force h) (slots_added (plan_in_force h) channel raw told)) (answer h channel raw) 0
 
--- one more entry, with so many owed by its own slots, goes past what the history may hold; folded entries take no room
+-- one more entry, whose own slots owe `own`, exceeds what the history may hold; folded entries take no room
 abbrev pub exceeds : History → ℕ → Bool
 exceeds h own = nat_lt h.opening.events_max (length h.entries + owed h + 1 + own)
 

@@ -4,7 +4,7 @@ use Rattle.std.proofs.Common.{sym, ◌∙◌}
 use Rattle.std.specs.Bool.{Decides}
 use Rattle.std.specs.Cmp.{IsPartialEquivalence, IsEquivalence, both_ways, equiv}
 
--- a test that tells whether two values say the same meets the laws
+-- a test that decides whether two values say the same meets the laws
 pub by_view_laws : {A V : Type 0} (view : A → V) (same : A → A → Bool)
     → ((x y : A) → Decides (same x y) (view x ≡ view y)) → IsPartialEquivalence same
 by_view_laws view same d = record {

@@ -24,7 +24,7 @@ mutual
     no_conditions : Conditions
     condition : Condition → Conditions → Conditions
 
--- the text stands somewhere in the value
+-- the value contains the text
 abbrev pub stands_in : List ℕ → List ℕ → Bool
 stands_in text [] = starts_with nat_eq [] text
 stands_in text (b ∷ bs) = starts_with nat_eq (b ∷ bs) text || stands_in text bs
@@ -73,7 +73,7 @@ abbrev mutual
   all_compare_unescaped t no_conditions = true
   all_compare_unescaped t (condition c cs) = compares_unescaped t c && all_compare_unescaped t cs
 
--- how deep conditions stand in one another: one that holds no other is one level
+-- how deep conditions are nested: one that holds no other is one level
 abbrev mutual
   pub levels : Condition → ℕ
   levels (all conditions) = suc (most_levels conditions)

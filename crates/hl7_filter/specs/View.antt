@@ -1,4 +1,4 @@
--- What a `Cond` stands for.
+-- The condition that a `Cond` means.
 use Rattle.std.specs.Prelude.{◌≡◌, Bool, List, [], ◌∷◌, map}
 use Rattle.std.specs.Bool.{Decides}
 use Rattle.std.specs.Cmp.{IsPartialEquivalence, IsEquivalence}

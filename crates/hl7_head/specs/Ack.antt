@@ -72,7 +72,7 @@ abbrev pub reply_mode : Bool → List (List ℕ)
 reply_mode true = [] ∷ [] ∷ codes "NE" ∷ codes "NE" ∷ []
 reply_mode false = []
 
--- the header of the acknowledgment, from MSH-2 on: sender and receiver change places
+-- the header of the acknowledgment, from MSH-2 on: sender and receiver are exchanged
 abbrev pub reply_header : Msh → AckPart → ℕ → List ℕ → List (List ℕ)
 reply_header h part moment id =
     h.encoding_characters

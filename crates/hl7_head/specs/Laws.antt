@@ -9,11 +9,12 @@ use Rattle.hl7_head.specs.Ack.{cause_text, code_text, reply_id}
 use Rattle.hl7_head.specs.Header.{Msh}
 use Rattle.hl7_head.specs.Msa.{MsaFields, msa}
 
--- The bytes that pass are control bytes, which stand before the space, 32, and none is the carriage return, 13, which ends segments.
+-- The bytes that pass are control bytes, which are below the space, 32, and none is the carriage return, 13, which
+-- ends segments.
 abbrev pub AreControl : (ℕ → Bool) → Type 0
 AreControl control = (b : ℕ) → control b ≡ true → (b < 32) × (b ≢ 13)
 
--- the header that an acknowledgment has itself: sender and receiver have changed places
+-- the header that an acknowledgment has itself: sender and receiver are exchanged
 abbrev pub header_back : Msh → AckPart → ℕ → ℕ → Msh
 header_back h part connection number = record {
   delims = h.delims;

@@ -1,4 +1,4 @@
--- Where the pieces of a header stand in its segment.
+-- The offsets of the pieces of a header in its segment.
 use Rattle.std.specs.Prelude.{◌≡◌, ℕ, ◌+◌, ◌<◌, ◌≤◌, List, length, All, min, slice_index_or, slice_range}
 use Rattle.er7_tree.specs.Pieces.{split, piece_at}
 use Rattle.er7_tree.specs.Delims.{Delims}
@@ -21,7 +21,7 @@ pub record AreFirstPieces (text : List ℕ) (pieces : List (List ℕ)) (spans : 
   pub within : All (IsBetween 0 (length text)) spans
   pub read : (n : ℕ) (d : Span) → n < length spans → covered text (slice_index_or spans n d) ≡ piece_at (n + 1) pieces
 
--- each place is one of a segment of that many bytes
+-- each span lies in a segment of that many bytes
 pub record AreWithin (size : ℕ) (places : Places) : Type 0 where
   pub encoding_characters : IsBetween 0 size places.encoding_characters
   pub sending_application : IsBetween 0 size places.sending_application
@@ -38,7 +38,7 @@ pub record AreWithin (size : ℕ) (places : Places) : Type 0 where
   pub accept_type : IsBetween 0 size places.accept_type
   pub application_type : IsBetween 0 size places.application_type
 
--- what stands in a header segment at these places
+-- what a header segment holds at these spans
 abbrev pub pieces_at : Delims → List ℕ → Places → Msh
 pieces_at delims segment places = record {
   delims = delims;

@@ -1,4 +1,4 @@
--- The steps that may stand in a transformer.
+-- The steps that a transformer may have.
 use Rattle.std.specs.Prelude.{ℕ, Bool, not, ◌&&◌, ◌||◌, ◌==◌, List, Result, Ok, Err, is_ok, if◌then◌else◌}
 use Rattle.er7_tree.specs.Path.{Place, is_fixed, same_level}
 use Rattle.er7_tree.specs.Tree.{is_name, is_header}
@@ -22,7 +22,7 @@ removable name = if not (is_name name) then Err BadPath else (if is_header name 
 abbrev pub copyable : Place → Place → Result (Unit {0}) StepCheck
 copyable from to = if is_fixed from || is_fixed to || not (same_level from.part to.part) then Err BadPath else writable to
 
--- whether a step may stand, or why it may not
+-- whether a transformer may have a step, or why it may not
 abbrev pub check_step : Edit → Result (Unit {0}) StepCheck
 check_step (set place text) = writable place
 check_step (copy from to) = copyable from to
@@ -35,6 +35,6 @@ abbrev pub check_code : StepCheck → ℕ
 check_code BadPath = 1
 check_code ForbiddenWrite = 2
 
--- the step may stand
+-- a transformer may have the step
 abbrev pub may_stand : Edit → Bool
 may_stand step = is_ok (check_step step)

@@ -15,15 +15,15 @@ abbrev pub stop_of : Refusal → Stop
 stop_of refusal.NoMemory = stop.NoMemory
 stop_of _ = stop.Cause NoSuchSegment
 
--- What a step made of a message: the new message is that of the step, or the cause is its; want of memory stands only where
--- the step may want memory.
+-- What a step made of a message: the new message is that of the step, or the cause is its; out of memory is answered
+-- only where the step may request memory.
 abbrev pub Takes : Edit → Tree → Result (Unit {0}) Stop → Tree → Type 0
 Takes step old (Ok _) new = change step old ≡ Ok new
 Takes step old (Err (stop.Cause cause)) new = change step old ≡ Err cause
 Takes step old (Err stop.NoMemory) new = wants_memory step old ≡ true
 
--- What was answered of steps on a message is the message after them, or the place and the cause at which they stop; want of
--- memory stands only where a step that is reached may want memory.
+-- What was answered of steps on a message is the message after them, or the index and the cause at which they stop; out of
+-- memory is answered only where a step that is reached may request memory.
 abbrev pub Gives : List Edit → Tree → Result Tree StepFault → Type 0
 Gives steps old (Ok new) = after steps old ≡ Ok new
 Gives steps old (Err (fault.Stopped place cause)) = after steps old ≡ Err (fault.Stopped place cause)

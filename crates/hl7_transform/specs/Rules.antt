@@ -20,7 +20,7 @@ pub record KeepsProtected (old new : Tree) : Type 0 where
   pub message : IsMessage new
   pub pieces : (place : Place) → is_path place ≡ true → is_protected place ≡ true → raw new place ≡ raw old place
 
--- where a step writes, and wants a segment to write to
+-- where a step writes, and needs a segment to write to
 abbrev pub written_to : Edit → Option Place
 written_to (set place text) = Some place
 written_to (copy from to) = Some to

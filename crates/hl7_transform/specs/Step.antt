@@ -33,7 +33,8 @@ abbrev pub ◌>>=◌ : {A B E : Type 0} → Result A E → (A → Result B E) �
 (Ok x) >>= f = f x
 (Err e) >>= f = Err e
 
--- an edit that a step makes; where the step may stand, it is refused only for want of a segment to write to
+-- an edit that a step makes; where a transformer may have the step, it is refused only where there is no segment to
+-- write to
 abbrev pub made : Result Tree Refusal → Result Tree StopCause
 made edited = result_map_both (λ t. t) (λ _. NoSuchSegment) edited
 
@@ -59,15 +60,16 @@ abbrev pub SomeWantsMemory : List Edit → Tree → Type 0
 SomeWantsMemory [] t = ⊥
 SomeWantsMemory (step ∷ steps) t = (wants_memory step t ≡ true) ⊎ IsOkAnd (change step t) (SomeWantsMemory steps)
 
--- a step at a place among the steps
+-- a step at an index among the steps
 abbrev pub changed_at : ℕ → Edit → Tree → Result Tree StepFault
 changed_at place step t = result_map_both (λ t. t) (λ cause. Stopped place cause) (change step t)
 
--- the message after steps, of which the first has this place
+-- the message after steps, of which the first has this index
 abbrev pub after_from : ℕ → List Edit → Tree → Result Tree StepFault
 after_from place [] t = Ok t
 after_from place (step ∷ steps) t = changed_at place step t >>= after_from (place + 1) steps
 
--- The message after steps, each of which sees the result of the one before, or the place, from 0, and the cause at which they stop.
+-- The message after steps, each of which sees the result of the one before, or the index, from 0, and the cause at
+-- which they stop.
 abbrev pub after : List Edit → Tree → Result Tree StepFault
 after steps t = after_from 0 steps t

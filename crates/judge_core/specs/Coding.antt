@@ -1,4 +1,4 @@
--- How judgements are told apart.
+-- How judgements are distinguished.
 use Rattle.std.specs.Prelude.{ℕ, List, refl}
 use Rattle.std.specs.Coded.{Coded, code_by, coded×, coded_ℕ, coded_list}
 use Rattle.plan_text.specs.Coding.{plan_code}

@@ -19,13 +19,13 @@ use Rattle.judge_core.specs.declared.judged.Verdict.{Verdict}
 use Rattle.judge_core.specs.declared.judged.Verdict.TheVariants.{Unreadable, Stray, Refuse, Filtered, Accept}
 use Rattle.judge_core.specs.Delivering.{destinations_of}
 
--- a text that was judged: under which plan and for which channel it came
+-- a text that was judged: under which plan and for which channel
 pub record Judgement : Type 0 where
   pub plan : PlanEntry
   pub channel : ℕ
   pub raw : List ℕ
 
--- an acknowledgment is told by its message code
+-- an acknowledgment is recognised by its message code
 abbrev pub is_acknowledgment : Msh → Bool
 is_acknowledgment h = bytes_eq h.message_code (codes "ACK")
 
@@ -109,7 +109,7 @@ deliveries_of Filtered = []
 abbrev pub named : PlanEntry → ℕ → List ℕ → List ℕ
 named plan channel text = destinations_of (deliveries_of (verdict plan channel text))
 
--- only what is told its sender is booked
+-- only what is answered is booked
 abbrev pub is_booked : Verdict → Bool
 is_booked Unreadable = false
 is_booked Stray = false

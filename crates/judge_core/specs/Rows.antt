@@ -19,7 +19,7 @@ admission type id processing version =
 abbrev pub first : List ℕ
 first = admission (codes "ADT^A01^ADT_A01") (codes "M1") (codes "P") (codes "2.5.1")
 
--- it goes to the one destination, as it came
+-- it goes to the one destination, as it was received
 pub accepted : verdict built_in 0 first ≡ Accept (record { destination = 0; payload = first } ∷ [])
 unfolding verdict header_fault
 accepted = refl

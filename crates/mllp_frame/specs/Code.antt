@@ -3,7 +3,7 @@ use Rattle.std.specs.Prelude.{ℕ}
 use Rattle.mllp_frame.specs.declared.FrameFault.{FrameFault}
 use Rattle.mllp_frame.specs.declared.FrameFault.TheVariants.{NoMemory, Failed}
 
--- by which a fault is told
+-- that names a fault
 abbrev pub code_of : FrameFault → ℕ
 code_of NoMemory = 1
 code_of Failed = 2

@@ -30,11 +30,11 @@ IsData bytes = All (λ b. is_framing b ≡ false) bytes
 abbrev pub block_bytes : List ℕ → List ℕ
 block_bytes bytes = start_block ∷ bytes ++ end_block ∷ carriage_return ∷ []
 
--- the data at the front: the longest prefix that holds neither of the two
+-- the data that a string begins with: its longest prefix that holds neither of the two
 abbrev pub data_of : List ℕ → List ℕ
 data_of s = before_first is_framing s
 
--- what comes after that data
+-- what follows that data
 abbrev pub rest_of : List ℕ → List ℕ
 rest_of s = drop (position_or_len is_framing s) s
 

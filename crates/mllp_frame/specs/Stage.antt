@@ -1,4 +1,4 @@
--- Where in the stream a framer stands.
+-- The position of a framer in its stream.
 use Rattle.std.specs.Prelude.{◌≡◌, ℕ, ◌+◌, ◌*◌, ◌≤◌, List, [], ◌++◌, length}
 use Rattle.mllp_frame.specs.declared.stage.Stage.{Stage}
 use Rattle.mllp_frame.specs.declared.stage.Stage.TheVariants.{Outside, Inside, Ended}
@@ -28,7 +28,7 @@ work Outside rest = 2 * length rest
 work (Inside bytes) rest = 2 * length rest
 work (Ended bytes) rest = 2 * length rest + 1
 
--- From one string to another that stands for what is left of it: the events in between were added.
+-- From one string to another that is what is left of it: the events in between were added.
 pub record Reads (old new : List Event) (before after : List ℕ) : Type 0 where
   pub added : List Event
   pub events : new ≡ old ++ added

@@ -1,4 +1,4 @@
--- What the owner of the values owns and lends, at values of the row R.
+-- What the owner of the values owns, and which borrows it gives out, at values of the row R.
 use Rattle.std.specs.Prelude.{List, [], ◌∷◌}
 use base.Fml.{Lft, Fml, ftrue, fsep}
 use denote.RattleType.{RattleType}

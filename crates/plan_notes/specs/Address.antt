@@ -1,4 +1,4 @@
--- Addresses that are the same, as far as their texts tell.
+-- Addresses that are the same, as far as their texts say.
 use Rattle.std.specs.Prelude.{Bool, true, false, not, ◌&&◌, ◌==◌}
 use Rattle.std.specs.Str.{bytes_eq}
 use Rattle.plan_notes.specs.declared.address.Host.{Host}
@@ -15,7 +15,7 @@ hosts_meet (Other text) Any = true
 hosts_meet (Other text) Local = false
 hosts_meet (Other text) (Other text2) = bytes_eq text.now text2.now
 
--- a connection to the first host comes to one that listens at the second
+-- a connection to the first host reaches one that listens at the second
 abbrev pub leads_to_host : Host → Host → Bool
 leads_to_host Any Any = true
 leads_to_host Any Local = true

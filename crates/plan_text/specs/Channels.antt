@@ -18,15 +18,15 @@ use Rattle.plan_text.specs.Conditions.{filter_at}
 use Rattle.plan_text.specs.Steps.{steps_at}
 use Rattle.plan_text.specs.Kinds.{is_named, new_name, text_as, text_within, message_type, processing_id, version_id}
 
--- the place of the destination of this name
+-- the index of the destination of this name
 abbrev pub place_of : List DestinationEntry → List ℕ → Option ℕ
 place_of ds s = position (λ d. bytes_eq d.name s) ds
 
--- one of these leads to the destination at a place
+-- one of these leads to the destination at an index
 abbrev pub leads_to : List RouteEntry → ℕ → Bool
 leads_to routes n = list_any (λ r. r.to == n) routes
 
--- a place that no route before leads to
+-- an index that no route before leads to
 abbrev pub new_place : List RouteEntry → Option ℕ → Result ℕ FaultName
 new_place before None = Err name.UnknownName
 new_place before (Some n) = if leads_to before n then Err name.DoubleName else Ok n

@@ -1,4 +1,4 @@
--- A code for what a plan says, by which proofs tell plans apart.
+-- A code for what a plan says, by which proofs distinguish plans.
 use Rattle.std.specs.Prelude.{◌≡◌, refl, ℕ, List, [], ◌∷◌, ◌⊎◌, Option, Some, None}
 use Rattle.std.specs.Coded.{Coded, code_by, coded×, coded⊎, coded_ℕ, coded_list, coded_option}
 use Rattle.std.proofs.Common.{ap, inl, inr}

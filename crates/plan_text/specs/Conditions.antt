@@ -96,7 +96,7 @@ with_one_key at d read = do
   k ← condition_key at t
   read t k
 
--- a condition of at most so many levels
+-- a condition of at most n levels
 unfoldable pub condition : ℕ → List ℕ → Data → Result Condition PlanFault
 condition zero at d = with_one_key at d (λ t k. Err (fault_at name.TooMany at))
 condition (suc levels) at d = with_one_key at d (by_key (condition levels) at)

@@ -11,7 +11,7 @@ use Rattle.plan_text.specs.Keys.{key, required, only_keys, list_within, each_aft
 use Rattle.plan_text.specs.Destinations.{destinations}
 use Rattle.plan_text.specs.Channels.{channel}
 
--- a list of at least one member and at most so many
+-- a list of at least one member and at most n
 abbrev pub some_within : ℕ → Data → Result Items FaultName
 some_within most (array no_items) = Err name.Missing
 some_within most d = list_within most d

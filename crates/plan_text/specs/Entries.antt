@@ -22,7 +22,7 @@ pub record DestinationEntry : Type 0 where
   pub timeout : ℕ
   pub wait : Await
 
--- a way to the destination at the place `to`, for messages that pass the filter (none lets all pass), and their steps
+-- a way to the destination with the index `to`, for messages that pass the filter (none lets all pass), and their steps
 pub record RouteEntry : Type 0 where
   pub to : ℕ
   pub filter : Option Condition
@@ -85,11 +85,12 @@ pub record IsDestination (d : DestinationEntry) : Type 0 where
 abbrev pub IsShallow : Option Condition → Type 0
 IsShallow filter = IfSome filter (λ c. levels c ≤ 16)
 
--- steps that may all stand: none writes MSH-1, MSH-2 or MSH-10
+-- steps that a transformer may have: none writes MSH-1, MSH-2 or MSH-10
 abbrev pub AllStand : List Edit → Type 0
 AllStand steps = IsTrue (list_all may_stand steps)
 
--- a channel whose routes lead to different destinations of these, with no filter too deep and no step that may not stand
+-- a channel whose routes lead to different destinations of these, with no filter too deep and no step that a
+-- transformer may not have
 pub record IsChannel (destinations : List DestinationEntry) (c : ChannelEntry) : Type 0 where
   pub shallow : IsShallow c.filter
   pub stand : AllStand c.steps

@@ -42,17 +42,17 @@ abbrev pub ◌>>=◌ : {A B E : Type 0} → Result A E → (A → Result B E) �
 abbrev pub fault_at : FaultName → List ℕ → PlanFault
 fault_at name path = record { name = name; path = path }
 
--- what is read at a path, with its fault told there
+-- what is read at a path, with its fault reported there
 abbrev pub told : {A : Type 0} → List ℕ → Result A FaultName → Result A PlanFault
 told path (Ok x) = Ok x
 told path (Err n) = Err (fault_at n path)
 
--- reading stopped for want of memory, or at this fault
+-- reading stopped out of memory, or at this fault
 abbrev pub IsStop : Stop → PlanFault → Type 0
 IsStop stop.NoMemory f = Unit {0}
 IsStop (stop.Fault e) f = e ≡ f
 
--- reading stopped for want of memory, or at the fault that the definition gives
+-- reading stopped out of memory, or at the fault that the definition gives
 abbrev pub Fails : {Y : Type 0} → Stop → Result Y PlanFault → Type 0
 Fails stop.NoMemory read = Unit {0}
 Fails (stop.Fault e) read = read ≡ Err e

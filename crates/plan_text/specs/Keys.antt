@@ -86,7 +86,7 @@ abbrev pub list : Data → Result Items FaultName
 list (array ds) = Ok ds
 list _ = Err name.BadRange
 
--- a list of at most so many members
+-- a list of at most n members
 abbrev pub list_within : ℕ → Data → Result Items FaultName
 list_within most (array ds) = if nat_le (item_count ds) most then Ok ds else Err name.TooMany
 list_within most _ = Err name.BadRange

@@ -27,7 +27,7 @@ abbrev pub text_as : {A : Type 0} → (List ℕ → Option A) → Data → Resul
 text_as form (string s) = in_range (form s)
 text_as form _ = Err name.BadRange
 
--- a text of so many bytes
+-- a text whose count of bytes is within two bounds
 abbrev pub bytes_within : ℕ → ℕ → List ℕ → Option (List ℕ)
 bytes_within low high s = if within low high (length s) then Some s else None
 

@@ -15,13 +15,13 @@ use Rattle.plan_text.specs.Keys.{key, key_path, required, or_else, table_at, onl
 use Rattle.plan_text.specs.Kinds.{in_range, text_as}
 use Rattle.plan_text.specs.Conditions.{path, path_in, path_and_text, text_pair}
 
--- the fault of a step that may not stand
+-- the fault of a step that a transformer may not have
 abbrev pub checked : Result (Unit {0}) StepCheck → Result (Unit {0}) FaultName
 checked (Ok _) = Ok tt
 checked (Err check.BadPath) = Err name.BadPath
 checked (Err check.ForbiddenWrite) = Err name.ForbiddenWrite
 
--- a step that may stand, told at a path
+-- a step that a transformer may have, else its fault at a path
 abbrev pub stands_at : List ℕ → Edit → Result (Unit {0}) PlanFault
 stands_at at step = told at (checked (check_step step))
 
@@ -36,7 +36,7 @@ abbrev pub any_looks_up : List ℕ → Items → Bool
 any_looks_up text no_items = false
 any_looks_up text (item d ds) = looks_up text d || any_looks_up text ds
 
--- a lookup text stands twice
+-- a lookup text occurs twice
 abbrev pub has_double : Items → Bool
 has_double no_items = false
 has_double (item d ds) = option_map_or (λ p. any_looks_up p.0 ds) (text_pair d) false || has_double ds
@@ -57,7 +57,7 @@ any_text = text_as Some
 abbrev pub default_text : Data → Result (Option (List ℕ)) FaultName
 default_text = text_as (λ s. Some (Some s))
 
--- lookup = path, table = [[from, to], ..], default = text; what it writes is told before its table is read
+-- lookup = path, table = [[from, to], ..], default = text; a fault of what it writes comes before those of its table
 unfoldable pub lookup_at : List ℕ → Members → Result Edit PlanFault
 lookup_at at t = do
   place ← key at t (codes "lookup") (required path)
@@ -70,7 +70,7 @@ lookup_at at t = do
 abbrev pub step_keys : List (List ℕ)
 step_keys = codes "set" ∷ codes "copy" ∷ codes "clear" ∷ codes "lookup" ∷ codes "remove" ∷ []
 
--- `table` and `default` stand beside `lookup` alone
+-- `table` and `default` are known beside `lookup` alone
 abbrev pub known_keys : Members → List (List ℕ)
 known_keys t = if is_some (get_member (codes "lookup") t) then step_keys ++ codes "table" ∷ codes "default" ∷ [] else step_keys
 
@@ -97,7 +97,7 @@ step_by k at t =
     else if bytes_eq k (codes "lookup") then lookup_at at t
     else (key at t k (required any_text) >>= λ name. Ok (remove name))
 
--- a step, which may stand
+-- a step that a transformer may have
 unfoldable pub step : List ℕ → Data → Result Edit PlanFault
 step at d = do
   t ← table_at at d

@@ -45,7 +45,7 @@ prev_is q None = None
 prev_is q (Some l) = Some (record l { prev = q })
 
 module _ {T : Type 0} where
-  -- the node's link in the chain d, if it stands there
+  -- the node's link in the chain d, if it is in it
   abbrev pub link_at : ℕ → Node T → Option Link
   link_at d n = slice_index_or n.links d None
 
@@ -58,7 +58,7 @@ module _ {T : Type 0} where
   abbrev pub members : ℕ → List (Held (Node T)) → List Ptr
   members d hs = map (λ e. e.0) (entries d hs)
 
-  -- the node with another neighbour in the chain d, if it stands there
+  -- the node with another neighbour in the chain d, if it is in it
   abbrev pub with_next : ℕ → Option Place → Node T → Node T
   with_next d q n = record n { links = slice_set n.links d (next_is q (link_at d n)) }
 

@@ -14,7 +14,7 @@ abbrev pub IsAway : Ptr → List Ptr → Type 0
 IsAway p [] = Unit {0}
 IsAway p (q ∷ qs) = (same_ptr q p ≡ false) × IsAway p qs
 
--- no place comes twice
+-- no place occurs twice
 abbrev pub IsApart : List Ptr → Type 0
 IsApart [] = Unit {0}
 IsApart (p ∷ ps) = IsAway p ps × IsApart ps
@@ -53,7 +53,7 @@ module _ {T : Type 0} where
   IsOpen d s None = IsLinked d s
   IsOpen d s (Some l) = Gap d s l.prev l.next
 
-  -- the chain d is whole but for its last node, at p, which knows who stands before it and is not yet known
+  -- the chain d is whole but for its last node, at p, which knows its predecessor and is not yet known to it
   pub record Hangs (d : ℕ) (s : Links T) (p : Ptr) : Type 0 where
     pub front : List Ptr
     pub linked : entries d s.nodes.held ≡ chain None front None ++ (p, link (last_or None front) None) ∷ []

@@ -17,7 +17,7 @@ abbrev pub without_number : ℕ → List (ℕ × Place) → List (ℕ × Place)
 without_number number [] = []
 without_number number (e ∷ es) = cond (e.0 == number) es (e ∷ without_number number es)
 
--- the entry, if there is one, is what the list tells of its number
+-- the entry, if there is one, is what the list has for its number
 abbrev pub IsListed : Option (ℕ × Place) → List (ℕ × Place) → Type 0
 IsListed None es = Unit {0}
 IsListed (Some e) es = place_of e.0 es ≡ Some e.1

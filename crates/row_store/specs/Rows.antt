@@ -1,4 +1,4 @@
--- Rows in the order of their numbers, each with the set of queues that it stands in, as a mask.
+-- Rows in the order of their numbers, each with the set of queues that it is in, as a mask.
 use Rattle.std.specs.Prelude.{ℕ, ◌-◌, ◌^◌, Bool, ◌==◌, not, ◌&&◌, if◌then◌else◌, List, Option, filter, find, map}
 use Rattle.std.specs.List.{list_any}
 use Rattle.std.specs.List.Sorted.{IsStrictlyIncreasing}
@@ -18,7 +18,7 @@ NumbersRise rows = IsStrictlyIncreasing (numbers rows)
 abbrev pub is_row : {T : Type 0} → ℕ → Row T → Bool
 is_row number row = row.number == number
 
--- whether the row stands in queue d
+-- whether the row is in queue d
 abbrev pub stands_in : {T : Type 0} → ℕ → Row T → Bool
 stands_in d row = bit_at row.mask d == 1
 
@@ -34,7 +34,7 @@ front_of d rows = option_map (λ row. row.number) (find (stands_in d) rows)
 abbrev pub item_at : {T : Type 0} → ℕ → List (Row T) → Option T
 item_at number rows = option_map (λ row. row.item) (find (is_row number) rows)
 
--- whether that number stands in queue d
+-- whether the row of that number is in queue d
 abbrev pub is_linked : {T : Type 0} → ℕ → ℕ → List (Row T) → Bool
 is_linked number d rows = list_any (λ row. is_row number row && stands_in d row) rows
 

@@ -1,4 +1,4 @@
--- What the plain engine keeps true of its entries, and how it tells the accepted arrivals among them.
+-- What the plain engine keeps true of its entries, and how it recognises the accepted arrivals among them.
 use Rattle.std.specs.Prelude.{◌≡◌, ◌≤◌, ◌<◌, ℕ, Bool, true, false, length, All}
 use Rattle.mllp_frame.specs.Framing.{IsBlockData}
 use Rattle.event_log.specs.declared.entry.Told.{Told}
@@ -31,8 +31,8 @@ is_deployment (Settle outcome ticket now state) = false
 is_deployment (Cancel number mask) = false
 is_deployment (Deploy plan) = true
 
--- an arrival whose text can be judged again: it came on one of so many channels, and a block can hold it; a deployed plan has
--- as many
+-- an arrival whose text can be judged again: it arrived on one of that many channels, and a block can hold it; a
+-- deployed plan has as many
 abbrev pub IsJudgeable : ℕ → Entry → Type 0
 IsJudgeable channels (Arrival conn channel raw told) = (channel < channels) × IsBlockData raw
 IsJudgeable channels (Take ticket now) = Unit {0}

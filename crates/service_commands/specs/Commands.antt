@@ -1,4 +1,4 @@
--- What a line of the service's standard input asks for.
+-- The command that a line of the service's standard input is.
 use Rattle.std.specs.Prelude.{ℕ, ◌+◌, ◌*◌, ◌-◌, ◌&&◌, ◌==◌, nat_lt, nat_le, if◌then◌else◌, List, [], ◌∷◌, length, take, drop, Option, None, Some, codes}
 use Rattle.std.specs.Borrow.{Bor}
 use Rattle.std.specs.Option.{option_map_or}
@@ -55,7 +55,7 @@ named line =
     (option_map_or (λ text. Waiting text) (argument (codes "waiting ") line)
     (option_map_or (λ text. Deploy text) (argument (codes "deploy ") line) (numbered line)))
 
--- what a line asks for
+-- the command that a line is
 abbrev pub command_of : List ℕ → Command (List ℕ)
 command_of line =
     if bytes_eq line (codes "status") then Status

@@ -6,7 +6,7 @@ use Rattle.service_main.specs.declared.ended.Ended.TheVariants as ended
 use Rattle.service_main.specs.declared.ended.Trouble.{Trouble}
 use Rattle.service_main.specs.declared.ended.Trouble.TheVariants as trouble
 
--- the exit status where the program does what it was asked
+-- the exit status where the program does what was requested
 abbrev pub ended_status : Ended → ℕ
 ended_status ended.Done = 0
 ended_status ended.Refused = 1

@@ -8,7 +8,7 @@ use Rattle.clap.specs.Words.{App, Row, Rule, Text, first_of, new_app, new_rule, 
 use Rattle.service_words.specs.declared.command_line.Request.{Request}
 use Rattle.service_words.specs.declared.command_line.Request.TheVariants.{Check, Run, Try}
 
--- a word that has to be given and stands for itself: the plan's file
+-- a word that has to be given and has a value of its own: the plan's file
 abbrev pub plan_rule : Rule
 plan_rule = record (new_rule (codes "PLAN")) { required = true }
 
@@ -52,7 +52,7 @@ try_app = with_rule (with_rule (new_app (codes "try")) plan_rule) channel_rule
 abbrev pub check_app : App
 check_app = with_rule (with_rule (new_app (codes "check")) plan_rule) verbose_rule
 
--- the program, which tells its version, and takes a command
+-- the program, which prints its version, and takes a command
 abbrev pub top : App
 top = let app : App = new_app (codes "hl7_service") in record app { top = record app.top { has_version = true; subcommand_required = true } }
 

@@ -18,8 +18,8 @@ abbrev pub frees_enough : ℕ → Status → Bool
 frees_enough keep s =
     nat_lt (s.gauge.events_max / 8) (min (unwrap_or s.first_live s.gauge.messages) (s.gauge.messages - keep) - s.gauge.first)
 
--- the entries that may still come of the messages that wait for a destination or are in flight there, if none was tried:
--- a take and a settlement for each attempt, and a cancellation
+-- the entries that may still follow from the messages that wait for a destination or are in flight there, if none was
+-- tried: a take and a settlement for each attempt, and a cancellation
 abbrev pub may_owe : Status → ℕ → DestinationEntry → ℕ
 may_owe s d e = ((destination_at d s.counts).waiting + (destination_at d s.counts).inflight) * (2 * e.attempts + 1)
 

@@ -44,7 +44,7 @@ accepted_one counts = record counts { received = counts.received + 1; accepted =
 abbrev pub refused_one : ChannelCounts → ChannelCounts
 refused_one counts = record counts { received = counts.received + 1; refused = counts.refused + 1 }
 
--- a message came again
+-- a message was repeated
 abbrev pub repeated_one : ChannelCounts → ChannelCounts
 repeated_one counts = record counts { repeats = counts.repeats + 1 }
 

@@ -4,7 +4,7 @@ use Rattle.stat_count.specs.declared.ChannelCounts.{ChannelCounts}
 use Rattle.stat_count.specs.declared.DestinationCounts.{DestinationCounts}
 use Rattle.stat_count.specs.Statistics.{Statistics}
 
--- the messages that came, repeats among them
+-- the messages received, repeats among them
 abbrev pub arrivals : Statistics → ℕ
 arrivals statistics = sum_by (λ (counts : ChannelCounts). counts.received + counts.repeats) statistics.channels
 
