@@ -20,9 +20,9 @@ pub enum AckType {
 /// How a message is to be acknowledged (HL7 v2.5.1, 2.9.2).
 #[derive(Clone, Copy, Debug, PartialEq, Eq)]
 pub enum AckMode {
-    /// By one application acknowledgment.
+    /// The message gets one application acknowledgment.
     Original,
-    /// By an accept acknowledgment as MSH-15 asks, and by an application acknowledgment as MSH-16 asks.
+    /// It gets an accept acknowledgment as MSH-15 requests, and an application acknowledgment as MSH-16 requests.
     Enhanced {
         accept: AckType,
         application: AckType,
@@ -45,14 +45,14 @@ impl AckType {
         }
     }
 
-    /// Whether an acknowledgment of this type tells of success.
+    /// Whether an acknowledgment of this type is sent on success.
     pub fn tells_success(self) -> bool
         ensures { result ≡ tells_success self }
     {
         matches!(self, AckType::AL | AckType::SU)
     }
 
-    /// Whether an acknowledgment of this type tells of a refusal.
+    /// Whether an acknowledgment of this type is sent on a refusal.
     pub fn tells_refusal(self) -> bool
         ensures { result ≡ tells_refusal self }
     {
@@ -61,7 +61,7 @@ impl AckType {
 }
 
 impl AckMode {
-    /// The mode that a header asks for by MSH-15 and MSH-16.
+    /// The mode that a header requests by MSH-15 and MSH-16.
     pub fn of(header: &Header) -> AckMode
         ensures { result ≡ ack_mode header.now.accept_type header.now.application_type }
     {

@@ -7,8 +7,9 @@ use crate::mode::{AckMode, AckType};
 use crate::verdictum::Verdictum;
 use hl7_head::{AckCode, AckPart, Cause};
 
-/// Who is told what in enhanced mode: success by each acknowledgment that asks for it, and a refusal once, by the accept
-/// acknowledgment where that asks for it, else by the application acknowledgment where that does.
+/// The law of enhanced mode: success is reported by each acknowledgment that is requested on success, and
+/// a refusal once, by the accept acknowledgment where that is requested on a refusal, else by the
+/// application acknowledgment where that is.
 pub fn enhanced_rules(accept: AckType, application: AckType)
     ensures success { (table accept application).0 ≡ success_codes accept application }
     ensures refusal { (table accept application).1 ≡ refusal_told accept application }

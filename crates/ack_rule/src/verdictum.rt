@@ -3,7 +3,7 @@ ghost use Rattle.ack_rule.specs.Due.{verdictum_of};
 
 use hl7_head::Cause;
 
-/// What became of a message, as its sender is told.
+/// What became of a message, as it is acknowledged to its sender.
 #[derive(Clone, Copy, Debug, PartialEq, Eq)]
 pub enum Verdictum {
     /// The message was taken, or had been taken before.

@@ -17,7 +17,7 @@ use std::sync::ledger::{Blank, Ledger};
 use std::sync::{Arc, Wait};
 use std::time::Clock;
 
-/// Books and cancels messages, two entries each, until there are as many entries as are told.
+/// Books and cancels messages, two entries each, until there are as many entries as are given.
 fn fill<A: Opening, T: Ledger, U: Ledger, H: Wait + Clock>(
     rt: &H,
     alloc: Global,
@@ -33,7 +33,7 @@ fn fill<A: Opening, T: Ledger, U: Ledger, H: Wait + Clock>(
     Some(())
 }
 
-/// Books messages, and gives the nanoseconds that all calls took.
+/// Books messages, and returns the nanoseconds that all calls took.
 fn book_all<A: Opening, T: Ledger, U: Ledger, H: Wait + Clock>(
     rt: &H,
     alloc: Global,
@@ -50,7 +50,7 @@ fn book_all<A: Opening, T: Ledger, U: Ledger, H: Wait + Clock>(
     Some(all)
 }
 
-/// Fills a shared book with so many entries, and books so many messages more at its first desk.
+/// Fills a shared book with `entries` entries, and books further messages at its first desk.
 fn fill_and_book<A: Opening, T: Ledger, U: Ledger, H: Wait + Clock>(
     rt: &H,
     alloc: Global,
@@ -67,7 +67,7 @@ fn fill_and_book<A: Opening, T: Ledger, U: Ledger, H: Wait + Clock>(
     book_all(rt, alloc, shared, desk, &plan, ids)
 }
 
-/// Shares a book, and books so many messages behind so many entries.
+/// Shares a book, and books messages behind the entries that fill it.
 fn time_calls<A: Opening, T: Ledger, U: Ledger, H: Wait + Clock>(
     rt: &H,
     alloc: Global,
@@ -90,7 +90,7 @@ fn time_calls<A: Opening, T: Ledger, U: Ledger, H: Wait + Clock>(
     fill_and_book(rt, alloc, &shared, &mut desks, entries, calls)
 }
 
-/// The nanoseconds that so many arrivals take behind so many entries, at an empty book that is shared and filled. None where
+/// The nanoseconds that arrivals take behind the entries that fill an empty book that is shared. None where
 /// a message was not booked, or memory was refused.
 pub fn time_arrivals<H: Wait + Clock>(
     rt: &H,

@@ -22,7 +22,7 @@ pub struct Audits {
     pub falling: u64,
 }
 
-/// Books so many messages, and appends their receipts.
+/// Books messages, and appends their receipts.
 fn push_receipts<A: Opening, T: Ledger, U: Ledger, H: Wait + Clock>(
     rt: &H,
     alloc: Global,
@@ -39,7 +39,7 @@ fn push_receipts<A: Opening, T: Ledger, U: Ledger, H: Wait + Clock>(
     Some(())
 }
 
-/// Books so many messages, and gives their receipts.
+/// Books messages, and returns their receipts.
 fn receipts_of<A: Opening, T: Ledger, U: Ledger, H: Wait + Clock>(
     rt: &H,
     alloc: Global,
@@ -53,7 +53,7 @@ fn receipts_of<A: Opening, T: Ledger, U: Ledger, H: Wait + Clock>(
     Some(receipts)
 }
 
-/// Books so many messages at the first desk, and gives their receipts.
+/// Books messages at the first desk, and returns their receipts.
 fn first_receipts<A: Opening, T: Ledger, U: Ledger, H: Wait + Clock>(
     rt: &H,
     alloc: Global,
@@ -74,7 +74,7 @@ fn time_audit<H: Clock>(rt: &H, closed: &Closed<Rows>, receipts: &[Receipt]) -> 
     answer.ok().and(took)
 }
 
-/// Books so many messages at a shared book and closes it. Gives the closed book and the receipts.
+/// Books messages at a shared book and closes it. Returns the closed book and the receipts.
 fn booked_and_closed<A: Opening, T: Ledger, U: Ledger, H: Wait + Clock>(
     rt: &H,
     alloc: Global,
@@ -109,8 +109,8 @@ fn time_both<H: Clock>(
     Some(Audits { rising, falling })
 }
 
-/// How long the audits of so many receipts take, at an empty book that is shared. None where a message was not booked, or
-/// memory was refused.
+/// How long the audits of the receipts of an empty book take that is shared and booked at. None where a message was
+/// not booked, or memory was refused.
 pub fn time_audits<H: Wait + Clock>(
     rt: &H,
     alloc: Global,

@@ -1,4 +1,4 @@
-//! The measured calls. Each gives none where a call was refused.
+//! The measured calls. Each returns none where a call was refused.
 
 ghost use Rattle.std.specs.Prelude.{IsTrue};
 ghost use Rattle.judge_core.specs.Judging.{is_bookable};
@@ -22,12 +22,12 @@ pub struct Times {
     pub arrive: u64,
     pub take: u64,
     pub settle: u64,
-    /// A take of a message that stands behind the rows of all others.
+    /// A take of a message whose row is behind those of all others.
     pub behind: u64,
     pub cancel: u64,
 }
 
-/// Books a message, and gives how long that took.
+/// Books a message, and returns how long that took.
 fn timed_arrival(rt: &HostRuntime, book: &mut Book<Rows>, message: &Judged) -> Option<u64>
     requires { IsTrue (is_bookable message.now.raw) }
 {
@@ -41,13 +41,13 @@ fn timed_arrival(rt: &HostRuntime, book: &mut Book<Rows>, message: &Judged) -> O
     }
 }
 
-/// Books an admission with this control id that comes by a channel, and gives how long that took.
+/// Books an admission with this control id that arrives on a channel, and returns how long that took.
 fn booked(rt: &HostRuntime, book: &mut Book<Rows>, channel: u32, control_id: u32) -> Option<u64> {
     let message = judged(rt.alloc(), book.plan(), channel, ADMISSION, control_id)?;
     timed_arrival(rt, book, &message)
 }
 
-/// Books so many messages that were not booked yet, and gives how long that took.
+/// Books the messages of these ids, which were not booked yet, and returns how long that took.
 fn arrivals(rt: &HostRuntime, book: &mut Book<Rows>, channel: u32, ids: Range<u32>) -> Option<u64> {
     let mut took = 0_u64;
     for control_id in ids {
@@ -56,7 +56,7 @@ fn arrivals(rt: &HostRuntime, book: &mut Book<Rows>, channel: u32, ids: Range<u3
     Some(took)
 }
 
-/// Takes the front of a queue, and gives its ticket and how long that took.
+/// Takes the front of a queue, and returns its ticket and how long that took.
 fn taken(rt: &HostRuntime, book: &mut Book<Rows>, d: u32, now: Moment) -> Option<(Ticket, u64)> {
     let began = Instant::now(rt).ok();
     let job = book.take(d, now);
@@ -65,7 +65,7 @@ fn taken(rt: &HostRuntime, book: &mut Book<Rows>, d: u32, now: Moment) -> Option
     Some((ticket, took?))
 }
 
-/// Settles an attempt as one that is to be made again, and gives how long that took.
+/// Settles an attempt as one that is to be made again, and returns how long that took.
 fn settled(rt: &HostRuntime, book: &mut Book<Rows>, ticket: &Ticket, now: Moment) -> Option<u64> {
     let began = Instant::now(rt).ok();
     let state = book.settle(ticket, Outcome::Again, now);
@@ -73,7 +73,7 @@ fn settled(rt: &HostRuntime, book: &mut Book<Rows>, ticket: &Ticket, now: Moment
     state.ok().and(took)
 }
 
-/// Sends the front of a queue so often, and gives how long the takes and the settlements took.
+/// Sends the front of a queue `times` times, and returns how long the takes and the settlements took.
 fn sendings(rt: &HostRuntime, book: &mut Book<Rows>, d: u32, times: u32) -> Option<(u64, u64)> {
     let now = Moment::of_unix(1_700_000_000).ok()?;
     let mut takes = 0_u64;
@@ -86,7 +86,7 @@ fn sendings(rt: &HostRuntime, book: &mut Book<Rows>, d: u32, times: u32) -> Opti
     Some((takes, settlements))
 }
 
-/// Cancels so many messages, and gives how long that took.
+/// Cancels these messages, and returns how long that took.
 fn cancellations(rt: &HostRuntime, book: &mut Book<Rows>, numbers: Range<u32>) -> Option<u64> {
     let mut took = 0_u64;
     for number in numbers {
@@ -98,7 +98,7 @@ fn cancellations(rt: &HostRuntime, book: &mut Book<Rows>, numbers: Range<u32>) -
     Some(took)
 }
 
-/// Books so many messages, and cancels each at once.
+/// Books the messages of these ids, and cancels each at once.
 pub fn book_and_cancel(rt: &HostRuntime, book: &mut Book<Rows>, ids: Range<u32>) -> Option<()> {
     for control_id in ids {
         let number = book.message_count();
@@ -108,13 +108,13 @@ pub fn book_and_cancel(rt: &HostRuntime, book: &mut Book<Rows>, ids: Range<u32>)
     Some(())
 }
 
-/// Books messages that are sent often and left waiting, and then so many that are cancelled at once.
+/// Books messages that are sent often and left waiting, and then `messages` that are cancelled at once.
 pub fn fill(rt: &HostRuntime, book: &mut Book<Rows>, messages: u32) -> Option<()> {
     arrivals(rt, book, FEW, 0..SENT_OFTEN)?;
     book_and_cancel(rt, book, 0..messages)
 }
 
-/// Measures so many calls of each kind on a book that is filled with so many messages.
+/// Measures calls of each kind on a book that is filled with messages.
 pub fn measure(
     rt: &HostRuntime,
     book: &mut Book<Rows>,

@@ -13,7 +13,7 @@ use std::sync::ledger::Ledger;
 use std::sync::{Arc, Wait};
 use std::time::{Clock, Instant};
 
-/// Books a message, and gives its receipt and the nanoseconds that the call took.
+/// Books a message, and returns its receipt and the nanoseconds that the call took.
 fn timed_arrival<A: Opening, T: Ledger, U: Ledger, H: Wait + Clock>(
     rt: &H,
     shared: &Shared<A, T, U, Rows>,
@@ -28,7 +28,7 @@ fn timed_arrival<A: Opening, T: Ledger, U: Ledger, H: Wait + Clock>(
     receipt.ok().zip(took)
 }
 
-/// Books a message of this type, with bytes of its own, and gives its receipt and the nanoseconds that the call took.
+/// Books a message of this type, with bytes of its own, and returns its receipt and the nanoseconds that the call took.
 pub fn booked<A: Opening, T: Ledger, U: Ledger, H: Wait + Clock>(
     rt: &H,
     alloc: Global,

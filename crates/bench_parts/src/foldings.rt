@@ -6,7 +6,7 @@ use crate::words::Request;
 use book_core::Book;
 use std::time::Instant;
 
-/// Forgets the messages below a number, and gives how long that took.
+/// Forgets the messages below a number, and returns how long that took.
 fn folded(rt: &HostRuntime, book: &mut Book<Rows>, before: u32) -> Option<u64> {
     let began = Instant::now(rt).ok();
     let pruned = book.prune(before);
@@ -14,8 +14,8 @@ fn folded(rt: &HostRuntime, book: &mut Book<Rows>, before: u32) -> Option<u64> {
     pruned.ok().and(took)
 }
 
-/// Fills a book with messages that are cancelled and forgets them, but for the last ones, as often as is asked. Gives the
-/// nanoseconds of the longest pruning.
+/// Fills a book with messages that are cancelled and forgets them, but for the last ones, as often as requested.
+/// Returns the nanoseconds of the longest pruning.
 pub fn time_foldings(rt: &HostRuntime, book: &mut Book<Rows>, asked: Request) -> Option<u64> {
     let mut longest = 0_u64;
     for round in 0..asked.times {

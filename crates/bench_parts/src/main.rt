@@ -2,8 +2,8 @@
 //! bench/.
 //!
 //! Words: one of `parse SEGMENTS TIMES`, `get ..` and `set ..`, `calls MESSAGES`, `arrivals ENTRIES`, `audit RECEIPTS` and
-//! `foldings MESSAGES TIMES KEPT`, and `--time` where the times are told. Numbers that are left out are small, and with no such
-//! word all are measured.
+//! `foldings MESSAGES TIMES KEPT`, and `--time` where the times are printed. Numbers that are left out are small, and
+//! with no such word all are measured.
 #![tactic(auto)]
 
 mod arrivals;
@@ -89,7 +89,7 @@ fn tell_audits<H: Wait + Clock>(rt: &H, host: &HostRuntime, asked: Request) -> R
     Ok(())
 }
 
-/// The nanoseconds of the longest of some prunings, and the next place and the next message after them.
+/// The nanoseconds of the longest of some prunings, and the next index and the next message after them.
 type Folded = (u64, usize, u32);
 
 /// Fills an empty book and prunes it, time and again. None where a call was refused.

@@ -77,7 +77,7 @@ fn text_of(alloc: Global, kind: &str, control_id: u32) -> Result<Vec<u8>, AllocE
     Vec::from_slice(alloc, text.as_bytes())
 }
 
-/// A message of this type with this control id, judged as one that comes by a channel. None where memory was refused.
+/// A message of this type with this control id, judged as one that arrives on a channel. None where memory was refused.
 pub fn judged(
     alloc: Global,
     plan: &Arc<Plan>,

@@ -35,7 +35,7 @@ const PATHS: [&str; 20] = [
     "ZZZ-1",
 ];
 
-/// A message of so many segments, all but two of them results.
+/// A message of `segments` segments, all but two of them results.
 fn message_text(alloc: Global, segments: u32) -> Result<Vec<u8>, AllocError> {
     let mut text = Vec::new(alloc);
     text.extend_from_slice(
@@ -61,7 +61,7 @@ fn read_paths(message: &Message) -> Result<usize, Refusal> {
     Ok(bytes)
 }
 
-/// Does the work once, with a value that changes from round to round, and gives a number that depends on it.
+/// Does the work once, with a value that changes from round to round, and returns a number that depends on it.
 fn once(
     alloc: Global,
     what: Work,
@@ -81,7 +81,11 @@ fn once(
     }
 }
 
-/// Does the work so many times, and gives a number that depends on all of it.
+/// Does the work `rounds` times, and returns a number that depends on all of it.
+///
+/// # Errors
+///
+/// The refusal of a text, a path or a change, or of memory.
 pub fn repeated(alloc: Global, what: Work, segments: u32, rounds: u32) -> Result<usize, Refusal> {
     let text = message_text(alloc, segments)?;
     let mut message = Message::parse(alloc, &text)?;

@@ -1,4 +1,4 @@
-//! What the words ask.
+//! The words, and what they request.
 
 use crate::text::Work;
 
@@ -12,7 +12,7 @@ pub enum Measure {
     Text(Work),
 }
 
-/// What the words ask: what is measured, all where they don't say, and how often.
+/// What the words request: what is measured, all where they don't say, and how often.
 #[derive(Clone, Copy)]
 pub struct Request {
     pub measure: Option<Measure>,
@@ -68,7 +68,7 @@ impl Request {
     }
 }
 
-/// What the words ask.
+/// What the words request.
 pub fn asked(words: &[String]) -> Request {
     let mut asked = Request {
         measure: None,

@@ -1,4 +1,4 @@
-//! What an arrival is told, and what is kept of it.
+//! The answer to an arrival, and what is kept of it.
 
 ghost use Rattle.std.specs.Prelude.{◌≡◌, ◌≢◌, ◌<◌, ◌≤◌, ◌==◌, ℕ, true, false, [], ◌∷◌, ◌++◌, IfOk, OnOk, OnErr, IsTrue, Some, None, All, AllPairs};
 ghost use Rattle.std.specs.Int.{bit_at};
@@ -23,7 +23,7 @@ use judge_core::{Deliveries, Delivery, Judged, Text, TextPiece, Verdict};
 use row_store::RowStore;
 use std::alloc::{AllocError, Global};
 
-/// What the sender of a message is told: its key is looked up before its verdict is used.
+/// The answer to a message: its key is looked up before its verdict is used.
 pub fn told(log: &Log, keys: &Keys, judged: &Judged) -> Told
     requires bookable { IsTrue (is_bookable judged.now.raw) }
     requires same_plan { judged.now.plan ≡ plan_in_force log.now.history }
@@ -48,11 +48,11 @@ pub enum Gain<'a> {
     },
     /// The key of a message that is filtered.
     Key,
-    /// Nothing, where it is refused or came before.
+    /// Nothing, where it is refused or a repeat.
     Nothing,
 }
 
-/// What an arrival adds that is told so.
+/// What an arrival with this answer adds.
 #[tactic(auto, using(crate::proofs::Gains::id_known, crate::proofs::Gains::id_missing))]
 pub fn gain_of(told: Told, judged: &Judged) -> Gain<'_>
     requires { IsAccepting told (verdict judged.now.plan judged.now.channel judged.now.raw) }
@@ -168,6 +168,10 @@ fn key_to_add(alloc: Global, keys: &mut Keys, key: &[u8]) -> Result<Vec<u8>, All
 }
 
 /// Adds the row and the key that an arrival on a channel with these bytes adds, both with the index of its entry.
+///
+/// # Errors
+///
+/// Where memory is refused; rows and keys are as they were.
 pub fn add_gain<S: RowStore<Addressed<Letter>>>(
     alloc: Global,
     rows: &mut S,

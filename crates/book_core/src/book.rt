@@ -72,7 +72,7 @@ impl<S: RowStore<Addressed<Letter>>> Model for Book<S> {
 }
 
 impl<S: RowStore<Addressed<Letter>>> Book<S> {
-    /// An empty book that may hold so many entries. Its keys are hashed by `hasher`.
+    /// An empty book that may hold `events_max` entries. Its keys are hashed by `hasher`.
     pub fn new(alloc: Global, plan: Arc<Plan>, events_max: u32, hasher: RandomState) -> Book<S>
         requires some { 1 ≤ events_max }
         requires few { events_max ≤ EVENTS_MAX }
@@ -96,14 +96,14 @@ impl<S: RowStore<Addressed<Letter>>> Book<S> {
         self.log.plan()
     }
 
-    /// How many entries were booked in all: the place of the next.
+    /// How many entries were booked in all: the index of the next.
     pub fn len(&self) -> usize
         ensures { result ≡ next_place self.now }
     {
         self.log.len()
     }
 
-    /// How many entries were folded: the place of the first that the book holds.
+    /// How many entries were folded: the index of the first that the book holds.
     pub fn first_place(&self) -> usize
         ensures value { result ≡ self.now.opening.places }
         ensures within { result ≤ next_place self.now }
@@ -127,7 +127,7 @@ impl<S: RowStore<Addressed<Letter>>> Book<S> {
         self.log.len() - self.log.first_place()
     }
 
-    /// How many entries may still come of the deliveries of its messages. The book keeps room for them.
+    /// How many entries may still follow from the deliveries of its messages. The book keeps room for them.
     pub fn owed(&self) -> u32
         ensures { result ≡ owed self.now }
     {
@@ -249,7 +249,7 @@ impl<S: RowStore<Addressed<Letter>>> Book<S> {
         Some(&message.content)
     }
 
-    /// The connection by which message `number` came, if the book still holds the entry of its arrival.
+    /// The connection over which message `number` arrived, if the book still holds the entry of its arrival.
     pub fn connection(&self, number: u32) -> Option<u32>
         ensures { IfSome result (λ conn. CameBy self.now number conn) }
     {
@@ -316,7 +316,7 @@ impl<S: RowStore<Addressed<Letter>>> Book<S> {
         self.log.is_empty()
     }
 
-    /// The entry at this place, counted from 0; nothing where it was folded.
+    /// The entry at this index, counted from 0; nothing where it was folded.
     pub fn entry(&self, place: usize) -> Option<&Entry>
         ensures { option_copied result ≡ entry_at self.now place }
     {
@@ -345,8 +345,9 @@ impl<S: RowStore<Addressed<Letter>>> Book<S> {
         let _ = &self.log;
     }
 
-    /// The rows of the messages that are not forgotten, and the statistics. As long as they are lent the book is free of any event, and
-    /// so it keeps its promise: it agrees with its history, and the history with the sequential engine.
+    /// The rows of the messages that are not forgotten, and the statistics. As long as they are borrowed no event can
+    /// reach the book, and so it keeps its promise: it agrees with its history, and the history with the sequential
+    /// engine.
     pub fn promise(&self) -> (&S, &Counts)
         ensures { KeepsItsPromise self.now (S.rows result.0.now) result.1.now }
     {
@@ -365,7 +366,7 @@ impl<S: RowStore<Addressed<Letter>>> Book<S> {
         here.waiting + here.inflight
     }
 
-    /// Books a message that came by connection `conn`, with what its sender is told.
+    /// Books a message that arrived over connection `conn`, with its answer.
     ///
     /// # Errors
     ///
@@ -374,7 +375,7 @@ impl<S: RowStore<Addressed<Letter>>> Book<S> {
     pub fn arrive(&mut self, conn: u32, judged: &Judged) -> Result<Receipt, NotBooked>
         requires bookable { IsTrue (is_bookable judged.now.raw) }
 
-        // The receipt says what the entry says, and where it stands.
+        // The receipt says what the entry says, and has its index.
         ensures entry { IfOk result (λ receipt. receipt.entry ≡ next_place self.old) }
         ensures conn { IfOk result (λ receipt. receipt.conn ≡ conn) }
         ensures channel { IfOk result (λ receipt. receipt.channel ≡ judged.now.channel) }
@@ -421,7 +422,7 @@ impl<S: RowStore<Addressed<Letter>>> Book<S> {
         Ok(self.add_arrival(conn, judged, told, gain, own)?)
     }
 
-    /// Books an arrival for which there is room. What its sender is told is found, and so is what it adds and what its slots
+    /// Books an arrival for which there is room. Its answer is found, and so is what it adds and what its slots
     /// will owe.
     fn add_arrival(
         &mut self,
@@ -515,7 +516,7 @@ impl<S: RowStore<Addressed<Letter>>> Book<S> {
         })
     }
 
-    /// The answer to a take, before memory is asked for.
+    /// The answer to a take, before memory is requested.
     fn ticket(&mut self, d: u32, now: Moment) -> Result<Ticket, TakeRefusal>
         ensures answer { result ≡ take_answer self.old d now }
         ensures unchanged { self.new ≡ self.old }
@@ -544,7 +545,7 @@ impl<S: RowStore<Addressed<Letter>>> Book<S> {
         Ok((message.content.control_id.share()?, text.share()?))
     }
 
-    /// Settles an attempt with its outcome, and answers the state of the slot afterwards. It asks for no memory, and is
+    /// Settles an attempt with its outcome, and returns the state of the slot afterwards. It requests no memory, and is
     /// never refused for room.
     ///
     /// # Errors
@@ -640,12 +641,12 @@ impl<S: RowStore<Addressed<Letter>>> Book<S> {
         Ok(owed)
     }
 
-    /// Puts another plan in force. Messages that came before go where the plan in force then sent them, and a plan that is
-    /// equal to the one in force is booked too.
+    /// Puts another plan in force. Messages that arrived before go where the plan in force then sent them, and a plan
+    /// that is equal to the one in force is booked too.
     ///
     /// # Errors
     ///
-    /// `ChannelsDiffer` where its channels have other names or stand in another order, then `DestinationInUse` of the first
+    /// `ChannelsDiffer` where its channels have other names or are in another order, then `DestinationInUse` of the first
     /// destination to which messages are still to be delivered and which the plan lacks, names otherwise or gives other
     /// attempts, then `TooMany` where a thousand plans were deployed, then `Full` where there is no room for one more entry,
     /// and then `NoMemory` where a growth was refused. A refusal leaves the book as it was, and drops the plan.
@@ -672,10 +673,10 @@ impl<S: RowStore<Addressed<Letter>>> Book<S> {
         Ok(())
     }
 
-    /// Forgets the messages numbered below `before`, with the filtered arrivals that came before message `before` did, and
-    /// folds all entries: the history then goes on from what remains, and the book has room for as many entries again.
-    /// Places and numbers go on counting, and the statistics keep what was forgotten. With a message its control id (MSH-10)
-    /// is forgotten: where its sender repeats it, it is judged as a new message.
+    /// Forgets the messages numbered below `before`, with the filtered arrivals that were received before message
+    /// `before` was, and folds all entries: the history then goes on from what remains, and the book has room for as
+    /// many entries again. Indices and numbers go on counting, and the statistics keep what was forgotten. With a
+    /// message its control id (MSH-10) is forgotten: where its sender repeats it, it is judged as a new message.
     ///
     /// # Errors
     ///
@@ -708,7 +709,7 @@ impl<S: RowStore<Addressed<Letter>>> Book<S> {
         Ok(())
     }
 
-    /// Why a plan isn't deployed, before room and memory are asked for.
+    /// Why a plan isn't deployed, before room and memory are looked at.
     fn deploy_answer(&self, plan: &Plan) -> Option<DeployRefusal>
         ensures { result ≡ deploy_answer self.now plan.now }
     {

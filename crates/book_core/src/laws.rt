@@ -30,7 +30,7 @@ pub fn three_sums()
     ensures deployment { (h : History) (plan : PlanEntry) → IsSound h → MayFollow h (Deploy plan) →
         SumsRise 0 0 0 (counted h) (counted (followed_by h (Deploy plan))) }
 
-    // A book's places are few, and so is what its statistics add up to.
+    // The entries of a book are bounded, and so is what its statistics add up to.
     ensures few_arrivals { (h : History) → IsSound h → length h.entries ≤ 1000000 → arrivals (counted h) ≤ 128128000000 }
     ensures few_takes { (h : History) → IsSound h → length h.entries ≤ 1000000 → takes (counted h) ≤ 32032000000 }
     ensures few_settlements { (h : History) → IsSound h → length h.entries ≤ 1000000 → settlements (counted h) ≤ 32032000000 }

@@ -7,14 +7,14 @@ use event_log::Ticket;
 use judge_core::{Deliveries, Text, TextPiece};
 use std::alloc::AllocError;
 
-/// What a book keeps of an accepted message: what came, its control id, and the text for each destination.
+/// What a book keeps of an accepted message: the bytes received, its control id, and the text for each destination.
 #[derive(Drop)]
 pub struct Letter {
     /// The index of its arrival in the history.
     pub place: usize,
-    /// The channel on which it came, by its index in the plan.
+    /// The channel on which it arrived, by its index in the plan.
     pub channel: u32,
-    /// The bytes that came.
+    /// The bytes received.
     pub raw: Text,
     /// Its control id (MSH-10, raw; HL7 v2.5.1, 2.15.9.10).
     pub control_id: TextPiece,

@@ -31,7 +31,7 @@ pub fn lesser(a: Option<u32>, b: Option<u32>) -> Option<u32>
     }
 }
 
-/// Why the messages below `before` aren't forgotten, before memory is asked for.
+/// Why the messages below `before` aren't forgotten, before memory is requested.
 pub fn prune_refusal<S: RowStore<Addressed<Letter>>>(
     log: &Log,
     rows: &mut S,
@@ -71,7 +71,7 @@ pub fn forget_rows<S: RowStore<Addressed<Letter>>>(rows: &mut S, first: u32, bef
     }
 }
 
-/// Whether an arrival told so is kept by its key: it was accepted or filtered.
+/// Whether an arrival with this answer is kept by its key: it was accepted or filtered.
 fn is_kept(told: Told) -> bool
     ensures { result ≡ is_kept told }
 {
@@ -108,7 +108,7 @@ fn recall<S: RowStore<Addressed<Letter>>>(
     Ok(Remembered::new(place, channel, raw, told, Some(deliveries), slots))
 }
 
-/// What is remembered from now on of the entry at a place: an arrival told `Accepted` or `Filtered`.
+/// What is remembered from now on of the entry at an index: an arrival answered `Accepted` or `Filtered`.
 fn recall_at<S: RowStore<Addressed<Letter>>>(
     alloc: Global,
     log: &Log,
@@ -131,7 +131,7 @@ fn recall_at<S: RowStore<Addressed<Letter>>>(
     }
 }
 
-/// Those of the arrivals remembered so far that stood at `floor` or later, as they are remembered from now on.
+/// The arrivals remembered so far whose index is `floor` or a later one, as they are remembered from now on.
 fn recall_remembered<S: RowStore<Addressed<Letter>>>(
     alloc: Global,
     log: &Log,
@@ -159,7 +159,7 @@ fn recall_remembered<S: RowStore<Addressed<Letter>>>(
     Ok(kept)
 }
 
-/// Adds what is remembered from now on of the entries that stand at `floor` or later.
+/// Adds what is remembered from now on of the entries with the index `floor` or a later one.
 fn recall_entries<S: RowStore<Addressed<Letter>>>(
     alloc: Global,
     log: &Log,
@@ -182,7 +182,11 @@ fn recall_entries<S: RowStore<Addressed<Letter>>>(
     Ok(())
 }
 
-/// The arrivals that stood at `floor` or later, as they are remembered from now on, in order of place.
+/// The arrivals with the index `floor` or a later one, as they are remembered from now on, in order of index.
+///
+/// # Errors
+///
+/// Where memory is refused.
 pub fn recall_since<S: RowStore<Addressed<Letter>>>(
     alloc: Global,
     log: &Log,

@@ -1,4 +1,4 @@
-//! What is asked of the rows of a book, and of how full it is.
+//! Questions about the rows of a book, and of how full it is.
 
 ghost use Rattle.std.specs.Prelude.{◌≡◌, ◌≤◌, ◌+◌, ◌*◌, ◌&&◌, not, nat_lt};
 ghost use Rattle.row_store.specs.declared.Row.{Row};
@@ -32,7 +32,7 @@ pub fn first_queued<S: RowStore<Addressed<Letter>>>(rows: &mut S) -> Option<u32>
     first
 }
 
-/// Whether a book is tight that holds so many entries, owes so many more and may hold `max`: more than three quarters are
+/// Whether a book is tight that holds `held` entries, owes `owed` more and may hold `max`: more than three quarters are
 /// held or owed, and an eighth at least is held, so that folding makes room.
 pub fn is_tight(held: usize, owed: u32, max: u32) -> bool
     requires { held + owed ≤ max }

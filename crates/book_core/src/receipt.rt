@@ -1,4 +1,4 @@
-//! What a booked arrival is told.
+//! The receipt of a booked arrival.
 
 ghost use Rattle.std.specs.Prelude.{◌≡◌};
 ghost use Rattle.book_core.specs.Refusing.{not_booked_code};
@@ -8,18 +8,18 @@ use judge_core::Text;
 use std::alloc::{AllocError, AllocFailed};
 use thiserror::Error;
 
-/// What stands in the history of an arrival, and where.
+/// What the history has of an arrival, and its index there.
 #[derive(Drop)]
 pub struct Receipt {
-    /// The place of its entry, counted from 0.
+    /// The index of its entry, counted from 0.
     pub entry: usize,
-    /// The connection by which it came.
+    /// The connection over which it arrived.
     pub conn: u32,
-    /// The channel on which it came, by its place in the plan.
+    /// The channel on which it arrived, by its index in the plan.
     pub channel: u32,
     /// Its bytes, which the entry shares.
     pub raw: Text,
-    /// What its sender is told.
+    /// Its answer, as it is acknowledged to its sender.
     pub told: Told,
 }
 

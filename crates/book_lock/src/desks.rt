@@ -138,7 +138,11 @@ pub fn settled_at<T: Ledger, U: Ledger>(stations: &[Station<T, U>]) -> u128
         .sum()
 }
 
-/// Cuts the shares of so many desks off a share that has a part for each, and one more.
+/// Cuts the shares of `count` desks off a share that has a part for each, and one more.
+///
+/// # Errors
+///
+/// Where memory is refused.
 pub fn open_desks<A: Ledger>(
     alloc: Global,
     left: &mut Share<A>,
@@ -158,7 +162,11 @@ pub fn open_desks<A: Ledger>(
     Ok(desks)
 }
 
-/// The same for stations, off two shares.
+/// Cuts the shares of `count` stations off two shares that each have a part for each, and one more.
+///
+/// # Errors
+///
+/// Where memory is refused.
 pub fn open_stations<T: Ledger, U: Ledger>(
     alloc: Global,
     left_takes: &mut Share<T>,
@@ -205,7 +213,8 @@ pub fn audit_desks<A: Ledger>(
     whole.give(share, 1, *made);
 }
 
-/// The same for stations, over both ledgers.
+/// Puts the parts of all stations to `whole_takes` and `whole_settlements` for a moment, as [`audit_desks`] does with
+/// those of desks.
 pub fn audit_stations<T: Ledger, U: Ledger>(
     takes: &mut ledger::Book<T>,
     settlements: &mut ledger::Book<U>,

@@ -1,4 +1,4 @@
-//! The book under one lock, the shares of those who call it, and the audit of their receipts.
+//! The book under one lock, the shares of its callers, and the audit of their receipts.
 #![tactic(auto)]
 
 mod desks;

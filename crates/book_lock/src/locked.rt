@@ -45,7 +45,7 @@ pub trait Opening: Ledger {
     /// Its statistics.
     ghost counts: { Statistics };
 
-    /// Its next place.
+    /// The index of its next entry.
     ghost first: { ℕ };
 
     /// The number of its channels, which never changes.
@@ -136,7 +136,7 @@ impl<S: RowStore<Addressed<Letter>>> Closed<S> {
         &self.opening
     }
 
-    /// The next place that the book had when it was shared: the place of the first entry since.
+    /// The index of the book's next entry when it was shared: that of the first entry since.
     pub fn first(&self) -> usize
         ensures first { result ≡ self.now.first }
         ensures within { result ≤ next_place self.now.book }
@@ -386,7 +386,7 @@ impl<A: Opening, T: Ledger, U: Ledger, S: RowStore<Addressed<Letter>>> Locked<A,
     }
 
     /// Forgets the messages that are settled at each of their destinations, but for the last `keep` messages and for all
-    /// from the first on that is still to be delivered, and folds all entries. It gives the number before which all is
+    /// from the first on that is still to be delivered, and folds all entries. It returns the number before which all is
     /// forgotten.
     ///
     /// # Errors
@@ -423,8 +423,8 @@ impl<A: Opening, T: Ledger, U: Ledger, S: RowStore<Addressed<Letter>>> Locked<A,
     }
 
     /// Books an arrival as `arrive` does, and counts it for the desk. A book that is tight is pruned before that as
-    /// `prune_settled` does, and once more with `keep` 0 where memory was refused for it; what was done stands beside the
-    /// answer, which is that of `arrive` on the book that this left.
+    /// `prune_settled` does, and once more with `keep` 0 where memory was refused for it; what was done is returned
+    /// beside the answer, which is that of `arrive` on the book that this left.
     ///
     /// # Errors
     ///
@@ -546,7 +546,7 @@ impl<A: Opening, T: Ledger, U: Ledger, S: RowStore<Addressed<Letter>>> Locked<A,
         mask & !rung
     }
 
-    /// Whether a change was noted at destination `d` since this was asked before.
+    /// Whether a change was noted at destination `d` since the last call of this.
     pub fn hear(&mut self, d: u32) -> bool
         requires { d < 32 }
         ensures { self.new ≡ self.old }

@@ -7,21 +7,21 @@ use row_store::QUEUES;
 /// A message that a book remembers.
 #[derive(Drop)]
 pub struct Message {
-    /// The channel on which it came, by its index in the plan.
+    /// The channel on which it arrived, by its index in the plan.
     pub channel: u32,
-    /// The connection by which it came, if the book still holds the entry of its arrival: what a pruning remembers of an
-    /// arrival has no connection.
+    /// The connection over which it arrived, if the book still holds the entry of its arrival: what a pruning
+    /// remembers of an arrival has no connection.
     pub conn: Option<u32>,
-    /// The bytes that came, which the book shares.
+    /// The bytes received, which the book shares.
     pub raw: Text,
-    /// By destination, its state there, if it goes there.
+    /// Its state at each destination, by index, if it goes there.
     pub states: [Option<SlotState>; QUEUES as usize],
 }
 
 /// What a book says of a message number.
 #[derive(Drop)]
 pub enum Found {
-    /// So many messages were not accepted yet.
+    /// Fewer messages were accepted so far.
     ToCome,
     /// The message is forgotten.
     Forgotten,

@@ -12,16 +12,16 @@ use dest_queue::Addressed;
 use row_store::RowStore;
 use thiserror::Error;
 
-/// What is wrong with the receipts, and the place of the history at which it is.
+/// What is wrong with the receipts, and the index of the history at which it is.
 #[derive(Clone, Copy, Debug, PartialEq, Eq, Error)]
 pub enum AuditFault {
-    /// No receipt names the arrival at this place.
+    /// No receipt names the arrival at this index.
     #[error("no receipt names the arrival at {0}")]
     Missing(usize),
-    /// Two receipts name this place.
+    /// Two receipts name this index.
     #[error("two receipts name {0}")]
     Doubled(usize),
-    /// The one receipt that names this place is not that of an arrival there.
+    /// The one receipt that names this index is not that of an arrival there.
     #[error("the receipt that names {0} is of another arrival")]
     Differs(usize),
 }
@@ -40,11 +40,11 @@ impl AuditFault {
 }
 
 /// Whether the receipts, in any order, are those of the arrivals since the book was shared, each once, with its
-/// connection, channel, bytes and told. The places that were folded since then are left aside. It asks for no memory.
+/// connection, channel, bytes and answer. The indices that were folded since then are left aside. It requests no memory.
 ///
 /// # Errors
 ///
-/// The least place that is wrong.
+/// The fault at the least index that is wrong.
 pub fn audit<S: RowStore<Addressed<Letter>>>(
     closed: &Closed<S>,
     receipts: &[Receipt],
@@ -56,7 +56,7 @@ pub fn audit<S: RowStore<Addressed<Letter>>>(
     first_fault(closed, receipts)
 }
 
-/// Whether the receipts' places rise strictly.
+/// Whether the receipts' indices rise strictly.
 pub fn rising(receipts: &[Receipt]) -> bool
     ensures { IsTrue result ↔ IsStrictlyIncreasing (map (λ r. r.entry) receipts.now) }
 {
@@ -68,7 +68,7 @@ pub fn rising(receipts: &[Receipt]) -> bool
     true
 }
 
-/// The first place at which the receipts are not those that are due.
+/// The first index at which the receipts are not those that are due.
 fn first_fault<S: RowStore<Addressed<Letter>>>(
     closed: &Closed<S>,
     receipts: &[Receipt],
@@ -81,7 +81,7 @@ fn first_fault<S: RowStore<Addressed<Letter>>>(
     check_rest(closed, receipts)
 }
 
-/// Whether no receipt names a place past the history, where all places of the history are right.
+/// Whether no receipt names an index past the history, where all indices of the history are right.
 fn check_rest<S: RowStore<Addressed<Letter>>>(
     closed: &Closed<S>,
     receipts: &[Receipt],
@@ -98,14 +98,14 @@ fn check_rest<S: RowStore<Addressed<Letter>>>(
     }
 }
 
-/// How many receipts name a place.
+/// How many receipts name an index.
 fn count_naming(receipts: &[Receipt], place: usize) -> usize
     ensures { result ≡ length (naming place receipts.now) }
 {
     receipts.iter().filter(|r| r.entry == place).count()
 }
 
-/// The least place from `from` on that a receipt names.
+/// The least index from `from` on that a receipt names.
 fn least_from(receipts: &[Receipt], from: usize) -> Option<usize>
     ensures none { IfNone result (All (λ r. r.entry < from) receipts.now) }
     ensures from { IfSome result (λ place. from ≤ place) }

@@ -48,7 +48,7 @@ pub type Opened<A, T, U, S> = (Shared<A, T, U, S>, Vec<Desk<A>>, Vec<Station<T, 
 /// Why a shared book was not closed.
 #[derive(Drop)]
 pub enum NotClosed<A: Opening, T: Ledger, U: Ledger, S: RowStore<Addressed<Letter>>> {
-    /// The shares handed in don't add up to what rose in the statistics. All that was handed in comes back.
+    /// The shares handed in don't add up to what rose in the statistics. All that was handed in is returned.
     SharesMissing {
         shared: Shared<A, T, U, S>,
         desks: Vec<Desk<A>>,
@@ -72,7 +72,7 @@ fn waits_where(tidied: &Tidied, verdict: &Verdict) -> u32 {
     }
 }
 
-/// What is said of a message that a book of so many messages doesn't remember.
+/// The answer to a question about a message that a book of `count` messages doesn't remember.
 fn not_kept(number: u32, count: u32) -> Found {
     if number < count {
         Found::Forgotten
@@ -122,11 +122,11 @@ fn hang_bells(alloc: Global) -> Result<Vec<Condvar>, AllocError> {
 }
 
 impl<A: Opening, T: Ledger, U: Ledger, S: RowStore<Addressed<Letter>>> Shared<A, T, U, S> {
-    /// Shares the book among so many desks and stations. Each ledger's blank has one part more than there are shares.
+    /// Shares the book among that many desks and stations. Each ledger's blank has one part more than there are shares.
     ///
     /// # Errors
     ///
-    /// The book comes back where memory is refused.
+    /// Where memory is refused; the book is handed back.
     pub fn new(
         alloc: Global,
         book: Book<S>,
@@ -234,7 +234,7 @@ impl<A: Opening, T: Ledger, U: Ledger, S: RowStore<Addressed<Letter>>> Shared<A,
         self.locked.lock(rt).take(station, d, now)
     }
 
-    /// Settles an attempt, and counts it for the station. It asks for no memory.
+    /// Settles an attempt, and counts it for the station. It requests no memory.
     ///
     /// # Errors
     ///
@@ -270,7 +270,7 @@ impl<A: Opening, T: Ledger, U: Ledger, S: RowStore<Addressed<Letter>>> Shared<A,
         Ok(mask)
     }
 
-    /// Puts another plan in force. A message that was judged by the one before is told PlanChanged where it is booked
+    /// Puts another plan in force. A message that was judged by the one before is answered PlanChanged where it is booked
     /// afterwards.
     ///
     /// # Errors
@@ -293,7 +293,7 @@ impl<A: Opening, T: Ledger, U: Ledger, S: RowStore<Addressed<Letter>>> Shared<A,
     }
 
     /// Forgets the messages that are settled at each of their destinations, but for the last `keep` messages and for all
-    /// from the first on that is still to be delivered, and folds all entries. It gives the number before which all is
+    /// from the first on that is still to be delivered, and folds all entries. It returns the number before which all is
     /// forgotten. It takes time for what is forgotten and for what is remembered, and holds the lock as long.
     ///
     /// # Errors
@@ -466,7 +466,7 @@ impl<A: Opening, T: Ledger, U: Ledger, S: RowStore<Addressed<Letter>>> Shared<A,
         self.finished.load(Ordering::SeqCst)
     }
 
-    /// Wakes those who wait at the destinations of a mask.
+    /// Wakes the workers that wait at the destinations of a mask.
     fn wake(&self, mask: u32) {
         for d in 0..QUEUES {
             if mask >> d & 1 == 1 {
@@ -482,7 +482,7 @@ impl<A: Opening, T: Ledger, U: Ledger, S: RowStore<Addressed<Letter>>> Shared<A,
     ///
     /// # Errors
     ///
-    /// `SharesMissing` where they don't. All that was handed in comes back, and the shared book with the note of `finish`,
+    /// `SharesMissing` where they don't. All that was handed in is returned, and the shared book with the note of `finish`,
     /// if that was made.
     pub fn close(
         self,

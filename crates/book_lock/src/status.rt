@@ -11,7 +11,7 @@ use stat_count::Counts;
 pub struct Gauge {
     /// The entries that it holds: those that were folded are not among them.
     pub held: usize,
-    /// The entries that may still come of the deliveries of its messages.
+    /// The entries that may still follow from the deliveries of its messages.
     pub owed: u32,
     /// The most entries that it may hold, those owed included.
     pub events_max: u32,
@@ -51,7 +51,7 @@ pub struct Status {
     pub gauge: Gauge,
     /// The statistics of its channels and destinations.
     pub counts: Counts,
-    /// By destination, the message at the front of its queue, with its state there.
+    /// The message at the front of each destination's queue, by index, with its state there.
     pub fronts: [Option<Front>; QUEUES as usize],
     /// The first message that is still to be delivered to a destination.
     pub first_live: Option<u32>,

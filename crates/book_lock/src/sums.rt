@@ -5,7 +5,7 @@ ghost use Rattle.stat_count.specs.Sums.{arrivals, settlements, takes};
 
 use stat_count::{CHANNELS, Counts, DESTINATIONS};
 
-/// The messages that came, repeats among them.
+/// The messages received, repeats among them.
 pub fn arrivals(counts: &Counts) -> u128
     requires { length counts.now.channels ≡ 64 }
     ensures { result ≡ arrivals counts.now }

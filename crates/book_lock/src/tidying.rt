@@ -17,7 +17,7 @@ pub enum Tidying {
 }
 
 impl Tidying {
-    /// What a pruning came to.
+    /// The outcome of a pruning.
     pub fn of(answer: Result<u32, PruneRefusal>) -> Tidying
         ensures { result ≡ tidying_of answer }
     {

@@ -1,5 +1,5 @@
-//! The places of the history, a window of them at a time: each window costs one pass over the receipts, and no memory
-//! but a table of a byte for each of its places.
+//! The indices of the history, a window of them at a time: each window costs one pass over the receipts, and no memory
+//! but a table of a byte for each of its indices.
 
 ghost use Rattle.std.specs.Prelude.{◌≡◌, ◌≢◌, ◌+◌, ◌<◌, ◌≤◌, ◌↔◌, [], ◌∷◌, if◌then◌else◌, Some, is_some, IsTrue, IfErr, OnOk, All, length, slice_index_or};
 ghost use Rattle.event_log.specs.History.{next_place};
@@ -12,10 +12,10 @@ use book_core::{Entry, Letter, Receipt};
 use dest_queue::Addressed;
 use row_store::RowStore;
 
-/// How many places the audit looks at in one pass over the receipts.
+/// How many indices the audit looks at in one pass over the receipts.
 pub const WINDOW: usize = 65_536;
 
-/// How the receipts that name a place stand to the one that is due there.
+/// How the receipts that name an index agree with the one that is due there.
 #[derive(Clone, Copy)]
 pub enum Named {
     /// None names it.
@@ -29,7 +29,7 @@ pub enum Named {
 }
 
 impl Named {
-    /// With one more receipt that names the place, which is due there or not.
+    /// How the index is named with one more receipt that names it, which is due there or not.
     fn named_again(self, is_due: bool) -> Named
         ensures { result ≡ named_again self is_due }
     {
@@ -41,11 +41,11 @@ impl Named {
     }
 }
 
-/// Whether the receipts are right at every place of the history that isn't folded, in windows of the table's size.
+/// Whether the receipts are right at every index of the history that isn't folded, in windows of the table's size.
 ///
 /// # Errors
 ///
-/// The least place of the history that is wrong.
+/// The fault at the least index of the history that is wrong.
 pub fn check_windows<S: RowStore<Addressed<Letter>>>(
     closed: &Closed<S>,
     receipts: &[Receipt],
@@ -65,11 +65,11 @@ pub fn check_windows<S: RowStore<Addressed<Letter>>>(
     Ok(())
 }
 
-/// Whether the receipts are right at each place from `from` on of which the table has room to tell.
+/// Whether the receipts are right at each index from `from` on that the table has room for.
 ///
 /// # Errors
 ///
-/// The least of these places that is wrong.
+/// The fault at the least of these indices that is wrong.
 fn check_window<S: RowStore<Addressed<Letter>>>(
     closed: &Closed<S>,
     receipts: &[Receipt],
@@ -93,7 +93,7 @@ fn check_window<S: RowStore<Addressed<Letter>>>(
     Ok(())
 }
 
-/// How a place is named. One that was folded since the book was shared is left aside: nothing is due there, and
+/// How an index is named. One that was folded since the book was shared is left aside: nothing is due there, and
 /// none is taken to name it.
 fn named_at<S: RowStore<Addressed<Letter>>>(closed: &Closed<S>, place: usize, named: Named) -> Named
     ensures { result ≡ (if is_folded closed.now place then Named.Never else named) }
@@ -104,7 +104,7 @@ fn named_at<S: RowStore<Addressed<Letter>>>(closed: &Closed<S>, place: usize, na
     named
 }
 
-/// What is wrong at a place, by how it is named, and by whether a receipt is due there.
+/// What is wrong at an index, by how it is named, and by whether a receipt is due there.
 fn fault_at(place: usize, named: Named, is_due: bool) -> Option<AuditFault>
     ensures { result ≡ fault_at place named is_due }
 {
@@ -116,7 +116,7 @@ fn fault_at(place: usize, named: Named, is_due: bool) -> Option<AuditFault>
     }
 }
 
-/// Tells of the places from `from` on how the receipts name them.
+/// Fills the table with how the receipts name the indices from `from` on.
 fn tell<S: RowStore<Addressed<Letter>>>(
     closed: &Closed<S>,
     receipts: &[Receipt],
@@ -136,7 +136,7 @@ fn tell<S: RowStore<Addressed<Letter>>>(
     }
 }
 
-/// Whether a receipt is the one that is due at the place that it names.
+/// Whether a receipt is the one that is due at the index that it names.
 fn is_due<S: RowStore<Addressed<Letter>>>(closed: &Closed<S>, receipt: &Receipt) -> bool
     ensures { IsTrue result ↔ (receipt.now ∷ [] ≡ naming receipt.now.entry (receipts_due closed.now)) }
 {
@@ -150,7 +150,7 @@ fn is_due<S: RowStore<Addressed<Letter>>>(closed: &Closed<S>, receipt: &Receipt)
     }
 }
 
-/// Whether a receipt is due at a place.
+/// Whether a receipt is due at an index.
 fn is_due_at<S: RowStore<Addressed<Letter>>>(closed: &Closed<S>, place: usize) -> bool
     ensures { IsTrue result ↔ (naming place (receipts_due closed.now) ≢ []) }
 {
@@ -170,7 +170,7 @@ fn is_arrival(entry: &Entry) -> bool
     matches!(entry, Entry::Arrival { .. })
 }
 
-/// Whether a receipt is that of an entry at the place that it names.
+/// Whether a receipt is that of an entry at the index that it names.
 fn is_receipt_of(receipt: &Receipt, entry: &Entry) -> bool
     ensures { IsTrue result ↔ (receipt_at receipt.now.entry entry.now ≡ Some receipt.now) }
 {

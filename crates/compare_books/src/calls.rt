@@ -93,7 +93,7 @@ fn call(rt: &HostRuntime, dice: &mut Dice, books: &mut Books, scores: &mut Score
     Ok(())
 }
 
-/// Makes so many calls.
+/// Makes a number of calls.
 fn make_calls(rt: &HostRuntime, seed: u32, calls: u32, books: &mut Books) -> Result<()> {
     let mut dice = Dice::new(seed);
     let mut scores = Scores::NONE;
@@ -113,7 +113,11 @@ fn run(rt: &HostRuntime, seed: u32, calls: u32, asked: bool) -> Result<()> {
     make_calls(rt, seed, calls, &mut books)
 }
 
-/// Makes the calls of all runs, and says how many they were.
+/// Makes the calls of all runs, and prints how many they were.
+///
+/// # Errors
+///
+/// The first difference, or that memory is refused or standard output can't be written.
 pub fn compare_calls(rt: &HostRuntime) -> Result<()> {
     for seed in 0..RUNS {
         let asked = seed < ASKED;

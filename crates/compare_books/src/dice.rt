@@ -47,13 +47,21 @@ impl Dice {
     }
 
     /// The next moment, the same as the last or a second later.
+    ///
+    /// # Errors
+    ///
+    /// Where that is no moment.
     pub fn now(&mut self) -> Result<Moment> {
         let passed = self.roll(2);
         self.seconds = self.seconds.wrapping_add(passed);
         Ok(Moment::of_unix(i64::from(self.seconds))?)
     }
 
-    /// The text of a message under a control id (MSH-10). What stands behind its version is given.
+    /// The text of a message under a control id (MSH-10). What follows its version is given.
+    ///
+    /// # Errors
+    ///
+    /// Where memory is refused.
     pub fn message(&mut self, alloc: Global, id: u32, asked: &str) -> Result<String, AllocError> {
         let event = self.pick(["A01", "A08", "A08", "A04"]);
         let version = self.pick(["2.5.1", "2.5.1", "2.5.1", "2.9"]);
@@ -64,12 +72,16 @@ impl Dice {
         )
     }
 
-    /// Which acknowledgments a message asks for (MSH-15 and MSH-16), as it stands behind its version.
+    /// Which acknowledgments a message requests (MSH-15 and MSH-16), as written behind its version.
     pub fn asked(&mut self) -> &'static str {
         self.pick(["", "|||AL|NE", "|||AL|AL", "|||ER|SU"])
     }
 
     /// A text that is no message, or an acknowledgment: it is not answered.
+    ///
+    /// # Errors
+    ///
+    /// Where memory is refused.
     pub fn unanswered(&mut self, alloc: Global) -> Result<String, AllocError> {
         let text = self.pick([
             "HELLO",

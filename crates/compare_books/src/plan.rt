@@ -82,6 +82,10 @@ route = [{{ to = "C" }}]
 }
 
 /// A plan that says this.
+///
+/// # Errors
+///
+/// Where the plan can't be read, or memory is refused.
 pub fn plan_of(alloc: Global, said: Said) -> Result<Arc<Plan>> {
     let text = text_of(alloc, said)?;
     match Plan::read(alloc, text.as_bytes()) {
@@ -90,8 +94,11 @@ pub fn plan_of(alloc: Global, said: Said) -> Result<Arc<Plan>> {
     }
 }
 
-/// A message that came on a channel, judged by a plan. An error where there is no such channel, or where no block holds
-/// it.
+/// A message that was received on a channel, judged by a plan.
+///
+/// # Errors
+///
+/// Where there is no such channel, no block holds the message, or memory is refused.
 pub fn judged_by(alloc: Global, plan: &Arc<Plan>, channel: u32, raw: Vec<u8>) -> Result<Judged>
     ensures { IfOk result (λ judged. judged.plan ≡ arc_value plan.now) }
 {

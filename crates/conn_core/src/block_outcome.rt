@@ -29,9 +29,9 @@ pub struct Booked {
 pub enum BlockOutcome {
     /// It is no message: it has no header that can be read.
     Unreadable,
-    /// It is an acknowledgment, which asks for no answer.
+    /// It is an acknowledgment, which requests no answer.
     Stray,
-    /// It is a message, which was booked, or refused a place, and answered.
+    /// It is a message, which was booked or not, and answered.
     Message(Booked),
 }
 
@@ -47,7 +47,7 @@ impl BlockOutcome {
     }
 }
 
-/// What its sender is told of a message.
+/// The answer to a message, or why it was not booked.
 fn told_by(outcome: &Result<Receipt, NotBooked>) -> Result<Told, NotBooked>
     ensures { result ≡ told_by outcome.now }
 {
@@ -74,7 +74,7 @@ pub fn book_and_reply<B: Booking>(
     ensures booked { IfOk result.outcome (λ receipt. B.books book.old book.new (receipt ∷ [])) }
     ensures unbooked { OnErr result.outcome (B.books book.old book.new []) }
 
-    // What is told is what may be told.
+    // The answer is one that may be given.
     ensures told { IfOk result.outcome (λ receipt. B.outcomes book.old judged.now (Ok receipt.told)) }
     ensures refused { IfErr result.outcome (λ refusal. B.outcomes book.old judged.now (Err refusal)) }
 
@@ -138,10 +138,12 @@ fn answer_judged<B: Booking>(
     BlockOutcome::Message(book_and_reply(line, book, judged, now, replies))
 }
 
-/// Answers a block that came by a connection: what is no message, and what is an acknowledgment, is passed over; a
-/// message is booked and acknowledged as its header asks (HL7 v2.5.1, 2.9.2 and 2.9.3).
+/// Answers a block that was received over a connection: what is no message, and what is an acknowledgment, is passed
+/// over; a message is booked and acknowledged as its header requests (HL7 v2.5.1, 2.9.2 and 2.9.3).
 ///
-/// Where memory is refused before a message is booked, nothing is booked and nothing replied.
+/// # Errors
+///
+/// Where memory is refused before a message is booked; nothing is booked and nothing replied then.
 pub fn answer_block<B: Booking>(
     line: &Line,
     book: &mut B,
@@ -156,7 +158,7 @@ pub fn answer_block<B: Booking>(
     // What the block is. The receipt of a message has the connection, the channel and the bytes.
     ensures kind { IfOk result (λ outcome. IsOutcome line.now.conn line.now.channel raw.items outcome) }
 
-    // A message is booked here, or nothing is; and what its sender is told is what may be told.
+    // A message is booked here, or nothing is; and its answer is one that may be given.
     ensures booked { IfOk result (λ outcome. B.books book.old book.new (receipts_in outcome)) }
     ensures told { IfOk result (λ outcome. MayBecome (B.judges book.old) (B.outcomes book.old) line.now.channel raw.items outcome) }
 

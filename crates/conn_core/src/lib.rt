@@ -1,4 +1,4 @@
-//! Answering a message that came in a block: judging it, booking it wherever messages are booked, and making the
+//! Answering a message that was received in a block: judging it, booking it wherever messages are booked, and making the
 //! acknowledgments that it is due. Nothing here reads or writes a device.
 #![tactic(auto)]
 

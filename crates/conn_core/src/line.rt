@@ -1,8 +1,8 @@
-//! A connection that messages come by.
+//! A connection over which messages arrive.
 
 use std::alloc::Global;
 
-/// A connection: its number, and its channel by its place in the plan. Memory for its messages comes from `alloc`.
+/// A connection: its number, and its channel by its index in the plan. Memory for its messages comes from `alloc`.
 #[derive(Clone, Copy)]
 pub struct Line {
     pub alloc: Global,

@@ -23,7 +23,7 @@ pub struct Replies {
     pub bytes: Vec<u8>,
 }
 
-/// What is told of an outcome.
+/// What is acknowledged of an outcome.
 fn told_of(outcome: Result<Told, NotBooked>) -> Verdictum
     ensures { result ≡ told_of outcome }
 {
@@ -36,7 +36,8 @@ fn told_of(outcome: Result<Told, NotBooked>) -> Verdictum
     }
 }
 
-/// Appends an acknowledgment as a block. It is made where it stands, for speed: it asks for no memory of its own.
+/// Appends an acknowledgment as a block. It is written into the replies themselves, for speed: it requests no memory
+/// of its own.
 fn append_block(
     bytes: &mut Vec<u8>,
     header: &Header,
@@ -54,7 +55,7 @@ fn append_block(
 }
 
 impl Replies {
-    /// With none made yet.
+    /// Replies of which none is made yet.
     pub fn new(alloc: Global) -> Self
         ensures made { result.made ≡ 0 }
         ensures bytes { result.bytes.items ≡ [] }

@@ -27,7 +27,7 @@ use std::sync::{Arc, Wait};
 /// How many entries lie between two looks at how full the book is, for the log.
 const FILL_STEP: usize = 16;
 
-/// A desk of a shared book, as the place where messages are booked. Each call takes the book's lock for a moment.
+/// A desk of a shared book, at which messages are booked. Each call takes the book's lock for a moment.
 #[derive(Drop)]
 pub struct AtDesk<'a, A: Opening, T: Ledger, U: Ledger, S: RowStore<Addressed<Letter>>, H> {
     pub rt: &'a H,
@@ -84,7 +84,7 @@ impl<'a, A: Opening, T: Ledger, U: Ledger, S: RowStore<Addressed<Letter>>, H: Wa
 }
 
 /// Serves a connection to its reader's end, or to a fault, or for [`TURNS_MAX`] reads or events, as connection `conn` of a
-/// channel given by its place in the plan: each message is booked at the desk and acknowledged as its header asks
+/// channel given by its index in the plan: each message is booked at the desk and acknowledged as its header requests
 /// (HL7 v2.5.1, 2.9.2 and 2.9.3). The lock of the book is held neither while a message is judged, nor while the reader or
 /// the writer waits. The moments of the replies are the clock's.
 pub fn serve<
@@ -109,14 +109,14 @@ pub fn serve<
 ) -> ServeReport
     requires channel { channel < A.channels }
 
-    // The messages read, what was told of them, and what was written.
+    // The messages read, their answers, and what was written.
     ensures served { Serves conn channel (R.remaining reader.old.inner) (R.remaining reader.new.inner)
         (W.contents writer.old.inner) (W.contents writer.new.inner) result.receipts.items result }
 
     // The receipts are as many as the arrivals that the desk counted.
     ensures counted { desk.new ≡ desk.old + vec_len result.receipts }
 
-    // A fault is told where the device failed.
+    // A fault is reported only where the device failed.
     ensures read_fault { result.end ≡ ServeEnd.ReadFault → Rose reader.old.faults reader.new.faults }
     ensures write_fault { result.end ≡ ServeEnd.WriteFault → Rose writer.old.faults writer.new.faults }
 

@@ -1,4 +1,4 @@
-//! What tells the moment at which a message is answered, and those that deliveries go by.
+//! Clocks: the moment at which a message is answered, and those that deliveries go by.
 
 ghost use Rattle.std.specs.Prelude.{◌≡◌, ◌≤◌, ◌+◌, ◌/◌, min, Some};
 ghost use Rattle.std.specs.Duration.{as_nanos};
@@ -11,7 +11,7 @@ use std::time::{Duration, SystemTime, UNIX_EPOCH};
 /// The nanoseconds that are one less than a second.
 const ALMOST_A_SECOND: u64 = 999_999_999;
 
-/// What tells the moment at which a message is answered, and those that deliveries go by.
+/// A clock: it gives the moment at which a message is answered, and those that deliveries go by.
 pub trait Clock {
     /// The moment at which a message is answered.
     fn now(&mut self) -> Moment;
@@ -35,7 +35,7 @@ pub fn nearest(seconds: u64) -> Moment
     Moment::of_unix(seconds.min(LAST_MOMENT) as i64).unwrap()
 }
 
-/// A clock that stands still.
+/// A clock whose moment never changes.
 #[derive(Clone, Copy)]
 pub struct Still(pub Moment);
 
@@ -48,8 +48,8 @@ impl Clock for Still {
     }
 }
 
-/// The system's clock. Where it can't be read, or tells a time before the year 1970, the first moment is told; where it
-/// tells a time after the last moment, the last.
+/// The system's clock. Where it can't be read, or gives a time before the year 1970, it is the first moment; where it
+/// gives a time after the last moment, the last.
 #[derive(Clone, Copy)]
 pub struct Running<'a, C: time::Clock>(pub &'a C);
 
@@ -89,7 +89,7 @@ fn rounded_up(time: Duration) -> Moment
     )
 }
 
-/// A clock for workers. Messages are answered by the system's clock, as [`Running`] tells it. Deliveries go by a time that
+/// A clock for workers. Messages are answered by the system's clock, as [`Running`] gives it. Deliveries go by a time that
 /// was the system clock's when this clock was made, and goes on with the monotonic clock: it goes neither back nor ahead
 /// where the system's clock is set.
 #[derive(Clone, Copy)]
@@ -99,7 +99,7 @@ pub struct Steady<'a, C: time::Clock> {
     began: Duration,
     /// The time of the monotonic clock then, where it could be read.
     zero: Option<Duration>,
-    /// The time since 1970 that was told last.
+    /// The time since 1970 that was returned last.
     last: Duration,
 }
 
@@ -127,7 +127,7 @@ impl<'a, C: time::Clock> Steady<'a, C> {
         }
     }
 
-    /// The time since 1970 that deliveries go by, never before one that was told.
+    /// The time since 1970 that deliveries go by, never before one that was returned.
     fn time(&mut self) -> Duration
         ensures { as_nanos self.old.last ≤ as_nanos result }
     {

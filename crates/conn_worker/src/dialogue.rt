@@ -14,7 +14,7 @@ use hl7_head::Moment;
 use mllp_frame::{FrameEvent, Framer};
 use std::alloc::{AllocError, Global};
 
-/// What came of a connection's events so far, and the replies to them.
+/// What became of a connection's events so far, and the replies to them.
 #[derive(Drop)]
 pub struct Dialogue<K> {
     pub report: ServeReport<K>,
@@ -24,7 +24,7 @@ pub struct Dialogue<K> {
 }
 
 impl<K: Keeping> Dialogue<K> {
-    /// With nothing read yet.
+    /// The dialogue of a connection of which nothing is read yet.
     pub fn new(alloc: Global) -> Self
         ensures receipts { K.has result.report.receipts [] }
         ensures unreadable_ones { result.report.unreadable ≡ 0 }
@@ -104,7 +104,12 @@ impl<K: Keeping> Dialogue<K> {
         }
     }
 
-    /// Handles all events to come, up to so many over the whole connection.
+    /// Handles all events to come, up to `events_max` over the whole connection.
+    ///
+    /// # Errors
+    ///
+    /// Why handling stopped: `TurnBound` only where `events_max` events were handled, `NoMemory` where
+    /// memory is refused. The events before that are handled, and some replies may be missing.
     pub fn answer_events<B: Booking, C: Clock>(
         &mut self,
         line: &Line,

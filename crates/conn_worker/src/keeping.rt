@@ -14,7 +14,7 @@ pub trait Keeping {
     /// There is room for one more.
     ghost has_room: { Self → Type 0 };
 
-    /// With none handed in yet.
+    /// A value to which no receipt was handed in yet.
     fn new(alloc: Global) -> Self
         ensures { has result [] };
 
@@ -29,7 +29,7 @@ pub trait Keeping {
         ensures { (receipts : List Receipt) → has self.old receipts → has self.new (receipts ++ receipt ∷ []) };
 }
 
-/// All receipts are kept, as an audit wants them.
+/// All receipts are kept, as an audit requires them.
 impl Keeping for Vec<Receipt> {
     ghost use Rattle.std.specs.Prelude.{◌≡◌, ◌<◌, vec_len, vec_capacity};
 

@@ -1,4 +1,4 @@
-//! The lines of the log about what came by a connection. None has data of a message but its control id.
+//! The lines of the log about what was received over a connection. None has data of a message but its control id.
 
 use book_core::{NotBooked, Receipt};
 use book_lock::Gauge;
@@ -112,7 +112,7 @@ fn has_line_feed(raw: &[u8]) -> bool {
     }
 }
 
-/// Logs what an operator has to know of a message that came: that it was refused, repeated or not booked, or that its
+/// Logs what an operator has to know of a message received: that it was refused, repeated or not booked, or that its
 /// segments end with line feeds.
 pub fn log_arrival<H: Log>(
     rt: &H,

@@ -1,4 +1,4 @@
-//! What serving a connection comes to.
+//! The report of serving a connection.
 
 ghost use Rattle.std.specs.Prelude.{◌≡◌, ◌+◌, ◌<◌, ◌++◌, [], List};
 ghost use Rattle.book_core.specs.declared.receipt.Receipt.{Receipt};
@@ -21,7 +21,7 @@ pub enum ServeEnd {
     WriteFault,
     /// Memory was refused for the stream, for a receipt, in judging a message or in making a reply.
     NoMemory,
-    /// As many reads were made, or as many events came, as one connection may have.
+    /// As many reads were made, or as many events read, as one connection may have.
     TurnBound,
 }
 
@@ -36,24 +36,24 @@ impl From<AllocError> for ServeEnd {
     }
 }
 
-/// What came of a connection's events, and why serving it ended.
+/// What became of a connection's events, and why serving it ended.
 #[derive(Drop)]
 pub struct ServeReport<K = Vec<Receipt>> {
-    /// What is kept of the receipts of the booked messages, in the order in which they came.
+    /// What is kept of the receipts of the booked messages, in the order in which they were received.
     pub receipts: K,
     /// How many blocks were no message.
     pub unreadable: u64,
-    /// How many were acknowledgments, which ask for no answer.
+    /// How many were acknowledgments, which request no answer.
     pub strays: u64,
     /// How many blocks were broken.
     pub breaks: u64,
-    /// How many messages couldn't be booked. Their senders were told so.
+    /// How many messages couldn't be booked. They were acknowledged as errors, where an acknowledgment was due.
     pub unbooked: u64,
     pub end: ServeEnd,
 }
 
 impl<K: Keeping> ServeReport<K> {
-    /// Of no event yet; where nothing else ends it, memory was refused.
+    /// The report of no event yet; where nothing else ends it, memory was refused.
     pub fn new(alloc: Global) -> Self
         ensures receipts { K.has result.receipts [] }
         ensures unreadable_ones { result.unreadable ≡ 0 }

@@ -17,7 +17,7 @@ use mllp_frame::{Framer, longer_streams};
 use std::alloc::{AllocError, Global};
 use std::io::{Read, Write};
 
-/// The most bytes that one read asks for. Each connection that is served keeps room for as many, so that 9,999 of them that
+/// The most bytes that one read requests. Each connection that is served keeps room for as many, so that 9,999 of them that
 /// are idle take 160 MB.
 const PIECE: usize = 16_384;
 
@@ -35,7 +35,7 @@ pub struct Session<K> {
 }
 
 impl<K: Keeping> Session<K> {
-    /// With nothing read yet.
+    /// The session of a connection of which nothing is read yet.
     fn new(alloc: Global, bound: u64) -> Result<Self, AllocError>
         requires { bound ≤ TURNS_MAX }
         ensures ready { IfOk result (λ s. IsReady s) }
@@ -101,7 +101,7 @@ impl<K: Keeping> Session<K> {
         answered
     }
 
-    /// Serves piece after piece, and gives why it ended.
+    /// Serves piece after piece, and returns why it ended.
     fn serve_pieces<B: Booking, R: Read, W: Write, C: Clock>(
         &mut self,
         line: &Line,
@@ -129,8 +129,8 @@ impl<K: Keeping> Session<K> {
     }
 }
 
-/// Serves a connection to its reader's end, or to a fault, or to so many reads or events: each message is booked and
-/// acknowledged as its header asks (HL7 v2.5.1, 2.9.2 and 2.9.3). The replies to a piece are written and flushed before
+/// Serves a connection to its reader's end, or to a fault, or to `bound` reads or events: each message is booked and
+/// acknowledged as its header requests (HL7 v2.5.1, 2.9.2 and 2.9.3). The replies to a piece are written and flushed before
 /// the next read waits. The moments of the replies are the clock's.
 pub fn serve_within<B: Booking, K: Keeping, R: Read, W: Write, C: Clock>(
     line: &Line,
@@ -143,12 +143,12 @@ pub fn serve_within<B: Booking, K: Keeping, R: Read, W: Write, C: Clock>(
     requires channel { line.now.channel < B.channels book.old }
     requires bound { bound ≤ 1_000_000_000 }
 
-    // The messages read, what was told of them, and what was written. The receipts that were handed in are those of the
+    // The messages read, their answers, and what was written. The receipts that were handed in are those of the
     // messages that were booked here.
     ensures served { ServesAndBooks (B.books book.old book.new) K.has line.now.conn line.now.channel
         (R.remaining reader.old.inner) (R.remaining reader.new.inner) (W.contents writer.old.inner) (W.contents writer.new.inner) result }
 
-    // A fault is told where the device failed.
+    // A fault is reported only where the device failed.
     ensures read_fault { result.end ≡ ServeEnd.ReadFault → Rose reader.old.faults reader.new.faults }
     ensures write_fault { result.end ≡ ServeEnd.WriteFault → Rose writer.old.faults writer.new.faults }
 

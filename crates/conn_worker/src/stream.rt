@@ -20,7 +20,11 @@ fn take_turn(turns: &mut u64) -> Result<(), ServeEnd>
     Ok(())
 }
 
-/// Reads the next piece, and gives its length. An interrupted read is made again; each read takes a turn.
+/// Reads the next piece, and returns its length. An interrupted read is made again; each read takes a turn.
+///
+/// # Errors
+///
+/// `End` at the reader's end, `ReadFault` where the reader failed, `TurnBound` where no turn is left.
 pub fn read_piece<R: Read>(
     reader: &mut Counted<R>,
     buffer: &mut [u8],
@@ -101,6 +105,10 @@ fn flush<W: Write>(writer: &mut Counted<W>, turns: &mut u64) -> Result<(), Serve
 }
 
 /// Writes replies and flushes them, where there are any.
+///
+/// # Errors
+///
+/// `WriteFault` where the writer failed, `TurnBound` where no turn is left. The first bytes may be written.
 pub fn write_out<W: Write>(
     writer: &mut Counted<W>,
     replies: &[u8],

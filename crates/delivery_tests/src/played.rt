@@ -181,14 +181,14 @@ impl Link for Played<'_> {
     }
 }
 
-/// A halt after so many looks.
+/// A halt after a number of looks.
 #[derive(Drop)]
 pub struct Looks {
     left: Cell<u32>,
 }
 
 impl Looks {
-    /// With so many looks before it is halted.
+    /// A halt with this many looks before it.
     pub fn new(looks: u32) -> Looks {
         Looks {
             left: Cell::new(looks),
@@ -204,7 +204,7 @@ impl Halt for Looks {
     }
 }
 
-/// A clock that leaps by so many seconds at each look.
+/// A clock that leaps by a number of seconds at each look.
 #[derive(Drop)]
 pub struct Leaping {
     pub seconds: u64,

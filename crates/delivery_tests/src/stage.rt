@@ -62,7 +62,7 @@ fn empty_book<S: RowStore<Addressed<Letter>>>(rt: &HostRuntime) -> Option<Book<S
     Some(Book::new(alloc, plan, EVENTS_MAX, hasher))
 }
 
-/// Books messages that came by connection 0. None where memory was refused.
+/// Books messages received over connection 0. None where memory was refused.
 fn fill<S: RowStore<Addressed<Letter>>>(
     alloc: Global,
     book: &mut Book<S>,
@@ -75,7 +75,7 @@ fn fill<S: RowStore<Addressed<Letter>>>(
     Some(())
 }
 
-/// A book of the built-in plan in which so many messages wait, at most two. None where memory was refused.
+/// A book of the built-in plan in which messages wait, at most two. None where memory was refused.
 pub fn waiting<S: RowStore<Addressed<Letter>> + Drop>(
     rt: &HostRuntime,
     messages: usize,
@@ -88,13 +88,13 @@ pub fn waiting<S: RowStore<Addressed<Letter>> + Drop>(
 /// How long it is delivered.
 #[derive(Clone, Copy)]
 pub enum Course {
-    /// For so many turns at most.
+    /// For this many turns at most.
     Turns(u64),
-    /// Until it is halted, after so many looks.
+    /// Until it is halted, after this many looks.
     Looks(u32),
 }
 
-/// What came of delivering, and the book after it.
+/// The result of delivering, and the book after it.
 #[derive(Drop)]
 pub struct Delivered<S: RowStore<Addressed<Letter>>> {
     pub report: DeliverReport,

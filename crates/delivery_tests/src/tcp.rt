@@ -9,7 +9,7 @@ use std::net::{TcpListener, TcpStream};
 use std::test::Fail;
 use std::time::{Clock, Duration};
 
-/// A plan whose one destination is at this port, with a timeout of so many seconds and an interval of a minute.
+/// A plan whose one destination is at this port, with a timeout in seconds and an interval of a minute.
 fn plan_for(alloc: Global, port: u16, timeout: u32) -> Result<Plan, Fail> {
     let text = format!(in alloc;
         "[[destination]]\nname = \"LAB\"\naddress = \"127.0.0.1:{port}\"\ntimeout = {timeout}\ninterval = 60\n[[channel]]\nname = \"ADT\"\nlisten = \"127.0.0.1:6660\"\ntypes = [\"ADT\"]\nprocessing = [\"P\"]\nversions = [\"2.5.1\"]\n[[channel.route]]\nto = \"LAB\"\n"
@@ -125,7 +125,7 @@ fn readied(rt: HostRuntime) -> Result<(), Fail> {
     Ok(())
 }
 
-/// A way that is halted after so many looks.
+/// A way that is halted after a number of looks.
 #[derive(Drop)]
 struct Halting<'a> {
     destination: &'a Destination,

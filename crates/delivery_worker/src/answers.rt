@@ -20,7 +20,7 @@ pub enum Reply {
     Code(Option<AckCode>),
 }
 
-/// What an acknowledgment code, MSA-1, comes to (table 0008).
+/// The outcome that an acknowledgment code, MSA-1, means (table 0008).
 fn code_outcome(code: &[u8]) -> Outcome
     ensures { result ≡ code_outcome code.now }
 {
@@ -45,9 +45,9 @@ fn acknowledgment<'a>(control_id: &[u8], answers: &'a [Option<Msa>]) -> Option<&
     None
 }
 
-/// What the answers after a send come to for the message with this raw control id, MSH-10: the first acknowledgment whose
+/// What the answers after a send mean for the message with this raw control id, MSH-10: the first acknowledgment whose
 /// MSA-2 is that id decides, and without one the message is sent again. Only the first [`MAX_ANSWERS`] answers are looked
-/// at; `None` stands for one that can't be read or has no MSA.
+/// at; `None` is one that can't be read or has no MSA.
 pub fn outcome_of(control_id: &[u8], answers: &[Option<Msa>]) -> Outcome
     ensures { result ≡ outcome_of control_id.now answers.now }
 {

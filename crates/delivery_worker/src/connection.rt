@@ -23,22 +23,23 @@ use hl7_head::Msa;
 use mllp_frame::{END_BLOCK, FrameEvent, Framer, START_BLOCK, longer_streams, write_block};
 use std::alloc::{AllocError, Global};
 
-/// The most bytes that one receive asks for.
+/// The most bytes that one receive requests.
 const PIECE: usize = 4_096;
 
 /// A connection can't be used any more.
 #[derive(Clone, Copy)]
 enum Lost {
-    /// Its peer had ended it before a byte of an answer came.
+    /// Its peer had ended it before a byte of an answer was received.
     Unanswered,
-    /// The link failed otherwise, its input is at its end, too much came with no answer in it, or memory was refused.
+    /// The link failed otherwise, its input is at its end, too much was received with no answer in it, or memory was
+    /// refused.
     Failed,
 }
 
-/// Of a connection nothing came any more, since its peer had ended it.
+/// Nothing was received over a connection any more, since its peer had ended it.
 #[derive(Clone, Copy)]
 struct Unanswered {
-    /// How often bytes were asked for after the send: once, where it went well.
+    /// How many receives were made after the send: one, where it went well.
     receives: u32,
 }
 
@@ -56,7 +57,7 @@ fn lost_by<L: Link>(link: &L) -> Lost {
 #[derive(Drop)]
 pub struct Connection {
     alloc: Global,
-    /// What came by the open connection; none while there is none.
+    /// What was received over the open connection; none while there is none.
     framer: Option<Framer>,
     /// What the answers to the last sending said.
     reply: Reply,
@@ -92,7 +93,7 @@ fn decides(control_id: &[u8], answer: &Option<Msa>) -> bool
         .is_some_and(|msa| msa.control_id.as_slice() == control_id)
 }
 
-/// Reads the answers that have come, up to the one that decides and up to the ninth, and tells whether that was reached.
+/// Reads the answers received so far, up to the one that decides and up to the ninth, and returns whether that was reached.
 fn take_answers(
     alloc: Global,
     framer: &mut Framer,
@@ -145,7 +146,7 @@ fn receive_piece<L: Link>(link: &mut L, framer: &mut Framer, buffer: &mut [u8]) 
     }
 }
 
-/// Receives until the answers decide, or nine blocks have come, in so many receives at most.
+/// Receives until the answers decide, or nine blocks were received, in `limit` receives at most.
 fn receive_answers<L: Link>(
     alloc: Global,
     link: &mut L,
@@ -205,7 +206,7 @@ fn send_block<L: Link>(alloc: Global, link: &mut L, payload: &[u8]) -> Result<()
 }
 
 impl Connection {
-    /// With no connection open.
+    /// A link's connection that is not open yet.
     pub fn new(alloc: Global) -> Self
         ensures { result.framer ≡ None }
     {
@@ -244,11 +245,11 @@ impl Connection {
     }
 
     /// Sends a message over the open connection, whose framer this is, and reads the answers where the destination
-    /// acknowledges, in so many receives at most. The framer is put back where the connection can still be used.
+    /// acknowledges, in `limit` receives at most. The framer is put back where the connection can still be used.
     ///
     /// # Errors
     ///
-    /// Where the connection had been ended, and nothing came of it after the message.
+    /// Where the connection had been ended, and nothing was received over it after the message.
     fn exchange<L: Link>(
         &mut self,
         link: &mut L,
@@ -265,7 +266,7 @@ impl Connection {
             × IsOf s.sending job.now.control_id job.now.payload job.now.ack) }
         ensures unanswered { OnErr result (Keeps (L.received link.old) (L.received link.new) × (self.new.framer ≡ None)) }
 
-        // Where the text was sent, bytes were asked for once.
+        // Where the text was sent, one receive was made.
         ensures asked { IfErr result (λ lost. (lost.receives ≤ 1) × CallsMore (L.receives link.old) (L.receives link.new) lost.receives) }
         ensures listened { IfErr result (λ lost. Keeps (L.sent link.old) (L.sent link.new) ⊎ (lost.receives ≡ 1)) }
         ensures receives { CallsUpTo (L.receives link.old) (L.receives link.new) limit }
@@ -302,7 +303,7 @@ impl Connection {
     ///
     /// # Errors
     ///
-    /// Where it is not, or was ended before a byte came.
+    /// Where it is not, or was ended before a byte was received.
     fn exchange_kept<L: Link>(&mut self, link: &mut L, job: &Job) -> Result<Outcome, Unanswered>
         ensures ok { IfOk result (λ o.
             (s : Sends self.old.framer self.new.framer (L.sent link.old) (L.sent link.new) (L.received link.old) (L.received link.new) o)
@@ -345,9 +346,10 @@ impl Connection {
         }
     }
 
-    /// Sends a message, and reads the answers where the destination acknowledges. Where the connection that was kept has
-    /// ended before a byte of an answer came, the message is sent over a new one, in the same attempt. After a fault of the
-    /// link, the end of its input, too many receives or want of memory the next attempt connects anew.
+    /// Sends a message, and reads the answers where the destination acknowledges. Where the connection that was kept
+    /// has ended before a byte of an answer was received, the message is sent over a new one, in the same attempt.
+    /// After a fault of the link, the end of its input, too many receives or a refusal for memory the next attempt
+    /// connects anew.
     pub fn attempt<L: Link>(&mut self, link: &mut L, job: &Job) -> Outcome
         ensures tries { (t : Tries self.old.framer self.new.framer (L.sent link.old) (L.sent link.new) (L.received link.old) (L.received link.new) result)
             × IsOf t.attempt.last job.now.control_id job.now.payload job.now.ack }

@@ -1,4 +1,4 @@
-//! Deliveries: sending the messages of a destination's queue, and what its answers come to.
+//! Deliveries: sending the messages of a destination's queue, and what its answers mean.
 #![tactic(auto)]
 
 mod answers;

@@ -10,7 +10,7 @@ use thiserror::Error;
 #[error("the link failed")]
 pub struct LinkFault;
 
-/// A link to a destination, over which blocks are sent and answers come back (MLLP Release 1).
+/// A link to a destination, over which blocks are sent and answers received (MLLP Release 1).
 pub trait Link {
     ghost use Rattle.std.specs.Prelude.{◌≡◌, ◌≤◌, ◌⊎◌, ℕ, List, Option, None, true, length, take, IfOk, OnOk, OnErr};
     ghost use Rattle.std.specs.Result.{is_err};
@@ -21,16 +21,16 @@ pub trait Link {
     /// How many calls failed so far. The number stays at its greatest value.
     ghost fault_count: { Self → ℕ };
 
-    /// The bytes of all sends that succeeded, one behind the other, where the link tells them.
+    /// The bytes of all sends that succeeded, one behind the other, where the link records them.
     ghost sent: { Self → Option (List ℕ) } = { λ _. None };
 
-    /// The bytes that were received, over all connections, one behind the other, where the link tells them.
+    /// The bytes that were received, over all connections, one behind the other, where the link records them.
     ghost received: { Self → Option (List ℕ) } = { λ _. None };
 
-    /// How many times bytes were asked for, over all connections, where the link tells it.
+    /// How many receives were made, over all connections, where the link counts them.
     ghost receives: { Self → Option ℕ } = { λ _. None };
 
-    /// Begins an attempt: what is asked of the link until the next call of this is to come to an end in time.
+    /// Begins an attempt: the calls of the link until the next call of this have to end in time.
     fn begin(&mut self)
         ensures faults { fault_count self.new ≡ fault_count self.old }
         ensures sent { Keeps (sent self.old) (sent self.new) }
@@ -58,8 +58,8 @@ pub trait Link {
         true
     }
 
-    /// Is told what an attempt came to, once it is settled: what the answers said, the outcome, and the state of the message
-    /// at its destination, none where the settlement was refused.
+    /// Is called with the outcome of an attempt, once it is settled: what the answers said, the outcome, and the
+    /// state of the message at its destination, none where the settlement was refused.
     fn settled(&mut self, _job: &Job, _reply: Reply, _outcome: Outcome, _state: Option<SlotState>)
         ensures faults { fault_count self.new ≡ fault_count self.old }
         ensures sent { Keeps (sent self.old) (sent self.new) }
@@ -122,8 +122,8 @@ pub trait Link {
         ensures received { Keeps (received self.old) (received self.new) }
         ensures receives { CallsMore (receives self.old) (receives self.new) 0 };
 
-    /// Waits for the next bytes, puts them to the front of the buffer, and answers how many they are: none at the end of
-    /// the input.
+    /// Waits for the next bytes, writes them at the beginning of the buffer, and returns how many they are: none at
+    /// the end of the input.
     ///
     /// # Errors
     ///

@@ -1,4 +1,4 @@
-//! What delivering comes to.
+//! The report of delivering.
 
 ghost use Rattle.std.specs.Prelude.{◌≡◌, ◌+◌, ◌≤◌, ◌^◌, ◌<◌};
 ghost use Rattle.delivery_worker.specs.Delivering.{counted, no_attempts};
@@ -16,7 +16,7 @@ pub enum DeliverEnd {
     Halted,
 }
 
-/// What came of the attempts to deliver messages, and why delivering ended.
+/// The outcomes of the attempts to deliver messages, and why delivering ended.
 #[derive(Clone, Copy, Debug, PartialEq, Eq)]
 pub struct DeliverReport {
     /// How many attempts were made.
@@ -31,7 +31,7 @@ pub struct DeliverReport {
 }
 
 impl DeliverReport {
-    /// Of no attempt yet; where nothing else ends it, the turns are spent.
+    /// The report of no attempt yet; where nothing else ends it, the turns are spent.
     pub fn new() -> Self
         ensures { result ≡ no_attempts }
     {
@@ -44,7 +44,7 @@ impl DeliverReport {
         }
     }
 
-    /// Counts an attempt by what it came to.
+    /// Counts an attempt by its outcome.
     pub fn count(&mut self, outcome: Outcome)
         requires sum { self.old.taken ≡ self.old.delivered + self.old.again + self.old.rejected }
         requires room { self.old.taken + 1 < 2 ^ 64 }

@@ -1,4 +1,4 @@
-//! What can be asked of a socket without waiting for it, or for so long.
+//! Calls on a socket that don't wait for it, or wait for a limited time.
 
 use libc::net as c;
 use libc::types::pollfd;

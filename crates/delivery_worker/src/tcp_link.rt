@@ -52,7 +52,7 @@ const SLICE: u64 = 250;
 /// How many such waits there may be for one read.
 const SLICES_MAX: u32 = 100_000;
 
-/// What a link was asked for.
+/// The calls of a link.
 #[derive(Clone, Copy)]
 enum Call {
     /// To connect while no attempt is under way.
@@ -62,7 +62,7 @@ enum Call {
     Receive,
 }
 
-/// What the log was told last of a link's connection.
+/// What was logged last of a link's connection.
 #[derive(Clone, Copy, PartialEq, Eq)]
 enum Told {
     Nothing,
@@ -313,7 +313,7 @@ impl<'a, R: Net<Stream = TcpStream> + Log + Clock, W: Way> TcpLink<'a, R, W> {
         Ok(stream)
     }
 
-    /// Writes bytes. Where answers are not awaited, what comes meanwhile is dropped.
+    /// Writes bytes. Where answers are not awaited, what is received meanwhile is dropped.
     fn write(&mut self, bytes: &[u8]) -> io::Result<()>
         ensures { self.new ≡ self.old }
     {
@@ -348,7 +348,7 @@ impl<'a, R: Net<Stream = TcpStream> + Log + Clock, W: Way> TcpLink<'a, R, W> {
     }
 
     /// What is left of the limit on a write that made no progress for a slice of it. Where answers are not awaited, it waits
-    /// until there is room for what is to be sent, and drops what came; else the write itself has waited.
+    /// until there is room for what is to be sent, and drops what was received; else the write itself has waited.
     fn wait_to_write(&mut self, limit: Duration) -> io::Result<Duration>
         ensures { self.new ≡ self.old }
     {
@@ -364,8 +364,8 @@ impl<'a, R: Net<Stream = TcpStream> + Log + Clock, W: Way> TcpLink<'a, R, W> {
         Ok(left)
     }
 
-    /// Waits until there is room for what is to be sent, for a slice of the limit at most, and drops what came. How long that
-    /// lasted.
+    /// Waits until there is room for what is to be sent, for a slice of the limit at most, and drops what was
+    /// received. How long that lasted.
     fn wait_and_drop(&mut self, limit: Duration) -> io::Result<Duration>
         ensures { self.new ≡ self.old }
     {
@@ -415,7 +415,7 @@ impl<'a, R: Net<Stream = TcpStream> + Log + Clock, W: Way> TcpLink<'a, R, W> {
         read(stream, buffer)
     }
 
-    /// Shuts the sending side, and drops what comes up to the end, for at most the timeout and ten seconds.
+    /// Shuts the sending side, and drops what is received up to the end, for at most the timeout and ten seconds.
     fn end_in_order(&self, stream: &mut TcpStream) -> io::Result<()> {
         stream.shutdown(Shutdown::Write)?;
         let longest = self.timeout().min(Duration::from_secs(END_SECONDS_MAX));

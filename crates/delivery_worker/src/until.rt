@@ -128,11 +128,11 @@ fn turn_afresh<
     deliver_afresh(rt, shared, station, connection, link, d, clock)
 }
 
-/// Delivers the messages of queue `d`, one after another, over one link, until that is halted: each that is due is taken,
-/// sent as a block, and settled by what the destination answers (HL7 v2.5.1, 2.9.2 and 2.9.3). A message is taken only once
-/// its connection is ready, so a destination that can't be reached costs no attempt. No answer is read but one that came
-/// after the connection was readied for the attempt. Where nothing can be sent, the worker waits for a change at the queue,
-/// or a short while, and then flushes the log.
+/// Delivers the messages of queue `d`, one after another, over one link, until that is halted: each that is due is
+/// taken, sent as a block, and settled by what the destination answers (HL7 v2.5.1, 2.9.2 and 2.9.3). A message is
+/// taken only once its connection is ready, so a destination that can't be reached costs no attempt. No answer is
+/// read but one that was received after the connection was readied for the attempt. Where nothing can be sent, the
+/// worker waits for a change at the queue, or a short while, and then flushes the log.
 ///
 /// It ends where it is halted, or where no arrival will follow and the queue is empty.
 pub fn deliver_until<
@@ -158,11 +158,11 @@ pub fn deliver_until<
     ensures taken { station.new.takes ≡ station.old.takes + result.taken }
     ensures settled { (station.old.settlements ≤ station.new.settlements) × (station.new.settlements ≤ station.old.settlements + result.taken) }
 
-    // Each attempt is counted by what it came to: where it was sent, by the answers that were received in the attempt itself.
+    // Each attempt is counted by its outcome: where it was sent, by the answers that were received in the attempt itself.
     ensures sum { result.taken ≡ result.delivered + result.again + result.rejected }
     ensures attempts { DeliversAfresh (L.sent link.old) (L.sent link.new) (L.received link.old) (L.received link.new) result }
 
-    // An attempt asks for bytes 1,000,000 times at most.
+    // An attempt makes 1,000,000 receives at most.
     ensures receives { CallsUpTo (L.receives link.old) (L.receives link.new) (RECEIVES_MAX * result.taken) }
 {
     let mut connection = Connection::new(alloc);

@@ -23,7 +23,7 @@ pub trait Way {
         false
     }
 
-    /// Is called with what an attempt came to, once it is settled.
+    /// Is called with the outcome of an attempt, once it is settled.
     fn note(&mut self, _outcome: Outcome) {}
 }
 

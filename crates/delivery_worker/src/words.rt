@@ -11,9 +11,9 @@ pub enum Cause {
     NoConnection(io::Error),
     /// The system has no local port left for a connection.
     NoPort,
-    /// Nothing came for so many seconds.
+    /// Nothing was received for this many seconds.
     NoAnswer(u32),
-    /// Nothing could be sent for so many seconds.
+    /// Nothing could be sent for this many seconds.
     NoProgress(u32),
     /// The destination closed the connection.
     Closed,

@@ -20,8 +20,8 @@ use std::sync::Wait;
 use std::sync::ledger::Ledger;
 use std::time;
 
-/// Takes the message at the front of a queue, makes one attempt to deliver it, and settles the attempt, whatever came of
-/// it. The lock is held for the take and for the settlement, and not in between.
+/// Takes the message at the front of a queue, makes one attempt to deliver it, and settles the attempt, whatever its
+/// outcome. The lock is held for the take and for the settlement, and not in between.
 pub fn take_turn<
     H: Wait,
     A: Opening,
@@ -66,7 +66,7 @@ pub fn take_turn<
 /// settled by what the destination answers (HL7 v2.5.1, 2.9.2 and 2.9.3). A turn is one call of `take`, answered or
 /// refused; where nothing is due, the worker waits for a change at the queue, or a short while, and then flushes the log.
 ///
-/// It ends where no arrival will follow and the queue is empty, or after so many turns.
+/// It ends where no arrival will follow and the queue is empty, or after `turns` turns.
 pub fn deliver<
     H: Wait + time::Clock + Log,
     A: Opening,
@@ -90,11 +90,11 @@ pub fn deliver<
     ensures settled { (station.old.settlements ≤ station.new.settlements) × (station.new.settlements ≤ station.old.settlements + result.taken) }
     ensures turns { result.taken ≤ turns }
 
-    // Each attempt is counted by what it came to: where it was sent, by the answers that were read next of its connection.
+    // Each attempt is counted by its outcome: where it was sent, by the answers that were read next of its connection.
     ensures sum { result.taken ≡ result.delivered + result.again + result.rejected }
     ensures attempts { Delivers (L.sent link.old) (L.sent link.new) (L.received link.old) (L.received link.new) result }
 
-    // An attempt asks for bytes 1,000,000 times at most.
+    // An attempt makes 1,000,000 receives at most.
     ensures receives { CallsUpTo (L.receives link.old) (L.receives link.new) (RECEIVES_MAX * result.taken) }
 {
     let mut connection = Connection::new(alloc);

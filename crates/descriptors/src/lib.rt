@@ -35,7 +35,7 @@ where
     Ok(())
 }
 
-/// How many descriptors the process may have open at once. None where the system doesn't tell it.
+/// How many descriptors the process may have open at once. None where the system doesn't say.
 pub fn allowed() -> Option<u64> {
     let mut limit = rlimit {
         rlim_cur: 0,

@@ -28,7 +28,7 @@ pub enum FailCause {
 /// The state of a message at one of its destinations.
 #[derive(Clone, Copy, Debug, PartialEq, Eq)]
 pub enum SlotState {
-    /// It waits for its next attempt, after so many, and not before the moment `due`, in seconds since 1970.
+    /// It waits for its next attempt, after `attempts` of them, and not before the moment `due`, in seconds since 1970.
     Waiting { attempts: u32, due: u64 },
     /// It was taken, and this attempt is under way. Attempts count from 1.
     InFlight { attempt: u32 },
@@ -46,7 +46,7 @@ impl SlotState {
         matches!(self, SlotState::Waiting { .. })
     }
 
-    /// Whether it stands in the destination's queue: it waits or is in flight.
+    /// Whether it is in the destination's queue: it waits or is in flight.
     pub fn is_live(self) -> bool
         ensures { result ≡ is_live self }
     {
@@ -54,7 +54,7 @@ impl SlotState {
     }
 }
 
-/// What an attempt came to.
+/// The outcome of an attempt.
 #[derive(Clone, Copy, Debug, PartialEq, Eq)]
 pub enum Outcome {
     /// The destination has the message.

@@ -26,7 +26,7 @@ pub fn front_state<T, S: RowStore<Addressed<T>>>(rows: &mut S, d: u32) -> Option
     Some((number, state))
 }
 
-/// Takes the message at the front of queue d: answers its number and the attempt that begins, which is one more than
+/// Takes the message at the front of queue d: returns its number and the attempt that begins, which is one more than
 /// those before. The message stays at the front while the attempt is in flight.
 pub fn take_front<T, S: RowStore<Addressed<T>>>(rows: &mut S, d: u32) -> (u32, u32)
     requires { IsSomeAnd (front_state d (S.rows rows.old)) (λ front. WaitsBelow ATTEMPTS_MAX front.1) }
@@ -43,8 +43,8 @@ pub fn take_front<T, S: RowStore<Addressed<T>>>(rows: &mut S, d: u32) -> (u32, u
     }
 }
 
-/// Begins an attempt at d, for a caller who has found the front already: the slot there is in flight from then on, and
-/// the message stays where it stands in its queues.
+/// Begins an attempt at d, for a caller that has found the front already: the slot there is in flight from then on, and
+/// the message keeps its position in its queues.
 pub fn begin_attempt<T, S: RowStore<Addressed<T>>>(rows: &mut S, number: u32, d: u32, attempt: u32)
     ensures { S.rows rows.new ≡ changed_at number (put d (SlotState.InFlight attempt)) (S.rows rows.old) }
 {

@@ -45,7 +45,7 @@ impl SlotList {
         }
     }
 
-    /// With one more.
+    /// Adds a slot.
     fn add(&mut self, alloc: Global, slot: Slot) -> Result<(), AllocError>
         ensures ok { OnOk result (listed self.new ≡ listed self.old ++ slot ∷ []) }
         ensures err { OnErr result (listed self.new ≡ listed self.old) }
@@ -61,7 +61,7 @@ impl SlotList {
         Ok(())
     }
 
-    /// The same slots, held apart.
+    /// A copy of the slots.
     fn copy(&self) -> Result<SlotList, AllocError>
         ensures { IfOk result (λ list. listed list ≡ listed self.now) }
     {
@@ -128,6 +128,10 @@ impl Slots {
     }
 
     /// Adds a slot that waits at d for its first attempt.
+    ///
+    /// # Errors
+    ///
+    /// Where memory is refused; the slots are as they were.
     pub fn add(&mut self, d: u32) -> Result<(), AllocError>
         requires { d < QUEUES }
         ensures ok { OnOk result (self.new ≡ self.old ++ new_slot d ∷ []) }
@@ -150,7 +154,11 @@ impl Slots {
         self.list.as_slice()
     }
 
-    /// The same slots, held apart.
+    /// A copy of the slots.
+    ///
+    /// # Errors
+    ///
+    /// Where memory is refused.
     pub fn copy(&self) -> Result<Slots, AllocError>
         ensures { IfOk result (λ slots. slots ≡ self.now) }
     {
@@ -221,7 +229,7 @@ pub struct Addressed<T> {
     pub slots: Slots,
 }
 
-/// The laws of slots: slots told by a function from a message's destinations to states.
+/// The laws of slots: slots given by a function from a message's destinations to states.
 pub fn slot_rules()
     ensures state_at { (state : ℕ → SlotState) (ds : List ℕ) (d : ℕ) →
         state_at d (slots_by state ds) ≡ (if is_among d ds then Some (state d) else None) }

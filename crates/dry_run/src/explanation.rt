@@ -18,7 +18,7 @@ use std::alloc::{AllocError, Global};
 /// A step that can't be taken.
 #[derive(Clone, Copy, Debug, PartialEq, Eq)]
 pub struct Stopped {
-    /// Its place among the steps, from 0 on.
+    /// Its index among the steps, from 0 on.
     pub place: usize,
     /// Why it can't be taken.
     pub cause: StopCause,
@@ -27,7 +27,7 @@ pub struct Stopped {
 /// How a message fares on a route.
 #[derive(Clone, Copy, Debug, PartialEq, Eq)]
 pub struct Way {
-    /// The destination's place in the plan.
+    /// The destination's index in the plan.
     pub to: u32,
     /// Whether the route's filter is true of the message, or there is none.
     pub passes: bool,

@@ -27,7 +27,7 @@ fn add_shown(out: &mut Vec<u8>, byte: u8) -> Result<(), AllocError>
     out.extend_from_slice(&[b'\\', b'x', hex_digit(byte / 16), hex_digit(byte % 16)])
 }
 
-/// Appends a byte of a text: a new line in place of CR, and two blanks before the first byte of each line.
+/// Appends a byte of a text: a new line instead of CR, and two blanks before the first byte of each line.
 fn add_byte(out: &mut Vec<u8>, starts: bool, byte: u8) -> Result<(), AllocError>
     ensures { OnOk result (out.new.items ≡ out.old.items ++ byte_line starts byte) }
 {

@@ -133,7 +133,7 @@ fn add_explanation(
     Ok(())
 }
 
-/// Appends how a message fares in the channel at this place of the plan.
+/// Appends what becomes of a message in the channel with this index in the plan.
 fn add_ways(
     alloc: Global,
     out: &mut Vec<u8>,
@@ -151,7 +151,7 @@ fn add_ways(
     }
 }
 
-/// Whether the channel's filter, steps and routes are come to with this verdict.
+/// Whether the channel's filter, steps and routes are reached with this verdict.
 fn comes_to_routes(verdict: &Verdict) -> bool {
     matches!(
         verdict,
@@ -201,7 +201,7 @@ fn add_payloads(alloc: Global, out: &mut Vec<u8>, judged: &Judged) -> Result<(),
     Ok(())
 }
 
-/// What the sender is told of a verdict; nothing where it sent no message.
+/// What is acknowledged of a verdict; nothing where the text is no message.
 fn told_of(verdict: &Verdict) -> Option<Verdictum> {
     match verdict {
         Verdict::Unreadable | Verdict::Stray => None,
@@ -248,9 +248,9 @@ fn add_details(
     add(out, "\n")
 }
 
-/// Judges a text that came on a channel, at this moment, and appends its verdict, with its cause; whether each filter is true
-/// and which step can't be taken; the payload for each destination; and the acknowledgments. Whether the message could be
-/// read and is not refused.
+/// Judges a text that arrived on a channel, at this moment, and appends its verdict, with its cause; whether each
+/// filter is true and which step can't be taken; the payload for each destination; and the acknowledgments. Whether
+/// the message could be read and is not refused.
 ///
 /// # Errors
 ///

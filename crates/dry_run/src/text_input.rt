@@ -5,7 +5,7 @@ ghost use Rattle.dry_run.specs.Segments.{ended, segments};
 
 use std::alloc::{AllocError, Global};
 
-/// Appends a byte of a text, with CR in place of LF, and nothing in place of an LF that follows a CR.
+/// Appends a byte of a text, with CR instead of LF, and nothing in place of an LF that follows a CR.
 fn add_byte(out: &mut Vec<u8>, after_return: bool, byte: u8) -> Result<(), AllocError>
     ensures { OnOk result (out.new.items ≡ out.old.items ++ ended after_return byte) }
 {
@@ -16,7 +16,7 @@ fn add_byte(out: &mut Vec<u8>, after_return: bool, byte: u8) -> Result<(), Alloc
     }
 }
 
-/// The message that a text has, whose segments end by CR, LF or CR LF: the same text with CR at each of these places.
+/// The message that a text has, whose segments end by CR, LF or CR LF: the same text with CR as the end of each.
 ///
 /// # Errors
 ///

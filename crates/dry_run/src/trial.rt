@@ -38,14 +38,14 @@ impl From<AllocError> for TryFault {
     }
 }
 
-/// By what messages are tried: a plan, a channel of it by its place, and the moment of the acknowledgments.
+/// What messages are tried by: a plan, a channel of it by its index, and the moment of the acknowledgments.
 #[derive(Drop)]
 pub struct Trial {
-    /// What asks for memory.
+    /// What memory is requested from.
     pub alloc: Global,
     /// The plan.
     pub plan: Arc<Plan>,
-    /// The channel's place in the plan.
+    /// The channel's index in the plan.
     pub channel: u32,
     /// The moment in MSH-7 of the acknowledgments.
     pub moment: Moment,

@@ -1,5 +1,5 @@
 //! Keys as they are kept and as they are sought. For speed they are hashed by one write of all their bytes, where a list of
-//! bytes is hashed by a write of each; and for memory a short key stands in the index itself: 32 bytes, where a list of
+//! bytes is hashed by a write of each; and for memory a short key is kept in the index itself: 32 bytes, where a list of
 //! bytes takes 24 and a block of its own, of 32 bytes or more.
 
 ghost use Rattle.std.specs.Prelude.{◌≡◌, [], ◌∷◌};
@@ -12,13 +12,13 @@ use indexmap::Equivalent;
 use std::hash::{Hash, Hasher};
 use std::marker::Model;
 
-/// The most bytes of a key that stands in the index itself.
+/// The most bytes of a key that is kept in the index itself.
 const SHORT_MAX: usize = 30;
 
 /// The bytes of a key that is kept.
 #[derive(Drop)]
 enum Bytes {
-    /// The first of these bytes, so many.
+    /// A count, and the bytes, of which the first that many are the key.
     Short(u8, [u8; SHORT_MAX]),
     /// More than [`SHORT_MAX`] bytes.
     Long(Vec<u8>),

@@ -1,4 +1,4 @@
-//! The keys by which a repeated message is known, each with the place at which it was booked.
+//! The keys by which a repeated message is known, each with the history index at which it was booked.
 #![tactic(auto)]
 
 ghost use Rattle.std.specs.Prelude.{◌≡◌, ◌+◌, ◌<◌, ◌≤◌, ℕ, List, [], ◌∷◌, ◌++◌, Some, None, IsOk, OnOk, nat_le, option_and_then, if◌then◌else◌};
@@ -13,7 +13,7 @@ use std::alloc::{AllocError, Global};
 use std::hash::RandomState;
 use std::marker::Model;
 
-/// The known keys. They are hashed under a random seed, so that nobody can choose keys that collide.
+/// The known keys. They are hashed under a random seed, so that no sender can choose keys that collide.
 #[derive(Drop)]
 pub struct Keys {
     places: IndexMap<Key, usize, RandomState>,
@@ -32,7 +32,7 @@ impl Model for Keys {
 }
 
 impl Keys {
-    /// No key yet.
+    /// An index without keys, which are hashed by `hasher`.
     pub fn new(alloc: Global, hasher: RandomState) -> Keys
         ensures { result.known ≡ [] }
     {
@@ -41,7 +41,7 @@ impl Keys {
         }
     }
 
-    /// The place of a key, if it is known.
+    /// The history index of a key, if it is known.
     pub fn find(&self, key: &[u8]) -> Option<usize>
         ensures { result ≡ place_of key.now self.now.known }
     {
@@ -49,6 +49,10 @@ impl Keys {
     }
 
     /// Makes room for that many more keys. The keys stay, also where memory is refused.
+    ///
+    /// # Errors
+    ///
+    /// Where memory is refused, which it is only where there was less room than that.
     pub fn reserve(&mut self, additional: usize) -> Result<(), AllocError>
         ensures known { self.new.known ≡ self.old.known }
         ensures room { self.old.room ≤ self.new.room }
@@ -58,7 +62,7 @@ impl Keys {
         self.places.reserve(additional)
     }
 
-    /// Adds a key that is not known yet. There has to be room for it, so no memory is asked for.
+    /// Adds a key that is not known yet. There has to be room for it, so no memory is requested.
     pub fn add(&mut self, key: Vec<u8>, place: usize)
         requires unknown { place_of key.items self.old.known ≡ None }
         requires room { 0 < self.old.room }
@@ -68,8 +72,8 @@ impl Keys {
         let _first = self.places.insert(Key::new(key), place).unwrap();
     }
 
-    /// Forgets the keys whose place is before that one, and gives back the memory that those that stay don't need. Where it is
-    /// refused a smaller piece of memory, it keeps what it has.
+    /// Forgets the keys whose history index is before `place`, and releases the memory that those that stay don't
+    /// need. Where it is refused a smaller piece of memory, it keeps what it has.
     pub fn drop_before(&mut self, place: usize)
         ensures known { self.new.known ≡ from_place place self.old.known }
         ensures found { (key : List ℕ) → place_of key self.new.known
@@ -84,7 +88,7 @@ impl Keys {
     }
 }
 
-/// The law of keys: one that is added is found at its place, and every other as before.
+/// The law of keys: one that is added is found with its index, and every other as before.
 pub fn key_rules()
     ensures { (known : List Known) (added key : List ℕ) (place : ℕ) → place_of added known ≡ None →
         place_of key (known ++ record { key = added; place = place } ∷ []) ≡ (if bytes_eq key added then Some place else place_of key known) }

@@ -11,7 +11,7 @@ use std::fmt::{Display, Write};
 use std::sync::{Mutex, Wait};
 use std::time::Clock;
 
-/// The target of records of which each is shown, however often their kind came.
+/// The target of records of which each is shown, however often their kind is logged.
 const ALWAYS: &str = "always";
 
 /// The first state of the hash of a kind, and its multiplier (FNV-1a, 64 bits).
@@ -20,7 +20,7 @@ const HASH_START: u64 = 0xCBF2_9CE4_8422_2325;
 const HASH_FACTOR: u64 = 0x0000_0100_0000_01B3;
 
 /// A runtime that writes each record of level info and above as a line on standard error. Records of one kind within a minute
-/// are counted in place of being shown: warnings, and what is said of a message, with the same text, channel, destination and
+/// are counted and not shown: warnings, and what is said of a message, with the same text, channel, destination and
 /// peer's host. What is merely said of connections and links is shown each time.
 #[derive(Clone, Copy)]
 pub struct Journal<'a, R> {
@@ -30,11 +30,11 @@ pub struct Journal<'a, R> {
     outbox: Option<&'a Outbox>,
 }
 
-/// The fields of a record, as they are written and as they tell its kind.
+/// The fields of a record, as they are written, and those that decide its kind.
 struct Fields {
     /// All fields.
     all: Line,
-    /// Those by which kinds are told apart.
+    /// The fields by which kinds are distinguished.
     place: Line,
     control_id: Part,
 }
@@ -56,7 +56,7 @@ fn written<D: Display>(value: Value<'_, D>) -> Line {
     line
 }
 
-/// The host of a peer's address: what stands before its port.
+/// The host of a peer's address: what is before its port.
 fn host(address: &str) -> &str {
     match address.rsplit_once(':') {
         Some((host, _port)) => host,
@@ -113,7 +113,7 @@ impl<'a, R: Clock + Wait + Eprint> Journal<'a, R> {
         }
     }
 
-    /// A journal whose lines are put into an outbox: who logs never waits for the reader of standard error.
+    /// A journal whose lines are put into an outbox: a caller that logs never waits for the reader of standard error.
     pub fn buffered(rt: R, repeats: &'a Mutex<Repeats>, outbox: &'a Outbox) -> Self {
         Journal {
             rt,

@@ -14,13 +14,13 @@ pub const LINES_MAX: usize = 1_024;
 /// The descriptor of standard error.
 const STANDARD_ERROR: i32 = 2;
 
-/// For how many milliseconds one look waits for the reader of standard error.
+/// How many milliseconds one look waits for the reader of standard error.
 const LOOK_MILLIS: i32 = 100;
 
 /// How many looks are made after the end, so that a reader that doesn't read is waited for a second at most.
 const LAST_LOOKS: u32 = 10;
 
-/// For how many milliseconds the writer waits for a line at most.
+/// How many milliseconds the writer waits for a line at most.
 const NAP: u64 = 250;
 
 /// What waits to be written.
@@ -84,7 +84,7 @@ fn is_writable() -> bool {
 }
 
 impl Outbox {
-    /// With no line yet. All memory that it will need is requested here.
+    /// An outbox without lines. All memory that it will need is requested here.
     ///
     /// # Errors
     ///
@@ -148,7 +148,7 @@ impl Outbox {
         false
     }
 
-    /// Writes the lines that come, until the end is noted and none waits any more, or nobody reads them any more.
+    /// Writes the lines that are logged, until the end is noted and none waits, or their reader no longer reads.
     pub fn write_all<H: Wait + Clock + Eprint>(&self, rt: &H) {
         for _ in rt.forever() {
             match self.next(rt) {

@@ -6,10 +6,10 @@ ghost use Rattle.engine_journal.specs.Repeating.{hides, is_repetition};
 use crate::text::Part;
 use std::alloc::{AllocError, Global};
 
-/// For how many seconds after a record was shown others of its kind are counted and not shown.
+/// How many seconds after a record was shown others of its kind are counted and not shown.
 pub const QUIET_SECONDS: u64 = 60;
 
-/// The most kinds of records that are told apart. A record of a further kind is shown each time.
+/// The most kinds of records that are distinguished. A record of a further kind is shown each time.
 pub const KINDS_MAX: usize = 64;
 
 /// The records of one kind: those with one text, at one channel, destination or peer.
@@ -18,7 +18,7 @@ pub struct Kind {
     key: u64,
     /// When one of them was last shown, in seconds of the monotonic clock.
     since: u64,
-    /// How many came since then and were not shown.
+    /// How many were logged since then and not shown.
     hidden: u64,
     /// What all of them say.
     head: Part,
@@ -72,7 +72,7 @@ pub struct Repeats {
 }
 
 impl Repeats {
-    /// With no record shown yet. All memory that it will need is requested here.
+    /// A table in which no record was shown yet. All memory that it will need is requested here.
     ///
     /// # Errors
     ///

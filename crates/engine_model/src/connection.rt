@@ -27,13 +27,13 @@ use std::alloc::{AllocError, Global};
 pub struct Answered {
     /// Its text.
     pub raw: Text,
-    /// What its sender is told, or why it was not booked.
+    /// Its answer, or why it was not booked.
     pub outcome: Result<Told, NotBooked>,
-    /// When it came.
+    /// When it was received.
     pub moment: Moment,
 }
 
-/// What a connection was told, and all that it was sent.
+/// The answers to a connection, and all that it was sent.
 #[derive(Drop)]
 pub struct Words {
     pub answers: Vec<Answered>,
@@ -43,13 +43,13 @@ pub struct Words {
 /// A connection.
 #[derive(Drop)]
 pub struct Connected {
-    /// Its channel, by its place in the plan.
+    /// Its channel, by its index in the plan.
     pub channel: u32,
-    /// Where its stream stands.
+    /// The position in its stream.
     pub framer: Framer,
-    /// How many whole and broken blocks came.
+    /// How many whole and broken blocks were received.
     pub events: u64,
-    /// All bytes that came.
+    /// All bytes received.
     pub stream: Vec<u8>,
     pub words: Words,
     /// How many of its answers were given before the history was last folded.
@@ -58,7 +58,7 @@ pub struct Connected {
     pub ended: bool,
 }
 
-/// What its sender is told of a message.
+/// The answer to a message, or why it was not booked.
 fn told_by(outcome: &Result<Receipt, NotBooked>) -> Result<Told, NotBooked>
     ensures { result ≡ told_by outcome.now }
 {
@@ -126,7 +126,7 @@ fn answer_text<S: RowStore<Addressed<Letter>>>(
     answer_message(line, book, &judged, now, words)
 }
 
-/// Handles an event: a broken block asks for no answer.
+/// Handles an event: a broken block gets no answer.
 fn answer_event<S: RowStore<Addressed<Letter>>>(
     line: &Line,
     book: &mut Book<S>,
@@ -150,7 +150,7 @@ fn answer_event<S: RowStore<Addressed<Letter>>>(
     }
 }
 
-/// Handles all events to come, up to so many over the whole connection.
+/// Handles all events to come, up to the bound over the whole connection.
 fn answer_events<S: RowStore<Addressed<Letter>>>(
     line: &Line,
     book: &mut Book<S>,
@@ -186,7 +186,7 @@ fn answer_events<S: RowStore<Addressed<Letter>>>(
 }
 
 impl Connected {
-    /// On this channel, with nothing read yet.
+    /// A connection on this channel of which nothing is read yet.
     pub fn new(alloc: Global, channel: u32) -> Self
         ensures silent { connection_of result ≡ silent channel }
         ensures stands { IsOpen result }

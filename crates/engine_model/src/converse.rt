@@ -50,8 +50,12 @@ fn step_of(alloc: Global, entry: &Entry, first: Moment) -> Result<Step, AllocErr
     }
 }
 
-/// The steps by which the history of a book comes, one an entry that it holds: a run of them, from the book's opening on, has
+/// The steps that lead to the history of a book, one an entry that it holds: a run of them, from the book's opening on, has
 /// this history, if each connection keeps to the channel that it has there.
+///
+/// # Errors
+///
+/// Where memory is refused, or a plan has more owners than can be counted.
 pub fn steps_of<S: RowStore<Addressed<Letter>>>(
     alloc: Global,
     book: &Book<S>,

@@ -30,18 +30,18 @@ pub fn run_rules()
     // Each connection keeps to its channel.
     ensures kept { (r : Run) → KeepsItsWord r → KeepsTo (map (λ c. c.channel) r.connections) r.history.entries }
 
-    // Conversely, each legal history in which every connection keeps to its channel comes of the steps made of it.
+    // Conversely, each legal history in which every connection keeps to its channel follows from the steps made of it.
     ensures reached { (h : History) (channels : List ℕ) → IsLegal h → KeepsTo channels h.entries →
         length h.entries < frame_events_max → IsRunOf (steps_of h) h channels }
 
     // Where no connection has arrivals on two channels, there are channels to which they keep.
     ensures fit { (h : History) → KeepToOne h.entries → HaveChannels h.entries }
 
-    // What a piece does is determined, unless a message was told that memory was refused.
+    // What a piece does is determined, unless a message was answered that memory was refused.
     ensures determined { (conn : ℕ) (bytes : List ℕ) (now : ℕ) (h g g' : History) (c d d' : Connection)
         (one : ReadsOn conn bytes now h g c d) (other : ReadsOn conn bytes now h g' c d') →
         NoneLacked one.new → NoneLacked other.new → (g ≡ g') × (d ≡ d') }
 
-    // What a connection that has ended was sent is the front of its replies.
+    // What a connection that has ended was sent is a prefix of its replies.
     ensures front { (conn : ℕ) (answers : List Answer) (text : List ℕ) → RepliesFront conn 1 answers text → IsFrontOf text (replies conn answers) }
 {}

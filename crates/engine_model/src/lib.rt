@@ -1,6 +1,6 @@
-//! The whole engine on one thread, as a theorem for every list of steps: whatever the order of the pieces that come on
-//! its connections, of takes, settlements, cancellations, deployments and prunings, the history is that of the sequential engine, and each
-//! connection is sent the acknowledgments of its messages in order, each once.
+//! The whole engine on one thread, as a theorem for every list of steps: whatever the order of the pieces that are
+//! received on its connections, of takes, settlements, cancellations, deployments and prunings, the history is that
+//! of the sequential engine, and each connection is sent the acknowledgments of its messages in order, each once.
 #![tactic(auto)]
 
 mod connection;

@@ -9,7 +9,7 @@ use std::sync::Arc;
 /// A step of a run of the engine.
 #[derive(Drop)]
 pub enum Step {
-    /// A piece of its stream comes on a connection.
+    /// A piece of its stream is received on a connection.
     Chunk {
         conn: u32,
         bytes: Vec<u8>,

@@ -45,8 +45,12 @@ impl<S: RowStore<Addressed<Letter>>> Model for World<S> {
 }
 
 impl<S: RowStore<Addressed<Letter>>> World<S> {
-    /// With nothing booked yet, and a connection on each of these channels, on which nothing came yet. The book may hold so
-    /// many entries, and its keys are hashed by `hasher`.
+    /// A world with nothing booked yet, and a connection on each of these channels, on which nothing was received
+    /// yet. The book may hold `events_max` entries, and its keys are hashed by `hasher`.
+    ///
+    /// # Errors
+    ///
+    /// Where memory is refused.
     pub fn new(
         alloc: Global,
         plan: Arc<Plan>,
@@ -101,7 +105,8 @@ impl<S: RowStore<Addressed<Letter>>> World<S> {
         let _ = &self.book;
     }
 
-    /// A piece of its stream comes on a connection, whose messages are answered. One that has ended hears nothing.
+    /// A piece of its stream is received on a connection, and its messages are answered. One that has ended receives
+    /// nothing.
     fn hear(&mut self, conn: u32, bytes: &[u8], now: Moment)
         ensures { Steps (chunk conn bytes.now now) self.old self.new }
     {
@@ -149,7 +154,7 @@ impl<S: RowStore<Addressed<Letter>>> World<S> {
         }
     }
 
-    /// Takes a step that is lent.
+    /// Takes a step that is borrowed.
     fn advance(&mut self, step: &Step)
         ensures { Steps (turn_by step.now) self.old self.new }
     {

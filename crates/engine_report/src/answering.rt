@@ -19,14 +19,14 @@ use std::io::{Read, Write};
 /// The connection that is served.
 const CONNECTION: u32 = 0;
 
-/// The channel that it is served for, by its place in the plan.
+/// The channel that it is served for, by its index in the plan.
 const CHANNEL: u32 = 0;
 
 /// Answers a stream as connection 0 of the plan's first channel: each message is booked and acknowledged as its header
-/// asks (HL7 v2.5.1, 2.9.2 and 2.9.3). The replies to a piece are written and flushed before the next read waits.
+/// requests (HL7 v2.5.1, 2.9.2 and 2.9.3). The replies to a piece are written and flushed before the next read waits.
 ///
-/// It ends at the reader's end, at a fault of the reader or the writer, for want of memory, or after [`TURNS_MAX`] reads
-/// or events. The moments of the replies are the clock's.
+/// It ends at the reader's end, at a fault of the reader or the writer, where memory is refused, or after
+/// [`TURNS_MAX`] reads or events. The moments of the replies are the clock's.
 pub fn answer_stream<S: RowStore<Addressed<Letter>>, R: Read, W: Write, C: Clock>(
     alloc: Global,
     book: &mut Book<S>,
@@ -34,13 +34,13 @@ pub fn answer_stream<S: RowStore<Addressed<Letter>>, R: Read, W: Write, C: Clock
     writer: &mut Counted<W>,
     clock: &mut C,
 ) -> ServeReport<Unkept>
-    // The messages read, what was told of them, and what was written. Their receipts, which are not kept, are the book's new
+    // The messages read, their answers, and what was written. Their receipts, which are not kept, are the book's new
     // entries.
     ensures served { (receipts : List Receipt) × Books book.old book.new receipts
         × Serves CONNECTION CHANNEL (R.remaining reader.old.inner) (R.remaining reader.new.inner)
         (W.contents writer.old.inner) (W.contents writer.new.inner) receipts result }
 
-    // A fault is told where the device failed.
+    // A fault is reported only where the device failed.
     ensures read_fault { result.end ≡ ServeEnd.ReadFault → Rose reader.old.faults reader.new.faults }
     ensures write_fault { result.end ≡ ServeEnd.WriteFault → Rose writer.old.faults writer.new.faults }
 
@@ -56,7 +56,11 @@ pub fn answer_stream<S: RowStore<Addressed<Letter>>, R: Read, W: Write, C: Clock
     serve_within(&line, book, reader, writer, clock, TURNS_MAX)
 }
 
-/// What the end of a connection comes to: success at the reader's end, and else the fault that is told of it.
+/// The result of the end of a connection: success at the reader's end, and else a fault.
+///
+/// # Errors
+///
+/// The fault of any other end than the reader's.
 pub fn outcome<'a>(end: ServeEnd) -> Result<(), Fault<'a>>
     ensures success { IsOk result ↔ end ≡ ServeEnd.End }
     ensures fault { IfErr result (λ fault. fault ≡ fault_at end) }

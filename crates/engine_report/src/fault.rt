@@ -68,7 +68,7 @@ pub enum Finding {
 }
 
 impl Fault<'_> {
-    /// The exit status: 1 of a faulty plan, 2 of words that aren't taken or ask for too much, 3 of a file, a device or
+    /// The exit status: 1 of a faulty plan, 2 of words that aren't taken or request too much, 3 of a file, a device or
     /// memory, 4 of an audit.
     pub fn status(&self) -> u8
         ensures status { result ≡ status_of self.now }

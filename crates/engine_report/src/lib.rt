@@ -1,4 +1,4 @@
-//! What the program answers on a connection of its own, and what it tells at its end: its faults with their exit statuses,
+//! What the program answers on a connection of its own, and what it prints at its end: its faults with their exit statuses,
 //! the statistics of a book, the size of a plan, and what is wrong with the receipts of the connections.
 #![tactic(auto)]
 

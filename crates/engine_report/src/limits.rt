@@ -1,4 +1,4 @@
-//! How much a plan may ask of the engine.
+//! How much a plan may require of the engine.
 
 ghost use Rattle.std.specs.Prelude.{◌≡◌, ◌+◌, ◌*◌, Err, Ok, length, if◌then◌else◌, nat_lt};
 
@@ -6,7 +6,7 @@ use crate::fault::Fault;
 use fixed_numbers::CONNECTIONS_MAX;
 use plan_text::Plan;
 
-/// How many connections come in all, where each channel of the plan takes `accept`.
+/// How many connections are accepted in all, where each channel of the plan takes `accept`.
 ///
 /// # Errors
 ///

@@ -5,7 +5,7 @@ ghost use Rattle.std.specs.Prelude.{◌≡◌, length};
 use plan_text::Plan;
 use std::fmt;
 
-/// The size of a plan. Its text is the line that tells it.
+/// The size of a plan. Its text is the line that says it.
 #[derive(Clone, Copy, Debug, PartialEq, Eq)]
 pub struct PlanSize {
     /// How many channels it has.

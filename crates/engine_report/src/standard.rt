@@ -10,7 +10,7 @@ use descriptors::{is_open, open_null};
 ///
 /// # Errors
 ///
-/// `Write` where standard output is closed, `Read` or `Write` where nothing can be opened in place of another one.
+/// `Write` where standard output is closed, `Read` or `Write` where nothing can be opened instead of another one.
 pub fn open_standard<'a>(rt: &HostRuntime) -> Result<(), Fault<'a>>
     ensures { IfErr result (λ fault. (fault ≡ Fault.Read) ⊎ (fault ≡ Fault.Write)) }
 {

@@ -53,7 +53,7 @@ impl Event {
 /// What happened so far.
 #[derive(Drop)]
 pub struct Stage {
-    /// How often a worker looks for what it waits for, before it gives up.
+    /// How often a worker looks for what it waits for, before it stops.
     turns: u64,
     /// The first read of connection 0 was asked for.
     asked: Event,
@@ -74,7 +74,8 @@ pub struct Stage {
 }
 
 impl Stage {
-    /// With nothing happened. A worker gives up after so many turns. Whether memory is refused to the door.
+    /// A stage on which nothing happened. A worker stops waiting after a number of turns. Memory is refused to the
+    /// door where that is given.
     pub fn new(turns: u64, lacks_memory: bool) -> Stage {
         Stage {
             turns,
@@ -179,7 +180,7 @@ impl<'a> Door for Gate<'a> {
     }
 }
 
-/// What a connection is read by. Connection 0 gives its block once the reply to connection 1 was written; connection 1 ends
+/// What a connection is read by. Connection 0 sends its block once the reply to connection 1 was written; connection 1 ends
 /// once destination 1 answered its message.
 #[derive(Drop)]
 pub struct Source<'a> {

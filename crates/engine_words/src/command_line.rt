@@ -16,10 +16,10 @@ use std::alloc::{AllocError, Global};
 /// The moment of every acknowledgment where the program is called without words: 14 November 2023, 22:13:20 UTC.
 const MOMENT_WITHOUT_WORDS: u64 = 1_700_000_000;
 
-/// The version that `--version` tells.
+/// The version that `--version` prints.
 const VERSION: &str = "0.1.0";
 
-/// What the help of the program tells beside its commands.
+/// What the help of the program says beside its commands.
 const STATUSES: &str = "\
 Without words: the same as 'answer --now 1700000000'.
 
@@ -30,7 +30,7 @@ Each fault is a line on standard error. The exit status is that of the last one:
   3  file: PLAN; device: read, write, random or listen NAME; memory
   4  audit: NAME";
 
-/// What the help of `run` tells beside its words.
+/// What the help of `run` says beside its words.
 const RUNNING: &str = "\
 N times the channels of the plan is at most 9999. Connection K of channel C, both counted from 0, has number C * N + K.
 
@@ -45,24 +45,24 @@ Then standard error has 'device: listen NAME' of each channel that could take no
 
 Example: hl7_engine run plan.toml --accept 2";
 
-/// What the program is asked to do.
+/// What the program is to do.
 #[derive(Clone, Copy, Debug, PartialEq, Eq)]
 pub enum Request<'a> {
-    /// Acknowledge what comes on standard input: by the plan in a file, or the built-in one; at one moment, or by the
-    /// system's clock; in a book of at most so many entries.
+    /// Acknowledge what arrives on standard input: by the plan in a file, or the built-in one; at one moment, or by the
+    /// system's clock; in a book of at most `events` entries.
     Answer {
         plan: Option<&'a str>,
         now: Option<Moment>,
         events: u32,
     },
-    /// Listen by the plan in a file, take so many connections on each channel, and deliver, in a book of at most so many
+    /// Listen by the plan in a file, take `accept` connections on each channel, and deliver, in a book of at most `events`
     /// entries.
     Run {
         plan: &'a str,
         accept: u32,
         events: u32,
     },
-    /// Read the plan in a file, and tell its size or its first fault.
+    /// Read the plan in a file, and print its size or its first fault.
     Check {
         plan: &'a str,
     },
@@ -234,7 +234,7 @@ fn nearest(seconds: u64) -> Moment
     Moment::of_unix(seconds.min(LAST_MOMENT) as i64).unwrap()
 }
 
-/// What is asked where there are no words.
+/// What is requested where there are no words.
 fn without_words<'a>() -> Request<'a>
     ensures { result ≡ without_words }
 {
@@ -264,7 +264,7 @@ fn moment_of_seconds(given: Option<u64>) -> Option<Moment>
     }
 }
 
-/// What the words of `answer` ask.
+/// What the words of `answer` request.
 fn answer_request<'a>(matches: &ArgMatches<'a>) -> Request<'a>
     ensures limits { IsWithinLimits result }
     ensures written { AsksAnswer result (rows_of (found_of matches.now)) }
@@ -285,7 +285,7 @@ fn accept_of(given: Option<u32>) -> u32
     given.unwrap_or(1).clamp(1, CONNECTIONS_MAX)
 }
 
-/// What the words of `run` ask.
+/// What the words of `run` request.
 fn run_request<'a>(matches: &ArgMatches<'a>) -> Request<'a>
     ensures limits { IsWithinLimits result }
     ensures written { AsksRun result (rows_of (found_of matches.now)) }
@@ -297,7 +297,7 @@ fn run_request<'a>(matches: &ArgMatches<'a>) -> Request<'a>
     }
 }
 
-/// What the words of a command ask, by its name.
+/// What the words of a command request, by its name.
 fn request_of<'a>(matches: &ArgMatches<'a>) -> Request<'a>
     ensures limits { IsWithinLimits result }
     ensures written { AsksBy result (subcommand_rows_of matches.now) }
@@ -320,10 +320,12 @@ fn parse<'a>(alloc: Global, words: &'a [String]) -> Result<ArgMatches<'a>, Error
     program_command(alloc)?.try_get_matches_from(words)
 }
 
-/// What the words ask, of which the first is the program's name.
+/// What the words request, of which the first is the program's name.
 ///
-/// The error has the text to be printed: the help, or what is wrong and what the program takes. Where memory isn't
-/// refused, it comes exactly for the words that have a fault, and is of that fault's kind.
+/// # Errors
+///
+/// The text to be printed: the help, or what is wrong and what the program takes. Where memory isn't
+/// refused, it is returned exactly for the words that have a fault, and is of that fault's kind.
 pub fn ask<'a>(alloc: Global, words: &'a [String]) -> Result<Request<'a>, Error>
     ensures stored_run { length words.now ≤ 1 → result ≡ Ok without_words }
     ensures limits { IfOk result IsWithinLimits }

@@ -1,4 +1,4 @@
-//! The words of the program's command line, and what they ask.
+//! The words of the program's command line, and what they request.
 #![tactic(auto)]
 
 mod command_line;

@@ -1,4 +1,4 @@
-//! What connections come by.
+//! Doors, by which connections are accepted.
 
 use std::io::{Read, Write};
 use thiserror::Error;
@@ -33,7 +33,7 @@ pub trait Door {
     /// What it is written by.
     type Writer: Write + Drop;
 
-    /// How many calls failed so far, other than for want of memory. The number stays at its greatest value.
+    /// How many calls failed so far, other than because memory was refused. The number stays at its greatest value.
     ghost fault_count: { Self → ℕ };
 
     /// Waits for the next connection.
@@ -44,12 +44,12 @@ pub trait Door {
     fn open(&mut self) -> Result<(Self::Reader, Self::Writer), DoorFault>
         ensures { fault_count self.new ≡ with_fault (is_device_fault result) (fault_count self.old) };
 
-    /// Closes the door, so that who comes afterwards is refused and doesn't wait.
+    /// Closes the door, so that a peer that connects afterwards is refused and doesn't wait.
     fn close(&mut self)
         ensures { fault_count self.new ≡ fault_count self.old }
     {}
 
-    /// How many calls failed so far, other than for want of memory.
+    /// How many calls failed so far, other than because memory was refused.
     fn faults(&self) -> u64
         ensures { result ≡ fault_count self.now };
 }

@@ -212,8 +212,8 @@ fn admit_all<
     door.close();
 }
 
-/// Opens a door for one connection after another, and serves each on a thread of its own. It returns once all that came
-/// are served.
+/// Opens a door for one connection after another, and serves each on a thread of its own. It returns once all that
+/// were accepted are served.
 fn open_all<
     'y,
     'x: 'y,
@@ -306,7 +306,7 @@ fn start_opening_all<
     }
 }
 
-/// Opens the doors of all channels, each on a thread of its own. It returns once all connections that came are served.
+/// Opens the doors of all channels, each on a thread of its own. It returns once all accepted connections are served.
 pub fn open_doors<
     'y,
     'x: 'y,

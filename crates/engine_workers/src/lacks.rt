@@ -26,7 +26,7 @@ const PROTOCOL: i32 = 71;
 /// The system has no room for buffers (POSIX's ENOBUFS).
 const NO_BUFFERS: i32 = 105;
 
-/// Whether an accept failed for one connection alone, or for want of what the system may have again in a moment:
+/// Whether an accept failed for one connection alone, or for lack of what the system may have again in a moment:
 /// descriptors, buffers or memory.
 pub fn is_passing(error: &io::Error) -> bool {
     match error.kind() {
@@ -47,6 +47,10 @@ pub fn is_passing(error: &io::Error) -> bool {
 }
 
 /// Waits for the next connection, again where that was interrupted.
+///
+/// # Errors
+///
+/// Where the listener refuses one, or is interrupted each of the times that it is called.
 pub fn accept_once(listener: &TcpListener) -> io::Result<(TcpStream, SocketAddr)> {
     for _ in 0..INTERRUPTIONS_MAX {
         match listener.accept() {

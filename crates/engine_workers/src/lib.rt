@@ -2,12 +2,12 @@
 //! connection one that serves it, and for each destination one that delivers.
 //!
 //! The threads share the book under its lock, a clock that each has a copy of, and the runtime. What a worker works with is
-//! its own while it works: it takes a desk, a door or a station off its place, and puts it back with its report. So what
+//! its own while it works: it takes a desk, a door or a station out of its cell, and puts it back with its report. So what
 //! the contracts of serving and of delivering say of a connection and of a destination is so on every thread, and each
-//! report comes back with the desk or the station that it is of.
+//! report is returned with the desk or the station that it is of.
 //!
 //! No contract says that a thread is started, gets on or ends, so none says that a connection is served, that a message is
-//! delivered or that `run_workers` returns, nor in which order the threads come by the book.
+//! delivered or that `run_workers` returns, nor in which order the threads lock the book.
 #![tactic(auto)]
 
 mod door;

@@ -2,7 +2,7 @@
 
 use std::sync::{Mutex, Wait};
 
-/// A value that a worker takes, works with, and gives back. The lock is held while it changes hands, and not in between.
+/// A value that a worker takes, works with, and puts back. The lock is held while it changes hands, and not in between.
 /// Contracts know of the value what its type says, and not whether someone has it.
 #[derive(Drop)]
 pub struct Loan<X> {
@@ -30,7 +30,7 @@ impl<X> Loan<X> {
 }
 
 impl<X: Drop> Loan<X> {
-    /// Gives the value back. One that was there is dropped.
+    /// Puts the value back. One that was there is dropped.
     pub fn give_back<H: Wait>(&self, rt: &H, value: X) {
         *self.value.lock(rt) = Some(value);
     }

@@ -22,9 +22,9 @@ use std::sync::ledger::Ledger;
 use std::thread::{Scope, Threads};
 use std::{thread, time};
 
-/// What delivers the messages of a destination: its index in the plan, its link, the station of its takes and settlements,
-/// how many takes the station had counted before, and what delivering came to, once it ended. The report is of this station:
-/// the station has counted as many takes since as the report has attempts.
+/// What delivers the messages of a destination: its index in the plan, its link, the station of its takes and
+/// settlements, how many takes the station had counted before, and the outcome of delivering, once it ended. The
+/// report is of this station: the station has counted as many takes since as the report has attempts.
 #[derive(Drop)]
 pub struct Outlet<T: Ledger, U: Ledger, L> {
     pub destination: u32,
@@ -36,7 +36,7 @@ pub struct Outlet<T: Ledger, U: Ledger, L> {
 }
 
 impl<T: Ledger, U: Ledger, L> Outlet<T, U, L> {
-    /// With nothing delivered yet.
+    /// An outlet by which nothing was delivered yet.
     pub fn new(destination: u32, link: L, station: Station<T, U>) -> Self
         ensures destination { result.destination ≡ destination }
         ensures link { result.link ≡ link }

@@ -8,9 +8,9 @@ use book_lock::{Desk, Opening};
 use conn_worker::ServeReport;
 use std::alloc::{AllocError, Global};
 
-/// The seat of a connection: its number, the index of its channel in the plan, the desk that its messages are booked at, how
-/// many arrivals the desk had counted before, and what serving the connection came to, once it was served. The report is of
-/// this desk: the desk has counted as many arrivals since as the report has receipts.
+/// The seat of a connection: its number, the index of its channel in the plan, the desk that its messages are booked
+/// at, how many arrivals the desk had counted before, and the outcome of serving the connection, once it was served.
+/// The report is of this desk: the desk has counted as many arrivals since as the report has receipts.
 #[derive(Drop)]
 pub struct Seat<A: Opening> {
     pub connection: u32,

@@ -30,7 +30,7 @@ impl<'x, A: Opening, T: Ledger, U: Ledger, S: RowStore<Addressed<Letter>>, C, H>
     C,
     H,
 > {
-    /// With nothing refused.
+    /// A site at which nothing was refused yet.
     pub fn new(
         rt: &'x H,
         alloc: Global,

@@ -33,7 +33,7 @@ pub struct TcpDoor<'a, H> {
 impl<'a, H> Model for TcpDoor<'a, H> {
     ghost use Rattle.std.specs.Prelude.{ℕ};
 
-    /// How many calls failed, other than for want of memory.
+    /// How many calls failed, other than because memory was refused.
     ghost Value = { ℕ };
 
     ghost view = { λ door. door.faults };
@@ -68,7 +68,7 @@ impl<'a, H: Net<Listener = TcpListener, Stream = TcpStream> + Clock + Log> TcpDo
     ///
     /// # Errors
     ///
-    /// Where the system doesn't tell it, or the door is closed.
+    /// Where the system doesn't say, or the door is closed.
     pub fn address(&self) -> io::Result<SocketAddr> {
         match &self.listener {
             Some(listener) => listener.local_addr(),
@@ -114,7 +114,7 @@ impl<'a, H: Net<Listener = TcpListener, Stream = TcpStream> + Clock + Log> TcpDo
         accept_once(listener)
     }
 
-    /// Both halves of a connection that came.
+    /// Both halves of an accepted connection.
     fn halves(
         &mut self,
         stream: TcpStream,

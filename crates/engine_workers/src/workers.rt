@@ -39,33 +39,33 @@ impl From<AllocError> for Understaffed {
 /// a link.
 #[derive(Drop)]
 pub struct Staff<A: Opening, T: Ledger, U: Ledger, D, L> {
-    /// Those of the first channel's connections come first.
+    /// The desks of the connections, those of the first channel's first.
     pub desks: Vec<Desk<A>>,
-    /// In the order of the plan's channels.
+    /// The doors, in the order of the plan's channels.
     pub doors: Vec<D>,
-    /// In the order of the plan's destinations.
+    /// The stations, in the order of the plan's destinations.
     pub stations: Vec<Station<T, U>>,
-    /// In the same order.
+    /// The links, in the order of the plan's destinations.
     pub links: Vec<L>,
 }
 
-/// What came of the work: what the workers worked with, each report with the desk or the station that it is of.
+/// The result of the work: what the workers worked with, each report with the desk or the station that it is of.
 #[derive(Drop)]
 pub struct Worked<A: Opening, T: Ledger, U: Ledger, D, L> {
-    /// In the order of the numbers of the connections.
+    /// The seats, in the order of the numbers of the connections.
     pub seats: Vec<Seat<A>>,
-    /// In the order of the plan's channels.
+    /// The doors, in the order of the plan's channels.
     pub doors: Vec<D>,
-    /// In the order of the plan's destinations.
+    /// The outlets, in the order of the plan's destinations.
     pub outlets: Vec<Outlet<T, U, L>>,
 }
 
 /// Where the workers work.
 #[derive(Drop)]
 struct Posts<A: Opening, T: Ledger, U: Ledger, D, L> {
-    /// In the order of the plan's channels.
+    /// The inlets, in the order of the plan's channels.
     inlets: Vec<Inlet<A, D>>,
-    /// In the order of the plan's destinations.
+    /// The outlets, in the order of the plan's destinations.
     outlets: Vec<Loan<Outlet<T, U, L>>>,
 }
 
@@ -180,7 +180,7 @@ fn outlets_back<T: Ledger, U: Ledger, L: Drop>(
     Ok(outlets)
 }
 
-/// What came of the work at these posts.
+/// The result of the work at these posts.
 fn gather<A: Opening, T: Ledger, U: Ledger, D: Drop, L: Drop>(
     alloc: Global,
     posts: Posts<A, T, U, D, L>,
@@ -224,15 +224,16 @@ fn work_at<
 }
 
 /// Runs the engine until all connections have ended and all queues are empty, with each worker on a thread of its own: for
-/// each channel one that opens its door `accept` times, for each connection that came one that serves it, and for each
+/// each channel one that opens its door `accept` times, for each accepted connection one that serves it, and for each
 /// destination one that delivers from the start on. Connection `k` of channel `c`, both from 0, has number
 /// `c * accept + k`. The moments are those of copies of the clock.
 ///
-/// A door is closed after the last connection was taken, and after it failed: who comes then is refused.
+/// A door is closed after the last connection was taken, and after it failed: a peer that connects then is refused.
 ///
-/// What the workers worked with comes back, each report in one value with the desk or the station that it is of, which has
-/// counted as many arrivals as the report has receipts, or as many takes as it has attempts. A connection that never came has
-/// a seat without a report. Whether all desks and stations came back is told by closing the book.
+/// What the workers worked with is returned, each report in one value with the desk or the station that it is of,
+/// which has counted as many arrivals as the report has receipts, or as many takes as it has attempts. A connection
+/// that was never accepted has a seat without a report. Whether all desks and stations were returned is decided by
+/// closing the book.
 ///
 /// # Errors
 ///

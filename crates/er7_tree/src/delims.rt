@@ -1,5 +1,5 @@
 //! The delimiters that a header declares. A value of them is made by reading a header and in no other way, so whoever holds
-//! one knows that no two are the same and that none is a letter: an escape sequence can be told from text.
+//! one knows that no two are the same and that none is a letter: an escape sequence can be distinguished from text.
 
 ghost use Rattle.std.specs.Prelude.{IsTrue, true, ◌≡◌, ◌≤◌, ◌∷◌, IfSome, length};
 ghost use Rattle.std.specs.List.{list_all};
@@ -49,7 +49,7 @@ fn is_delimiter(byte: u8) -> bool
     byte.is_ascii_graphic() && !(byte.is_ascii_alphanumeric() || has_other_use(byte))
 }
 
-/// Whether the byte stands nowhere in these.
+/// Whether the byte is none of these.
 pub(crate) fn lacks(bytes: &[u8], byte: u8) -> bool
     ensures { result ≡ lacks byte bytes.now }
 {

@@ -1,4 +1,4 @@
-//! What edits keep, for the contracts above this crate. Each law is a function with an empty body: who calls it knows its
+//! What edits keep, for the contracts above this crate. Each law is a function with an empty body: a caller knows its
 //! clauses.
 
 ghost use Rattle.std.specs.Prelude.{◌≡◌, ◌≢◌, [], ℕ, List, Ok, false, length, not, true};
@@ -9,7 +9,7 @@ ghost use Rattle.er7_tree.specs.Escape.{controls, escape};
 ghost use Rattle.er7_tree.specs.Path.{Place, are_apart, is_path, raw, value};
 ghost use Rattle.er7_tree.specs.Tree.{IsMessage, Tree, has_name};
 
-/// An edited message is a message again, with the same delimiters: so it can be printed and read, and gives itself back.
+/// An edited message is a message again, with the same delimiters: so it can be printed and read, and is the same again.
 pub fn edits_keep_messages()
     ensures set { (t u : Tree) (p : Place) (bytes : List ℕ) → IsMessage t → is_path p ≡ true →
         set t p bytes ≡ Ok u → IsMessage u }
@@ -21,8 +21,8 @@ pub fn edits_keep_messages()
         remove_segments t name ≡ Ok u → IsMessage u }
 {}
 
-/// No edit brings a byte that would break a message's framing: a control byte that is escaped comes in by no value, and no
-/// byte that the message lacks by copying, clearing or removing.
+/// No edit brings a byte that would break a message's framing: a control byte that is escaped is brought in by no
+/// value, and no byte that the message lacks by copying, clearing or removing.
 pub fn edits_add_no_byte()
     ensures set { (b : ℕ) (t u : Tree) (p : Place) (bytes : List ℕ) → IsMessage t → is_path p ≡ true →
         set t p bytes ≡ Ok u → lacks b controls ≡ false →

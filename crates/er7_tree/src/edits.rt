@@ -1,5 +1,5 @@
-//! Changes of a message. The changed segment is made first, with all the memory that it takes, and is then put in place: so
-//! a refused change leaves the message as it was.
+//! Changes of a message. The changed segment is made first, with all the memory that it takes, and then replaces the
+//! old one: so a refused change leaves the message as it was.
 
 ghost use Rattle.std.specs.Prelude.{◌≡◌, Err, IfErr, IfOk, IsErrOf, Ok, OnErr, OnOk, true};
 ghost use Rattle.er7_tree.specs.Edit.{clear, copy, field_levels, has, has_in, put_field, remove_segments, set, with_piece};
@@ -41,7 +41,7 @@ fn has_field(delims: Delims, path: &Path, segment: &[u8]) -> bool
 }
 
 impl Message {
-    /// Puts a raw piece at a path whose segment stands at a place.
+    /// Puts a raw piece at a path whose segment has the index `place`.
     fn put_piece(&mut self, place: usize, path: &Path, new: &[u8]) -> Result<(), AllocError>
         requires path { is_path path.now ≡ true }
         requires there { IsOccurrence path.now.segment path.now.occurrence self.old.segments place }
@@ -56,7 +56,10 @@ impl Message {
 
     /// Gives the piece at a path this meaning: the value is escaped, and missing pieces before it are added empty.
     ///
-    /// Refused are MSH-1 and MSH-2 (`BadPath`), and then a path whose segment isn't there (`NoSuchSegment`).
+    /// # Errors
+    ///
+    /// `BadPath` for MSH-1 and MSH-2, then `NoSuchSegment` where the path's segment isn't there, then
+    /// `NoMemory` where memory is refused. The message is as it was.
     pub fn set(&mut self, path: &Path, value: &[u8]) -> Result<(), Refusal>
         ensures made { OnOk result (set self.old path.now value.now ≡ Ok self.new) }
         ensures refused { IfErr result (λ e. Gives (Err e) (set self.old path.now value.now)) }
@@ -76,8 +79,12 @@ impl Message {
     /// Copies the raw piece at one path to another of the same level, as from component to component; missing pieces before
     /// it are added empty.
     ///
-    /// Refused are two levels, MSH-1 and MSH-2 (`BadPath`), and then a second path whose segment isn't there (`NoSuchSegment`).
     /// A piece to copy that isn't there is empty.
+    ///
+    /// # Errors
+    ///
+    /// `BadPath` where the levels differ, and for MSH-1 and MSH-2; then `NoSuchSegment` where the segment of
+    /// the second path isn't there; then `NoMemory` where memory is refused. The message is as it was.
     pub fn copy(&mut self, from: &Path, to: &Path) -> Result<(), Refusal>
         ensures made { OnOk result (copy self.old from.now to.now ≡ Ok self.new) }
         ensures refused { IfErr result (λ e. Gives (Err e) (copy self.old from.now to.now)) }
@@ -94,10 +101,13 @@ impl Message {
         Ok(())
     }
 
-    /// Empties the piece at a path, where it is there; the pieces behind it keep their places. Where it isn't there, nothing
-    /// changes and no memory is asked for.
+    /// Empties the piece at a path, where it is there; the pieces behind it keep their positions. Where it isn't
+    /// there, nothing changes and no memory is requested.
     ///
-    /// Refused are MSH-1 and MSH-2 (`BadPath`).
+    /// # Errors
+    ///
+    /// `BadPath` for MSH-1 and MSH-2, then `NoMemory` where the piece is there and memory is refused. The
+    /// message is as it was.
     pub fn clear(&mut self, path: &Path) -> Result<(), Refusal>
         ensures made { OnOk result (clear self.old path.now ≡ Ok self.new) }
         ensures refused { IfErr result (λ e. Gives (Err e) (clear self.old path.now)) }
@@ -117,9 +127,11 @@ impl Message {
         Ok(())
     }
 
-    /// Removes all segments of a name; it is no fault where there are none. Takes no memory.
+    /// Removes all segments of a name; it is no fault where there are none. It requests no memory.
     ///
-    /// Refused are MSH and what is no segment's name (`BadPath`).
+    /// # Errors
+    ///
+    /// `BadPath` for MSH and for what is no segment's name. The message is as it was.
     pub fn remove_segments(&mut self, name: &[u8]) -> Result<(), Refusal>
         ensures made { OnOk result (remove_segments self.old name.now ≡ Ok self.new) }
         ensures refused { IfErr result (λ e. remove_segments self.old name.now ≡ Err e) }

@@ -1,4 +1,4 @@
-//! Escape sequences (HL7 v2.5.1, 2.7). What stands between two bytes that need one is copied as a whole.
+//! Escape sequences (HL7 v2.5.1, 2.7). The text between two bytes that need one is copied as a whole.
 
 ghost use Rattle.std.specs.Prelude.{◌≡◌, ◌++◌, IfOk, OnOk, IsSome, [], unwrap_or, is_some, IfSome, ◌<◌, not, true, false};
 ghost use Rattle.std.specs.List.{list_all, position};
@@ -52,7 +52,7 @@ fn push_hex(out: &mut Vec<u8>, digits: &[u8]) -> Result<(), AllocError>
     Ok(())
 }
 
-/// The letters of escape sequences, each with the delimiter that it stands for.
+/// The letters of escape sequences, each with the delimiter that it means.
 fn letters(delims: &Delims) -> [(u8, u8); 5]
     ensures { result ≡ letters delims.now }
 {
@@ -65,7 +65,7 @@ fn letters(delims: &Delims) -> [(u8, u8); 5]
     ]
 }
 
-/// The delimiter that a letter stands for.
+/// The delimiter that a letter means.
 fn meant_by(delims: &Delims, letter: u8) -> Option<u8>
     ensures { result ≡ meant_by delims.now letter }
 {
@@ -76,7 +76,7 @@ fn meant_by(delims: &Delims, letter: u8) -> Option<u8>
         .map(|entry| entry.1)
 }
 
-/// The letter that stands for a byte, where it is a delimiter.
+/// The letter that means a byte, where it is a delimiter.
 fn letter_for(delims: &Delims, byte: u8) -> Option<u8>
     ensures { result ≡ letter_for delims.now byte }
 {
@@ -98,7 +98,7 @@ fn push_letter(out: &mut Vec<u8>, delims: &Delims, letter: u8) -> Result<(), All
     Ok(())
 }
 
-/// What stands between two escape characters means, at the end of a text.
+/// Appends what the text between two escape characters means.
 fn push_meaning(out: &mut Vec<u8>, delims: &Delims, inner: &[u8]) -> Result<(), AllocError>
     ensures { OnOk result (out.new.items ≡ out.old.items ++ meaning delims.now inner.now) }
 {
@@ -135,7 +135,7 @@ fn special(delims: &Delims) -> [u8; 9]
     ]
 }
 
-/// The place of the first byte that is one of these.
+/// The index of the first byte that is one of these.
 fn first_among(text: &[u8], bytes: &[u8]) -> Option<usize>
     ensures { result ≡ position (λ b. not (lacks b bytes.now)) text.now }
 {
@@ -172,8 +172,12 @@ fn push_sequence(out: &mut Vec<u8>, delims: &Delims, inner: &[u8]) -> Result<(),
     Ok(())
 }
 
-/// The text that stands for these bytes: delimiters and the bytes CR, LF, VT and FS as escape sequences, all others as
-/// they are (HL7 v2.5.1, 2.7). Fails only for want of memory.
+/// The text that means these bytes: delimiters and the bytes CR, LF, VT and FS as escape sequences, all others as
+/// they are (HL7 v2.5.1, 2.7).
+///
+/// # Errors
+///
+/// Where memory is refused.
 pub fn escape(alloc: Global, delims: &Delims, value: &[u8]) -> Result<Vec<u8>, AllocError>
     ensures value { IfOk result (λ text. text.items ≡ escape_of delims.now value.now) }
 
@@ -193,9 +197,13 @@ pub fn escape(alloc: Global, delims: &Delims, value: &[u8]) -> Result<Vec<u8>, A
     Ok(out)
 }
 
-/// The bytes that a text means. Between two escape characters `F`, `S`, `T`, `R`, `E` stand for the delimiters and `X` with pairs
-/// of hexadecimal digits for bytes (HL7 v2.5.1, 2.7); any other sequence, and an escape character that none follows, is kept as it
-/// is written. Fails only for want of memory.
+/// The bytes that a text means. Between two escape characters `F`, `S`, `T`, `R`, `E` mean the delimiters and `X`
+/// with pairs of hexadecimal digits means bytes (HL7 v2.5.1, 2.7); any other sequence, and an escape character that
+/// none follows, is kept as it is written.
+///
+/// # Errors
+///
+/// Where memory is refused.
 pub fn unescape(alloc: Global, delims: &Delims, text: &[u8]) -> Result<Vec<u8>, AllocError>
     ensures { IfOk result (λ value. value.items ≡ plain delims.now text.now) }
 {

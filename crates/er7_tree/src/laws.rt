@@ -1,4 +1,4 @@
-//! Laws of reading and printing, for the contracts above this crate. Each is a function with an empty body: who calls it
+//! Laws of reading and printing, for the contracts above this crate. Each is a function with an empty body: a caller
 //! knows its clauses.
 
 ghost use Rattle.std.specs.Prelude.{◌≡◌, ◌≢◌, ℕ, List, Ok, codes, true};

@@ -1,5 +1,5 @@
 //! A message is kept as one text and the spans of its segments in it, so that reading copies the text at most once and a piece
-//! is a part of that text. Nothing below a segment is kept: a piece is found when it is asked for.
+//! is a part of that text. Nothing below a segment is kept: a piece is found when it is requested.
 
 ghost use Rattle.std.specs.Prelude.{◌≡◌, ◌<◌, ◌≤◌, ◌-◌, IfOk, IfSome, IfNone, IsTrue, MatchResult, None, Ok, OnOk, OnErr, Some, codes, filter, length, map, not, slice_get, slice_set, true, false};
 ghost use Rattle.std.specs.List.{find, flat_map};
@@ -44,7 +44,7 @@ impl Model for Message {
     ghost invariant = { λ m. AreSpans m.delims (arc_value m.text).items m.spans.items };
 }
 
-/// The place of the `n`th segment of that name, counted from 1.
+/// The index of the `n`th segment of that name, counted from 1.
 fn find_place(text: &[u8], spans: &[Span], name: &[u8], n: u32) -> Option<usize>
     requires { InOrder 0 (length text.now) spans.now }
     ensures found { IfSome result (IsOccurrence name.now n (map (covered text.now) spans.now)) }
@@ -91,7 +91,7 @@ fn print_spans(alloc: Global, text: &[u8], spans: &[Span]) -> Result<Vec<u8>, Al
     Ok(printed)
 }
 
-/// Whether the spans lie in the text as segments are printed: one after another from its front on, each with a carriage
+/// Whether the spans lie in the text as segments are printed: one after another from its beginning, each with a carriage
 /// return behind it, up to its end.
 fn are_printed(text: &[u8], spans: &[Span]) -> bool
     requires { InOrder 0 (length text.now) spans.now }
@@ -119,7 +119,8 @@ fn spans_of(alloc: Global, text: &[u8]) -> Result<(Delims, Vec<Span>), Refusal>
     Ok((delims, spans))
 }
 
-/// The segments that the spans cover, with another one at a place: a text that holds them one after another, and their spans.
+/// The segments that the spans cover, with another one at an index: a text that holds them one after another, and
+/// their spans.
 fn with_segment(
     alloc: Global,
     text: &[u8],
@@ -147,8 +148,10 @@ impl Message {
     /// The message that a text says (HL7 v2.5.1, 2.5.2 and 2.5.4).
     ///
     /// Segments end with a carriage return, which the last may lack; one line feed behind it and empty segments are dropped.
-    /// The first refusal in this order is told: NoHeader, BadDelimiters, TooManySegments, BadSegmentName of the first bad
-    /// name or second header. NoMemory is told only of a text that could be read.
+    /// # Errors
+    ///
+    /// The first refusal in this order: `NoHeader`, `BadDelimiters`, `TooManySegments`, `BadSegmentName` of
+    /// the first bad name or second header. `NoMemory` only for a text that could be read otherwise.
     pub fn parse(alloc: Global, text: &[u8]) -> Result<Message, Refusal>
         ensures value { Gives result (tree text.now) }
         ensures message { IfOk result IsMessage }
@@ -163,10 +166,14 @@ impl Message {
         })
     }
 
-    /// The message that a shared text says, which it keeps as one more owner, and whether that text is the message as it is
-    /// printed. The refusals are those of [`parse`](Message::parse).
+    /// The message that a shared text says, which it keeps as one more owner, and whether that text is
+    /// the message as it is printed.
     ///
-    /// It is there for speed: the text isn't copied, and who knows that it is the print needs no other.
+    /// It exists for speed: the text isn't copied, and a caller that knows it to be the print needs no other.
+    ///
+    /// # Errors
+    ///
+    /// The refusals are those of [`parse`](Message::parse).
     pub fn parse_shared(alloc: Global, text: &Arc<Vec<u8>>) -> Result<(Message, bool), Refusal>
         ensures value { MatchResult result
             (λ read. tree (arc_value text.now).items ≡ Ok read.0)
@@ -191,7 +198,7 @@ impl Message {
         self.delims
     }
 
-    /// The header segment, MSH, which stands first.
+    /// The header segment, MSH, which is the first.
     pub fn header(&self) -> &[u8]
         ensures first { slice_get self.now.segments 0 ≡ Some result.now }
         ensures named { is_header result.now ≡ true }
@@ -200,9 +207,9 @@ impl Message {
         self.spans[0].of(self.text.as_slice())
     }
 
-    /// The text that the message keeps, and where its header segment stands in it.
+    /// The text that the message keeps, and the span of its header segment in it.
     ///
-    /// It is there for speed: who keeps pieces of the header shares that text, and copies nothing.
+    /// It exists for speed: a value that keeps pieces of the header shares that text, and copies nothing.
     pub fn shared_header(&self) -> (&Arc<Vec<u8>>, Span)
         ensures first { slice_get self.now.segments 0 ≡ Some (covered (arc_value result.0.now).items result.1) }
         ensures named { is_header (covered (arc_value result.0.now).items result.1) ≡ true }
@@ -219,7 +226,7 @@ impl Message {
         Some(self.at(place))
     }
 
-    /// The place of the `n`th segment of that name, where `n` counts from 1 and the place from 0.
+    /// The index of the `n`th segment of that name, where `n` counts from 1 and the index from 0.
     pub(crate) fn place_of(&self, name: &[u8], n: u32) -> Option<usize>
         ensures found { IfSome result (IsOccurrence name.now n self.now.segments) }
         ensures missing { IfNone result (length (filter (has_name name.now) self.now.segments) ≤ n - 1) }
@@ -228,7 +235,7 @@ impl Message {
         find_place(self.text.as_slice(), &self.spans, name, n)
     }
 
-    /// The segment at a place, counted from 0.
+    /// The segment at an index, counted from 0.
     pub(crate) fn at(&self, place: usize) -> &[u8]
         requires { place < length self.now.segments }
         ensures { slice_get self.now.segments place ≡ Some result.now }
@@ -236,7 +243,7 @@ impl Message {
         self.spans[place].of(self.text.as_slice())
     }
 
-    /// Puts another segment at a place.
+    /// Replaces the segment at an index.
     pub(crate) fn replace_segment(&mut self, place: usize, new: &[u8]) -> Result<(), AllocError>
         requires { IsMessage (record self.old { segments = slice_set self.old.segments place new.now }) }
         ensures ok { OnOk result (self.new ≡ record self.old { segments = slice_set self.old.segments place new.now }) }
@@ -287,7 +294,7 @@ impl Message {
         part_of(self.delims, part, field)
     }
 
-    /// The raw piece at a path, as it stands in the message, empty where there is none. `MSH-1` is the field separator.
+    /// The raw piece at a path, as it is written in the message, empty where there is none. `MSH-1` is the field separator.
     pub fn get_raw(&self, path: &Path) -> &[u8]
         ensures { result.now ≡ raw self.now path.now }
     {
@@ -308,6 +315,10 @@ impl Message {
     }
 
     /// The bytes that the piece at a path means, its escape sequences read (HL7 v2.5.1, 2.7).
+    ///
+    /// # Errors
+    ///
+    /// Where memory is refused.
     pub fn get(&self, path: &Path) -> Result<Vec<u8>, AllocError>
         ensures { IfOk result (λ plain. plain.items ≡ value self.now path.now) }
     {
@@ -315,6 +326,10 @@ impl Message {
     }
 
     /// The message as a text, each segment with the carriage return that ends it.
+    ///
+    /// # Errors
+    ///
+    /// Where memory is refused.
     pub fn print(&self) -> Result<Vec<u8>, AllocError>
         ensures { IfOk result (λ text. text.items ≡ text_of self.now) }
     {

@@ -26,7 +26,7 @@ pub enum Part {
     Subcomponent(u32, u32, u32),
 }
 
-/// Where a piece of a message stands: which segment of a name, its field, and the part of the field.
+/// The position of a piece in a message: which segment of a name, its field, and the part of the field.
 ///
 /// `PID-5` is a field, `PID-5[2]` its second repetition, `PID-5.1` the first component of its first repetition, and
 /// `OBX[3]-5.1.2` a subcomponent in the third OBX. Paths are equal where they name the same piece, as `PID[1]-3` and
@@ -183,9 +183,13 @@ fn path_of(text: &[u8]) -> Option<Path>
 }
 
 impl Path {
-    /// The path that a text of the form `NAME[n]-F[r].C.S` names, else `BadPath`. `[n]`, `[r]`, `.C` and `.S` may be left
-    /// out, but `.S` needs `.C`; numbers are 1 to 999 without leading zeros. MSH stands once, and its first two fields,
+    /// The path that a text of the form `NAME[n]-F[r].C.S` names. `[n]`, `[r]`, `.C` and `.S` may be left
+    /// out, but `.S` needs `.C`; numbers are 1 to 999 without leading zeros. There is one MSH, and its first two fields,
     /// which hold the delimiters, have no parts.
+    ///
+    /// # Errors
+    ///
+    /// `BadPath` for every other text.
     pub fn parse(text: &str) -> Result<Path, Refusal>
         ensures { result ≡ ok_or (path_of text.now) Refusal.BadPath }
     {

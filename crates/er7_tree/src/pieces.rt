@@ -39,7 +39,7 @@ pub fn piece(text: &[u8], separator: u8, n: usize) -> &[u8]
     cut(rest, separator).0
 }
 
-/// Whether there are so many pieces between separators.
+/// Whether there are at least `n` pieces between separators.
 pub fn has_piece(text: &[u8], separator: u8, n: usize) -> bool
     ensures { result ≡ nat_le n (length (split separator text.now)) }
 {
@@ -73,6 +73,10 @@ pub fn part_of(delims: Delims, part: Part, field: &[u8]) -> &[u8]
 }
 
 /// The text with another `n`th piece, counted from 1; missing pieces up to it are added empty.
+///
+/// # Errors
+///
+/// Where memory is refused.
 pub fn put(
     alloc: Global,
     text: &[u8],
@@ -128,6 +132,10 @@ pub fn has_part(delims: Delims, part: Part, field: &[u8]) -> bool
 }
 
 /// A field with another part; missing pieces before it are added empty.
+///
+/// # Errors
+///
+/// Where memory is refused.
 pub fn put_part(
     alloc: Global,
     delims: Delims,

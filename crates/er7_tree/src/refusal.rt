@@ -1,4 +1,4 @@
-//! Why a text, a path or a change is refused, and by which number that is told.
+//! Why a text, a path or a change is refused, and the number of each reason.
 
 use std::alloc::{AllocError, AllocFailed};
 use thiserror::Error;
@@ -12,7 +12,7 @@ pub enum Refusal {
     /// The header declares no field separator and encoding characters that may be used (HL7 v2.5.1, 2.5.4).
     #[error("the header declares bad delimiters")]
     BadDelimiters,
-    /// The segment at this place, counted from 1, has a bad name or is a second header (HL7 v2.5.1, 2.5.2).
+    /// The segment at this index, counted from 1, has a bad name or is a second header (HL7 v2.5.1, 2.5.2).
     #[error("segment {0} has a bad name")]
     BadSegmentName(usize),
     /// The text has more segments than [`MAX_SEGMENTS`](crate::MAX_SEGMENTS).
@@ -33,7 +33,7 @@ impl Refusal {
     ghost use Rattle.std.specs.Prelude.{◌≡◌};
     ghost use Rattle.er7_tree.specs.Code.{code_of};
 
-    /// The number of the refusal, 1 to 7, as it is told in place of its name.
+    /// The number of the refusal, 1 to 7, as it is given where no name can be.
     pub fn code(&self) -> u32
         ensures { result ≡ code_of self.now }
     {

@@ -1,5 +1,5 @@
-//! Where the segments of a text stand, how they are named, and where their fields begin: what is particular to MSH stands
-//! here alone.
+//! The spans of the segments of a text, how segments are named, and where their fields begin. What is
+//! particular to MSH is in this file alone.
 
 ghost use Rattle.std.specs.Prelude.{◌≡◌, ◌≢◌, ◌<◌, ◌≤◌, ◌∷◌, [], length, drop, slice_index, IfSome, MatchOption};
 ghost use Rattle.er7_tree.specs.Spans.{covered, IsBetween};
@@ -44,7 +44,7 @@ impl Span {
     }
 }
 
-/// Where the first piece that isn't empty begins, at or behind a place that begins a piece.
+/// Where the first piece that isn't empty begins, at or behind an offset at which a piece begins.
 fn skip_empty(text: &[u8], from: usize) -> usize
     requires { from ≤ length text.now }
     ensures behind { from ≤ result }
@@ -62,7 +62,7 @@ fn skip_empty(text: &[u8], from: usize) -> usize
     start
 }
 
-/// The first segment at or behind a place. Reading goes on at its end.
+/// The first segment at or behind an offset. Reading goes on at its end.
 pub fn next_span(text: &[u8], from: usize) -> Option<Span>
     requires { from ≤ length text.now }
     ensures segment { MatchOption result (segments_of (drop from text.now) ≡ [])
@@ -100,7 +100,7 @@ pub fn is_header(segment: &[u8]) -> bool
     segment.starts_with(&MSH)
 }
 
-/// Where a field stands among the pieces of its segment between field separators, counted from 1. The name is the first
+/// The index of a field among the pieces of its segment between field separators, counted from 1. The name is the first
 /// piece, and MSH counts the field separator behind its name as a field (HL7 v2.5.1, 2.15.9.1).
 pub fn field_place(segment: &[u8], field: u32) -> usize
     ensures { result ≡ field_place segment.now field }

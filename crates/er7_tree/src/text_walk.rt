@@ -14,6 +14,10 @@ use std::alloc::Global;
 const USUAL_SEGMENTS: usize = 16;
 
 /// The header of a text, and the delimiters that it declares.
+///
+/// # Errors
+///
+/// The first refusal of the text, as [`Message::parse`](crate::Message::parse) orders them.
 pub fn read_header(text: &[u8]) -> Result<(Span, Delims), Refusal>
     ensures value { MatchResult result
         (λ read. tree text.now ≡ checked (record { delims = read.1; segments = segments_of text.now }))
@@ -30,8 +34,13 @@ pub fn read_header(text: &[u8]) -> Result<(Span, Delims), Refusal>
     Ok((header, delims))
 }
 
-/// The spans of a text's segments, of which the header is the first. One walk finds them, counts them and tests their names;
-/// where a growth is refused it goes on without keeping them, since a refusal of the text itself comes before want of memory.
+/// The spans of a text's segments, of which the header is the first. One walk finds them, counts them and tests their
+/// names; where a growth is refused it goes on without keeping them, since a refusal of the text itself is reported
+/// before a refusal for memory.
+///
+/// # Errors
+///
+/// `TooManySegments`, then `BadSegmentName`; `NoMemory` where memory is refused and neither applies.
 pub fn read_spans(
     alloc: Global,
     text: &[u8],

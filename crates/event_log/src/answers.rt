@@ -31,7 +31,7 @@ pub fn interval(plan: &Plan, d: u32) -> u32
     plan.destination(d).map_or(0, |x| x.interval())
 }
 
-/// What the sender is told of a message whose key is not known; an accepted one gets this number.
+/// The answer to a message whose key is not known; an accepted one gets this number.
 pub fn told_first(verdict: &Verdict, number: u32) -> Told
     requires { is_booked verdict.now ≡ true }
     ensures { told_by number verdict.now ≡ Some result }
@@ -45,6 +45,11 @@ pub fn told_first(verdict: &Verdict, number: u32) -> Told
 }
 
 /// The answer to a take at d, whose front has this number and this slot there.
+///
+/// # Errors
+///
+/// `InFlightNow` where that slot is in flight, `NotDue` where it waits for a later moment, `Idle` where it is
+/// settled or there is none.
 pub fn front_answer(
     d: u32,
     now: u64,

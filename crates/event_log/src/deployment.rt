@@ -1,11 +1,11 @@
-//! Whether a plan may take the place of another, by what the two say.
+//! Whether a plan may replace another, by what the two say.
 
 ghost use Rattle.std.specs.Prelude.{◌≡◌, slice_get};
 ghost use Rattle.event_log.specs.Deployment.{same_at, same_channels, stays};
 
 use plan_text::Plan;
 
-/// Whether two plans have channels of the same name at this place.
+/// Whether two plans have channels of the same name at this index.
 fn same_name(old: &Plan, new: &Plan, place: u32) -> bool
     ensures { result ≡ same_at (slice_get old.now.channels place) (slice_get new.now.channels place) }
 {

@@ -13,7 +13,7 @@ use plan_text::Plan;
 use std::marker::Model;
 use std::sync::Arc;
 
-/// What the sender of a message is told of it.
+/// The answer to an arrival, as it is acknowledged to its sender.
 #[derive(Clone, Copy, Debug, PartialEq, Eq)]
 pub enum Told {
     /// It was accepted, as the message of this number. Messages are numbered from 0.
@@ -22,7 +22,7 @@ pub enum Told {
     Filtered,
     /// It was refused.
     Refused(Cause),
-    /// It came before: the place of the entry of its first arrival.
+    /// It was received before: the index of the entry of its first arrival.
     Repeat(usize),
 }
 
@@ -43,7 +43,7 @@ impl Told {
 pub struct Ticket {
     /// The number of the message.
     pub number: u32,
-    /// The place of the destination in the plan.
+    /// The index of the destination in the plan.
     pub destination: u32,
     /// The attempt, counted from 1.
     pub attempt: u32,
@@ -86,7 +86,7 @@ impl DeployedPlan {
 /// An event with its reply.
 #[derive(Drop)]
 pub enum Entry {
-    /// A text came by a connection, on a channel.
+    /// A text arrived over a connection, on a channel.
     Arrival {
         conn: u32,
         channel: u32,

@@ -23,7 +23,7 @@ pub fn folding_rules()
     // It has the same bound of entries.
     ensures bound_kept { (h : History) (bound : ℕ) → (pruned bound h).opening.events_max ≡ h.opening.events_max }
 
-    // What remains is remembered in order of place and of number, each arrival as an opening may have it, with a key
+    // What remains is remembered in order of index and of number, each arrival as an opening may have it, with a key
     // of its own. As much is owed as before.
     ensures memories { (h : History) (bound : ℕ) → IsSound h → All (IsMemory (plan_in_force h)) (folded bound h).remembered }
     ensures places { (h : History) (bound : ℕ) → IsSound h → IsStrictlyIncreasing (map (λ r. r.place) (folded bound h).remembered) }

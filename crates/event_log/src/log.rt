@@ -60,7 +60,7 @@ impl Model for Log {
     } };
 }
 
-/// The entries that may still come of a slot, if it may have `max` attempts.
+/// The entries that may still follow from a slot, if it may have `max` attempts.
 pub fn slot_owed(max: u32, state: SlotState) -> u32
     requires { max ≤ ATTEMPTS_MAX }
     ensures { result ≡ slot_owed max state }
@@ -73,7 +73,7 @@ pub fn slot_owed(max: u32, state: SlotState) -> u32
 }
 
 impl Log {
-    /// The history of a book of this plan that may hold so many entries, none of which is booked yet.
+    /// The history of a book of this plan that may hold `events_max` entries, with none booked yet.
     pub fn new(alloc: Global, plan: Arc<Plan>, events_max: u32) -> Log
         requires { events_max ≤ EVENTS_MAX }
         ensures { result.history ≡ opened_by (arc_value plan) events_max }
@@ -117,14 +117,14 @@ impl Log {
         self.opening.events_max
     }
 
-    /// How many entries were booked in all: the place of the next.
+    /// How many entries were booked in all: the index of the next.
     pub fn len(&self) -> usize
         ensures { result ≡ next_place self.now.history }
     {
         self.opening.places + self.entries.len()
     }
 
-    /// How many entries were folded: the place of the first that is held.
+    /// How many entries were folded: the index of the first that is held.
     pub fn first_place(&self) -> usize
         ensures value { result ≡ self.now.history.opening.places }
         ensures within { result ≤ next_place self.now.history }
@@ -146,7 +146,7 @@ impl Log {
         self.entries.is_empty()
     }
 
-    /// The entry at this place, counted from 0; nothing where it was folded.
+    /// The entry at this index, counted from 0; nothing where it was folded.
     pub fn entry(&self, place: usize) -> Option<&Entry>
         ensures { option_copied result ≡ entry_at self.now.history place }
     {
@@ -156,15 +156,15 @@ impl Log {
         self.entries.get(place - self.opening.places)
     }
 
-    /// What is remembered of the entries that were folded, in order of place.
+    /// What is remembered of the entries that were folded, in order of index.
     pub fn remembered(&self) -> &[Remembered]
         ensures { result.now ≡ self.now.history.opening.remembered }
     {
         self.opening.remembered()
     }
 
-    /// Where the message of this number came: the place of its arrival, or of the next entry where the message is still to come;
-    /// 0 where it is forgotten, as all that came before it is too.
+    /// The index of the arrival of the message of this number, or of the next entry where the message is still to come;
+    /// 0 where it is forgotten, as all that arrived before it is too.
     pub fn arrival_place(&self, number: u32) -> usize
         ensures { result ≡ arrival_place self.now.history number }
     {
@@ -182,14 +182,14 @@ impl Log {
         }
     }
 
-    /// Whether these bytes came at this place, as an entry or a remembered arrival says.
+    /// Whether the arrival at this index has these bytes, as an entry or a remembered arrival says.
     pub fn brings(&self, place: usize, raw: &[u8]) -> bool
         ensures { result ≡ brings_at self.now.history raw.now place }
     {
         self.opening.brought(place, raw) || self.entry(place).is_some_and(|entry| entry.brings(raw))
     }
 
-    /// The entries that may still come of the slots of all messages.
+    /// The entries that may still follow from the slots of all messages.
     pub fn owed(&self) -> u32
         ensures value { result ≡ owed self.now.history }
         ensures within { length self.now.history.entries + result ≤ self.now.history.opening.events_max }
@@ -197,7 +197,7 @@ impl Log {
         self.owed
     }
 
-    /// Whether there is room for one more entry, whose own slots owe so many.
+    /// Whether there is room for one more entry, whose own slots owe `own` entries.
     pub fn room(&self, own: u32) -> bool
         ensures { result ≡ not (exceeds self.now.history own) }
     {
@@ -205,7 +205,11 @@ impl Log {
         entries + u64::from(self.owed) + 1 + u64::from(own) <= u64::from(self.opening.events_max)
     }
 
-    /// Makes room for this many more entries, so that so many pushes need no memory.
+    /// Makes room for `additional` more entries, so that as many pushes need no memory. The history stays.
+    ///
+    /// # Errors
+    ///
+    /// Where memory is refused, which it is only where there was less room than that.
     pub fn reserve(&mut self, additional: usize) -> Result<(), AllocError>
         ensures history { self.new.history ≡ self.old.history }
         ensures ok { OnOk result (additional ≤ self.new.room) }
@@ -248,9 +252,9 @@ impl Log {
         self.deployments += 1;
     }
 
-    /// Folds all entries: the history goes on from an opening with what is counted of them and not remembered, and what is
-    /// remembered of them, in order of place. Room is made for so many entries more, and the memory of those that were held is
-    /// given back. As much has to be owed as before.
+    /// Folds all entries: the history goes on from an opening with what is counted of them and not remembered, and
+    /// what is remembered of them, in order of index. Room is made for `room` more entries, and the memory of those
+    /// that were held is released. As much has to be owed as before.
     ///
     /// # Errors
     ///

@@ -17,8 +17,8 @@ use std::alloc::Global;
 use std::marker::Model;
 use std::sync::Arc;
 
-/// An arrival that is remembered of entries that were folded: where it stood, what came and what its sender was told, where it
-/// goes, and how it stood with it there. One that was filtered has no deliveries.
+/// An arrival that is remembered of entries that were folded: its index, its channel and bytes, its answer, where it
+/// goes, and the states of its slots there. One that was filtered has no deliveries.
 #[derive(Drop)]
 pub struct Remembered {
     place: usize,
@@ -50,8 +50,8 @@ impl Model for Remembered {
 }
 
 impl Remembered {
-    /// What is remembered of an arrival that stood at this place: the channel and the bytes that came, what its sender was told,
-    /// where it goes, and how it stands with it there.
+    /// What is remembered of an arrival with this index: the channel and the bytes received, its answer,
+    /// where it goes, and the states of its slots there.
     pub fn new(
         place: usize,
         channel: u32,
@@ -79,28 +79,28 @@ impl Remembered {
         }
     }
 
-    /// The place where it stood.
+    /// The index of its entry.
     pub fn place(&self) -> usize
         ensures { result ≡ self.now.place }
     {
         self.place
     }
 
-    /// The channel on which it came.
+    /// The channel on which it arrived.
     pub fn channel(&self) -> u32
         ensures { result ≡ self.now.channel }
     {
         self.channel
     }
 
-    /// The bytes that came.
+    /// The bytes received.
     pub fn raw(&self) -> &Text
         ensures { result.now ≡ self.now.raw }
     {
         &self.raw
     }
 
-    /// What its sender was told.
+    /// Its answer.
     pub fn told(&self) -> Told
         ensures { result ≡ self.now.told }
     {
@@ -114,7 +114,7 @@ impl Remembered {
         &self.slots
     }
 
-    /// Whether it stood at this place, and brought these bytes.
+    /// Whether it had this index and these bytes.
     fn brought(&self, place: usize, raw: &[u8]) -> bool
         ensures { result ≡ brought_before place raw.now self.now }
     {
@@ -124,7 +124,7 @@ impl Remembered {
 
 /// What a history starts with, or goes on from: the plan in force there and the bound of its entries; how many entries were
 /// folded, messages accepted, plans deployed and prunings made before it; what is counted of what was forgotten, and what is
-/// remembered, in order of place.
+/// remembered, in order of index.
 #[derive(Drop)]
 pub struct Opening {
     pub(crate) plan: Arc<Plan>,
@@ -162,7 +162,7 @@ impl Model for Opening {
     ghost invariant = { λ o. IsStrictlyIncreasing (map (λ r. r.place) o.remembered.items) };
 }
 
-/// Which of the remembered arrivals stood at this place, by a binary search.
+/// Which of the remembered arrivals had this index, by a binary search.
 fn index_of(remembered: &[Remembered], place: usize) -> Option<usize>
     requires { IsStrictlyIncreasing (map (λ r. r.place) remembered.now) }
     ensures inside { IfSome result (λ k. k < length remembered.now) }
@@ -189,7 +189,7 @@ impl Opening {
         }
     }
 
-    /// Whether a remembered arrival stood at this place, and brought these bytes.
+    /// Whether a remembered arrival had this index and these bytes.
     pub(crate) fn brought(&self, place: usize, raw: &[u8]) -> bool
         ensures { result ≡ list_any (brought_before place raw.now) self.now.remembered }
     {
@@ -199,14 +199,14 @@ impl Opening {
         }
     }
 
-    /// What is remembered, in order of place.
+    /// What is remembered, in order of index.
     pub(crate) fn remembered(&self) -> &[Remembered]
         ensures { result.now ≡ self.now.remembered }
     {
         &self.remembered
     }
 
-    /// Where the message of this number came, if that is remembered.
+    /// The index of the arrival of the message of this number, if that is remembered.
     pub(crate) fn arrival_place(&self, number: u32) -> Option<usize>
         ensures { result ≡ option_map (λ r. r.place) (find (λ r. is_numbered number r.told) self.now.remembered) }
     {

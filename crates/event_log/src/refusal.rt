@@ -8,7 +8,7 @@ ghost use Rattle.event_log.specs.Folding.{prune_refusal_code};
 use std::alloc::AllocError;
 use thiserror::Error;
 
-/// Why no front was taken.
+/// Why no message was taken.
 #[derive(Clone, Copy, Debug, PartialEq, Eq, Error)]
 pub enum TakeRefusal {
     /// The queue is empty.
@@ -45,7 +45,7 @@ pub enum PruneRefusal {
     /// The message of this number, the least of those that were to be forgotten, is still to be delivered.
     #[error("message {0} is still to be delivered")]
     StillLive(u32),
-    /// Not so many messages were accepted.
+    /// Fewer messages were accepted.
     #[error("there is no such message")]
     NoSuchMessage,
     /// As many prunings were made as may be.
@@ -59,10 +59,10 @@ pub enum PruneRefusal {
 /// Why a plan was not deployed.
 #[derive(Clone, Copy, Debug, PartialEq, Eq, Error)]
 pub enum DeployRefusal {
-    /// Its channels have other names, or stand in another order.
+    /// Its channels have other names, or are in another order.
     #[error("the channels differ")]
     ChannelsDiffer,
-    /// Messages are still to be delivered to this destination, by its place, and the plan has no such destination, one of
+    /// Messages are still to be delivered to this destination, by its index, and the plan has no such destination, one of
     /// another name, or one with other attempts.
     #[error("destination {0} is in use")]
     DestinationInUse(u32),

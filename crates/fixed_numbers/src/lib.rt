@@ -1,5 +1,6 @@
-//! The numbers that are fixed: those of HL7 v2.5.1 chapter 2 and of MLLP Release 1, and the limits of this engine. Each
-//! stands here once, with a law that says which number it is; the definitions of every other crate write the number out.
+//! The numbers that are fixed: those of HL7 v2.5.1 chapter 2 and of MLLP Release 1, and the limits of this engine.
+//! Each is declared here once, with a law that says which number it is; the definitions of every other crate write
+//! the number out.
 #![tactic(auto)]
 
 mod book;

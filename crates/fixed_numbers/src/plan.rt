@@ -15,7 +15,7 @@ pub const MEMBERS_MAX: usize = 256;
 /// The most pairs of a lookup table.
 pub const PAIRS_MAX: usize = 1_000;
 
-/// How many conditions may stand in one another.
+/// How many levels of conditions may be nested.
 pub const LEVELS_MAX: u32 = 16;
 
 /// The most attempts that a message may have at a destination.

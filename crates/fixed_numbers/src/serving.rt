@@ -10,7 +10,7 @@ pub const CONNECTIONS_MAX: u32 = 9_999;
 /// interrupted writes among them.
 pub const TURNS_MAX: u64 = 1_000_000_000;
 
-/// The most frame events of a connection, whole and broken blocks: having had so many it ends.
+/// The most frame events of a connection, whole and broken blocks: having had that many it ends.
 pub const FRAME_EVENTS_MAX: u64 = 1_000_000_000;
 
 /// How many times bytes are received for the answers to one message.

@@ -1,4 +1,4 @@
-//! Doing what the command line asks.
+//! Doing what the command line requests.
 
 ghost use Rattle.engine_words.specs.Request.{IsWithinLimits};
 
@@ -45,7 +45,11 @@ fn shared_plan<'a>(rt: &HostRuntime, path: Option<&'a str>) -> Result<Arc<Plan>,
     Ok(Arc::new(rt.alloc(), plan).map_err(AllocError::from)?)
 }
 
-/// Does what is asked. The fault is the first that was found. Threads are started, and waited for, by `handle`.
+/// Does what is requested. Threads are started, and waited for, by `handle`.
+///
+/// # Errors
+///
+/// The first fault that was found.
 pub fn obey<'a, H: Handle + Eprint>(
     rt: &HostRuntime,
     handle: &H,

@@ -32,7 +32,7 @@ fn words_given<'a>(rt: &HostRuntime) -> Result<Vec<String>, Fault<'a>> {
     }
 }
 
-/// Prints the help or the version that was asked for, which is a success, or passes on what is wrong with the words.
+/// Prints the help or the version that was requested, which is a success, or passes on what is wrong with the words.
 fn explain<'a>(rt: &HostRuntime, error: clap::Error) -> Result<(), Fault<'a>> {
     if error.use_stderr() {
         Err(Fault::from(error))
@@ -41,7 +41,7 @@ fn explain<'a>(rt: &HostRuntime, error: clap::Error) -> Result<(), Fault<'a>> {
     }
 }
 
-/// Does what the words ask.
+/// Does what the words request.
 fn perform<'a, H: Handle + Eprint>(
     rt: &HostRuntime,
     handle: &H,
@@ -54,7 +54,7 @@ fn perform<'a, H: Handle + Eprint>(
     }
 }
 
-/// Tells of the fault, if there is one, on standard error, and gives the exit status.
+/// Prints the fault, if there is one, on standard error, and returns the exit status.
 fn finish(rt: &HostRuntime, ended: Result<(), Fault<'_>>) -> ExitCode
     ensures success { OnOk ended.entry (exit_status result ≡ 0) }
     ensures failure { IfErr ended.entry (λ fault. exit_status result ≡ status_of fault) }

@@ -14,7 +14,7 @@ use std::alloc::AllocError;
 use std::borrow::CowSlice;
 
 /// A condition on a message, of the values of its pieces or of other conditions. Two conditions are equal where they have
-/// the same form, places, texts and members.
+/// the same form, paths, texts and members.
 #[derive(Drop)]
 pub enum Cond {
     /// The value is this text.
@@ -25,7 +25,7 @@ pub enum Cond {
     Exists(Path),
     /// The value begins with this text.
     Starts(Path, Bytes),
-    /// This text stands in the value.
+    /// The value contains this text.
     Contains(Path, Bytes),
     /// Each of these is true; of none, true.
     All(Vec<Cond>),
@@ -59,7 +59,7 @@ pub fn value<'m>(message: &'m Message, path: &Path) -> Result<CowSlice<'m, u8>, 
     Ok(CowSlice::Owned(message.get(path)?))
 }
 
-/// Whether the text stands somewhere in the value.
+/// Whether the value contains the text.
 fn stands_in(text: &[u8], value: &[u8]) -> bool
     ensures computed { result ≡ stands_in text.now value.now }
     ensures relation { IsTrue result ↔ HasSubslice value.now text.now }
@@ -103,11 +103,15 @@ fn any_holds(conds: &[Cond], message: &Message) -> Result<bool, AllocError>
 impl Cond {
     /// Whether the condition is true of the message. The piece at a path has as its value the bytes that its escape
     /// sequences mean; a piece that isn't there has the empty value. Values and texts are compared as bytes.
+    ///
+    /// # Errors
+    ///
+    /// Where memory is refused, which only a value with escape sequences requires.
     #[cycle(holds)]
     pub fn holds(&self, message: &Message) -> Result<bool, AllocError>
         ensures value { IfOk result (λ b. b ≡ truth message.now (view self.now)) }
 
-        // Only a value that has to be read from escape sequences wants memory.
+        // Only a value that has to be read from escape sequences requests memory.
         ensures unescaped { IsTrue (compares_unescaped message.now (view self.now)) → IsOk result }
     {
         match self {

@@ -51,7 +51,7 @@ pub enum Cause {
     SourceTransform,
     /// A step on the way to a destination can't be taken.
     RouteTransform,
-    /// Another message came under the same control id before.
+    /// A message with other bytes was received under the same control id before.
     IdReused,
     /// There was no memory for the message.
     NoMemory,
@@ -108,6 +108,6 @@ pub struct AckPart {
     pub code: AckCode,
     /// Why the message is refused; none on success.
     pub cause: Option<Cause>,
-    /// Whether the message asked for enhanced mode, so that the acknowledgment says that it is not to be acknowledged.
+    /// Whether the message requested enhanced mode, so that the acknowledgment says that it is not to be acknowledged.
     pub enhanced: bool,
 }

@@ -35,6 +35,10 @@ impl Header {
     ghost use Rattle.hl7_head.specs.Header.{header};
 
     /// The header of a message.
+    ///
+    /// # Errors
+    ///
+    /// Where the message's text has more owners than can be counted.
     pub fn read(message: &Message) -> Result<Header, AllocError>
         ensures { IfOk result (λ h. h ≡ header message.now) }
     {
@@ -117,9 +121,9 @@ impl Header {
         self.places.control_id.of(self.text.as_slice())
     }
 
-    /// The text of the message, and where MSH-10 stands in it.
+    /// The text of the message, and the span of MSH-10 in it.
     ///
-    /// It is there for speed: who keeps the control id shares that text, and copies nothing.
+    /// It exists for speed: a value that keeps the control id shares that text, and copies nothing.
     pub fn shared_control_id(&self) -> (&Arc<Vec<u8>>, Span)
         ensures value { covered (arc_value result.0.now).items result.1 ≡ self.now.control_id }
         ensures between { IsBetween 0 (length (arc_value result.0.now).items) result.1 }

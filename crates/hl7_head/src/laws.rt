@@ -18,7 +18,7 @@ pub fn ack_adds_no_control(part: AckPart, moment: Moment, connection: u32, numbe
 {}
 
 /// An acknowledgment is a message again. Its header has sender and receiver exchanged and its own control id, and its MSA
-/// answers the control id of the message.
+/// names the control id of the message.
 pub fn ack_reads_back(part: AckPart, moment: Moment, connection: u32, number: u32)
     ensures header { (text : List ℕ) (header : Msh) → header_of text ≡ Some header
         → header_of (ack header part moment connection number) ≡ Some (header_back header part connection number) }

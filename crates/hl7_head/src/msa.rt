@@ -5,7 +5,7 @@ use er7_tree::{Message, Span};
 use std::alloc::{AllocError, Global};
 use std::marker::Model;
 
-/// MSA is read up to its third field; its name stands before the first.
+/// MSA is read up to its third field; its name precedes the first.
 const PIECES_READ: usize = 4;
 
 /// The fields of a message acknowledgment segment, MSA, raw.
@@ -31,6 +31,10 @@ impl Msa {
     ghost use Rattle.hl7_head.specs.Msa.{msa};
 
     /// The first MSA of a message, where it has one.
+    ///
+    /// # Errors
+    ///
+    /// Where memory is refused.
     pub fn read(alloc: Global, message: &Message) -> Result<Option<Msa>, AllocError>
         ensures value { IfOk result (λ found. found ≡ msa message.now) }
 

@@ -7,7 +7,7 @@ ghost use Rattle.hl7_head.specs.Segment.{header_in};
 
 use er7_tree::{Delims, Span};
 
-/// MSH is read up to its sixteenth field; its name stands in the place of the first, the field separator.
+/// MSH is read up to its sixteenth field; its name is read where the first, the field separator, would be.
 const FIELDS_READ: usize = 16;
 
 /// The first piece of a part of a text between separators. The fields of a header are short: a loop over their bytes takes
@@ -41,7 +41,7 @@ pub fn first_pieces<const N: usize>(text: &[u8], part: Span, separator: u8) -> [
     pieces
 }
 
-/// Where the pieces of a header stand in the text of its message.
+/// The spans of the pieces of a header in the text of its message.
 #[derive(Clone, Copy)]
 pub struct Places {
     pub encoding_characters: Span,

@@ -182,6 +182,10 @@ pub fn append_ack(
 
 /// The acknowledgment of a message with this header (HL7 v2.5.1, 2.9): its segments MSH and MSA, each ended by a carriage
 /// return, with the delimiters of the message. It is the `number`th of its connection, which makes its own control id.
+///
+/// # Errors
+///
+/// Where memory is refused.
 pub fn ack_text(
     alloc: Global,
     header: &Header,

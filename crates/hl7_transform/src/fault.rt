@@ -12,7 +12,7 @@ pub enum StopCause {
 /// Why steps gave no message.
 #[derive(Clone, Copy, Debug, PartialEq, Eq, Error)]
 pub enum StepFault {
-    /// The step at this place, counted from 0, can't be taken.
+    /// The step at this index, counted from 0, can't be taken.
     #[error("step {place} stopped: {cause:?}")]
     Stopped { place: usize, cause: StopCause },
     /// There was no memory.

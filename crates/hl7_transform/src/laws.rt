@@ -16,13 +16,13 @@ pub fn step_rules()
         IsMessage t → Contains controls b → list_all (lacks b) t.segments ≡ true
         → IfOk (after steps t) (λ new. list_all (lacks b) new.segments ≡ true) }
 
-    // Steps that may stand make a message again, and leave the delimiters and the message control id as they are (HL7
-    // v2.5.1, 2.5.4 and 2.15.9.10).
+    // Steps that a transformer may have make a message again, and leave the delimiters and the message control id as
+    // they are (HL7 v2.5.1, 2.5.4 and 2.15.9.10).
     ensures protected { (steps : List Edit) (t : Tree) →
         IsMessage t → list_all names_paths steps ≡ true → list_all may_stand steps ≡ true
         → IfOk (after steps t) (KeepsProtected t) }
 
-    // A step that may stand is refused only where the segment that it writes to isn't there.
+    // A step that a transformer may have is refused only where the segment that it writes to isn't there.
     ensures refused { (step : Edit) (t : Tree) →
         may_stand step ≡ true → change step t ≡ Err NoSuchSegment → LacksSegment step t }
 {}

@@ -12,7 +12,7 @@ pub struct Pair {
     pub to: Bytes,
 }
 
-/// A step that changes a message. Two steps are equal where they have the same form, places and texts.
+/// A step that changes a message. Two steps are equal where they have the same form, paths and texts.
 #[derive(Drop)]
 pub enum Step {
     /// The piece becomes this text, in which delimiters and control characters are escaped.

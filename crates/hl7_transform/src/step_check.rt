@@ -8,7 +8,7 @@ use er7_tree::{Path, is_header, is_name};
 use fixed_numbers::CONTROL_ID_FIELD;
 use thiserror::Error;
 
-/// Why a step may not stand in a transformer.
+/// Why a transformer may not have a step.
 #[derive(Clone, Copy, Debug, PartialEq, Eq, Error)]
 pub enum StepCheck {
     /// A copy between levels, or from or to MSH-1 or MSH-2; or a segment name that isn't one.
@@ -38,7 +38,7 @@ fn is_protected(path: &Path) -> bool
     path.is_fixed() || (is_header(path.segment()) && path.field() == CONTROL_ID_FIELD)
 }
 
-/// A write to a place.
+/// Whether a step may write to a path.
 fn writable(path: &Path) -> Result<(), StepCheck>
     ensures { result ≡ writable path.now }
 {
@@ -61,12 +61,15 @@ fn removable(name: &[u8]) -> Result<(), StepCheck>
     Ok(())
 }
 
-/// Whether a step may stand in a transformer, or why it may not.
+/// Whether a transformer may have a step, or why it may not.
 ///
-/// A copy has to lead from a field to a field, from a repetition to a repetition, from a component to a component or from a
-/// subcomponent to a subcomponent, and neither from nor to MSH-1 or MSH-2; a removal has to name a segment (`BadPath`). Then
-/// no step may write to MSH-1 or MSH-2, which declare the delimiters, or into MSH-10, the message control id by which the
-/// message is acknowledged, or remove MSH (`ForbiddenWrite`).
+/// # Errors
+///
+/// `BadPath` for a copy that doesn't lead from a field to a field, from a repetition to a repetition, from a
+/// component to a component or from a subcomponent to a subcomponent, or that leads from or to MSH-1 or
+/// MSH-2, and for a removal that names no segment. Then `ForbiddenWrite` for a step that writes to MSH-1 or
+/// MSH-2, which declare the delimiters, or into MSH-10, the message control id by which the message is
+/// acknowledged, or that removes MSH.
 pub fn check_step(step: &Step) -> Result<(), StepCheck>
     ensures { result ≡ check_step (view step.now) }
 {
@@ -82,7 +85,7 @@ pub fn check_step(step: &Step) -> Result<(), StepCheck>
     }
 }
 
-/// Whether each of the steps may stand in a transformer.
+/// Whether a transformer may have each of the steps.
 pub fn all_may_stand(steps: &[Step]) -> bool
     ensures { result ≡ list_all may_stand (steps_view steps.now) }
 {

@@ -26,7 +26,7 @@ impl From<Refusal> for Stop {
 
     ghost from_gives = { λ refusal stop. stop ≡ stop_of refusal };
 
-    /// A step that may stand names good paths, so its edits are refused for want of a segment or of memory.
+    /// A step that a transformer may have names good paths, so its edits are refused for a missing segment or for memory.
     fn from(refusal: Refusal) -> Stop {
         match refusal {
             Refusal::NoMemory => Stop::NoMemory,

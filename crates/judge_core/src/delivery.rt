@@ -22,7 +22,7 @@ use std::marker::Model;
 use std::slice;
 use std::sync::Arc;
 
-/// A text for one destination, by its place in the plan.
+/// A text for one destination, by its index in the plan.
 #[derive(Drop)]
 pub struct Delivery {
     pub destination: u32,
@@ -38,7 +38,7 @@ pub(crate) enum Outgoing {
     Several(Vec<Delivery>),
 }
 
-/// Deliveries as their owners keep them. It is there for speed: a single one is kept in place, and shares its text alone, so
+/// Deliveries as their owners keep them. It exists for speed: a single one is kept inline, and shares its text alone, so
 /// that it takes no memory of its own.
 #[derive(Drop)]
 pub(crate) enum Kept {
@@ -66,7 +66,7 @@ impl Model for Deliveries {
 }
 
 impl Outgoing {
-    /// With one more.
+    /// These deliveries and one more.
     fn with(self, alloc: Global, delivery: Delivery) -> Result<Outgoing, AllocError>
         ensures { IfOk result (λ more. listed more ≡ listed self ++ delivery ∷ []) }
     {
@@ -214,6 +214,10 @@ impl Deliveries {
     }
 
     /// The same deliveries for one more owner.
+    ///
+    /// # Errors
+    ///
+    /// Where they have more owners than can be counted.
     pub fn share(&self) -> Result<Deliveries, AllocError>
         ensures { IfOk result (λ deliveries. deliveries ≡ self.now) }
     {

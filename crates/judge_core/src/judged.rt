@@ -31,7 +31,7 @@ pub enum Verdict {
     Unreadable,
     /// It is an acknowledgment, which isn't answered.
     Stray,
-    /// It is refused, and its sender is told why.
+    /// It is refused, and acknowledged with the cause.
     Refuse(Cause),
     /// It is taken, and goes nowhere.
     Filtered,
@@ -42,7 +42,7 @@ pub enum Verdict {
 impl Verdict {
     ghost use Rattle.judge_core.specs.Judging.{is_booked};
 
-    /// Whether the arrival is booked, since its sender is told something.
+    /// Whether the arrival is booked, since it is answered.
     pub fn is_booked(&self) -> bool
         ensures { result ≡ is_booked self.now }
     {
@@ -123,7 +123,7 @@ fn header_fault(channel: &Channel, header: &Header) -> Option<Cause>
     }
 }
 
-/// The message as it is printed, which shares the bytes that came where they are the same. Where it is known before that
+/// The message as it is printed, which shares the received bytes where they are the same. Where it is known before that
 /// they are, nothing is printed.
 fn payload_of(alloc: Global, message: &Message, raw: &Text, same: bool) -> Result<Text, AllocError>
     requires { IsTrue same → text_of message.now ≡ raw.now }
@@ -192,7 +192,7 @@ fn routed(
     Ok(Verdict::Accept(Deliveries::new(alloc, deliveries)?))
 }
 
-/// What becomes of a message that passes the channel's filter; `printed` where it is known that the text that came is the
+/// What becomes of a message that passes the channel's filter; `printed` where it is known that the received text is the
 /// message as it is printed.
 fn stepped(
     alloc: Global,
@@ -215,7 +215,7 @@ fn stepped(
     routed(alloc, channel.routes(), &message, &payload)
 }
 
-/// What a channel decides of a message; `printed` where it is known that the text that came is the message as it is printed.
+/// What a channel decides of a message; `printed` where it is known that the received text is the message as it is printed.
 fn decide(
     alloc: Global,
     channel: &Channel,
@@ -244,7 +244,9 @@ fn decide(
 
 /// Judges a text that arrived on a channel of the plan.
 ///
-/// Want of memory is the one refusal; it drops the text.
+/// # Errors
+///
+/// Where memory is refused, or the plan has more owners than can be counted; the text is dropped then.
 pub fn judge(
     alloc: Global,
     plan: &Arc<Plan>,
@@ -297,7 +299,7 @@ impl Judged {
         &self.plan
     }
 
-    /// The channel's place in the plan.
+    /// The channel's index in the plan.
     pub fn channel(&self) -> u32
         ensures value { result ≡ self.now.channel }
         ensures known { result < length self.now.plan.channels }
@@ -305,7 +307,7 @@ impl Judged {
         self.channel
     }
 
-    /// The text as it came.
+    /// The text as it was received.
     pub fn raw(&self) -> &Text
         ensures value { result.now ≡ self.now.raw }
         ensures fits { IsBlockData result.now }
@@ -320,7 +322,7 @@ impl Judged {
         self.header.as_ref()
     }
 
-    /// The control id, MSH-10, if the text is a message. It shares the bytes of the text, and who keeps it may share it again.
+    /// The control id, MSH-10, if the text is a message. It shares the bytes of the text, and its owner may share it again.
     pub fn control_id(&self) -> Option<&TextPiece>
         ensures { option_copied result ≡ option_map (λ h. h.control_id) (header_of self.now.raw) }
     {

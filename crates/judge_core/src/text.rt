@@ -31,6 +31,10 @@ impl Model for Text {
 
 impl Text {
     /// The text of these bytes.
+    ///
+    /// # Errors
+    ///
+    /// Where memory is refused.
     pub fn new(alloc: Global, bytes: Vec<u8>) -> Result<Text, AllocError>
         ensures { IfOk result (λ text. text ≡ bytes.items) }
     {
@@ -45,6 +49,10 @@ impl Text {
     }
 
     /// The same bytes for one more owner.
+    ///
+    /// # Errors
+    ///
+    /// Where its bytes have more owners than can be counted.
     pub fn share(&self) -> Result<Text, AllocError>
         ensures { IfOk result (λ text. text ≡ self.now) }
     {
@@ -84,7 +92,7 @@ impl Model for TextPiece {
     ghost invariant = { λ t. IsBetween 0 (length (arc_value t.shared).items) (record { start = t.start; end = t.end }) };
 }
 
-/// A place in a text as 32 bits. A place of 4 GiB or more is answered as want of memory.
+/// An offset in a text as 32 bits. An offset of 4 GiB or more is refused as memory is.
 fn place(offset: usize) -> Result<u32, AllocError>
     ensures { IfOk result (λ p. p ≡ offset) }
 {
@@ -93,7 +101,7 @@ fn place(offset: usize) -> Result<u32, AllocError>
 
 impl TextPiece {
     /// The piece of bytes that are shared, as one more of their owners. A span that ends at 4 GiB or behind it, where no
-    /// block reaches, is answered as want of memory.
+    /// block reaches, is refused as memory is.
     pub(crate) fn of(shared: &Arc<Vec<u8>>, span: Span) -> Result<TextPiece, AllocError>
         requires { IsBetween 0 (length (arc_value shared.now).items) span }
         ensures { IfOk result (λ piece. piece ≡ covered (arc_value shared.now).items span) }
@@ -108,6 +116,10 @@ impl TextPiece {
     }
 
     /// The same piece for one more owner.
+    ///
+    /// # Errors
+    ///
+    /// Where its bytes have more owners than can be counted.
     pub fn share(&self) -> Result<TextPiece, AllocError>
         ensures { IfOk result (λ piece. piece ≡ self.now) }
     {

@@ -168,7 +168,7 @@ const AUDITS: [Audit; 10] = [
     },
 ];
 
-/// A day's end: how many desks and stations came back where the first close was refused, and the book.
+/// A day's end: how many desks and stations were returned where the first close was refused, and the book.
 #[derive(Drop)]
 struct Day<S: RowStore<Addressed<Letter>>> {
     back: Option<(usize, usize)>,
@@ -371,7 +371,7 @@ fn day_at<S: RowStore<Addressed<Letter>> + Drop, H: Wait + Log>(
     )
 }
 
-/// Whether as many shares came back as are due, and each audit comes out as it is to.
+/// Whether as many shares were returned as are due, and each audit has the expected result.
 fn is_right<S: RowStore<Addressed<Letter>>>(
     alloc: Global,
     given: &Given,

@@ -175,7 +175,7 @@ const CASES: [Case; 3] = [
     },
 ];
 
-/// Whether a take gives a job with this control id and this text.
+/// Whether a take returns a job with this control id and this text.
 fn sends<A: Opening, T: Ledger, U: Ledger, S: RowStore<Addressed<Letter>>, H: Wait + Log>(
     rt: &H,
     shared: &Shared<A, T, U, S>,
@@ -193,7 +193,7 @@ fn sends<A: Opening, T: Ledger, U: Ledger, S: RowStore<Addressed<Letter>>, H: Wa
         && job.payload.as_slice() == text.as_bytes()
 }
 
-/// Whether a take gives this ticket, or is refused so.
+/// Whether a take returns this ticket, or is refused so.
 fn takes<A: Opening, T: Ledger, U: Ledger, S: RowStore<Addressed<Letter>>, H: Wait + Log>(
     rt: &H,
     shared: &Shared<A, T, U, S>,

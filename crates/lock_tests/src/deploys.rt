@@ -16,7 +16,7 @@ use std::test::Fail;
 const SLOWER: &str =
     "[[destination]]\nname = \"LAB\"\naddress = \"127.0.0.1:6661\"\ninterval = 20\n[[channel]]\nname = \"ADT\"\nlisten = \"127.0.0.1:6660\"\ntypes = [\"ADT\"]\nprocessing = [\"P\", \"T\"]\nversions = [\"2.5.1\"]\n[[channel.route]]\nto = \"LAB\"\n";
 
-/// What came of two deployments: why the first was refused, whether the second was, and which plan is in force.
+/// The results of two deployments: why the first was refused, whether the second was, and which plan is in force.
 #[derive(Drop)]
 struct Answers {
     first: Option<DeployRefusal>,
@@ -49,7 +49,7 @@ impl Task for Deployments {
         })
     }
 
-    /// Whether the first plan was refused for a destination in use, and the slower one is in force and stands in the history.
+    /// Whether the first plan was refused for a destination in use, and the slower one is in force and in the history.
     fn is_right<S: RowStore<Addressed<Letter>>>(&self, done: &Done<Answers, S>) -> bool {
         let (answers, book) = (&done.answer, done.closed.book());
         answers.first == Some(DeployRefusal::DestinationInUse(0))
@@ -61,7 +61,7 @@ impl Task for Deployments {
 }
 
 /// A plan that lacks a destination to which a message waits is refused. One that only waits longer between two attempts is
-/// in force from then on, and stands in the history.
+/// in force from then on, and is in the history.
 #[test]
 fn plans_are_deployed(rt: HostRuntime) -> Result<(), Fail> {
     let Some(slower) = plan_of(rt.alloc(), SLOWER) else {

@@ -77,7 +77,7 @@ impl Read for Source<'_> {
     }
 }
 
-/// A writer that takes so many bytes at most at one call.
+/// A writer that takes a limited number of bytes at one call.
 #[derive(Drop)]
 pub struct Sink {
     pub bytes: Vec<u8>,

@@ -13,7 +13,7 @@ use std::sync::Wait;
 use std::sync::ledger::Ledger;
 use std::test::Fail;
 
-/// What two prunings answered, a cancellation afterwards, and the forgotten message when it came again.
+/// The results of two prunings, of a cancellation afterwards, and of the forgotten message when it was repeated.
 #[derive(Drop)]
 struct Answers {
     first: Result<(), PruneRefusal>,
@@ -45,7 +45,7 @@ impl Task for Prunings {
         })
     }
 
-    /// Whether the second message was not forgotten, and the first was and came again as a new one.
+    /// Whether the second message was not forgotten, and the first was and is accepted again as a new one.
     fn is_right<S: RowStore<Addressed<Letter>>>(&self, done: &Done<Answers, S>) -> bool {
         let answers = &done.answer;
         answers.first == Err(PruneRefusal::StillLive(1))

@@ -38,7 +38,7 @@ const CASES: [Case; 2] = [
     },
 ];
 
-/// What came of a message that was refused twice: by the shared book, and by it with an acknowledgment.
+/// The results of a message that was refused twice: by the shared book, and by it with an acknowledgment.
 #[derive(Drop)]
 struct Answers {
     bare: Option<NotBooked>,
@@ -52,7 +52,7 @@ struct Answers {
     after: Counts,
 }
 
-/// Books a message that came by connection 0, and appends its replies, the first of that connection.
+/// Books a message received over connection 0, and appends its replies, the first of that connection.
 fn answer<A: Opening, T: Ledger, U: Ledger, S: RowStore<Addressed<Letter>>, H: Wait + Log>(
     rt: &H,
     alloc: Global,

@@ -82,8 +82,8 @@ enum Answer {
     Wrong,
 }
 
-/// What came of all calls: the receipt, how many were refused memory and made again, and the plan in force and the statistics
-/// that were shown at the end.
+/// The results of all calls: the receipt, how many were refused memory and made again, and the plan in force and the
+/// statistics that were shown at the end.
 #[derive(Drop)]
 struct Answers {
     receipt: Option<Receipt>,
@@ -260,7 +260,7 @@ fn make_all<A: Opening, T: Ledger, U: Ledger, S: RowStore<Addressed<Letter>>, H:
     Some(refused)
 }
 
-/// What came of all calls, with what is shown after them.
+/// The results of all calls, with what is shown after them.
 fn answers_of<A: Opening, T: Ledger, U: Ledger, S: RowStore<Addressed<Letter>>, H: Wait + Log>(
     rt: &H,
     shared: &Shared<A, T, U, S>,
@@ -352,7 +352,7 @@ enum CallsEnd {
     NotShared,
     /// A call was answered otherwise than it is to be, or a refusal changed the statistics.
     Wrong,
-    /// As many calls were refused memory as are told, and were made again. Whether the book has what they did, each once.
+    /// As many calls were refused memory as are given, and were made again. Whether the book has what they did, each once.
     Made { refused: u32, once: bool },
 }
 

@@ -17,7 +17,7 @@ use std::sync::Wait;
 use std::sync::ledger::Ledger;
 use std::test::Fail;
 
-/// Two admissions, of which the first asks for an accept acknowledgment and the second for both.
+/// Two admissions, of which the first requests an accept acknowledgment and the second both.
 const MESSAGES: &str =
     "\x0bMSH|^~\\&|REG|HOSP|ENG|HUB|20231114221300||ADT^A01^ADT_A01|M1|P|2.5.1|||AL|NE\rPID|1||77^^^H\r\x1c\r\x0bMSH|^~\\&|REG|HOSP|ENG|HUB|20231114221300||ADT^A01^ADT_A01|M3|P|2.5.1|||AL|AL\rPID|1||77^^^H\r\x1c\r";
 
@@ -38,7 +38,7 @@ const SECOND_REFUSED: &str =
 const SECOND_FRONT: &str =
     "\x0bMSH|^~\\&|ENG|HUB|REG|HOSP|20231114221320+0000||ACK^A01^ACK|0.2|P|2.5.1|||NE|NE\rMSA|CA|M3\r\x1c\r";
 
-/// What came of serving: the report, what was written, the arrivals that the desk counted, and the statistics that were
+/// The result of serving: the report, what was written, the arrivals that the desk counted, and the statistics that were
 /// shown before and after.
 #[derive(Drop)]
 struct Course {
@@ -105,8 +105,8 @@ fn are_both(bytes: &[u8], first: &str, second: &str) -> bool {
     }
 }
 
-/// Whether so many messages may have been booked, where this was written and serving ended so. A message that found no
-/// memory is told so, or the connection ends.
+/// Whether this many messages may have been booked, where this was written and serving ended so. A message that found no
+/// memory is answered so, or the connection ends.
 fn may_be(end: ServeEnd, booked: usize, written: &[u8]) -> bool {
     match (end, booked) {
         (ServeEnd::End, 2) => are_both(written, FIRST, SECOND),
@@ -165,7 +165,7 @@ impl Task for Serving {
         Some(serve_at(rt, alloc, shared, desk, devices, sink))
     }
 
-    /// Whether what was told is what was booked, and the book has nothing else.
+    /// Whether what was answered is what was booked, and the book has nothing else.
     fn is_right<S: RowStore<Addressed<Letter>>>(&self, served: &Done<Course, S>) -> bool {
         let course = &served.answer;
         let report = &course.report;
@@ -181,7 +181,7 @@ const IN_TWO: Serving = Serving {
 
 const IN_ONE: Serving = Serving { cut: Cut::Nowhere };
 
-/// How serving came out: whether what was told is what was booked, how it ended, and how many messages were booked.
+/// The outcome of serving: whether what was answered is what was booked, how it ended, and how many messages were booked.
 #[derive(Clone, Copy)]
 struct Told {
     right: bool,
@@ -189,7 +189,7 @@ struct Told {
     booked: usize,
 }
 
-/// How serving came out.
+/// The outcome of serving.
 fn told_of<S: RowStore<Addressed<Letter>>>(serving: &Serving, served: &Done<Course, S>) -> Told {
     let report = &served.answer.report;
     Told {
@@ -199,7 +199,7 @@ fn told_of<S: RowStore<Addressed<Letter>>>(serving: &Serving, served: &Done<Cour
     }
 }
 
-/// Serves the two messages by a book, and tells how that came out. None where memory was refused before.
+/// Serves the two messages by a book, and returns the outcome. None where memory was refused before.
 fn serve_by<S: RowStore<Addressed<Letter>> + Drop, H: Wait + Log>(
     rt: &H,
     alloc: Global,
@@ -210,7 +210,7 @@ fn serve_by<S: RowStore<Addressed<Letter>> + Drop, H: Wait + Log>(
     Some(told_of(serving, &served))
 }
 
-/// Whichever request is refused: what was told is what was booked, and the book has nothing else.
+/// Whichever request is refused: what was answered is what was booked, and the book has nothing else.
 #[test]
 fn holds_where_memory_is_refused(rt: HostRuntime) -> Result<(), Fail> {
     let Some(told) = serve_by(&rt, rt.alloc(), book::<Rows>(&rt), &IN_TWO) else {

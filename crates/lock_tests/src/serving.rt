@@ -10,7 +10,7 @@ use row_store::RowStore;
 use std::alloc::Global;
 use std::test::Fail;
 
-/// Two admissions, of which the first asks for an accept acknowledgment and the second for both.
+/// Two admissions, of which the first requests an accept acknowledgment and the second both.
 const MESSAGES: [&str; 2] = [
     "\x0bMSH|^~\\&|REG|HOSP|ENG|HUB|20231114221300||ADT^A01^ADT_A01|M1|P|2.5.1|||AL|NE\rPID|1||77^^^H\r\x1c\r",
     "\x0bMSH|^~\\&|REG|HOSP|ENG|HUB|20231114221300||ADT^A01^ADT_A01|M3|P|2.5.1|||AL|AL\rPID|1||77^^^H\r\x1c\r",
@@ -29,7 +29,7 @@ fn both(alloc: Global, texts: &[&str; 2]) -> Result<Vec<u8>, Fail> {
     Ok(bytes)
 }
 
-/// What serving the conversation came to.
+/// The result of serving the conversation.
 #[derive(Drop)]
 struct Served {
     end: ServeEnd,
@@ -106,7 +106,7 @@ impl Served {
     }
 }
 
-/// What is written once so many bytes were read.
+/// What is written once a number of bytes was read.
 fn due(replies: &[u8], read: usize) -> &[u8] {
     if read < MESSAGES[0].len() {
         &replies[..0]
@@ -117,7 +117,7 @@ fn due(replies: &[u8], read: usize) -> &[u8] {
     }
 }
 
-/// Whether what came before a read that fails is answered, where a read brings a byte. So many reads are made at most.
+/// Whether what was read before a read that fails is answered, where a read brings a byte. The number of reads is bounded.
 fn answers_until_read(rt: &HostRuntime, replies: &[u8], at: u32) -> Result<bool, Fail> {
     let served = serve(
         rt,
@@ -133,7 +133,7 @@ fn answers_until_read(rt: &HostRuntime, replies: &[u8], at: u32) -> Result<bool,
     Ok(served.wrote(due(replies, read), ending) && served.is_flushed())
 }
 
-/// The replies to what came before a read are written and flushed when that read is made.
+/// The replies to what was read before a read are written and flushed when that read is made.
 #[test]
 fn a_reader_that_fails(rt: HostRuntime) -> Result<(), Fail> {
     let replies = both(rt.alloc(), &REPLIES)?;
@@ -199,7 +199,7 @@ fn interrupted_devices(rt: HostRuntime) -> Result<(), Fail> {
     Ok(())
 }
 
-/// Whether a writer that gives up has been given this, and ends the connection.
+/// Whether a writer that fails has been given this, and ends the connection.
 fn gives_up(rt: &HostRuntime, writing: Mishap, given: &[u8]) -> Result<bool, Fail> {
     let served = serve(rt, Devices { writing, ..SMOOTH })?;
     Ok(served.wrote(given, UNWRITTEN))

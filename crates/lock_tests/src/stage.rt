@@ -23,7 +23,7 @@ use std::test::Fail;
 /// The rows of the tests' books.
 pub type Rows = RecordList<Addressed<Letter>>;
 
-/// A message with the control id M1, which asks for accept acknowledgments (HL7 v2.5.1, 2.9.3).
+/// A message with the control id M1, which requests accept acknowledgments (HL7 v2.5.1, 2.9.3).
 pub const M1: &str =
     "MSH|^~\\&|REG|HOSP|ENG|HUB|20231114221300||ADT^A01^ADT_A01|M1|P|2.5.1|||AL|NE\rPID|1||77^^^H\r";
 
@@ -69,7 +69,7 @@ pub fn judged(alloc: Global, plan: &Arc<Plan>, text: &str) -> Option<Judged>
     }
 }
 
-/// An empty book of a plan with room for so many entries. None where memory is refused.
+/// An empty book of a plan with room for a number of entries. None where memory is refused.
 pub fn empty_book<S: RowStore<Addressed<Letter>> + Drop>(
     rt: &HostRuntime,
     plan: Arc<Plan>,
@@ -93,7 +93,7 @@ fn fill<S: RowStore<Addressed<Letter>>>(
     Some(())
 }
 
-/// A book of a plan with room for so many entries, in which these messages wait.
+/// A book of a plan with room for a number of entries, in which these messages wait.
 pub fn waiting<S: RowStore<Addressed<Letter>> + Drop>(
     rt: &HostRuntime,
     four: bool,
@@ -157,7 +157,7 @@ pub trait Task {
     fn is_right<S: RowStore<Addressed<Letter>>>(&self, done: &Done<Self::Answer, S>) -> bool;
 }
 
-/// What came of a task, and the book after it.
+/// The result of a task, and the book after it.
 #[derive(Drop)]
 pub struct Done<X, S: RowStore<Addressed<Letter>>> {
     pub answer: X,
@@ -167,9 +167,9 @@ pub struct Done<X, S: RowStore<Addressed<Letter>>> {
 /// Why a task was not done.
 #[derive(Drop)]
 pub enum Undone {
-    /// The book was not shared, for want of memory.
+    /// The book was not shared, since memory was refused.
     NotShared,
-    /// Nothing came of the task.
+    /// The task had no result.
     Nothing,
     /// A share was missing at the close.
     NotClosed,

@@ -107,7 +107,7 @@ fn cancel_and_deliver<
     shared.close(desks, stations).ok()
 }
 
-/// Whether the slot at a destination came to its end, and is counted there once.
+/// Whether the slot at a destination reached its end, and is counted there once.
 fn is_over<S: RowStore<Addressed<Letter>>>(book: &Book<S>, d: u32) -> bool
     requires { d < 32 }
 {

@@ -34,7 +34,7 @@ struct Shown {
     to_come: Found,
 }
 
-/// Asks for all that is shown.
+/// Reads all that is shown.
 struct Showing;
 
 impl Task for Showing {
@@ -138,8 +138,8 @@ fn two_messages_are_shown(rt: HostRuntime) -> Result<(), Fail> {
     Ok(())
 }
 
-/// What came of arrivals at a book that fills: of the second message, and of the first one when it came again, and of two
-/// prunings after that; and what is said of the first message then, and of the second.
+/// The results of arrivals at a book that fills: of the second message, and of the first one when it was repeated,
+/// and of two prunings after that; and what is said of the first message then, and of the second.
 #[derive(Drop)]
 struct Tidyings {
     at_first: Tidied,
@@ -153,7 +153,7 @@ struct Tidyings {
 /// Books messages in a small book, and prunes it.
 struct Filling;
 
-/// What the sender of an arrival is told, if it was booked.
+/// The answer to an arrival, if it was booked.
 fn told(tidied: &Tidied) -> Option<Told> {
     match &tidied.receipt {
         Ok(receipt) => Some(receipt.told),
@@ -237,8 +237,8 @@ impl Task for Filling {
     }
 }
 
-/// A book with room for 16 entries holds 6 and owes 7, once one of two messages is delivered and the other came two times
-/// more: it is tight, and the next arrival prunes it.
+/// A book with room for 16 entries holds 6 and owes 7, once one of two messages is delivered and the other was
+/// received two times more: it is tight, and the next arrival prunes it.
 #[test]
 fn a_tight_book_is_pruned(rt: HostRuntime) -> Result<(), Fail> {
     let book: Book<Rows> = waiting(&rt, false, 16, &[M1])?;

@@ -1,4 +1,4 @@
-//! Laws of framing, for the contracts above this crate. Each is a function with an empty body: who calls it knows its
+//! Laws of framing, for the contracts above this crate. Each is a function with an empty body: a caller knows its
 //! clauses.
 
 ghost use Rattle.std.specs.Prelude.{◌≡◌, ◌≢◌, ℕ, ◌+◌, ◌<◌, ◌≤◌, List, [], ◌∷◌, ◌++◌, length, map};
@@ -10,8 +10,8 @@ ghost use Rattle.mllp_frame.specs.Calls.{Call, bytes_of, handed_out, after_calls
 
 use crate::Break;
 
-/// The events of a byte string, from its front on: bytes that open no block are skipped, and what follows the data of a
-/// block decides what becomes of it (MLLP Release 1, block format).
+/// The events of a byte string, read from its beginning: bytes that open no block are skipped, and what follows the
+/// data of a block decides what becomes of it (MLLP Release 1, block format).
 pub fn cutting_rules()
     // No block is opened, or none is ended or broken yet.
     ensures none { (s : List ℕ) → HasNoStart s → blocks s ≡ [] }

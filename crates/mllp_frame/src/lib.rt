@@ -27,9 +27,9 @@ use thiserror::Error;
 /// How a block was broken.
 #[derive(Clone, Copy, Debug, PartialEq, Eq)]
 pub enum Break {
-    /// A start block character came in its data. It opens the next block.
+    /// A start block character was read in its data. It opens the next block.
     NewStart,
-    /// Its end block character was followed by another byte than a carriage return. That byte stands outside of blocks.
+    /// Its end block character was followed by another byte than a carriage return. That byte is outside of blocks.
     BadEnd,
     /// It ended with more than [`DATA_MAX`] data bytes.
     TooLong,
@@ -59,7 +59,7 @@ impl FrameFault {
     ghost use Rattle.std.specs.Prelude.{◌≡◌};
     ghost use Rattle.mllp_frame.specs.Code.{code_of};
 
-    /// The number of the fault, 1 or 2, as it is told in place of its name.
+    /// The number of the fault, 1 or 2, as it is given where no name can be.
     pub fn code(&self) -> u32
         ensures { result ≡ code_of self.now }
     {
@@ -81,7 +81,7 @@ impl From<AllocError> for FrameFault {
     }
 }
 
-/// Finds the blocks of a stream that comes in pieces, however it is cut.
+/// Finds the blocks of a stream that is received in pieces, however it is cut.
 ///
 /// Contracts see the events to come, the open end of the stream, and whether memory was refused. Beside the events
 /// at most one block's data is held.
@@ -90,7 +90,7 @@ pub struct Framer {
     alloc: Global,
     /// The events to come.
     events: VecDeque<FrameEvent>,
-    /// Where in the stream the framer stands; none where memory was refused.
+    /// The position of the framer in the stream; none where memory was refused.
     stage: Option<Stage>,
 }
 
@@ -143,7 +143,7 @@ impl Framer {
 
         ensures gives_up { IsErrOf result FrameFault.NoMemory → GivesUp self.old self.new piece.now }
 
-        // A piece that opens no block where none is open asks for no memory.
+        // A piece that opens no block where none is open requests no memory.
         ensures quiet { self.old.failed ≡ false → IsQuiet self.old.open_end piece.now → IsOk result }
     {
         let Some(stage) = self.stage.take() else {
@@ -153,7 +153,7 @@ impl Framer {
         Ok(())
     }
 
-    /// Takes the next event, if one is left. It never asks for memory, and a framer that has failed still hands out
+    /// Takes the next event, if one is left. It requests no memory, and a framer that has failed still returns
     /// the events that it found.
     pub fn next(&mut self) -> Option<FrameEvent>
         ensures event { option_map event_of result ≡ slice_get self.old.to_come 0 }
@@ -177,7 +177,7 @@ pub fn write_block(text: &[u8], out: &mut Vec<u8>) -> Result<(), AllocError>
     ensures ok { OnOk result (out.new.items ≡ out.old.items ++ block_bytes text.now) }
     ensures err { OnErr result (out.new.items ≡ out.old.items) }
 
-    // Who reads what was written finds the block, with the same data, behind what stood there before.
+    // Reading what was written finds the block, with the same data, behind what was there before.
     ensures read_back { OnOk result (length text.now ≤ data_max → open_end out.old.items ≡ [] →
         blocks out.new.items ≡ blocks out.old.items ++ block text.now ∷ []) }
 {

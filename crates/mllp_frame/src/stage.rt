@@ -11,12 +11,12 @@ use memchr::{memchr, memchr2};
 use std::alloc::{AllocError, Global};
 use std::collections::VecDeque;
 
-/// Where in the stream a framer stands.
+/// The position of a framer in its stream.
 #[derive(Drop)]
 pub enum Stage {
     /// Outside of blocks.
     Outside,
-    /// In a block with this data so far, kept up to the first byte past the limit.
+    /// Inside a block with this data so far, kept up to the first byte past the limit.
     Inside(Vec<u8>),
     /// Behind the end block character of a block with this data, kept likewise.
     Ended(Vec<u8>),
@@ -132,7 +132,11 @@ fn advance<'a>(
     }
 }
 
-/// Reads a whole piece, and gives where it left off.
+/// Reads a whole piece, and returns where it left off.
+///
+/// # Errors
+///
+/// Where memory is refused; the events found before that are kept.
 pub fn read(
     alloc: Global,
     start: Stage,

@@ -65,7 +65,7 @@ impl<N> Nodes<N> {
         Nodes { mark: PhantomData }
     }
 
-    /// Every block has been given back.
+    /// Drops the owner, from which every block has been taken.
     pub fn destroy_empty(self)
         requires { self.held ≡ [] }
     {
@@ -121,7 +121,7 @@ impl<N: Drop> Nodes<N> {
         self.attach(Loose::of_box(value))
     }
 
-    /// Gives the box back.
+    /// Takes a box out, and returns it.
     pub fn take(&mut self, at: Place, alloc: Global) -> Box<N>
         requires { IsHeld at.ptr self.old.held }
         ensures value { find_node at.ptr self.old.held ≡ Some result.value }

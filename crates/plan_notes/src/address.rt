@@ -67,7 +67,7 @@ impl<'a> Host<'a> {
         }
     }
 
-    /// Whether a connection to this host comes to one that listens at the other.
+    /// Whether a connection to this host reaches one that listens at the other.
     fn leads_to(self, listener: Host<'_>) -> bool
         ensures { result ≡ leads_to_host self.entry listener.entry }
     {
@@ -108,7 +108,7 @@ impl<'a> Address<'a> {
         self.port != 0 && self.port == other.port && self.host.meets(other.host)
     }
 
-    /// Whether a connection to this address comes to a channel that listens at the other.
+    /// Whether a connection to this address reaches a channel that listens at the other.
     pub(crate) fn leads_to(&self, listener: &Address<'_>) -> bool
         ensures { result ≡ leads_to self.now listener.now }
     {

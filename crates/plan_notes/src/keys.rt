@@ -251,7 +251,7 @@ pub(crate) fn key_words(kind: TableKind, key: &str) -> Option<KeyWords> {
     }
 }
 
-/// What a member of the list at a key has to be, and an example; none where no list stands there.
+/// What a member of the list at a key has to be, and an example; none where it has no list.
 pub(crate) fn member_words(kind: TableKind, key: &str) -> Option<(&'static str, &'static str)> {
     match (kind, key) {
         (TableKind::Channel, "types") => Some((

@@ -11,7 +11,7 @@ pub(crate) struct Lines {
 }
 
 impl Lines {
-    /// No notes.
+    /// An empty list of notes.
     pub(crate) fn new(alloc: Global) -> Lines {
         Lines {
             alloc,

@@ -35,7 +35,7 @@ fn reserved_by(plan: &Plan, channel: &Channel) -> Option<u64>
     Some(entries)
 }
 
-/// How many messages come into a book of so many entries, one after the other, where each of the earlier ones takes `each`
+/// How many messages fit into a book of `events` entries, one after the other, where each of the earlier ones takes `each`
 /// entries and the next one needs room for `reserved`.
 fn most_messages(events: u32, each: u64, reserved: u64) -> u64
     requires some { 1 ≤ each }
@@ -70,8 +70,9 @@ fn add_room(
     notes.add(&text)
 }
 
-/// How many messages of each channel a book of so many entries takes, if messages come on that channel alone and each goes
-/// to all its destinations: while all of them are down, and while each message is delivered before the next comes.
+/// How many messages of each channel a book of `events` entries holds, if messages arrive on that channel alone and
+/// each goes to all its destinations: while all of them are down, and while each message is delivered before the next
+/// arrives.
 ///
 /// # Errors
 ///

@@ -34,13 +34,13 @@ impl fmt::Display for Quoted<'_> {
     }
 }
 
-/// A fault of a plan as the line that tells it shows it: its name, and its path, if it has one. It is one line: a key that
-/// holds a control character or a dot stands in the path as a quoted key of TOML, with control characters as `\xHH`. All
+/// A fault of a plan as its line shows it: its name, and its path, if it has one. It is one line: a key that holds a
+/// control character or a dot is written in the path as a quoted key of TOML, with control characters as `\xHH`. All
 /// other paths are shown as they are.
 #[derive(Clone, Copy)]
 pub struct ShownFault<'a>(pub &'a PlanFault);
 
-/// Whether a key can't stand in a path as it is.
+/// Whether a key has to be quoted in a path.
 fn wants_quotes(key: &str) -> bool {
     key.chars().any(|shown| shown == '.' || shown.is_control())
 }

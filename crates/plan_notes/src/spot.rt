@@ -8,7 +8,7 @@ use toml::{Table, Value};
 /// is too deep, are fewer.
 pub(crate) const STEPS_MAX: u32 = 64;
 
-/// The step from a table into one that stands in it.
+/// The step from a table into one that it holds.
 #[derive(Clone, Copy)]
 pub(crate) struct PathStep<'a> {
     /// The step as the path writes it, as `channel[0]`.
@@ -61,7 +61,7 @@ fn value_at<'a>(table: &'a Table, key: &str, member: Option<usize>) -> Option<&'
 /// A channel or a destination of the document.
 #[derive(Clone, Copy)]
 pub(crate) struct Owner<'a> {
-    /// As a path writes it, as `channel[2]`.
+    /// The owner as a path writes it, as `channel[2]`.
     pub(crate) segment: &'a str,
     pub(crate) table: &'a Table,
 }
@@ -73,7 +73,7 @@ pub(crate) struct Spot<'a> {
     pub(crate) document: &'a Table,
     /// The kind of the table that has the key.
     pub(crate) kind: TableKind,
-    /// That table.
+    /// The table that has the key.
     pub(crate) table: &'a Table,
     /// The key.
     pub(crate) key: &'a str,

@@ -1,4 +1,4 @@
-//! The tables of a plan: which keys each has, and which tables stand at a key.
+//! The tables of a plan: which keys each has, and which tables a key holds.
 
 /// The kinds of tables that a plan is made of.
 #[derive(Clone, Copy, Debug, PartialEq, Eq)]
@@ -62,8 +62,8 @@ impl TableKind {
         self.keys().iter().any(|known| *known == key)
     }
 
-    /// The kind of the table, or of the tables of the list, that stands at a key of a table of this kind; none where no table
-    /// stands there.
+    /// The kind of the table, or of the tables of the list, at a key of a table of this kind; none where it holds no
+    /// table.
     pub(crate) fn inner(self, key: &str) -> Option<TableKind> {
         match (self, key) {
             (TableKind::Document, "destination") => Some(TableKind::Destination),

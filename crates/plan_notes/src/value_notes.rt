@@ -181,7 +181,7 @@ fn add_all_names(notes: &mut Lines, names: &[&str]) -> Result<(), AllocError> {
     notes.add(&text)
 }
 
-/// Notes which of some names came first, and all of them.
+/// Notes which of some names is the first, and all of them.
 fn add_first_of(
     notes: &mut Lines,
     list: &str,
@@ -218,7 +218,7 @@ fn place_behind(pairs: &[Value], first: usize) -> Option<usize> {
     None
 }
 
-/// Notes the first lookup text that stands twice.
+/// Notes the first lookup text that occurs twice.
 fn add_double_text(notes: &mut Lines, pairs: &[Value]) -> Result<(), AllocError> {
     for (first, pair) in pairs.iter().enumerate() {
         if let Some(second) = place_behind(pairs, first) {
@@ -232,7 +232,7 @@ fn add_double_text(notes: &mut Lines, pairs: &[Value]) -> Result<(), AllocError>
     Ok(())
 }
 
-/// Notes what a name that stands twice is the name of, and those that there are.
+/// Notes what a name that occurs twice is the name of, and those that there are.
 pub(crate) fn add_double_name(notes: &mut Lines, spot: &Spot<'_>) -> Result<(), AllocError> {
     let alloc = notes.alloc;
     let name = text_at(spot.table, spot.key).unwrap_or("");

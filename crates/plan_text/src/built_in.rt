@@ -24,7 +24,9 @@ to = "LAB"
 impl Plan {
     /// The plan that is used where none is given: one channel, ADT, whose messages all go to one destination, LAB.
     ///
-    /// The one error is that memory for it was refused.
+    /// # Errors
+    ///
+    /// Where memory is refused.
     pub fn built_in(alloc: Global) -> Result<Plan, AllocError>
         ensures { IfOk result (λ p. p ≡ built_in) }
     {

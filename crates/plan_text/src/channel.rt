@@ -71,7 +71,7 @@ impl Model for Route {
 }
 
 impl Route {
-    /// The place of the destination in the plan.
+    /// The index of the destination in the plan.
     pub fn to(&self) -> u32
         ensures { result ≡ self.now.to }
     {
@@ -130,7 +130,7 @@ impl Model for Channel {
 }
 
 impl MessageType {
-    /// Whether a message of this code and event, MSH-9.1 and MSH-9.2 as they stand there, is meant.
+    /// Whether a message of this code and event, MSH-9.1 and MSH-9.2 as they are written there, is meant.
     pub fn matches(&self, code: &[u8], event: &[u8]) -> bool
         ensures { result ≡ matches_type code.now event.now self.now }
     {
@@ -158,7 +158,7 @@ impl ProcessingId {
 }
 
 impl VersionId {
-    /// Whether a message of this version, MSH-12.1 as it stands there, is meant.
+    /// Whether a message of this version, MSH-12.1 as it is written there, is meant.
     pub fn matches(&self, version: &[u8]) -> bool
         ensures { result ≡ matches_version version.now self.now }
     {
@@ -212,21 +212,21 @@ impl Channel {
         self.routes.as_slice()
     }
 
-    /// Whether a message of this code and event, MSH-9.1 and MSH-9.2 as they stand there, is taken.
+    /// Whether a message of this code and event, MSH-9.1 and MSH-9.2 as they are written there, is taken.
     pub fn takes_type(&self, code: &[u8], event: &[u8]) -> bool
         ensures { result ≡ takes_type self.now code.now event.now }
     {
         self.types.iter().any(|entry| entry.matches(code, event))
     }
 
-    /// Whether a message of this processing id, MSH-11.1 as it stands there, is taken.
+    /// Whether a message of this processing id, MSH-11.1 as it is written there, is taken.
     pub fn takes_processing(&self, code: &[u8]) -> bool
         ensures { result ≡ takes_processing self.now code.now }
     {
         self.processing.iter().any(|entry| entry.matches(code))
     }
 
-    /// Whether a message of this version, MSH-12.1 as it stands there, is taken.
+    /// Whether a message of this version, MSH-12.1 as it is written there, is taken.
     pub fn takes_version(&self, version: &[u8]) -> bool
         ensures { result ≡ takes_version self.now version.now }
     {

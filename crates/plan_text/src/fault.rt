@@ -26,7 +26,7 @@ pub enum FaultName {
     ForbiddenWrite,
     /// A route to no destination.
     UnknownName,
-    /// A name, a destination of a channel or a lookup text that stands twice.
+    /// A name, a destination of a channel or a lookup text that occurs twice.
     DoubleName,
     /// A list that is too long, or conditions too deep.
     TooMany,

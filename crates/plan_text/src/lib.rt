@@ -1,4 +1,4 @@
-//! The plan of the engine: the destinations that messages go to, and the channels that they come in on.
+//! The plan of the engine: the destinations that messages go to, and the channels that they arrive on.
 #![tactic(auto)]
 
 mod built_in;

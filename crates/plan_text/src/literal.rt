@@ -20,7 +20,11 @@ impl Model for Literal {
 }
 
 impl Literal {
-    /// A copy of the text; the one error is that memory for it was refused.
+    /// A copy of the text.
+    ///
+    /// # Errors
+    ///
+    /// Where memory is refused.
     pub fn new(alloc: Global, text: &str) -> Result<Literal, AllocError>
         ensures { IfOk result (λ l. l ≡ text.now) }
     {

@@ -9,7 +9,7 @@ use crate::channel::Channel;
 use crate::destination::Destination;
 use std::marker::Model;
 
-/// The destinations that messages go to, and the channels that they come in on. A place counts from 0.
+/// The destinations that messages go to, and the channels that they arrive on. An index counts from 0.
 ///
 /// Two plans are equal where they say the same, wherever they lie in memory.
 #[derive(Drop)]
@@ -38,14 +38,14 @@ impl Model for Plan {
 }
 
 impl Plan {
-    /// The channel at this place.
+    /// The channel with this index.
     pub fn channel(&self, place: u32) -> Option<&Channel>
         ensures { option_copied result ≡ slice_get self.now.channels place }
     {
         self.channels.as_slice().get(place as usize)
     }
 
-    /// The destination at this place.
+    /// The destination with this index.
     pub fn destination(&self, place: u32) -> Option<&Destination>
         ensures { option_copied result ≡ slice_get self.now.destinations place }
     {

@@ -8,7 +8,7 @@ use std::str::SplitWhitespace;
 /// A call of the book.
 #[derive(Clone, Copy)]
 pub enum Call<'a> {
-    /// A new book of a plan, which may hold so many entries. Messages are judged by that plan from now on.
+    /// A new book of a plan, which may hold this many entries. Messages are judged by that plan from now on.
     Book {
         plan: &'a str,
         events_max: u32,
@@ -22,7 +22,7 @@ pub enum Call<'a> {
         channel: u32,
         text: &'a str,
     },
-    /// So many texts come on a channel, each with the number of its turn in place of `#`.
+    /// This many texts arrive on a channel, each with the number of its turn in place of `#`.
     Many {
         count: u32,
         channel: u32,
@@ -47,7 +47,7 @@ pub enum Call<'a> {
     Deploy {
         plan: &'a str,
     },
-    /// A plan is deployed so many times.
+    /// A plan is deployed this many times.
     Deploys {
         count: u32,
         plan: &'a str,
@@ -56,7 +56,7 @@ pub enum Call<'a> {
     Prune {
         before: u32,
     },
-    /// So many prunings are made, each of the messages numbered below this.
+    /// This many prunings are made, each of the messages numbered below this.
     Prunes {
         count: u32,
         before: u32,
@@ -95,7 +95,7 @@ pub enum Call<'a> {
     Front {
         d: u32,
     },
-    /// The number before which all is settled but for so many messages.
+    /// The number before which all is settled but for this many messages.
     Settled {
         keep: u32,
     },

@@ -11,7 +11,11 @@ use std::alloc::{AllocError, Global};
 /// The bytes 0x0D of a message, as a script writes them.
 const RETURN: &str = "<CR>";
 
-/// The bytes of a text, with 0x0D where it says so, and a number in place of `#`.
+/// The bytes of a text, with 0x0D where it says so, and a number for each `#`.
+///
+/// # Errors
+///
+/// Where memory is refused.
 pub fn bytes_of(alloc: Global, text: &str, number: u32) -> Result<Vec<u8>, AllocError> {
     let number = format!(in alloc; "{number}")?;
     let text = text.replace(alloc, RETURN, "\r")?;
@@ -23,7 +27,11 @@ fn shown(alloc: Global, bytes: &[u8]) -> Result<String, AllocError> {
     String::from_utf8_lossy(alloc, bytes)?.replace(alloc, "\r", RETURN)
 }
 
-/// What a receipt says.
+/// A receipt, as a line shows it.
+///
+/// # Errors
+///
+/// Where memory is refused.
 pub fn receipt_shown(alloc: Global, receipt: &Receipt) -> Result<String, AllocError> {
     format!(in alloc;
         "{:?}, entry {}, connection {}, channel {}, {} bytes",
@@ -35,7 +43,11 @@ pub fn receipt_shown(alloc: Global, receipt: &Receipt) -> Result<String, AllocEr
     )
 }
 
-/// A job.
+/// A job, as a line shows it.
+///
+/// # Errors
+///
+/// Where memory is refused.
 pub fn job_shown(alloc: Global, job: &Job) -> Result<String, AllocError> {
     let ticket = job.ticket;
     let id = shown(alloc, job.control_id.as_slice())?;
@@ -46,7 +58,11 @@ pub fn job_shown(alloc: Global, job: &Job) -> Result<String, AllocError> {
     )
 }
 
-/// What is kept of a message, and the connection by which it came, if that is known.
+/// What is kept of a message, and the connection over which it arrived, if that is known.
+///
+/// # Errors
+///
+/// Where memory is refused.
 pub fn letter_shown(
     alloc: Global,
     letter: &Letter,
@@ -60,7 +76,11 @@ pub fn letter_shown(
     )
 }
 
-/// How full a book is.
+/// How full a book is, as a line shows it.
+///
+/// # Errors
+///
+/// Where memory is refused.
 pub fn gauge_shown<S: RowStore<Addressed<Letter>>>(
     alloc: Global,
     book: &Book<S>,
@@ -83,6 +103,10 @@ pub fn gauge_shown<S: RowStore<Addressed<Letter>>>(
 }
 
 /// Numbers, each after a space.
+///
+/// # Errors
+///
+/// Where memory is refused.
 pub fn numbers_shown(alloc: Global, numbers: &[u32]) -> Result<String, AllocError> {
     let mut line = format!(in alloc; "{} found:", numbers.len())?;
     for number in numbers {
@@ -92,6 +116,10 @@ pub fn numbers_shown(alloc: Global, numbers: &[u32]) -> Result<String, AllocErro
 }
 
 /// Messages of a queue with their states, each after a space.
+///
+/// # Errors
+///
+/// Where memory is refused.
 pub fn fronts_shown(alloc: Global, fronts: &[Front]) -> Result<String, AllocError> {
     let mut line = format!(in alloc; "{} found:", fronts.len())?;
     for front in fronts {
@@ -145,7 +173,11 @@ fn deploy_shown(alloc: Global, plan: &Plan) -> Result<String, AllocError> {
     format!(in alloc; "deploy {} to {}", plan.channels(), plan.destinations())
 }
 
-/// An entry.
+/// An entry, as a line shows it.
+///
+/// # Errors
+///
+/// Where memory is refused.
 pub fn entry_shown(alloc: Global, entry: &Entry) -> Result<String, AllocError> {
     match entry {
         Entry::Arrival {

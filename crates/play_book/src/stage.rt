@@ -52,7 +52,11 @@ fn refused<E: Debug>(alloc: Global, refusal: &E, code: u32) -> Result<String> {
 }
 
 impl Stage {
-    /// An empty book of the plan of this name, which may hold so many entries.
+    /// An empty book of the plan of this name, which may hold `events_max` entries.
+    ///
+    /// # Errors
+    ///
+    /// Where there is no such plan, or memory is refused.
     pub fn open(rt: &HostRuntime, plan: &str, events_max: u32) -> Result<Stage> {
         if events_max == 0 || events_max > EVENTS_MAX {
             bail!("no book has {events_max} entries");
@@ -64,7 +68,11 @@ impl Stage {
         Ok(Stage { alloc, book, plan })
     }
 
-    /// Makes the call that a line says, and gives its answer.
+    /// Makes the call that a line says, and returns its answer.
+    ///
+    /// # Errors
+    ///
+    /// Where the line is no call, or memory is refused.
     pub fn play(&mut self, rt: &HostRuntime, line: &str) -> Result<String> {
         match Call::read(line) {
             Some(call) => self.answer(rt, call),
@@ -151,12 +159,12 @@ impl Stage {
         }
     }
 
-    /// How many of so many deployments of a plan are booked.
+    /// How many of a number of deployments of a plan are booked.
     fn deploys(&mut self, rt: &HostRuntime, count: u32, plan: &str) -> Result<String> {
         Ok(self.deploy_again(count, &shared_plan(rt, plan)?)?)
     }
 
-    /// How many of so many deployments of a shared plan are booked.
+    /// How many of a number of deployments of a shared plan are booked.
     fn deploy_again(&mut self, count: u32, plan: &Arc<Plan>) -> Result<String, AllocError> {
         let mut booked = 0_u32;
         for _ in 0..count {
@@ -175,7 +183,7 @@ impl Stage {
         }
     }
 
-    /// How many of so many prunings are made.
+    /// How many of a number of prunings are made.
     fn prunes(&mut self, count: u32, before: u32) -> Result<String> {
         let mut made = 0_u32;
         for _ in 0..count {
@@ -216,7 +224,7 @@ impl Stage {
         Ok(format!(in self.alloc; "{front:?}")?)
     }
 
-    /// The number before which all is settled but for so many messages.
+    /// The number before which all is settled but for a number of messages.
     fn settled(&mut self, keep: u32) -> Result<String> {
         let before = self.book.settled_before(keep);
         Ok(format!(in self.alloc; "before {before}")?)
@@ -294,7 +302,7 @@ impl Stage {
         }
     }
 
-    /// How many of so many arrivals are accepted.
+    /// How many of a number of arrivals are accepted.
     fn many(&mut self, count: u32, channel: u32, text: &str) -> Result<String> {
         let mut accepted = 0_u32;
         for number in 0..count {

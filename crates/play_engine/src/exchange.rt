@@ -1,4 +1,4 @@
-//! The book that connections are served from, what comes by the next one, and what came of it.
+//! The book that connections are served from, what is received over the next one, and the results.
 
 ghost use Rattle.std.specs.Prelude.{◌≤◌};
 
@@ -45,7 +45,7 @@ fn plan_named(rt: &HostRuntime, name: &str) -> Result<Arc<Plan>> {
     Ok(Arc::new(rt.alloc(), plan)?)
 }
 
-/// An empty book of a plan, which may hold so many entries.
+/// An empty book of a plan, which may hold a number of entries.
 fn empty_book(rt: &HostRuntime, plan: &Arc<Plan>, events: u32) -> Result<EngineBook> {
     let hasher = RandomState::new(rt)?;
     let events = events.clamp(1, EVENTS_MAX);
@@ -65,7 +65,11 @@ pub struct Exchange {
 }
 
 impl Exchange {
-    /// With an empty book of the plan of this name.
+    /// An exchange with an empty book of the plan of this name.
+    ///
+    /// # Errors
+    ///
+    /// Where there is no such plan, or memory is refused.
     pub fn new(rt: &HostRuntime, name: &str) -> Result<Exchange> {
         let alloc = rt.alloc();
         let plan = plan_named(rt, name)?;
@@ -87,7 +91,7 @@ impl Exchange {
         Ok(())
     }
 
-    /// Empties the book, which may hold so many entries from now on.
+    /// Empties the book, which may hold a number of entries from now on.
     fn begin_within(&mut self, rt: &HostRuntime, events: u32) -> Result<()> {
         self.events = events;
         self.begin_anew(rt)
@@ -99,7 +103,11 @@ impl Exchange {
         Ok(())
     }
 
-    /// Does what a call asks, and gives what came of it as lines of text.
+    /// Executes a call, and returns its result as lines of text.
+    ///
+    /// # Errors
+    ///
+    /// Where the call can't be made, or memory is refused.
     pub fn play(&mut self, rt: &HostRuntime, call: Call<'_>) -> Result<String> {
         match call {
             Call::Serve(cut) => Ok(self.serve(cut)?),
@@ -110,7 +118,7 @@ impl Exchange {
         }
     }
 
-    /// Sets what a connection is served by. Nothing is told of it.
+    /// Sets what a connection is served by. Nothing is printed of it.
     fn set(&mut self, rt: &HostRuntime, setting: Setting<'_>) -> Result<String> {
         match setting {
             Setting::Plan(name) => self.begin_with(rt, name)?,
@@ -121,7 +129,7 @@ impl Exchange {
         Ok(String::new(self.alloc))
     }
 
-    /// This comes by the next connection. Nothing is told of it.
+    /// This is received over the next connection. Nothing is printed of it.
     fn come(&mut self, coming: Coming<'_>) -> Result<String, AllocError> {
         match coming {
             Coming::Admission(id, rest) => self.admit(id, rest),
@@ -152,7 +160,7 @@ impl Exchange {
         self.come_block(text.as_str())
     }
 
-    /// So many letters come.
+    /// A number of letters is received.
     fn come_letters(&mut self, count: u32) -> Result<(), AllocError> {
         for _ in 0..count {
             self.stream.push(b'A')?;
@@ -160,7 +168,7 @@ impl Exchange {
         Ok(())
     }
 
-    /// Takes what came by the next connection.
+    /// Takes what was received over the next connection.
     fn take_stream(&mut self) -> Vec<u8> {
         mem::replace(&mut self.stream, Vec::new(self.alloc))
     }

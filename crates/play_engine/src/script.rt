@@ -13,7 +13,7 @@ pub enum Cut {
 pub enum Setting<'a> {
     /// `plan NAME`: a new book of the plan `built-in` or of that in a file.
     Plan(&'a str),
-    /// `events N`: a new book of at most so many entries.
+    /// `events N`: a new book of at most N entries.
     Events(u32),
     /// `clock SECS`: acknowledgments are of this moment.
     Clock(u64),
@@ -30,7 +30,7 @@ pub enum Coming<'a> {
     Text(&'a str),
     /// `bytes TEXT`: these bytes come.
     Bytes(&'a str),
-    /// `letters N`: so many letters come.
+    /// `letters N`: N letters are received.
     Letters(u32),
 }
 
@@ -41,9 +41,9 @@ pub enum Call<'a> {
     Set(Setting<'a>),
     /// Something comes by the next connection.
     Come(Coming<'a>),
-    /// `serve whole`, `serve bytes` or `serve ends`: what came is served as one connection, cut so.
+    /// `serve whole`, `serve bytes` or `serve ends`: what was received is served as one connection, cut so.
     Serve(Cut),
-    /// `exchange`: what came is served however it is cut, each time in a new book.
+    /// `exchange`: what was received is served however it is cut, each time in a new book.
     Exchange,
     /// `take D`: the front of a destination's queue is taken.
     Take(u32),
@@ -78,7 +78,7 @@ fn admission(text: &str) -> Coming<'_> {
     }
 }
 
-/// What came is served, cut as this word says.
+/// What was received is served, cut as this word says.
 fn served(cut: &str) -> Option<Call<'static>> {
     match cut {
         "whole" => Some(Call::Serve(Cut::Nowhere)),

@@ -81,6 +81,10 @@ pub fn add_end<K>(text: &mut String, report: &ServeReport<K>) -> Result<(), Allo
 }
 
 /// What is sent of a message.
+///
+/// # Errors
+///
+/// Where memory is refused.
 pub fn payload_shown(alloc: Global, payload: &[u8]) -> Result<String, AllocError> {
     let payload = shown(alloc, payload)?;
     format!(in alloc; "  {payload}\n")

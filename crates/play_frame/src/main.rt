@@ -1,5 +1,5 @@
 //! Plays a script of calls on framers: a line of standard input is a call, and a line of standard output is that line and
-//! its answer. Empty lines and those that begin with `#` are written as they are. Bytes stand in words, which are put
+//! its answer. Empty lines and those that begin with `#` are written as they are. Bytes are written as words, which are put
 //! together: those that aren't seen have names, as `<VT>`, `a*1000` is a byte a thousand times, and `<>` is nothing.
 //!
 //! - `new`: a framer at the start of a stream, which `feed` reads on.
@@ -18,16 +18,16 @@ use play_script::{bytes_of, first_word, shown};
 use std::alloc::{AllocError, Global};
 use std::fmt::Write;
 
-/// A block with more data is told by its length.
+/// A block with more data is shown by its length.
 const SHOWN_MAX: usize = 200;
 
-/// A byte and how often it stands, where the word is of the form `a*1000`.
+/// A byte and how often it is repeated, where the word is of the form `a*1000`.
 fn run_of(word: &str) -> Option<(u8, usize)> {
     let (byte, count) = word.split_once('*')?;
     byte.bytes().next().zip(count.parse().ok())
 }
 
-/// Appends the bytes that a word stands for.
+/// Appends the bytes that a word means.
 fn push_word(bytes: &mut Vec<u8>, word: &str) -> Result<(), AllocError> {
     match run_of(word) {
         Some((byte, count)) => bytes.resize(bytes.len().saturating_add(count), byte),
@@ -35,7 +35,7 @@ fn push_word(bytes: &mut Vec<u8>, word: &str) -> Result<(), AllocError> {
     }
 }
 
-/// The bytes that words stand for, one behind the other; `<>` stands for none.
+/// The bytes that words mean, one behind the other; `<>` means none.
 fn stream_of(alloc: Global, words: &str) -> Result<Vec<u8>, AllocError> {
     let mut bytes = Vec::new(alloc);
     for word in words.split(' ') {

@@ -51,7 +51,7 @@ fn verdictum_named(name: &str) -> Result<Verdictum> {
     Ok(Verdictum::of_cause(cause_named(name)?))
 }
 
-/// Appends the codes that are told, each after a space.
+/// Appends the codes that are sent, each after a space.
 fn push_codes(told: &mut String, mode: AckMode, verdictum: Verdictum) -> Result<(), AllocError> {
     let before = told.len();
     for part in parts(mode, verdictum) {
@@ -74,7 +74,7 @@ fn mode_named(words: &str) -> Result<AckMode> {
     })
 }
 
-/// What is told in enhanced mode: on success, on a rejection and on an error.
+/// What is acknowledged in enhanced mode: on success, on a rejection and on an error.
 fn pair_told(alloc: Global, mode: AckMode) -> Result<String, AllocError> {
     let mut told = String::from_str(alloc, "success")?;
     push_codes(&mut told, mode, Verdictum::Success)?;
@@ -85,7 +85,7 @@ fn pair_told(alloc: Global, mode: AckMode) -> Result<String, AllocError> {
     Ok(told)
 }
 
-/// The number of a cause, and by which codes it is told.
+/// The number of a cause, and by which codes it is acknowledged.
 fn cause_told(alloc: Global, cause: Cause) -> Result<String, AllocError> {
     let always = AckMode::Enhanced {
         accept: AckType::AL,
@@ -158,7 +158,7 @@ fn fields(alloc: Global, message: &Message) -> Result<String> {
     Ok(told)
 }
 
-/// The mode of acknowledgment that the header asks for.
+/// The mode of acknowledgment that the header requests.
 fn mode(alloc: Global, message: &Message) -> Result<String> {
     let mode = AckMode::of(&Header::read(message)?);
     Ok(format!(in alloc; "{mode:?}")?)
@@ -202,7 +202,8 @@ fn acknowledged(
     Ok(texts)
 }
 
-/// What is told of the message, where the words say what became of it, the moment, the connection and the first number.
+/// What is acknowledged of the message, where the words say what became of it, the moment, the connection and the
+/// first number.
 fn ack(alloc: Global, message: &Message, words: &str) -> Result<String> {
     let (told, words) = first_word(words);
     let (seconds, words) = first_word(words);
@@ -232,6 +233,10 @@ fn answered(alloc: Global, message: &Message) -> Result<String> {
 }
 
 /// The answer to a call on the header or on acknowledgments.
+///
+/// # Errors
+///
+/// Where there is no such call, its words can't be read, or memory is refused.
 pub fn answer(alloc: Global, message: &Message, call: &str, words: &str) -> Result<String> {
     match call {
         "fields" => fields(alloc, message),

@@ -114,7 +114,7 @@ fn step_of(alloc: Global, words: &str) -> Result<Step> {
     }
 }
 
-/// Whether a step may stand among others.
+/// Whether a transformer may have a step.
 fn may_stand(alloc: Global, check: Result<(), StepCheck>) -> Result<String, AllocError> {
     match check {
         Ok(()) => String::from_str(alloc, "ok"),
@@ -122,7 +122,7 @@ fn may_stand(alloc: Global, check: Result<(), StepCheck>) -> Result<String, Allo
     }
 }
 
-/// What steps came to.
+/// The result of steps.
 fn told(alloc: Global, changed: &Result<Message, StepFault>) -> Result<String, AllocError> {
     match changed {
         Ok(changed) => shown(alloc, &changed.print()?),
@@ -149,6 +149,10 @@ fn last_alike<T: PartialEq>(list: &[T]) -> bool {
 
 impl Rules {
     /// A message that is a header alone, no conditions and no steps.
+    ///
+    /// # Errors
+    ///
+    /// Where memory is refused.
     pub fn new(alloc: Global) -> Result<Rules> {
         Ok(Rules {
             alloc,
@@ -158,7 +162,7 @@ impl Rules {
         })
     }
 
-    /// So many of the last conditions, which are then gone.
+    /// This many of the last conditions, which are then gone.
     fn members(&mut self, count: &str) -> Result<Vec<Cond>> {
         let first = self.conds.len().saturating_sub(count.parse()?);
         Ok(self.conds.split_off(first)?)
@@ -177,13 +181,13 @@ impl Rules {
         self.keep(cond)
     }
 
-    /// Whether so many of the last conditions are all true.
+    /// Whether this many of the last conditions are all true.
     fn all(&mut self, count: &str) -> Result<String> {
         let members = self.members(count)?;
         self.keep(Cond::All(members))
     }
 
-    /// Whether any of so many of the last conditions is true.
+    /// Whether any of this many of the last conditions is true.
     fn any(&mut self, count: &str) -> Result<String> {
         let members = self.members(count)?;
         self.keep(Cond::Any(members))
@@ -198,7 +202,7 @@ impl Rules {
         self.keep(Cond::Not(cond))
     }
 
-    /// Whether the step that words say may stand among others. It is kept.
+    /// Whether a transformer may have the step that words say. It is kept.
     fn step(&mut self, words: &str) -> Result<String> {
         let step = step_of(self.alloc, words)?;
         let check = check_step(&step);
@@ -220,7 +224,7 @@ impl Rules {
         Ok(format!(in self.alloc; "conditions {conds}, steps {steps}")?)
     }
 
-    /// Whether the last condition has at most so many levels.
+    /// Whether the last condition has at most this many levels.
     fn within(&self, levels: &str) -> Result<String> {
         let Some(cond) = self.conds.last() else {
             bail!("no condition");
@@ -237,6 +241,10 @@ impl Rules {
     }
 
     /// The answer to a call.
+    ///
+    /// # Errors
+    ///
+    /// Where there is no such call, its words can't be read, or memory is refused.
     pub fn play(&mut self, line: &str) -> Result<String> {
         let (call, words) = first_word(line);
         match call {

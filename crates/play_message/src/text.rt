@@ -66,7 +66,7 @@ fn compared(alloc: Global, paths: &str) -> Result<String> {
     Ok(format!(in alloc; "same {same}, level {level}")?)
 }
 
-/// Appends a text so many times.
+/// Appends a text this many times.
 fn push_repeated(text: &mut Vec<u8>, count: u32, word: &str) -> Result<(), AllocError> {
     let bytes = bytes_of(*text.allocator(), word)?;
     for _ in 0..count {
@@ -75,7 +75,7 @@ fn push_repeated(text: &mut Vec<u8>, count: u32, word: &str) -> Result<(), Alloc
     Ok(())
 }
 
-/// A first text, so many times another one, and a last one.
+/// A first text, another one this many times, and a last one.
 fn repeated(alloc: Global, words: &str) -> Result<Vec<u8>> {
     let (count, words) = first_word(words);
     let (first, words) = first_word(words);
@@ -86,7 +86,7 @@ fn repeated(alloc: Global, words: &str) -> Result<Vec<u8>> {
     Ok(text)
 }
 
-/// Reads a message. It is told how many bytes it prints as.
+/// Reads a message. The answer is how many bytes it prints as.
 fn parse_many(alloc: Global, text: &[u8]) -> Result<String> {
     let printed = match Message::parse(alloc, text) {
         Ok(message) => message.print()?,
@@ -97,6 +97,10 @@ fn parse_many(alloc: Global, text: &[u8]) -> Result<String> {
 
 impl Text {
     /// A message that is a header alone.
+    ///
+    /// # Errors
+    ///
+    /// Where memory is refused.
     pub fn new(alloc: Global) -> Result<Text> {
         let message = Message::parse(alloc, b"MSH|^~\\&")?;
         Ok(Text { alloc, message })
@@ -171,7 +175,7 @@ impl Text {
         made(self.alloc, self.message.get(&Path::parse(path)?))
     }
 
-    /// A piece as it stands.
+    /// A piece as it is written.
     fn raw(&self, path: &str) -> Result<String> {
         Ok(shown(self.alloc, self.message.get_raw(&Path::parse(path)?))?)
     }
@@ -199,7 +203,7 @@ impl Text {
         made(self.alloc, self.message.print())
     }
 
-    /// The header as it stands.
+    /// The header as it is written.
     fn header(&self) -> Result<String> {
         Ok(shown(self.alloc, self.message.header())?)
     }
@@ -224,6 +228,10 @@ impl Text {
     }
 
     /// The answer to a call.
+    ///
+    /// # Errors
+    ///
+    /// Where there is no such call, its words can't be read, or memory is refused.
     pub fn answer(&mut self, call: &str, words: &str) -> Result<String> {
         match call {
             "parse" => self.parse(words),

@@ -1,4 +1,4 @@
-//! Plays a script of plans and messages: each plan is read and told with its first fault, or with its channels and
+//! Plays a script of plans and messages: each plan is read and shown with its first fault, or with its channels and
 //! destinations, and the messages that follow it are judged by it.
 //!
 //! `--- NAME` begins the text of a plan and `---` ends it. `judge CHANNEL TEXT` judges a message that arrives on a
@@ -79,7 +79,7 @@ fn judged(alloc: Global, plan: &Arc<Plan>, channel: u32, text: &str) -> Result<J
     Ok(judge(alloc, plan, channel, raw)?)
 }
 
-/// What the lines so far came to.
+/// The result of the lines so far.
 #[derive(Drop)]
 struct Player {
     alloc: Global,

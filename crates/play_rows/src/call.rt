@@ -45,6 +45,10 @@ impl fmt::Display for Answer {
 }
 
 /// The call that a line writes.
+///
+/// # Errors
+///
+/// Where the line is no call, or memory is refused.
 pub fn call_of(alloc: Global, line: &str) -> Result<Call> {
     let words: Vec<&str> = line.split_whitespace().collect(alloc)?;
     Ok(match words.as_slice() {

@@ -3,7 +3,7 @@
 //! line's number, counted from 0. Empty lines and those that begin with `#` are written as they are.
 //!
 //! - `push ITEM MASK`, `front D`, `get NUMBER`, `set NUMBER ITEM`, `unlink NUMBER D`, `remove NUMBER`, `len`
-//! - `random COUNT SEED`: so many calls that follow from the seed, on two stores that are empty at first.
+//! - `random COUNT SEED`: COUNT calls that follow from the seed, on two stores that are empty at first.
 #![tactic(auto)]
 
 mod call;

@@ -1,4 +1,4 @@
-//! How the scripts that programs play write bytes: words stand between spaces, bytes that aren't seen have names, as `<CR>`,
+//! How the scripts that programs play write bytes: words are between spaces, bytes that aren't seen have names, as `<CR>`,
 //! and `<>` is the empty text.
 #![tactic(auto)]
 
@@ -35,6 +35,10 @@ pub fn first_word(line: &str) -> (&str, &str)
 }
 
 /// The words of a line, between spaces.
+///
+/// # Errors
+///
+/// Where memory is refused.
 pub fn words_of(alloc: Global, line: &str) -> Result<Vec<&str>, AllocError> {
     let mut words = Vec::new(alloc);
     for word in line.split(' ') {
@@ -53,7 +57,11 @@ fn unnamed(text: &str) -> (u8, &str) {
     (b'<', text)
 }
 
-/// The bytes that a word stands for.
+/// The bytes that a word means.
+///
+/// # Errors
+///
+/// Where memory is refused.
 pub fn bytes_of(alloc: Global, word: &str) -> Result<Vec<u8>, AllocError> {
     let mut bytes = Vec::new(alloc);
     if word == "<>" {
@@ -96,6 +104,10 @@ fn each_shown(alloc: Global, bytes: &[u8]) -> Result<Vec<u8>, AllocError>
 }
 
 /// Bytes as a script writes them; what is no UTF-8 is replaced.
+///
+/// # Errors
+///
+/// Where memory is refused.
 pub fn shown(alloc: Global, bytes: &[u8]) -> Result<String, AllocError>
     ensures { IfOk result (λ text. string_bytes text ≡ shown bytes.now) }
 {

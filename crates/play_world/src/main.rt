@@ -1,14 +1,14 @@
 //! Plays a script of steps of the whole engine on one thread: a line of standard input is a call, and standard output has
-//! that line and what came of it. Empty lines and those that begin with `#` are written as they are. Words stand between
+//! that line and its result. Empty lines and those that begin with `#` are written as they are. Words stand between
 //! spaces. Bytes that aren't seen have names, as `<VT>`, and `<>` is nothing. A moment is in seconds since 1970.
 //!
-//! - `world PLAN EVENTS CHANNEL,..`: a new world, of the plan `built-in` or of that in a file, which may book so many
+//! - `world PLAN EVENTS CHANNEL,..`: a new world, of the plan `built-in` or of that in a file, which may book EVENTS
 //!   entries, with a connection on each of these channels.
 //!
 //! Steps tell the entries that they added, and what connections were sent:
 //!
 //! - `chunk CONN MOMENT BYTES`: a piece of its stream comes on a connection.
-//! - `letters CONN MOMENT COUNT`: a piece of so many letters comes.
+//! - `letters CONN MOMENT COUNT`: a piece of COUNT letters is received.
 //! - `pieces LEN CONN MOMENT BYTES`: these bytes come in pieces of a length, as one run of steps.
 //! - `take D MOMENT`: the front of a destination's queue is taken.
 //! - `settle NUMBER D ATTEMPT OUTCOME MOMENT`: an attempt is settled, as `delivered`, `again` or `rejected`.

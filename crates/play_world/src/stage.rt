@@ -20,7 +20,7 @@ use std::hash::RandomState;
 use std::str::SplitWhitespace;
 use std::sync::Arc;
 
-/// A world, and how much of it was told: so many entries, and of each connection so many bytes that it was sent.
+/// A world, and how much of it was printed: a number of entries, and of each connection a number of bytes that it was sent.
 #[derive(Drop)]
 pub struct Stage {
     alloc: Global,
@@ -54,7 +54,7 @@ fn are_known(channels: &[u32], count: u32) -> bool
     channels.iter().all(|channel| *channel < count)
 }
 
-/// A world of a plan that may book so many entries, with a connection on each of these channels.
+/// A world of a plan that may book a number of entries, with a connection on each of these channels.
 fn world_of(
     rt: &HostRuntime,
     plan: Arc<Plan>,
@@ -96,11 +96,15 @@ fn push_steps(text: &mut String, steps: &[Step]) -> Result<(), AllocError> {
 
 impl Stage {
     /// A world of the built-in plan without connections.
+    ///
+    /// # Errors
+    ///
+    /// Where memory is refused.
     pub fn new(rt: &HostRuntime) -> Result<Stage> {
         Stage::on(rt, "built-in", EVENTS_MAX, &[])
     }
 
-    /// A world of the plan of this name that may book so many entries, with a connection on each of these channels.
+    /// A world of the plan of this name that may book a number of entries, with a connection on each of these channels.
     fn on(rt: &HostRuntime, name: &str, events_max: u32, channels: &[u32]) -> Result<Stage> {
         let alloc = rt.alloc();
         let sent = vec![in alloc; 0; channels.len()]?;
@@ -121,7 +125,11 @@ impl Stage {
         Stage::on(rt, name, events_max, &channels)
     }
 
-    /// Makes the call that a line says, and gives what came of it as lines of text.
+    /// Makes the call that a line says, and returns its result as lines of text.
+    ///
+    /// # Errors
+    ///
+    /// Where the line is no call, or memory is refused.
     pub fn play(&mut self, rt: &HostRuntime, line: &str) -> Result<String> {
         let mut words = line.split_whitespace();
         match word(&mut words)? {
@@ -261,13 +269,13 @@ impl Stage {
         Ok(format!(in self.alloc; "  {made} pruned\n")?)
     }
 
-    /// What came of a step.
+    /// The result of a step.
     fn step(&mut self, step: Step) -> Result<String> {
         self.world.step(step);
         self.news()
     }
 
-    /// The entries that weren't told yet, and what connections were sent since then.
+    /// The entries that weren't printed yet, and what connections were sent since then.
     fn news(&mut self) -> Result<String> {
         let mut text = String::new(self.alloc);
         self.push_entries(&mut text)?;
@@ -275,7 +283,7 @@ impl Stage {
         Ok(text)
     }
 
-    /// Appends the entries that weren't told yet.
+    /// Appends the entries that weren't printed yet.
     fn push_entries(&mut self, text: &mut String) -> Result<(), AllocError> {
         let book = self.world.book();
         for place in self.entries..book.len() {
@@ -287,7 +295,7 @@ impl Stage {
         Ok(())
     }
 
-    /// Appends what connections were sent that wasn't told yet.
+    /// Appends what connections were sent that wasn't printed yet.
     fn push_sent(&mut self, text: &mut String) -> Result<(), AllocError> {
         for (conn, told) in self.sent.iter_mut().enumerate() {
             let conn = u32::try_from(conn).unwrap_or(u32::MAX);

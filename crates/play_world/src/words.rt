@@ -8,6 +8,10 @@ use std::alloc::Global;
 use std::str::SplitWhitespace;
 
 /// The next word.
+///
+/// # Errors
+///
+/// Where there is none.
 pub fn word<'a>(words: &mut SplitWhitespace<'a>) -> Result<&'a str> {
     match words.next() {
         Some(word) => Ok(word),
@@ -16,11 +20,19 @@ pub fn word<'a>(words: &mut SplitWhitespace<'a>) -> Result<&'a str> {
 }
 
 /// A number.
+///
+/// # Errors
+///
+/// Where there is no word, or it is no number.
 pub fn number(words: &mut SplitWhitespace<'_>) -> Result<u32> {
     Ok(word(words)?.parse::<u32>()?)
 }
 
 /// Numbers between commas.
+///
+/// # Errors
+///
+/// Where there is no word, one of them is no number, or memory is refused.
 pub fn numbers(alloc: Global, words: &mut SplitWhitespace<'_>) -> Result<Vec<u32>> {
     let mut numbers = Vec::new(alloc);
     for number in word(words)?.split(',') {
@@ -30,11 +42,19 @@ pub fn numbers(alloc: Global, words: &mut SplitWhitespace<'_>) -> Result<Vec<u32
 }
 
 /// A moment, in seconds since 1970.
+///
+/// # Errors
+///
+/// Where there is no word, or it is no moment.
 pub fn moment(words: &mut SplitWhitespace<'_>) -> Result<Moment> {
     Ok(Moment::of_unix(word(words)?.parse::<i64>()?)?)
 }
 
 /// The ticket of a message, a destination and an attempt.
+///
+/// # Errors
+///
+/// Where a word is missing, or is no number.
 pub fn ticket(words: &mut SplitWhitespace<'_>) -> Result<Ticket> {
     Ok(Ticket {
         number: number(words)?,
@@ -44,6 +64,10 @@ pub fn ticket(words: &mut SplitWhitespace<'_>) -> Result<Ticket> {
 }
 
 /// An outcome by its name.
+///
+/// # Errors
+///
+/// Where there is no word, or it names no outcome.
 pub fn outcome(words: &mut SplitWhitespace<'_>) -> Result<Outcome> {
     match word(words)? {
         "delivered" => Ok(Outcome::Delivered),

@@ -10,10 +10,10 @@ use node_heap::Place;
 use std::alloc::{AllocError, Global};
 use std::marker::Model;
 
-/// The places of the rows' nodes by the rows' numbers, in rising order, and the row that was asked for last, which is
-/// found again with no look among them. Numbers are added at the end alone, so the places stand in one list for speed: it takes
-/// fewer requests for memory than a tree, and less memory. Where a row is forgotten, those before it move up, or those behind it,
-/// whichever are fewer.
+/// The places of the rows' nodes by the rows' numbers, in rising order, and the row that was looked up last,
+/// which is found again without searching them. Numbers are added at the end alone, so the places are in one
+/// list for speed: it takes fewer requests for memory than a tree, and less memory. Where a row is forgotten,
+/// those before it move up, or those behind it, whichever are fewer.
 #[derive(Drop)]
 pub struct Directory {
     entries: Entries,
@@ -34,7 +34,7 @@ impl Model for Directory {
 }
 
 impl Directory {
-    /// No row yet.
+    /// A directory without rows.
     pub(crate) fn new(alloc: Global) -> Directory
         ensures { result ≡ [] }
     {
@@ -76,7 +76,7 @@ impl Directory {
         Some(at)
     }
 
-    /// Remembers a row, as one that is likely to be asked for next.
+    /// Remembers a row, as one that is likely to be looked up next.
     pub(crate) fn remember(&mut self, number: u32, at: Place)
         requires { place_of number self.old ≡ Some at }
         ensures { self.new ≡ self.old }

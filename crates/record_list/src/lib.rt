@@ -1,4 +1,4 @@
-//! Rows that stand in up to 32 queues, each row in a block of its own, linked from row to row.
+//! Rows that are in up to 32 queues, each row in a block of its own, linked from row to row.
 #![tactic(auto)]
 
 ghost use Rattle.std.specs.Prelude.{◌≡◌, ◌≢◌, ℕ, List};

@@ -1,4 +1,4 @@
-//! The links of a node, one for each chain in which it stands.
+//! The links of a node, one for each chain that it is in.
 
 ghost use Rattle.std.specs.Prelude.{◌≡◌, ◌≢◌, ◌<◌, ℕ, true, IfOk, slice_index_or, slice_set};
 ghost use Rattle.std.specs.Option.{is_some};
@@ -21,7 +21,7 @@ pub struct Link {
 /// Which neighbours a node has in a chain.
 #[derive(Clone, Copy)]
 enum Seat {
-    /// It doesn't stand in the chain.
+    /// It isn't in the chain.
     Absent,
     /// It is the only one.
     Alone,
@@ -31,7 +31,7 @@ enum Seat {
 }
 
 impl Seat {
-    /// The seat of a row that is the only one in a chain, or doesn't stand there.
+    /// The seat of a row that is the only one in a chain, or isn't in it.
     fn alone(there: bool) -> Seat
         ensures { (ends : Ends) → link_of result ends ≡ new_link there None }
     {
@@ -65,7 +65,7 @@ impl Model for OtherLinks {
 }
 
 impl OtherLinks {
-    /// Those of a row that stands alone in the queues of its mask.
+    /// The links of a row that is alone in the queues of its mask.
     fn alone(mask: u32, queue: usize) -> OtherLinks
         requires { queue < 32 }
         ensures { (d : ℕ) → d < 32 → d ≢ queue → slice_index_or result (slot_of queue d) None ≡ new_link (stands d mask) None }
@@ -173,14 +173,14 @@ impl Seating {
     }
 }
 
-/// A link for each of 32 chains, or none. That in a row's only queue stands here, and those in several queues in a block of
-/// their own, which a row that was pushed into one queue goes without.
+/// A link for each of 32 chains, or none. That in a row's only queue is kept here, and those in several queues in a
+/// block of their own, which a row that was pushed into one queue goes without.
 #[derive(Drop)]
 pub struct LinkTable {
     seating: Seating,
 }
 
-/// What stands in place takes 24 bytes.
+/// What is kept inline takes 24 bytes.
 const _: () = prove!(size_of::<LinkTable>() == 24);
 
 impl Model for LinkTable {
@@ -197,7 +197,8 @@ impl Model for LinkTable {
 }
 
 impl LinkTable {
-    /// Those of a row that stands alone in the queues of its mask. An error is want of memory for those in several.
+    /// The links of a row that is alone in the queues of its mask. An error means that memory for those in
+    /// several queues is refused.
     pub(crate) fn for_queues(alloc: Global, mask: u32) -> Result<LinkTable, AllocError>
         ensures { IfOk result (λ links. (d : ℕ) → d < 32 → slice_index_or links d None ≡ new_link (stands d mask) None) }
     {
@@ -240,7 +241,7 @@ impl LinkTable {
         }
     }
 
-    /// Gives the node this link in the chain d, in which it stands.
+    /// Gives the node this link in the chain d, which it is in.
     pub(crate) fn set(&mut self, d: usize, link: Option<Link>)
         requires chain { d < 32 }
         requires stands { is_some (slice_index_or self.old d None) ≡ true }
@@ -258,7 +259,7 @@ impl LinkTable {
     }
 }
 
-/// Whether a row with this mask stands in the chain d.
+/// Whether a row with this mask is in the chain d.
 pub(crate) fn stands(mask: u32, d: usize) -> bool
     requires { d < 32 }
     ensures { result ≡ stands d mask }

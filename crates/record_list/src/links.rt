@@ -1,4 +1,4 @@
-//! Nodes that stand in up to 32 chains, one for each queue.
+//! Nodes that are in up to 32 chains, one for each queue.
 ghost use Rattle.std.specs.Prelude.{min, ◌-◌, ◌^◌, ◌≡◌, ◌≢◌, ◌<◌, ◌≤◌, ◌+◌, ℕ, [], ◌∷◌, ◌++◌, slice_index_or, true, false, IfOk, IfSome, MatchOption, MatchResult, replicate, if◌then◌else◌};
 ghost use Rattle.std.specs.Option.{is_some};
 ghost use Rattle.record_list.specs.Stands.{stands};
@@ -12,7 +12,7 @@ use node_heap::{Nodes, Place};
 use row_store::Row;
 use std::alloc::{AllocError, Global};
 
-/// One row, with its link in each chain that it stands in.
+/// One row, with its link in each chain that it is in.
 #[derive(Drop)]
 pub struct Node<T> {
     pub(crate) row: Row<T>,
@@ -138,7 +138,7 @@ impl<T> Links<T> {
         self.point_back(d, prev, next);
     }
 
-    /// The chain d ends with the node at `at`, which stands in it.
+    /// The chain d ends with the node at `at`, which is in it.
     pub(crate) fn enter(&mut self, d: usize, at: Place)
         requires chain { d < 32 }
         requires apart { IsApart (places self.old.nodes.held) }
@@ -155,7 +155,7 @@ impl<T> Links<T> {
         self.tails[d] = Some(at);
     }
 
-    /// The links of a node that will be the last row. An error is want of memory.
+    /// The links of a node that will be the last row. An error means that memory is refused.
     pub(crate) fn last_links(&self, alloc: Global, mask: u32) -> Result<LinkTable, AllocError>
         ensures { IfOk result (λ links. (d : ℕ) → d < 32 → slice_index_or links d None ≡ new_link (stands d mask) (tail_at d self.now)) }
     {
@@ -172,7 +172,7 @@ impl<T> Links<T> {
         Ok(links)
     }
 
-    /// The last row's node, at `at`, is linked in in each of the chains that it stands in.
+    /// The last row's node, at `at`, is linked into each of its chains.
     pub(crate) fn enter_all(&mut self, at: Place, mask: u32)
         requires apart { IsApart (places self.old.nodes.held) }
         requires hangs { (d : ℕ) → d < 32 → stands d mask ≡ true → Hangs d self.old at.ptr }
@@ -190,7 +190,7 @@ impl<T> Links<T> {
         }
     }
 
-    /// Takes the node out of the chain d, if it stands there, and tells whether it did.
+    /// Takes the node out of the chain d, if it is there, and returns whether it was.
     pub(crate) fn leave(&mut self, d: u32, at: Place) -> bool
         requires chain { d < 32 }
         requires apart { IsApart (places self.old.nodes.held) }
@@ -221,7 +221,7 @@ impl<T: Drop> Links<T> {
     ghost use Rattle.record_list.specs.Listed.{listed};
     ghost use Rattle.record_list.specs.Stands.{IsWhole};
 
-    /// Gives the node a block, and hands it back where there is no memory.
+    /// Gives the node a block, and returns it where memory is refused.
     pub(crate) fn place(&mut self, alloc: Global, node: Node<T>) -> Result<Place, Node<T>>
         ensures placed { MatchResult result
             (λ at. (find_node at.ptr self.old.nodes.held ≡ None) × (self.new.nodes.held ≡ self.old.nodes.held ++ held_at at.ptr node ∷ []))
@@ -234,7 +234,7 @@ impl<T: Drop> Links<T> {
         }
     }
 
-    /// Takes a node back that stands in no chain yet.
+    /// Takes a node back that is in no chain yet.
     pub(crate) fn withdraw(&mut self, at: Place, alloc: Global) -> Node<T>
         requires { IsHeld at.ptr self.old.nodes.held }
         ensures value { find_node at.ptr self.old.nodes.held ≡ Some result }
@@ -244,7 +244,7 @@ impl<T: Drop> Links<T> {
         Box::into_inner(self.nodes.take(at, alloc))
     }
 
-    /// Takes a node out of each chain that it stands in.
+    /// Takes a node out of each chain that it is in.
     pub(crate) fn take_out(&mut self, at: Place, alloc: Global) -> Node<T>
         requires whole { IsWhole self.old }
         requires held { IsHeld at.ptr self.old.nodes.held }

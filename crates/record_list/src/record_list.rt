@@ -12,7 +12,7 @@ use row_store::{QUEUES, Row, RowStore};
 use std::alloc::{AllocFailed, Global};
 use std::marker::Model;
 
-/// The rows, each in a node of its own that is linked in each queue where the row stands, and the directory, which leads
+/// The rows, each in a node of its own that is linked in each queue that the row is in, and the directory, which leads
 /// from a number to its node by binary search and has all nodes in the order of the rows. No call goes over the rows.
 pub struct RecordList<T: Drop> {
     links: Links<T>,
@@ -157,7 +157,7 @@ impl<T: Drop> RowStore<T> for RecordList<T> {
     }
 }
 
-/// The item of a node that stands nowhere.
+/// The item of a node that is in no chain.
 fn item_of<T>(node: Node<T>) -> T
     ensures { result ≡ node.row.item }
 {

@@ -1,4 +1,4 @@
-//! Rows in the order of their numbers, each with an item and the queues that it stands in.
+//! Rows in the order of their numbers, each with an item and the queues that it is in.
 #![tactic(auto)]
 
 ghost use Rattle.std.specs.Prelude.{◌≡◌, ◌≢◌, ◌<◌, ◌==◌, ◌↔◌, ℕ, List, [], ◌∷◌, ◌++◌, IfErr, OnSome, OnOk, OnErr, IsTrue, All, false, not, if◌then◌else◌, length, filter, slice_get, option_copied};
@@ -14,7 +14,7 @@ mod plain_rows;
 pub use fixed_numbers::QUEUES;
 pub use plain_rows::PlainRows;
 
-/// A row: bit d of the mask is set where the row stands in queue d.
+/// A row: bit d of the mask is set where the row is in queue d.
 #[derive(Drop)]
 pub struct Row<T> {
     pub number: u32,
@@ -23,7 +23,7 @@ pub struct Row<T> {
 }
 
 impl<T> Row<T> {
-    /// Whether the row stands in queue d. No row stands in a queue of `QUEUES` or more.
+    /// Whether the row is in queue d. No row is in a queue of `QUEUES` or more.
     pub fn stands_in(&self, d: u32) -> bool
         ensures { result ≡ stands_in d self.now }
     {
@@ -42,12 +42,12 @@ impl<T> Row<T> {
     }
 }
 
-/// Rows by number, in rising order, and the queues that they stand in.
+/// Rows by number, in rising order, and the queues that they are in.
 pub trait RowStore<T> {
     /// The rows, in the order of their numbers.
     ghost rows: { Self → List (Row T) };
 
-    /// How many rows can be added with no memory asked for. A store that makes each row in memory of its own has room for
+    /// How many rows can be added without requesting memory. A store that makes each row in memory of its own has room for
     /// none.
     ghost room: { Self → ℕ };
 
@@ -59,7 +59,11 @@ pub trait RowStore<T> {
     fn numbers_rise(&self)
         ensures { NumbersRise (rows self.now) };
 
-    /// Adds a row at the end. Want of memory, which comes only where there was no room, hands the item back.
+    /// Adds a row at the end.
+    ///
+    /// # Errors
+    ///
+    /// The item, where memory is refused, which it is only where there was no room.
     fn push(&mut self, number: u32, item: T, mask: u32) -> Result<(), AllocFailed<T>>
         requires { All (λ row. row.number < number) (rows self.old) }
         ensures ok { OnOk result (rows self.new ≡ rows self.old ++ record { number = number; item = item; mask = mask } ∷ []) }
@@ -81,7 +85,7 @@ pub trait RowStore<T> {
         ensures* writes_back { sem 𝓛 (LendsSo Self.row T.row self.entry result (λ after item. OnSome result (rows after ≡ with_item number item (rows self.old))) (λ after. rows after ≡ rows self.old)) }
         ensures item { option_copied_mut result ≡ item_at number (rows self.old) };
 
-    /// Takes a row out of queue d, and tells whether it stood there.
+    /// Takes a row out of queue d, and returns whether it was there.
     fn unlink(&mut self, number: u32, d: u32) -> bool
         ensures stood { result ≡ is_linked number d (rows self.old) }
         ensures unlinked { rows self.new ≡ unlinked number d (rows self.old) };
@@ -103,7 +107,7 @@ pub trait RowStore<T> {
     }
 }
 
-/// The laws of queues: what a change to a row does to those that it stands in.
+/// The laws of queues: what a change to a row does to those that it is in.
 pub fn queue_rules<T>()
     // The front is the first of the queue.
     ensures front { (rows : List (Row T)) (d : ℕ) → front_of d rows ≡ slice_get (queue_of d rows) 0 }
@@ -115,7 +119,7 @@ pub fn queue_rules<T>()
         queue_of d (unlinked number d rows) ≡ filter (λ k. not (k == number)) (queue_of d rows) }
     ensures unlinked_others { (rows : List (Row T)) (number d e : ℕ) → e ≢ d → queue_of e (unlinked number d rows) ≡ queue_of e rows }
 
-    // Another item changes no queue, and a row at the end stands last in its own.
+    // Another item changes no queue, and a row at the end is last in its own.
     ensures with_item { (rows : List (Row T)) (number d : ℕ) (item : T) → queue_of d (with_item number item rows) ≡ queue_of d rows }
     ensures pushed { (rows : List (Row T)) (row : Row T) (d : ℕ) →
         queue_of d (rows ++ row ∷ []) ≡ (if stands_in d row then queue_of d rows ++ row.number ∷ [] else queue_of d rows) }

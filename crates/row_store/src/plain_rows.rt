@@ -99,7 +99,7 @@ impl<T: Drop> RowStore<T> for PlainRows<T> {
     }
 }
 
-/// The place of the row of that number.
+/// The index of the row of that number.
 fn place_of<T>(rows: &[Row<T>], number: u32) -> Option<usize>
     requires { NumbersRise rows.now }
     ensures inside { IfSome result (λ place. place < length rows.now) }

@@ -10,10 +10,10 @@ use std::process::Abort;
 use std::sync::atomic::{AtomicU64, Ordering};
 use std::test::*;
 
-/// The queues in which the rows stand, row by row, and again from the first.
+/// The queues in which the rows are, row by row, and again from the first.
 const MASKS: [u32; 8] = [40, 8, 32, 40, 0, 0xFFFF_FFFF, 1, 0x8000_0000];
 
-/// How many rows there are: so many that the directory grows.
+/// How many rows there are: enough that the directory grows.
 const ROWS: u32 = 24;
 
 /// The number whose digit of base 4, at the place of each row, is one.
@@ -37,7 +37,7 @@ fn drops_of(drops: &AtomicU64, number: u32) -> u64 {
     drops.load(Ordering::SeqCst) >> (number % ROWS * 2) & 3
 }
 
-/// The store has the first rows, so many as are told, each with its item, and no other.
+/// The store has the first rows, as many as are given, each with its item, and no other.
 fn has_first(rows: &RecordList<Item>, count: u32) -> bool {
     if rows.len() != count as usize || rows.get(count).is_some() {
         return false;
@@ -51,7 +51,7 @@ fn has_first(rows: &RecordList<Item>, count: u32) -> bool {
     true
 }
 
-/// The front of each queue is the first row that stands in it.
+/// The front of each queue is the first row that is in it.
 fn has_fronts(rows: &mut RecordList<Item>) -> bool {
     for d in 0..QUEUES {
         let first = MASKS.iter().position(|mask| mask >> d & 1 == 1);

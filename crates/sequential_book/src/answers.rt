@@ -47,7 +47,7 @@ pub(crate) fn settled(
     }
 }
 
-/// What the slots owe that an arrival adds, which is judged and told so.
+/// What the slots owe that an arrival adds, with this verdict and this answer.
 pub(crate) fn arrival_owes(
     plan: &Plan,
     channel: u32,

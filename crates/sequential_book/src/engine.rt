@@ -52,7 +52,7 @@ impl Model for SequentialBook {
 }
 
 impl SequentialBook {
-    /// An engine of this plan that may book so many entries, and has booked none yet.
+    /// An engine of this plan that may book `events_max` entries, and has booked none yet.
     pub fn new(alloc: Global, plan: Arc<Plan>, events_max: u32) -> SequentialBook
         requires { events_max ≤ EVENTS_MAX }
         ensures { result ≡ opened_by (arc_value plan) events_max }
@@ -81,6 +81,10 @@ impl SequentialBook {
     }
 
     /// The state of a message at destination d, if the message names d.
+    ///
+    /// # Errors
+    ///
+    /// Where memory is refused.
     pub fn status(&self, number: u32, d: u32) -> Result<Option<SlotState>, AllocError>
         ensures { IfOk result (λ slot_at. slot_at ≡ slot self.now number d) }
     {
@@ -88,13 +92,17 @@ impl SequentialBook {
     }
 
     /// How many messages are still to be delivered to destination d.
+    ///
+    /// # Errors
+    ///
+    /// Where memory is refused.
     pub fn queue_len(&self, d: u32) -> Result<usize, AllocError>
         ensures { IfOk result (λ count. count ≡ length (queue self.now d)) }
     {
         Ok(self.queue(d)?.len())
     }
 
-    /// Books a message that came by connection `conn`, and answers what its sender is told.
+    /// Books a message that arrived over connection `conn`, and returns its answer.
     ///
     /// # Errors
     ///
@@ -141,7 +149,7 @@ impl SequentialBook {
         Ok(ticket)
     }
 
-    /// Settles an attempt with its outcome, and answers the state of the slot afterwards.
+    /// Settles an attempt with its outcome, and returns the state of the slot afterwards.
     ///
     /// # Errors
     ///

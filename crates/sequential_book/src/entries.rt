@@ -122,7 +122,7 @@ pub(crate) fn in_force<'a>(plan: &'a Arc<Plan>, entries: &'a [Entry]) -> &'a Arc
     in_force
 }
 
-/// The arrival of the message of this number, and the plan that was in force when it came.
+/// The arrival of the message of this number, and the plan that was in force when it arrived.
 fn acceptance<'a>(
     plan: &'a Arc<Plan>,
     entries: &'a [Entry],
@@ -146,7 +146,7 @@ fn acceptance<'a>(
     None
 }
 
-/// A text that came on a channel, judged again.
+/// A text that arrived on a channel, judged again.
 fn judged_again(
     alloc: Global,
     plan: &Arc<Plan>,
@@ -220,14 +220,14 @@ pub(crate) fn names(deliveries: &[Delivery], d: u32) -> bool
     deliveries.iter().any(|x| x.destination == d)
 }
 
-/// Whether a message that is told so is kept by its key: it was accepted or filtered.
+/// Whether a message with this answer is kept by its key: it was accepted or filtered.
 fn is_kept(told: Told) -> bool
     ensures { result ≡ is_kept told }
 {
     matches!(told, Told::Accepted(_) | Told::Filtered)
 }
 
-/// Whether an entry is the arrival of a message with this key, told Accepted or Filtered.
+/// Whether an entry is the arrival of a message with this key, answered Accepted or Filtered.
 fn keeps(alloc: Global, plan: &Arc<Plan>, entry: &Entry, key: &[u8]) -> Result<bool, AllocError>
     requires { IsJudgeable (length (arc_value plan.now).channels) entry.now }
     ensures { IfOk result (λ kept. kept ≡ keeps key.now entry.now) }
@@ -243,7 +243,7 @@ fn keeps(alloc: Global, plan: &Arc<Plan>, entry: &Entry, key: &[u8]) -> Result<b
     }
 }
 
-/// The place of the message with this key, if one was accepted or filtered.
+/// The index of the arrival with this key, if one was accepted or filtered.
 pub(crate) fn known(
     alloc: Global,
     plan: &Arc<Plan>,
@@ -261,7 +261,7 @@ pub(crate) fn known(
     Ok(None)
 }
 
-/// What the sender is told of a message whose key is known by the entry at this place.
+/// The answer to a message whose key is known by the entry at this index.
 pub(crate) fn told_again(entries: &[Entry], raw: &[u8], place: usize) -> Told
     ensures { result
         ≡ (if option_map_or (brings raw.now) (slice_get entries.now place) false then Told.Repeat place else Told.Refused Cause.IdReused) }

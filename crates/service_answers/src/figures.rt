@@ -24,9 +24,9 @@ pub struct Figures {
     pub unbooked: Unbooked,
     /// The channels that are not read at this time, as a mask.
     pub paused: u64,
-    /// By channel, when its last message was received, in seconds since 1970; 0: none was.
+    /// When the last message of each channel was received, by index, in seconds since 1970; 0: none was.
     pub received: [u64; 64],
-    /// By destination, when the last message was delivered to it, in seconds since 1970; 0: none was.
+    /// When the last message was delivered to each destination, by index, in seconds since 1970; 0: none was.
     pub delivered: [u64; 32],
 }
 

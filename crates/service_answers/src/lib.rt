@@ -1,5 +1,5 @@
-//! The answers of a running service to what an operator asks, as texts: its status, its numbers for Prometheus, and what is
-//! kept of messages. Each ends with an empty line.
+//! The answers of a running service to an operator's commands, as texts: its status, its numbers for Prometheus, and
+//! what is kept of messages. Each ends with an empty line.
 #![tactic(auto)]
 
 mod figures;

@@ -14,6 +14,10 @@ use std::alloc::{AllocError, Global};
 pub const SHOWN_MAX: usize = 100;
 
 /// Adds the state of a message at a destination.
+///
+/// # Errors
+///
+/// Where memory is refused.
 pub fn add_state(text: &mut String, state: SlotState) -> Result<(), AllocError> {
     match state {
         SlotState::Waiting { attempts, due } => {

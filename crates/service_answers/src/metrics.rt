@@ -102,12 +102,12 @@ fn add_by_destination<F: Fn(u32) -> u64>(
     Ok(())
 }
 
-/// The counters of a channel; those of the first one where no plan has so many.
+/// The counters of a channel; those of the first one where no plan has a channel of that index.
 fn channel_counts(counts: &Counts, index: u32) -> ChannelCounts {
     counts.channel(if index < CHANNELS { index } else { 0 })
 }
 
-/// The counters of a destination; those of the first one where no plan has so many.
+/// The counters of a destination; those of the first one where no plan has a destination of that index.
 fn destination_counts(counts: &Counts, index: u32) -> DestinationCounts {
     counts.destination(if index < DESTINATIONS { index } else { 0 })
 }

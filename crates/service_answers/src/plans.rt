@@ -1,4 +1,4 @@
-//! What came of a new plan, and of a cancellation.
+//! The results of a deployment and of a cancellation, as texts.
 
 use event_log::DeployRefusal;
 use log_text::Escaped;

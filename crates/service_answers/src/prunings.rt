@@ -1,8 +1,8 @@
-//! What a pruning came to.
+//! The result of a pruning, as a text.
 
 use std::alloc::{AllocError, Global};
 
-/// What a pruning by hand came to: the messages numbered below `before` are forgotten, of the rest the last `keep` were to
+/// The result of a pruning by hand: the messages numbered below `before` are forgotten, of the rest the last `keep` were to
 /// stay, and `live` is the first that is still to be delivered.
 ///
 /// # Errors

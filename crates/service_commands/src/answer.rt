@@ -8,7 +8,7 @@ unknown: status, metrics, message N, find ID, waiting NAME, deploy PATH, prune, 
 
 ";
 
-/// The answer that refuses what a command asked, with the reason.
+/// The answer that refuses what a command requested, with the reason.
 #[derive(Clone, Copy, Debug, PartialEq, Eq)]
 pub struct Refused<T>(pub T);
 

@@ -1,9 +1,9 @@
-//! What a line asks for.
+//! The commands, and the one that a line is.
 
 ghost use Rattle.std.specs.Prelude.{◌≡◌, option_map};
 ghost use Rattle.service_commands.specs.Commands.{argument, command_of, named, numbered, number_of, seen, with_digit};
 
-/// What a line asks for. Texts are of type `T`, the bytes as they are in the line.
+/// The command that a line is. Texts are of type `T`, the bytes as they are in the line.
 #[derive(Clone, Copy, Debug, PartialEq, Eq)]
 pub enum Command<T> {
     /// What each channel, each destination, the book and the connections have done.
@@ -16,11 +16,11 @@ pub enum Command<T> {
     Find(T),
     /// The first messages in the queue of the destination of this name, at least one byte.
     Waiting(T),
-    /// The plan in the file of this path, at least one byte, in place of the plan in force.
+    /// The plan in the file of this path, at least one byte, which is to replace the plan in force.
     Deploy(T),
     /// Forgetting what is settled.
     Prune,
-    /// The message of this number is delivered nowhere any more.
+    /// The message of this number is not delivered where it still waits.
     Cancel(u32),
     /// The end, once nothing waits for delivery.
     Stop,
@@ -64,7 +64,7 @@ fn number_of(text: &[u8]) -> Option<u32>
     Some(number)
 }
 
-/// What a line asks for that begins with none of the words that a text follows.
+/// The command of a line that begins with none of the words that a text follows.
 fn numbered(line: &[u8]) -> Command<&[u8]>
     ensures { seen result ≡ numbered line.now }
 {
@@ -83,7 +83,7 @@ fn numbered(line: &[u8]) -> Command<&[u8]>
     Command::Unknown
 }
 
-/// What a line asks for that is no command of a single word, nor `stop now`.
+/// The command of a line that is no command of a single word, nor `stop now`.
 fn named(line: &[u8]) -> Command<&[u8]>
     ensures { seen result ≡ named line.now }
 {
@@ -98,7 +98,7 @@ fn named(line: &[u8]) -> Command<&[u8]>
     }
 }
 
-/// What a line asks for. Each line asks for one thing; those that are none of the commands are `Unknown`.
+/// The command that a line is. A line is one command; those that are none of the commands are `Unknown`.
 pub fn read_command(line: &[u8]) -> Command<&[u8]>
     ensures { seen result ≡ command_of line.now }
 {

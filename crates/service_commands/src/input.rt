@@ -21,14 +21,14 @@ pub enum Input {
 /// The bytes of a line so far.
 #[derive(Clone, Copy)]
 enum Held {
-    /// As many as this, which are the first of the buffer.
+    /// The count of its bytes, which are the first of the buffer.
     Within(usize),
     /// More than the buffer has room for.
     Over,
 }
 
 impl Held {
-    /// With one byte more.
+    /// What is held with one byte more.
     fn with(self, buffer: &mut [u8], byte: u8) -> Held
         ensures holds { (bytes : List ℕ) → Holds self buffer.old bytes → Holds result buffer.new (bytes ++ byte ∷ []) }
         ensures room { length buffer.new ≡ length buffer.old }
@@ -82,8 +82,8 @@ fn read_byte<R: Read>(reader: &mut R) -> io::Result<Option<u8>>
     Err(io::Error::from(ErrorKind::Interrupted))
 }
 
-/// Reads the next line into the front of `buffer`, without the line feed that ends it. The reader's end ends a line too.
-/// No byte behind the line is read, and no memory is asked for.
+/// Reads the next line into the beginning of `buffer`, without the line feed that ends it. The reader's end ends a
+/// line too. No byte behind the line is read, and no memory is requested.
 ///
 /// # Errors
 ///

@@ -1,5 +1,5 @@
-//! The commands of the service, as they come on its standard input: what a line asks for, and the lines themselves, read
-//! without any request for memory. Nothing here does what a command asks.
+//! The commands of the service, as they are read from its standard input: the command that a line is, and the lines
+//! themselves, read without any request for memory. Nothing here executes a command.
 #![tactic(auto)]
 
 mod answer;

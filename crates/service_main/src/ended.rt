@@ -7,7 +7,7 @@ use engine_report::Fault;
 use std::alloc::AllocError;
 use thiserror::Error;
 
-/// How the program ends where it does what it was asked.
+/// How the program ends where it does what was requested.
 #[derive(Clone, Copy, Debug, PartialEq, Eq)]
 pub enum Ended {
     /// All was done.
@@ -18,7 +18,7 @@ pub enum Ended {
     Undelivered,
 }
 
-/// Why the program can't do what it was asked. Its text is the line on standard error.
+/// Why the program can't do what was requested. Its text is the line on standard error.
 #[derive(Debug, Drop, Error)]
 pub enum Trouble<'a> {
     /// What an engine meets too.

@@ -15,7 +15,7 @@ use std::sync::Arc;
 /// 2023, 22:13:20 UTC.
 const TRIAL_MOMENT: i64 = 1_700_000_000;
 
-/// The place of the channel of a name.
+/// The index of the channel of a name.
 fn place_of(plan: &Plan, name: &str) -> Option<u32>
     ensures { IfSome result (λ place. place < length plan.now.channels) }
 {
@@ -43,7 +43,7 @@ fn names_of(alloc: Global, plan: &Plan) -> Result<String, AllocError> {
     Ok(names)
 }
 
-/// The place of the channel that was named, or of the plan's first one.
+/// The index of the channel that was named, or of the plan's first one.
 fn channel_of<'a>(alloc: Global, plan: &Plan, named: Option<&'a str>) -> Result<u32, Trouble<'a>>
     ensures { IfOk result (λ place. place < length plan.now.channels) }
 {
@@ -80,6 +80,10 @@ fn fault_of<'a>(fault: TryFault) -> Fault<'a> {
 
 /// Prints what would become of each message on standard input, by the plan in a file, on the channel that was named, or on the
 /// plan's first one. Nothing is kept and nothing is sent.
+///
+/// # Errors
+///
+/// The fault of the plan, of a device or of memory; `NoChannel` where the plan has no channel of that name.
 pub fn try_messages<'a>(
     rt: &HostRuntime,
     path: &'a str,

@@ -1,4 +1,4 @@
-//! Doing what the command line asks.
+//! Doing what the command line requests.
 
 ghost use Rattle.std.specs.Prelude.{◌≡◌, IfErr, IfOk};
 ghost use Rattle.std.specs.Process.{exit_status};
@@ -33,7 +33,7 @@ pub fn words_given<'a>(rt: &HostRuntime) -> Result<Vec<String>, Trouble<'a>> {
     }
 }
 
-/// Prints the help or the version that was asked for, which is a success, or passes on what is wrong with the words.
+/// Prints the help or the version that was requested, which is a success, or passes on what is wrong with the words.
 fn explain<'a>(rt: &HostRuntime, error: clap::Error) -> Result<Ended, Trouble<'a>> {
     if error.use_stderr() {
         return Err(Trouble::Engine(Fault::from(error)));
@@ -62,7 +62,11 @@ fn serve<'a, H: Crew + Threads + Eprint + Copy + Sync>(
     }
 }
 
-/// Does what the words ask. Threads are started, and waited for, by `handle`.
+/// Does what the words request. Threads are started, and waited for, by `handle`.
+///
+/// # Errors
+///
+/// What is wrong with the words, or the first fault found.
 pub fn perform<'a, H: Crew + Threads + Eprint + Copy + Sync>(
     rt: &HostRuntime,
     handle: &H,
@@ -95,7 +99,7 @@ pub fn perform<'a, H: Crew + Threads + Eprint + Copy + Sync>(
     }
 }
 
-/// Tells on standard error why the program couldn't do what it was asked, if it couldn't, and gives the exit status.
+/// Prints on standard error why the program couldn't do what was requested, if it couldn't, and returns the exit status.
 pub fn finish(rt: &HostRuntime, ended: Result<Ended, Trouble<'_>>) -> ExitCode
     ensures success { IfOk ended.entry (λ it. exit_status result ≡ ended_status it) }
     ensures failure { IfErr ended.entry (λ it. exit_status result ≡ trouble_status it) }

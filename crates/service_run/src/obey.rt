@@ -17,10 +17,10 @@ use std::time::Duration;
 /// The most bytes of a line that is a command.
 const LINE_BYTES: usize = 4_096;
 
-/// For how many milliseconds one look at the workers waits, once no command can follow.
+/// How many milliseconds one look at the workers waits, once no command can follow.
 const LOOK_MILLIS: u64 = 100;
 
-/// Puts the plan in a file in force, where the path is text, and answers that.
+/// Puts the plan in a file in force, where the path is text, and prints the result.
 fn deploy<A: Opening, T: Ledger, U: Ledger, H: Crew>(
     rt: &HostRuntime,
     site: &Site<'_, A, T, U, H>,
@@ -33,7 +33,7 @@ fn deploy<A: Opening, T: Ledger, U: Ledger, H: Crew>(
     }
 }
 
-/// Does what a command asks, and answers it.
+/// Executes a command, and prints its answer.
 fn obey<A: Opening, T: Ledger, U: Ledger, H: Crew>(
     rt: &HostRuntime,
     site: &Site<'_, A, T, U, H>,
@@ -57,7 +57,7 @@ fn obey<A: Opening, T: Ledger, U: Ledger, H: Crew>(
     }
 }
 
-/// Begins to end all workers, and answers that.
+/// Begins to end all workers, and prints that.
 fn begin_stop<A: Opening, T: Ledger, U: Ledger, H: Crew>(
     rt: &HostRuntime,
     site: &Site<'_, A, T, U, H>,

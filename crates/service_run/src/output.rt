@@ -1,4 +1,4 @@
-//! Writing to standard output and standard error, for which nobody waits without an end.
+//! Writing to standard output and standard error, where no wait is without an end.
 
 use libc::net as c;
 use libc::types::pollfd;
@@ -18,7 +18,7 @@ const STANDARD_ERROR: i32 = 2;
 /// How many bytes are written at once: as many as a pipe that is ready takes without waiting.
 const PIECE: usize = 4_096;
 
-/// For how many milliseconds a piece waits for its reader at most.
+/// How many milliseconds a piece waits for its reader at most.
 const READER_MILLIS: i32 = 5_000;
 
 /// Whether a descriptor takes a piece without waiting, or fails at once, within five seconds.

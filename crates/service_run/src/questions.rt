@@ -1,4 +1,4 @@
-//! What an operator asks, and the commands that change the book.
+//! The commands that ask the book something, and those that change it.
 
 use crate::figures::figures_of;
 use book_core::Front;
@@ -24,6 +24,10 @@ use std::sync::ledger::Ledger;
 pub const SLICE: u32 = 4_096;
 
 /// The service's status.
+///
+/// # Errors
+///
+/// Where memory is refused, or the plan has more owners than can be counted.
 pub fn ask_status<A: Opening, T: Ledger, U: Ledger, H: Crew>(
     site: &Site<'_, A, T, U, H>,
     started: u64,
@@ -33,6 +37,10 @@ pub fn ask_status<A: Opening, T: Ledger, U: Ledger, H: Crew>(
 }
 
 /// The service's numbers for Prometheus.
+///
+/// # Errors
+///
+/// Where memory is refused, or the plan has more owners than can be counted.
 pub fn ask_metrics<A: Opening, T: Ledger, U: Ledger, H: Crew>(
     site: &Site<'_, A, T, U, H>,
     started: u64,
@@ -42,6 +50,10 @@ pub fn ask_metrics<A: Opening, T: Ledger, U: Ledger, H: Crew>(
 }
 
 /// Where a message is.
+///
+/// # Errors
+///
+/// Where memory is refused, or the plan has more owners than can be counted.
 pub fn ask_message<A: Opening, T: Ledger, U: Ledger, H: Crew>(
     site: &Site<'_, A, T, U, H>,
     number: u32,
@@ -51,6 +63,10 @@ pub fn ask_message<A: Opening, T: Ledger, U: Ledger, H: Crew>(
 }
 
 /// The remembered messages with a control id (MSH-10), looked for a slice at a time.
+///
+/// # Errors
+///
+/// Where memory is refused.
 pub fn ask_find<A: Opening, T: Ledger, U: Ledger, H: Crew>(
     site: &Site<'_, A, T, U, H>,
     id: &[u8],
@@ -68,7 +84,11 @@ pub fn ask_find<A: Opening, T: Ledger, U: Ledger, H: Crew>(
     found_text(site.alloc, &found)
 }
 
-/// The messages in a destination's queue, at most so many, looked for a slice at a time.
+/// The messages in a destination's queue, at most `most` of them, looked for a slice at a time.
+///
+/// # Errors
+///
+/// Where memory is refused.
 pub fn queued<A: Opening, T: Ledger, U: Ledger, H: Crew>(
     site: &Site<'_, A, T, U, H>,
     destination: u32,
@@ -110,6 +130,10 @@ fn destination_named(plan: &Plan, counts: &Counts, name: &[u8]) -> Option<(u32, 
 }
 
 /// What waits for the destination of a name.
+///
+/// # Errors
+///
+/// Where memory is refused, or the plan has more owners than can be counted.
 pub fn ask_waiting<A: Opening, T: Ledger, U: Ledger, H: Crew>(
     site: &Site<'_, A, T, U, H>,
     name: &[u8],
@@ -127,6 +151,10 @@ pub fn ask_waiting<A: Opening, T: Ledger, U: Ledger, H: Crew>(
 }
 
 /// Forgets what is settled, and says what was forgotten, what stays and why.
+///
+/// # Errors
+///
+/// Where memory is refused.
 pub fn do_prune<A: Opening, T: Ledger, U: Ledger, H: Crew>(
     site: &Site<'_, A, T, U, H>,
 ) -> Result<String, AllocError> {
@@ -146,6 +174,10 @@ pub fn do_prune<A: Opening, T: Ledger, U: Ledger, H: Crew>(
 }
 
 /// Cancels a message, and says at which destinations, or why not.
+///
+/// # Errors
+///
+/// Where memory is refused, or the plan has more owners than can be counted.
 pub fn do_cancel<A: Opening, T: Ledger, U: Ledger, H: Crew>(
     site: &Site<'_, A, T, U, H>,
     number: u32,
@@ -191,7 +223,11 @@ fn deployed(alloc: Global, gates: &[Gate], plan: &Plan) -> Result<String, AllocE
     Ok(text)
 }
 
-/// Puts the plan in a file in place of the plan in force, and says what came of it.
+/// Replaces the plan in force by the plan in a file, and says what the result is.
+///
+/// # Errors
+///
+/// Where memory is refused, or the plan has more owners than can be counted.
 pub fn do_deploy<A: Opening, T: Ledger, U: Ledger, H: Crew>(
     rt: &HostRuntime,
     site: &Site<'_, A, T, U, H>,

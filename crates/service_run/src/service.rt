@@ -172,7 +172,7 @@ fn run_by<'f, H: Crew + Threads + Sync>(
     )
 }
 
-/// Runs the service by a plan, which was read from the file `path`, until it is told to stop. Lines of the log are written by a
+/// Runs the service by a plan, which was read from the file `path`, until it is stopped. Lines of the log are written by a
 /// thread of their own.
 ///
 /// # Errors

@@ -1,6 +1,6 @@
-//! What `run` is asked.
+//! The settings of `run`.
 
-/// What `run` is asked, as the command line has it.
+/// The settings of `run`, as the command line has them.
 #[derive(Clone, Copy, Debug, PartialEq, Eq)]
 pub struct Settings {
     /// The most connections of each channel at once.

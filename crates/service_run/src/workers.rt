@@ -8,11 +8,11 @@ use std::sync::ledger::Ledger;
 /// What works: the listeners of the channels, the places at which connections are served, and the posts that deliver.
 #[derive(Drop)]
 pub struct Workers<A: Opening, T: Ledger, U: Ledger> {
-    /// In the order of the plan's channels.
+    /// The listeners, in the order of the plan's channels.
     pub gates: Vec<Gate>,
     /// The place at index `k` is one of channel `k` modulo the number of channels.
     pub places: Vec<Place<A>>,
-    /// By destination.
+    /// The posts, by destination.
     pub posts: Vec<Post<T, U>>,
 }
 

@@ -1,4 +1,4 @@
-//! A desk of a shared book that prunes itself, as the place where the messages of a channel are booked.
+//! A desk of a shared book that prunes itself, at which the messages of a channel are booked.
 
 use crate::pauses::paused_by;
 use crate::site::{Crew, Site};

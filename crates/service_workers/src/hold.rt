@@ -11,14 +11,14 @@ pub struct Hold {
 }
 
 impl Hold {
-    /// Without a stream.
+    /// A hold without a stream.
     pub fn new() -> Self {
         Hold {
             stream: Mutex::new(None),
         }
     }
 
-    /// Puts a stream here, or none, in place of the one before.
+    /// Puts a stream here, or none, and replaces the one before.
     pub fn put<H: Wait>(&self, rt: &H, stream: Option<Arc<TcpStream>>) {
         *self.stream.lock(rt) = stream;
     }

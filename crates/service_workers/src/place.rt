@@ -44,7 +44,7 @@ impl<A: Opening> Place<A> {
         &self.hold
     }
 
-    /// Its desk, once it has ended.
+    /// The desk of a place that has ended.
     pub fn into_desk(self) -> Option<Desk<A>> {
         let Place { desk, .. } = self;
         desk.into_inner()
@@ -62,7 +62,7 @@ fn prepare(stream: &TcpStream, idle: u32) {
     }
 }
 
-/// What serving a connection came to, and how many of its messages were booked.
+/// The outcome of serving a connection, and how many of its messages were booked.
 #[derive(Drop)]
 struct Served {
     report: ServeReport<Unkept>,

@@ -23,7 +23,7 @@ impl<T: Ledger, U: Ledger> Post<T, U> {
         }
     }
 
-    /// Its station, once it has ended.
+    /// The station of a post that has ended.
     pub fn into_station(self) -> Option<Station<T, U>> {
         let Post { station } = self;
         station.into_inner()

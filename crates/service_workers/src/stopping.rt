@@ -13,7 +13,7 @@ use std::time::{Duration, Instant};
 /// How long to wait between two looks at the workers, in milliseconds.
 const LOOK_MILLIS: u64 = 10;
 
-/// Waits until no place works any more, for the grace at most. Whether none does.
+/// Waits until all places have ended, for the grace at most. Whether all have.
 fn wait_for_places<A: Opening, T: Ledger, U: Ledger, H: Crew>(
     site: &Site<'_, A, T, U, H>,
     grace: Duration,

@@ -32,9 +32,9 @@ pub struct Tallies {
     plan_changed: AtomicU64,
     no_memory: AtomicU64,
     refused: AtomicU64,
-    /// By channel, when its last message was received, in seconds since 1970; 0 where none was.
+    /// When the last message of each channel was received, by index, in seconds since 1970; 0 where none was.
     received: [AtomicU64; CHANNELS as usize],
-    /// By destination, when the last message was delivered there, in seconds since 1970; 0 where none was.
+    /// When the last message was delivered to each destination, by index, in seconds since 1970; 0 where none was.
     delivered: [AtomicU64; DESTINATIONS as usize],
 }
 

@@ -9,7 +9,8 @@ use plan_text::Plan;
 use stat_count::Counts;
 use std::alloc::AllocError;
 
-/// Of a book that may hold so many entries, with so many messages accepted and none forgotten, of which one waits.
+/// The status of a book that may hold `events_max` entries, with `messages` accepted and none forgotten, of which one
+/// waits.
 fn status(events_max: u32, messages: u32) -> Status {
     let mut counts = Counts::new();
     counts.count_waiting(0);

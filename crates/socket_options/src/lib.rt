@@ -1,5 +1,5 @@
-//! Options of TCP sockets that the standard streams have no method for. All calls of the C library that are `unsafe` stand
-//! here.
+//! Options of TCP sockets that the standard streams have no method for. All `unsafe` calls of the C library
+//! for them are in this crate.
 #![tactic(auto)]
 
 mod probing;

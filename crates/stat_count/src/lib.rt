@@ -1,5 +1,5 @@
-//! The statistics of a book: what became of the messages of each channel, and how it stands with the messages of
-//! each destination.
+//! The statistics of a book: what became of the messages of each channel, and the states of the messages
+//! of each destination.
 #![tactic(auto)]
 
 ghost use Rattle.std.specs.Prelude.{◌≡◌, ◌≢◌, ◌+◌, ◌<◌, ◌≤◌, ℕ, length};
@@ -17,15 +17,15 @@ use std::marker::Model;
 /// What became of the messages of a channel.
 #[derive(Clone, Copy, Debug, PartialEq, Eq)]
 pub struct ChannelCounts {
-    /// The messages that came for the first time under their control id: those filtered, accepted and refused.
+    /// The messages received for the first time under their control id: those filtered, accepted and refused.
     pub received: u64,
-    /// Those that go to no destination.
+    /// The received messages that go to no destination.
     pub filtered: u64,
-    /// Those that go to a destination.
+    /// The received messages that go to a destination.
     pub accepted: u64,
-    /// Those that were refused.
+    /// The received messages that were refused.
     pub refused: u64,
-    /// The messages that came again, and were answered as before.
+    /// The messages that were repeated, and answered as before.
     pub repeats: u64,
 }
 
@@ -40,16 +40,16 @@ impl ChannelCounts {
     };
 }
 
-/// How it stands with the messages of a destination.
+/// The states of the messages of a destination, counted.
 #[derive(Clone, Copy, Debug, PartialEq, Eq)]
 pub struct DestinationCounts {
     /// The messages that wait for an attempt.
     pub waiting: u64,
-    /// Those whose attempt is under way.
+    /// The messages whose attempt is under way.
     pub inflight: u64,
-    /// Those that the destination has.
+    /// The messages that the destination has.
     pub delivered: u64,
-    /// Those that won't be sent any more.
+    /// The messages that won't be sent any more.
     pub failed: u64,
     /// The attempts that were begun.
     pub attempts: u64,
@@ -148,7 +148,7 @@ impl Counts {
         counts.refused += 1;
     }
 
-    /// A message of a channel came again.
+    /// Counts a message of a channel that was repeated.
     pub fn count_repeat(&mut self, channel: u32)
         requires place { channel < CHANNELS }
         requires room { (channel_at channel self.old).repeats < u64.MAX }

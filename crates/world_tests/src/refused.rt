@@ -13,7 +13,7 @@ use std::hash::RandomState;
 use std::sync::Arc;
 use std::test::Fail;
 
-/// An admission that asks for both acknowledgments, and one that asks for an accept acknowledgment.
+/// An admission that requests both acknowledgments, and one that requests an accept acknowledgment.
 const MESSAGES: [&str; 2] = [
     "\x0bMSH|^~\\&|REG|HOSP|ENG|HUB|20231114221300||ADT^A01^ADT_A01|M3|P|2.5.1|||AL|AL\rPID|1||77^^^H\r\x1c\r",
     "\x0bMSH|^~\\&|REG|HOSP|ENG|HUB|20231114221300||ADT^A01^ADT_A01|M1|P|2.5.1|||AL|NE\rPID|1||77^^^H\r\x1c\r",
@@ -81,7 +81,7 @@ fn booked(world: &Engine, conn: u32) -> usize {
     booked
 }
 
-/// Whether a connection was told what became of its message.
+/// Whether a connection was answered what became of its message.
 fn was_told(world: &Engine, conn: u32, due: Due) -> bool {
     let output = world.output(conn);
     match booked(world, conn) {
@@ -93,7 +93,7 @@ fn was_told(world: &Engine, conn: u32, due: Due) -> bool {
     }
 }
 
-/// The first connection that wasn't told what became of its message.
+/// The first connection that wasn't answered what became of its message.
 fn first_untold(world: &Engine) -> Option<u32> {
     for (conn, due) in (0..2_u32).zip(DUES) {
         if !was_told(world, conn, due) {
@@ -103,7 +103,7 @@ fn first_untold(world: &Engine) -> Option<u32> {
     None
 }
 
-/// The world after all pieces came. None where memory was refused before.
+/// The world after all pieces were received. None where memory was refused before.
 fn played(rt: &HostRuntime, now: Moment) -> Option<Engine> {
     let mut world = silent(rt)?;
     let steps = pieces(rt.alloc(), now)?;
@@ -111,14 +111,14 @@ fn played(rt: &HostRuntime, now: Moment) -> Option<Engine> {
     Some(world)
 }
 
-/// What came of a run.
+/// The result of a run.
 #[derive(Clone, Copy)]
 struct Outcome {
     untold: Option<u32>,
     both_ended: bool,
 }
 
-/// What came of the pieces. None where memory was refused before.
+/// The result of the pieces. None where memory was refused before.
 fn outcome_of(rt: &HostRuntime, now: Moment) -> Option<Outcome> {
     let world = played(rt, now)?;
     Some(Outcome {

@@ -36,7 +36,11 @@ fn serve<'a, R: Read + Drop, W: Write + Drop, C: Clock>(
 }
 
 /// Answers standard input on standard output: by the plan in a file, or the built-in one; at one moment, or by the
-/// system's clock; in a book of at most so many entries.
+/// system's clock; in a book of at most `events` entries.
+///
+/// # Errors
+///
+/// The first fault: of the plan, of the system's random bytes, of a device or of memory.
 pub fn answer<'a>(
     rt: &HostRuntime,
     plan: Option<&'a str>,

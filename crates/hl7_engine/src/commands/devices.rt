@@ -16,9 +16,9 @@ use std::time::Clock;
 /// What an engine meets the world by.
 #[derive(Drop)]
 pub struct Devices<'a, H> {
-    /// In the order of the plan's channels.
+    /// The doors, in the order of the plan's channels.
     pub doors: Vec<TcpDoor<'a, H>>,
-    /// In the order of the plan's destinations.
+    /// The links, in the order of the plan's destinations.
     pub links: Vec<TcpLink<'a, H, &'a Destination>>,
 }
 
@@ -70,7 +70,7 @@ fn make_links<'a, H: Net<Listener = TcpListener, Stream = TcpStream> + Clock + L
     Ok(links)
 }
 
-/// Tells where each channel listens.
+/// Prints where each channel listens.
 fn tell_doors<H: Net<Listener = TcpListener, Stream = TcpStream> + Clock + Log>(
     rt: &HostRuntime,
     plan: &Plan,
@@ -84,9 +84,11 @@ fn tell_doors<H: Net<Listener = TcpListener, Stream = TcpStream> + Clock + Log>(
     }
 }
 
-/// Opens the doors of all channels, tells where they listen, and makes the links of all destinations.
+/// Opens the doors of all channels, prints where they listen, and makes the links of all destinations.
 ///
-/// The fault names the first channel of the plan that can't listen.
+/// # Errors
+///
+/// The first channel of the plan that can't listen, or `Memory`.
 pub fn open_devices<'a, 'f, H: Net<Listener = TcpListener, Stream = TcpStream> + Clock + Log>(
     rt: &HostRuntime,
     handle: &'a H,
@@ -105,6 +107,10 @@ pub fn open_devices<'a, 'f, H: Net<Listener = TcpListener, Stream = TcpStream> +
 }
 
 /// A fault for each channel whose door failed, in the order of the plan.
+///
+/// # Errors
+///
+/// Where memory is refused.
 pub fn listen_faults<'f, D: Door>(
     alloc: Global,
     plan: &Plan,

@@ -142,7 +142,8 @@ fn statistics_of(
     }
 }
 
-/// Tells each fault but the last, which is given to be told by the caller; where there is none, what was before.
+/// Prints each fault but the last, which is returned to be printed by the caller; where there is none, returns what
+/// was before.
 fn tell_all<'f>(
     rt: &HostRuntime,
     before: Result<(), Fault<'f>>,
@@ -171,9 +172,9 @@ fn print_text<'f>(rt: &HostRuntime, text: &str) -> Result<(), Fault<'f>>
     Err(Fault::Write)
 }
 
-/// Tells what came of a run whose book was closed so: the statistics, then each fault. The last one is given.
+/// Prints the result of a run whose book was closed so: the statistics, then each fault. The last one is returned.
 ///
-/// Where memory is refused, nothing is told.
+/// Where memory is refused, nothing is printed.
 fn tell<'f>(
     rt: &HostRuntime,
     alloc: Global,
@@ -191,7 +192,7 @@ fn tell<'f>(
     tell_all(rt, written, faults)
 }
 
-/// Tells what came of the run, as [`tell`] does.
+/// Prints the result of the run, as [`tell`] does.
 fn conclude<'f>(
     rt: &HostRuntime,
     alloc: Global,
@@ -218,7 +219,7 @@ fn log_descriptors<H: Log>(rt: &H, needed: u64) {
 }
 
 /// Listens for all channels of a plan, takes `accept` connections on each, serves them, and delivers what they bring, in a
-/// book of at most so many entries.
+/// book of at most `events` entries.
 fn run_by<'a, 'f, H: Handle>(
     rt: &HostRuntime,
     handle: &'a H,
@@ -256,6 +257,10 @@ fn run_by<'a, 'f, H: Handle>(
 /// Listens for all channels of the plan in a file, takes `accept` connections on each, serves them, and delivers what they
 /// bring, in a book of at most `events` entries. It ends after the last connection, once the queues are empty, and prints
 /// the statistics. What its workers log goes through a journal: a line each, with UTC time and level.
+///
+/// # Errors
+///
+/// The last of the faults of the run, where there are several; those before it are printed.
 pub fn run<'a, H: Handle + Eprint>(
     rt: &HostRuntime,
     handle: &H,

@@ -41,7 +41,7 @@ fn leads_to(routes: &[Route], place: u32) -> bool
     routes.iter().any(|route| route.to() == place)
 }
 
-/// The place of the destination that a route leads to.
+/// The index of the destination that a route leads to.
 fn route_to(destinations: &[Destination], before: &[Route], key: &Key<'_>) -> Result<u32, Stop>
     requires { length destinations.now ≤ 32 }
     ensures { Gives (λ n. n) result (at_key key.now (required (route_to destinations.now before.now))) }
@@ -205,7 +205,7 @@ fn taken_of(keys: &Keys<'_>) -> Result<Taken, Stop>
     })
 }
 
-/// No key but those of a channel.
+/// Refuses keys other than those of a channel.
 fn only_channel_keys(keys: &Keys<'_>) -> Result<(), Stop>
     ensures { Gives (λ _. tt) result (only_keys channel_keys keys.now.at.now (table_view keys.now.table.now)) }
 {

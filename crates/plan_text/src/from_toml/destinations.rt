@@ -62,7 +62,7 @@ fn sending_of(keys: &Keys<'_>) -> Result<Sending, Stop>
     })
 }
 
-/// No key but those of a destination.
+/// Refuses keys other than those of a destination.
 fn only_destination_keys(keys: &Keys<'_>) -> Result<(), Stop>
     ensures { Gives (λ _. tt) result (only_keys destination_keys keys.now.at.now (table_view keys.now.table.now)) }
 {

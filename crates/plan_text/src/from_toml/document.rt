@@ -53,9 +53,12 @@ fn plan_of(alloc: Global, document: &Table) -> Result<Plan, Stop>
 }
 
 impl Plan {
-    /// The plan of a TOML text, or its first fault.
+    /// The plan of a TOML text.
     ///
-    /// NotToml is told where the bytes aren't UTF-8 or no TOML document, and NoMemory where memory was refused.
+    /// # Errors
+    ///
+    /// The first fault of the text: `NotToml` where the bytes aren't UTF-8 or no TOML document; `NoMemory`
+    /// where memory is refused.
     #[tactic(auto, unfolding(crate::specs::Document::plan_in))]
     pub fn read(alloc: Global, text: &[u8]) -> Result<Plan, PlanFault>
         ensures text { IsUtf8 text.now → Reads result (plan_in text.now) }

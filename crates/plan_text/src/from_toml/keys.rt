@@ -74,7 +74,7 @@ impl<'a> Keys<'a> {
         }
     }
 
-    /// No key but these.
+    /// Refuses keys other than these.
     pub(crate) fn only(&self, known: &[&str]) -> Result<(), Stop>
         ensures { Gives (λ _. tt) result (no_key self.now.at.now
             (unknown_key (λ k. list_any (λ l. bytes_eq l.now k) known.now) (table_view self.now.table.now))) }
@@ -112,7 +112,7 @@ impl<'a> Keys<'a> {
         }
     }
 
-    /// What stands at a key.
+    /// A key of this table, and its value where it has one.
     pub(crate) fn key<'b>(&self, name: &'b str) -> Key<'b>
     where
         'a: 'b,
@@ -129,7 +129,7 @@ impl<'a> Keys<'a> {
     }
 }
 
-/// A key of a table, and what stands there.
+/// A key of a table, and its value.
 #[derive(Drop)]
 pub(crate) struct Key<'a> {
     pub(crate) alloc: Global,
@@ -155,7 +155,7 @@ impl<'a> Key<'a> {
         stop_at(name, self.path())
     }
 
-    /// What stands at this key.
+    /// The value at this key, which has to be there.
     pub(crate) fn required(&self) -> Result<&'a Value, Stop>
         ensures there { IfOk result (λ v. value_at self.now ≡ Some (view v.now)) }
         ensures missing { IfErr result (λ e. (value_at self.now ≡ None) × IsStop e (fault_at name.Missing (key_at self.now))) }

@@ -24,10 +24,10 @@ pub(crate) trait Reader {
 
     ghost all_said: { List Self.Item → List Said };
 
-    /// What a member is read as that stands at a path, behind those that were read before it.
+    /// What a member at a path is read as, behind those that were read before it.
     ghost reading: { Self → List Said → List ℕ → Data → Result Said PlanFault };
 
-    /// Reads the member at `at`, which stands behind these.
+    /// Reads the member at `at`, which follows these.
     fn read(
         &self,
         alloc: Global,

@@ -46,7 +46,7 @@ fn any_looks_up(text: &str, values: &[Value]) -> bool
     false
 }
 
-/// Whether the lookup text of the first pair stands in one of the others.
+/// Whether the lookup text of the first pair is that of one of the others.
 fn stands_again(value: &Value, others: &[Value]) -> bool
     ensures { result ≡ option_map_or (λ p. any_looks_up p.0 (items_view others.now)) (text_pair (view value.now)) false }
 {
@@ -56,7 +56,7 @@ fn stands_again(value: &Value, others: &[Value]) -> bool
     }
 }
 
-/// Whether a lookup text stands twice.
+/// Whether a lookup text occurs twice.
 fn has_double(values: &[Value]) -> bool
     ensures { result ≡ has_double (items_view values.now) }
 {
@@ -93,7 +93,7 @@ impl<'a> Key<'a> {
         }
     }
 
-    /// The step may stand, else the fault at this key.
+    /// Whether a transformer may have the step; else the fault at this key.
     fn stands(&self, step: &Step) -> Result<(), Stop>
         ensures { Gives (λ _. tt) result (stands_at (key_at self.now) (step_view step.now)) }
     {
@@ -104,7 +104,7 @@ impl<'a> Key<'a> {
         }
     }
 
-    /// The list of a lookup table, in which no lookup text stands twice.
+    /// The list of a lookup table, in which no lookup text occurs twice.
     fn pairs(&self) -> Result<&'a Array, Stop>
         ensures { Gives (λ v. array_view v.now) result (at_key self.now (required pairs)) }
     {
@@ -163,7 +163,7 @@ impl Reader for Pairs {
     }
 }
 
-/// The table of a lookup from its list, which stands at this key.
+/// The table of a lookup from its list, which is the value at this key.
 fn table_of(key: &Key<'_>, values: &Array) -> Result<Vec<Pair>, Stop>
     ensures { Gives (λ v. table_view v.items) result (each pair_at (key_at key.now) (array_view values.now)) }
 {
@@ -194,12 +194,12 @@ fn lookup_of(keys: &Keys<'_>) -> Result<Step, Stop>
 {
     let key = keys.key("lookup");
     let path = key.piece()?;
-    // What a lookup writes is told before its table is read; it may write what it may clear.
+    // A fault of what a lookup writes comes before those of its table; it may write what it may clear.
     key.stands(&Step::Clear(path))?;
     lookup_to(path, keys)
 }
 
-/// No key but those of a step; `table` and `default` stand beside `lookup` alone.
+/// Refuses keys other than those of a step; `table` and `default` are known beside `lookup` alone.
 fn only_step_keys(keys: &Keys<'_>) -> Result<(), Stop>
     ensures { Gives (λ _. tt) result (only_keys (known_keys (members_of keys.now.table.now)) keys.now.at.now (members_of keys.now.table.now)) }
 {

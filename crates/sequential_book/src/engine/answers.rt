@@ -21,7 +21,7 @@ use plan_text::Plan;
 use std::alloc::AllocError;
 
 impl SequentialBook {
-    /// What the sender of a message is told; its key is looked up before its verdict is used.
+    /// The answer to a message; its key is looked up before its verdict is used.
     pub(crate) fn answer(&self, judged: &Judged) -> Result<Told, AllocError>
         requires bookable { IsTrue (is_bookable judged.now.raw) }
         requires same_plan { judged.now.plan ≡ plan_in_force self.now }
@@ -33,7 +33,7 @@ impl SequentialBook {
         }
     }
 
-    /// Whether one more entry, whose own slots owe so many, goes past what the history may hold.
+    /// Whether one more entry, whose own slots owe `own` entries, exceeds what the history may hold.
     pub(crate) fn exceeds(&self, own: u32) -> Result<bool, AllocError>
         ensures { IfOk result (λ past. past ≡ exceeds self.now own) }
     {
@@ -42,7 +42,7 @@ impl SequentialBook {
         Ok(events_max < held + self.owed()? + 1 + u64::from(own))
     }
 
-    /// Whether there is no room for an arrival that is told so.
+    /// Whether there is no room for an arrival with this answer.
     pub(crate) fn is_full(&self, judged: &Judged, told: Told) -> Result<bool, AllocError>
         requires same_plan { judged.now.plan ≡ plan_in_force self.now }
         requires told { answer self.now judged.now.channel judged.now.raw ≡ Some told }

@@ -129,7 +129,7 @@ impl SequentialBook {
         Ok(owes)
     }
 
-    /// The entries that may still come of all slots.
+    /// The entries that may still follow from all slots.
     pub(crate) fn owed(&self) -> Result<u64, AllocError>
         ensures { IfOk result (λ owes. owes ≡ owed self.now) }
     {
