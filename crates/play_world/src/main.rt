@@ -1,5 +1,5 @@
 //! Plays a script of steps of the whole engine on one thread: a line of standard input is a call, and standard output has
-//! that line and its result. Empty lines and those that begin with `#` are written as they are. Words stand between
+//! that line and its result. Empty lines and those that begin with `#` are written as they are. Words are between
 //! spaces. Bytes that aren't seen have names, as `<VT>`, and `<>` is nothing. A moment is in seconds since 1970.
 //!
 //! - `world PLAN EVENTS CHANNEL,..`: a new world, of the plan `built-in` or of that in a file, which may book EVENTS

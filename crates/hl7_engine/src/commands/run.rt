@@ -29,7 +29,7 @@ use std::marker::Brand;
 use std::sync::ledger::{Blank, Ledger};
 use std::sync::{Arc, Mutex};
 
-/// How the work ended: the book, unless shares of it are missing, what serving each connection came to, and a fault for
+/// How the work ended: the book, unless shares of it are missing, the result of serving each connection, and a fault for
 /// each channel whose door failed.
 #[derive(Drop)]
 struct Ended<'f> {
