@@ -39,7 +39,7 @@ fn push_plan(told: &mut String, plan: &Plan) -> Result<(), AllocError> {
     Ok(())
 }
 
-/// Appends what was counted of each channel that anything came on, and of each destination that anything goes to.
+/// Appends what was counted of each channel on which anything arrived, and of each destination that anything goes to.
 fn push_counts<S: RowStore<Addressed<Letter>>>(
     told: &mut String,
     book: &Book<S>,

@@ -57,7 +57,7 @@ fn other_engine(alloc: Global, plan: &Arc<Plan>) -> Result<Box<SequentialBook>> 
     Ok(Box::new(alloc, SequentialBook::new(alloc, plan, ENTRIES))?)
 }
 
-/// What a book tells a sender, and where that stands.
+/// The answer of a book to a message, and the index of its entry.
 fn told(book: &mut Engine, judged: &Judged) -> Result<(Told, usize), NotBooked>
     requires { IsTrue (is_bookable judged.now.raw) }
 {
@@ -117,8 +117,8 @@ impl Books {
         }
     }
 
-    /// What all tell a sender, and where that stands; none where the book is full. An error where they tell different
-    /// things, or at another place.
+    /// The answer of all to a message, and the index of its entry; none where the book is full. An error where they give different
+    /// answers, or another index.
     fn told(&mut self, judged: &Judged) -> Result<Option<(Told, usize)>>
         requires { IsTrue (is_bookable judged.now.raw) }
     {

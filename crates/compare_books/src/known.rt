@@ -13,7 +13,7 @@ pub struct Key {
     pub id: u32,
     /// The place of its arrival.
     pub place: usize,
-    /// What its sender was told.
+    /// Its answer.
     pub told: Told,
 }
 
@@ -68,7 +68,7 @@ impl Keys {
     }
 
     /// Forgets the keys of the messages numbered below `before`, and of those that were filtered before message
-    /// `before` came: before `next`, the next index, where it is still to come. Later messages have later control ids.
+    /// `before` was received: before `next`, the next index, where it is still to come. Later messages have later control ids.
     pub fn forget(&mut self, before: u32, next: usize) -> Result<(), AllocError> {
         let accepted = Told::Accepted(before);
         let floor = match self.known.iter().find(|key| key.told == accepted) {

@@ -6,7 +6,7 @@ use anyhow::Result;
 use std::alloc::{AllocError, Global};
 use std::mem;
 
-/// A block is cut into pieces of at most so many bytes.
+/// A block is cut into pieces of at most this many bytes.
 const PIECE: u32 = 120;
 
 /// A block that comes: the control id of its text, where it is a message, and the text.
@@ -16,7 +16,7 @@ pub struct Block {
     pub raw: Vec<u8>,
 }
 
-/// What comes on a connection next: so many bytes of a text came already. At its end these blocks have ended.
+/// What is received on a connection next: the first bytes of a text were received already. At its end these blocks have ended.
 #[derive(Drop)]
 pub struct Line {
     alloc: Global,
@@ -46,7 +46,7 @@ fn text(alloc: Global, dice: &mut Dice, id: u32) -> Result<String, AllocError> {
 }
 
 impl Line {
-    /// On a channel, on which nothing came yet.
+    /// A line on a channel on which nothing was received yet.
     pub fn new(alloc: Global, channel: u32) -> Line {
         Line {
             alloc,
@@ -73,7 +73,7 @@ impl Line {
         self.coming.extend_from_slice(block.as_bytes())
     }
 
-    /// Where all came, another block is to come: a few of them now and then.
+    /// Where all was received, another block follows: a few of them now and then.
     fn add_blocks(&mut self, dice: &mut Dice, keys: &Keys) -> Result<()> {
         self.coming.clear();
         self.came = 0;
@@ -105,7 +105,7 @@ impl Line {
         self.piece(usize::MAX)
     }
 
-    /// A piece of at most so many bytes.
+    /// A piece of a limited number of bytes.
     fn piece(&mut self, most: usize) -> Result<Piece, AllocError> {
         let rest = self.coming.get(self.came..).unwrap_or(&[]);
         let len = rest.len().min(most);

@@ -6,7 +6,7 @@ use crate::dice::Dice;
 use crate::worlds::Worlds;
 use anyhow::{Result, bail};
 
-/// How many runs there are, each with engines in which nothing came.
+/// How many runs there are, each with engines in which nothing is booked.
 const RUNS: u32 = 24;
 
 /// How many steps a run takes.
@@ -28,7 +28,7 @@ fn step(dice: &mut Dice, worlds: &mut Worlds, forgets: bool) -> Result<()> {
     }
 }
 
-/// Compares what came of a run. An error where nothing was booked or sent.
+/// Compares the results of a run. An error where nothing was booked or sent.
 fn compare_ends(rt: &HostRuntime, worlds: &Worlds) -> Result<()> {
     worlds.compare_queues()?;
     let sent = worlds.compare_output()?;
@@ -55,7 +55,7 @@ struct Made {
     forgotten: u32,
 }
 
-/// Takes the steps of one run with engines in which nothing came, and compares what came of them.
+/// Takes the steps of one run with engines in which nothing is booked, and compares their results.
 fn run(rt: &HostRuntime, seed: u32) -> Result<Made> {
     let forgets = seed % 2 == 1;
     let mut worlds = Worlds::new(rt, forgets)?;

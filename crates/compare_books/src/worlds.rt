@@ -45,7 +45,7 @@ pub struct Worlds {
     last: Ticket,
 }
 
-/// A world in which nothing came, with room for so many entries.
+/// A world in which nothing is booked, with room for a number of entries.
 fn silent(rt: &HostRuntime, room: u32) -> Result<Box<Engine>> {
     let alloc = rt.alloc();
     let hasher = RandomState::new(rt)?;
@@ -58,7 +58,7 @@ fn silent(rt: &HostRuntime, room: u32) -> Result<Box<Engine>> {
     Ok(Box::new(alloc, world)?)
 }
 
-/// The sequential engine in which nothing came, with room for so many entries.
+/// The sequential engine in which nothing is booked, with room for a number of entries.
 fn sequential(alloc: Global, room: u32) -> Result<Box<SequentialBook>> {
     let plan = plan_of(alloc, Said::FIRST)?;
     let room = room.min(EVENTS_MAX);
@@ -96,7 +96,7 @@ fn is_entry_alike(world: &Engine, other: &SequentialBook, place: usize) -> bool 
 }
 
 impl Worlds {
-    /// Three engines in which nothing came, with room for a run in which messages are forgotten or for one in which none is.
+    /// Three engines in which nothing is booked, with room for a run in which messages are forgotten or for one in which none is.
     pub fn new(rt: &HostRuntime, forgets: bool) -> Result<Worlds> {
         let alloc = rt.alloc();
         let room = if forgets { MANY_ENTRIES } else { ENTRIES };

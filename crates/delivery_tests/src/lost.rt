@@ -98,7 +98,7 @@ fn cases(rt: HostRuntime) -> Result<(), Fail> {
     Ok(())
 }
 
-/// What delivering one message comes to in so many turns, by a clock that goes on by a second at each look, where the
+/// The result of delivering one message in a number of turns, by a clock that goes on by a second at each look, where the
 /// destination is down and then accepts it.
 fn deliver_in<S: RowStore<Addressed<Letter>> + Drop, H: Wait + time::Clock + Log>(
     rt: &H,

@@ -63,7 +63,7 @@ struct Shown {
     made: (u64, u64),
 }
 
-/// What came of a run.
+/// The result of a run.
 #[derive(Drop)]
 struct Ended {
     shown: Shown,

@@ -230,7 +230,7 @@ impl Exchange {
         Ok(text)
     }
 
-    /// Serves a stream by at most so many reads and events, and gives the replies and the report with its receipts.
+    /// Serves a stream by a limited number of reads and events, and returns the replies and the report with its receipts.
     fn told_within(&mut self, cut: Cut, stream: &[u8], bound: u64) -> Result<String, AllocError>
         requires { bound ≤ TURNS_MAX }
     {

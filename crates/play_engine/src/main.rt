@@ -1,5 +1,5 @@
 //! Plays a script of connections that are served from a book: a line of standard input is a call, and standard output
-//! has that line and what came of it. Empty lines and those that begin with `#` are written as they are. They are answered as
+//! has that line and its result. Empty lines and those that begin with `#` are written as they are. They are answered as
 //! the program's `answer` does, by `answer_stream`; where a script sets a bound of reads and events, by `serve_within`.
 #![tactic(auto)]
 

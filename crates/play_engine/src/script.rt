@@ -17,7 +17,7 @@ pub enum Setting<'a> {
     Events(u32),
     /// `clock SECS`: acknowledgments are of this moment.
     Clock(u64),
-    /// `bound N`: at most so many reads and so many events are a connection's, until the next plan.
+    /// `bound N`: a connection may have N reads and N events, until the next plan.
     Bound(u64),
 }
 

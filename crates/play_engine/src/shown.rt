@@ -18,7 +18,7 @@ pub fn replies_shown(alloc: Global, bytes: &[u8]) -> Result<String, AllocError> 
     format!(in alloc; "  {lines}\n")
 }
 
-/// Adds an arrival: its entry, the connection and the channel by which so many bytes came, and what their sender was told.
+/// Adds an arrival: its entry, the connection and the channel over which it was received, its number of bytes and its answer.
 fn add_arrival(
     text: &mut String,
     entry: usize,

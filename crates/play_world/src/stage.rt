@@ -47,7 +47,7 @@ fn shared_plan(rt: &HostRuntime, name: &str) -> Result<Arc<Plan>> {
     Ok(Arc::new(rt.alloc(), plan_named(rt, name)?)?)
 }
 
-/// Whether these are channels of a plan that has so many.
+/// Whether these are channels of a plan with that number of channels.
 fn are_known(channels: &[u32], count: u32) -> bool
     ensures { IsTrue result → All (λ channel. channel < count) channels.now }
 {
@@ -234,7 +234,7 @@ impl Stage {
         Ok(self.deploy_again(count, &plan)?)
     }
 
-    /// How many of so many deployments of a plan are booked.
+    /// How many of a number of deployments of a plan are booked.
     fn deploy_again(&mut self, count: u32, plan: &Arc<Plan>) -> Result<String, AllocError> {
         let before = self.world.book().deployments();
         for _ in 0..count {
@@ -259,7 +259,7 @@ impl Stage {
         self.prune_again(count, before)
     }
 
-    /// How many of so many prunings are made.
+    /// How many of a number of prunings are made.
     fn prune_again(&mut self, count: u32, before: u32) -> Result<String> {
         let made = self.world.book().prunings();
         for _ in 0..count {

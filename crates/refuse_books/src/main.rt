@@ -2,12 +2,12 @@
 //! and a line of standard output is that line and its answer. Behind `try `, a call is made between the lines `begin` and
 //! `end`, which tell a library that refuses requests for memory which of them are the call's.
 //!
-//! - `book PLAN EVENTS`: an empty book of the plan in a file, which may hold so many entries.
-//! - `arrive TEXT`: a text comes on channel 0, judged by the plan in force.
+//! - `book PLAN EVENTS`: an empty book of the plan in a file, which may hold EVENTS entries.
+//! - `arrive TEXT`: a text arrives on channel 0, judged by the plan in force.
 //! - `take D MOMENT`, `settle NUMBER D ATTEMPT OUTCOME MOMENT`, `cancel NUMBER`, `deploy PLAN` and `prune BEFORE`.
 //! - `queued D` and `find ID`: the messages of a queue, and those with a control id.
-//! - `rows COUNT`: a row behind so many in a store of linked rows, what the store is before and after, that row once more, and
-//!   then all queues, row by row. `log COUNT`: room for so many entries in an empty history.
+//! - `rows COUNT`: a row behind COUNT others in a store of linked rows, what the store is before and after, that row once more, and
+//!   then all queues, row by row. `log COUNT`: room for COUNT entries in an empty history.
 //! - `state`: all that the book shows.
 #![tactic(auto)]
 

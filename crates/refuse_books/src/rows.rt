@@ -9,7 +9,7 @@ use row_store::{QUEUES, RowStore};
 use std::alloc::{AllocError, Global};
 use std::fmt::Write;
 
-/// The queues in which the rows stand, row by row, and again from the first.
+/// The queues in which the rows are, row by row, and again from the first.
 const MASKS: [u32; 8] = [40, 8, 32, 0xFFFF_FFFF, 0, 33, 1, 0x8000_0000];
 
 /// Adds a row, whose item is its number.
@@ -87,7 +87,7 @@ fn push_last(
     Ok(())
 }
 
-/// What comes of a row behind so many others, and of all queues then.
+/// The result of adding a row behind a number of others, and of all queues then.
 pub fn rows_after(alloc: Global, window: &Window, count: u32) -> Result<String> {
     let count = count.min(1_000);
     let mut told = String::new(alloc);

@@ -57,7 +57,7 @@ fn judged(alloc: Global, plan: &Arc<Plan>, text: &str) -> Result<Judged> {
     Ok(judge(alloc, plan, 0, bytes)?)
 }
 
-/// Makes room for so many entries in an empty history of the built-in plan.
+/// Makes room for a number of entries in an empty history of the built-in plan.
 fn entries(alloc: Global, window: &Window, count: usize) -> Result<String> {
     let plan = Arc::new(alloc, Plan::built_in(alloc)?)?;
     let mut log = Log::new(alloc, plan, EVENTS_MAX);

@@ -8,7 +8,7 @@
 //! - `plan FILE`: reads a plan. `holds` and `apply`: the filter and the steps of its first channel, on the message.
 //!   `judge TEXT`: a message that comes on that channel.
 //! - `feed BYTES`, and `events`: the next piece of a stream, and the events to come.
-//! - `keys COUNT`: room for so many more keys. `key TEXT` adds a key, and `place TEXT` finds one.
+//! - `keys COUNT`: room for COUNT more keys. `key TEXT` adds a key, and `place TEXT` finds one.
 //! - `state`: the message, and how many keys there are.
 #![tactic(auto)]
 

@@ -85,7 +85,7 @@ fn held(alloc: Global, window: &Window, cond: &Cond, message: &Message) -> Resul
     }
 }
 
-/// What steps came to.
+/// The result of steps.
 fn stepped(alloc: Global, changed: Result<Message, StepFault>) -> Result<String, AllocError> {
     match changed {
         Ok(changed) => shown(alloc, &changed.print()?),

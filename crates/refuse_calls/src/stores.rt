@@ -75,7 +75,7 @@ impl Stores {
         Ok(told)
     }
 
-    /// Makes room for so many more keys.
+    /// Makes room for a number of further keys.
     fn reserve_keys(&mut self, window: &Window, count: &str) -> Result<String> {
         let count = count.parse()?;
         window.begin()?;
@@ -84,7 +84,7 @@ impl Stores {
         Ok(done(self.alloc, made)?)
     }
 
-    /// Adds a key at the next place, unless it is known. Its place is told.
+    /// Adds a key with the next index, unless it is known. Its index is printed.
     fn add_key(&mut self, text: &str) -> Result<String> {
         let key = Vec::from_slice(self.alloc, text.as_bytes())?;
         self.keys.reserve(1)?;

@@ -2,7 +2,7 @@
 //! standard input is a call, and a line of standard output is that line and its answer. Behind `try `, a call is made between
 //! the lines `begin` and `end`, which tell a library that refuses requests for memory which of them are the call's.
 //!
-//! - `world PLAN EVENTS CONNECTIONS`: a world of the plan in a file, which may book so many entries, with so many connections
+//! - `world PLAN EVENTS CONNECTIONS`: a world of the plan in a file, which may book EVENTS entries, with CONNECTIONS connections
 //!   on channel 0.
 //! - `chunk CONN MOMENT BYTES`: a piece of its stream comes on a connection.
 //! - `take D MOMENT`, `settle NUMBER D ATTEMPT OUTCOME MOMENT`, `cancel NUMBER`, `deploy PLAN` and `prune BEFORE`: such a step.

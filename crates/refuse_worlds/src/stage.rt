@@ -37,14 +37,14 @@ fn plan_named(rt: &HostRuntime, name: &str) -> Result<Arc<Plan>> {
     Ok(Arc::new(alloc, plan)?)
 }
 
-/// Whether these are channels of a plan that has so many.
+/// Whether these are channels of a plan with that number of channels.
 fn are_known(channels: &[u32], count: u32) -> bool
     ensures { IsTrue result → All (λ channel. channel < count) channels.now }
 {
     channels.iter().all(|channel| *channel < count)
 }
 
-/// A world of a plan with so many connections on channel 0.
+/// A world of a plan with a number of connections on channel 0.
 fn world_of(
     rt: &HostRuntime,
     plan: Arc<Plan>,
@@ -112,7 +112,7 @@ impl Stage {
         }
     }
 
-    /// Takes a step. What has changed is told.
+    /// Takes a step. What has changed is printed.
     fn step(&mut self, window: &Window, step: Step) -> Result<String> {
         window.begin()?;
         self.world.step(step);

@@ -45,7 +45,7 @@ fn breaks_of(alloc: Global, stream: &[u8]) -> Result<Vec<FrameEvent>, AllocError
     Ok(breaks)
 }
 
-/// The stream of so many bytes in which the end block characters stand where the digits of a number are one.
+/// The stream of a number of bytes that has end block characters where the digits of a number are one.
 fn stream_of(alloc: Global, len: u32, number: u32) -> Result<Vec<u8>, AllocError> {
     let mut stream = Vec::new(alloc);
     for digit in 0..len.min(LONGEST) {
@@ -61,7 +61,7 @@ fn has(alloc: Global, stream: &[u8], due: &[FrameEvent]) -> Result<bool, Fail> {
     Ok(whole.as_slice() == due && by_bytes.as_slice() == due)
 }
 
-/// Whether nothing is answered or booked of a stream that has so many breaks.
+/// Whether nothing is answered or booked of a stream that has this many breaks.
 fn is_silent(
     rt: &HostRuntime,
     plan: &Arc<Plan>,

@@ -26,7 +26,7 @@ fn replies(alloc: Global, count: usize) -> Result<Vec<u8>, AllocError> {
     Ok(bytes)
 }
 
-/// How many blocks have ended within so many bytes of the stream.
+/// How many blocks have ended within a number of bytes of the stream.
 fn ended_within(len: usize) -> usize {
     ENDS.iter().filter(|end| **end <= len).count()
 }

@@ -18,8 +18,8 @@ use std::test::Fail;
 /// The rows of the tests' books.
 pub type Rows = RecordList<Addressed<Letter>>;
 
-/// Three letters outside of blocks before each of two admissions, of which the first asks for an accept acknowledgment and
-/// the second for both.
+/// Three letters outside of blocks before each of two admissions, of which the first requests an accept acknowledgment and
+/// the second both.
 pub const STREAM: &str =
     "xyz\x0bMSH|^~\\&|REG|HOSP|ENG|HUB|20231114221300||ADT^A01^ADT_A01|M1|P|2.5.1|||AL|NE\rPID|1||77^^^H\r\x1c\rxyz\x0bMSH|^~\\&|REG|HOSP|ENG|HUB|20231114221300||ADT^A01^ADT_A01|M3|P|2.5.1|||AL|AL\rPID|1||77^^^H\r\x1c\r";
 
@@ -73,7 +73,7 @@ impl Read for Source<'_> {
     }
 }
 
-/// A writer that takes so many bytes at most at one call, and none at one of its calls, counted from 1.
+/// A writer that takes a limited number of bytes at one call, and none at one of its calls, counted from 1.
 #[derive(Clone, Copy)]
 pub struct Taking {
     pub most: usize,
@@ -112,7 +112,7 @@ impl Write for Sink {
     }
 }
 
-/// What serving a connection came to.
+/// The result of serving a connection.
 #[derive(Drop)]
 pub struct Served {
     pub report: ServeReport,
@@ -124,7 +124,7 @@ pub struct Served {
 }
 
 impl Served {
-    /// Whether this was written, with so many messages booked, and serving ended so.
+    /// Whether this was written, with this many messages booked, and serving ended so.
     pub fn wrote(&self, due: &[u8], booked: usize, end: ServeEnd, faults: (u64, u64)) -> bool {
         self.written.as_slice() == due
             && (self.report.receipts.len(), self.booked) == (booked, booked)

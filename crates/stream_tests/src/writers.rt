@@ -14,8 +14,8 @@ fn replies(alloc: Global) -> Result<Vec<u8>, AllocError> {
     Ok(bytes)
 }
 
-/// How many messages are booked where so many bytes of the replies are written: where a byte is read at a time, the second
-/// comes once the reply to the first was written.
+/// How many messages are booked where a number of bytes of the replies is written: where a byte is read at a time, the second
+/// arrives once the reply to the first was written.
 fn booked_by(cuts: Cuts, wrote: usize) -> usize {
     match cuts {
         Cuts::AtEachByte if wrote < REPLIES[0].len() => 1,
