@@ -109,6 +109,10 @@ fn push_fronts<S: RowStore<Addressed<Letter>>>(
 }
 
 /// Appends all that a book that isn't changed shows: how full it is, its plan, its statistics, its messages and their slots.
+///
+/// # Errors
+///
+/// Where memory is refused.
 pub fn push_held<S: RowStore<Addressed<Letter>>>(
     told: &mut String,
     book: &Book<S>,
@@ -120,6 +124,10 @@ pub fn push_held<S: RowStore<Addressed<Letter>>>(
 }
 
 /// Appends all that a book shows, its queues too.
+///
+/// # Errors
+///
+/// Where memory is refused.
 pub fn push_book<S: RowStore<Addressed<Letter>>>(
     told: &mut String,
     book: &mut Book<S>,

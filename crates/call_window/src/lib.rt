@@ -22,6 +22,10 @@ impl<'a> Window<'a> {
     }
 
     /// Writes that the call's requests begin.
+    ///
+    /// # Errors
+    ///
+    /// Where standard output can't be written.
     pub fn begin(&self) -> io::Result<()> {
         if self.tried {
             println!(self.rt; "begin")?;
@@ -30,6 +34,10 @@ impl<'a> Window<'a> {
     }
 
     /// Writes that the call's requests have ended.
+    ///
+    /// # Errors
+    ///
+    /// Where standard output can't be written.
     pub fn end(&self) -> io::Result<()> {
         if self.tried {
             println!(self.rt; "end")?;
@@ -39,11 +47,19 @@ impl<'a> Window<'a> {
 }
 
 /// That a call was refused memory.
+///
+/// # Errors
+///
+/// Where memory is refused.
 pub fn no_memory(alloc: Global) -> Result<String, AllocError> {
     String::from_str(alloc, NO_MEMORY)
 }
 
 /// That a call was made, or was refused memory.
+///
+/// # Errors
+///
+/// Where memory is refused.
 pub fn done(alloc: Global, made: Result<(), AllocError>) -> Result<String, AllocError> {
     match made {
         Ok(()) => String::from_str(alloc, "ok"),
@@ -52,6 +68,10 @@ pub fn done(alloc: Global, made: Result<(), AllocError>) -> Result<String, Alloc
 }
 
 /// The bytes that a call made, or that it was refused memory.
+///
+/// # Errors
+///
+/// Where memory is refused.
 pub fn made(alloc: Global, bytes: Result<Vec<u8>, AllocError>) -> Result<String, AllocError> {
     match bytes {
         Ok(bytes) => shown(alloc, &bytes),

@@ -13,6 +13,10 @@ use std::alloc::AllocError;
 pub type Engine = Book<RecordList<Addressed<Letter>>>;
 
 /// Whether a slot, a queue and the number of entries are the same in a book and in the sequential engine.
+///
+/// # Errors
+///
+/// Where memory is refused.
 pub fn is_alike(
     book: &Engine,
     other: &SequentialBook,

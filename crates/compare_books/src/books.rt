@@ -80,6 +80,10 @@ fn deploy(book: &mut Engine, plan: &Arc<Plan>) -> Result<(), DeployRefusal> {
 
 impl Books {
     /// Engines in which nothing is booked.
+    ///
+    /// # Errors
+    ///
+    /// Where memory is refused.
     pub fn new(rt: &HostRuntime, asked: bool) -> Result<Books> {
         let alloc = rt.alloc();
         let plan = plan_of(alloc, Said::FIRST)?;
@@ -154,9 +158,12 @@ impl Books {
         Ok(true)
     }
 
-    /// Whether all book a message under one of twelve control ids, so that some come again, with the same bytes or with
-    /// others. Where its key was forgotten it comes under the next. An error where they tell its sender different
-    /// things.
+    /// Whether all book a message under one of twelve control ids, so that some are repeated, with the same
+    /// bytes or with others. Where its key was forgotten it is sent under the next.
+    ///
+    /// # Errors
+    ///
+    /// Where they answer it differently, or memory is refused.
     pub fn arrive(&mut self, alloc: Global, dice: &mut Dice) -> Result<bool> {
         let channel = dice.roll(8) / 7;
         let id = self.keys.pick(dice, channel)?;
@@ -165,8 +172,11 @@ impl Books {
         self.book(&judged, channel, id)
     }
 
-    /// Whether all take the front of a queue. An error where they don't take the same, don't send the same, or refuse it
-    /// for two reasons.
+    /// Whether all take the front of a queue.
+    ///
+    /// # Errors
+    ///
+    /// Where they don't take the same, don't send the same, refuse it for two reasons, or memory is refused.
     pub fn take(&mut self, dice: &mut Dice) -> Result<bool> {
         let d = dice.roll(5);
         let now = dice.now()?;
@@ -200,8 +210,12 @@ impl Books {
         self.recalled
     }
 
-    /// Whether all settle an attempt, that of the last ticket or another. An error where they leave its slot in two
-    /// states, or refuse it for two reasons; one of a forgotten message is refused since it has no slot.
+    /// Whether all settle an attempt, that of the last ticket or another. That of a forgotten message is
+    /// refused, since it has no slot.
+    ///
+    /// # Errors
+    ///
+    /// Where they leave its slot in two states, refuse it for two reasons, or memory is refused.
     pub fn settle(&mut self, dice: &mut Dice) -> Result<bool> {
         let number = self.number(dice);
         let ticket = dice.ticket(self.last, number);
@@ -224,8 +238,11 @@ impl Books {
         Ok(answer.is_ok())
     }
 
-    /// Whether all cancel a message. An error where they cancel it at other destinations, or refuse it for two reasons;
-    /// a forgotten message isn't there.
+    /// Whether all cancel a message; a forgotten message isn't there.
+    ///
+    /// # Errors
+    ///
+    /// Where they cancel it at other destinations, refuse it for two reasons, or memory is refused.
     pub fn cancel(&mut self, dice: &mut Dice) -> Result<bool> {
         let number = self.number(dice);
         let mask = self.book.cancel(number);
@@ -244,7 +261,11 @@ impl Books {
         Ok(mask.is_ok())
     }
 
-    /// Whether all deploy a plan. An error where one does, or they refuse it for two reasons.
+    /// Whether all deploy a plan.
+    ///
+    /// # Errors
+    ///
+    /// Where one alone does, they refuse it for two reasons, or memory is refused.
     pub fn deploy(&mut self, alloc: Global, dice: &mut Dice) -> Result<bool> {
         let plan = plan_of(alloc, dice.said())?;
         self.deploy_all(&plan)
@@ -267,7 +288,11 @@ impl Books {
         Ok(answer.is_ok())
     }
 
-    /// Whether messages are forgotten in one of the books. An error where the others say otherwise.
+    /// Whether messages are forgotten in one of the books.
+    ///
+    /// # Errors
+    ///
+    /// Where the others say otherwise, or memory is refused.
     pub fn prune(&mut self, dice: &mut Dice) -> Result<bool> {
         let before = self.forgotten.saturating_add(dice.roll(4));
         let answer = self.pruned.prune(before);
@@ -295,7 +320,11 @@ impl Books {
             && *self.pruned.counts() == *self.book.counts()
     }
 
-    /// An error where a slot, a queue, the statistics or the number of entries is not the same in all.
+    /// Compares a slot, a queue, the statistics and the number of entries of all.
+    ///
+    /// # Errors
+    ///
+    /// Where one of them is not the same in all, or memory is refused.
     pub fn compare(&self, dice: &mut Dice) -> Result<()> {
         let number = self.number(dice);
         let d = dice.roll(5);

@@ -38,6 +38,10 @@ impl Keys {
     }
 
     /// Keeps the key of a message that was accepted or filtered; other keys aren't known later.
+    ///
+    /// # Errors
+    ///
+    /// Where memory is refused.
     pub fn note(&mut self, key: Key) -> Result<(), AllocError> {
         if let Told::Accepted(_) | Told::Filtered = key.told {
             self.known.push(key)?;
@@ -47,6 +51,10 @@ impl Keys {
 
     /// A control id for a message on a channel: one of twelve, so that some come again, or the next one that wasn't forgotten
     /// there.
+    ///
+    /// # Errors
+    ///
+    /// Where there is no further control id.
     pub fn pick(&self, dice: &mut Dice, channel: u32) -> Result<u32> {
         let id = self.first_id.saturating_add(dice.roll(12));
         self.unforgotten(channel, id)
@@ -69,6 +77,10 @@ impl Keys {
 
     /// Forgets the keys of the messages numbered below `before`, and of those that were filtered before message
     /// `before` was received: before `next`, the next index, where it is still to come. Later messages have later control ids.
+    ///
+    /// # Errors
+    ///
+    /// Where memory is refused.
     pub fn forget(&mut self, before: u32, next: usize) -> Result<(), AllocError> {
         let accepted = Told::Accepted(before);
         let floor = match self.known.iter().find(|key| key.told == accepted) {

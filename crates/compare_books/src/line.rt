@@ -88,6 +88,10 @@ impl Line {
     }
 
     /// The next piece, of messages whose keys weren't forgotten. A few blocks come as one.
+    ///
+    /// # Errors
+    ///
+    /// Where there is no further control id, or memory is refused.
     pub fn next(&mut self, dice: &mut Dice, keys: &Keys) -> Result<Piece> {
         if self.came >= self.coming.len() {
             self.add_blocks(dice, keys)?;
@@ -101,6 +105,10 @@ impl Line {
     }
 
     /// What is left of the blocks that began.
+    ///
+    /// # Errors
+    ///
+    /// Where memory is refused.
     pub fn rest(&mut self) -> Result<Piece, AllocError> {
         self.piece(usize::MAX)
     }

@@ -97,6 +97,10 @@ fn is_entry_alike(world: &Engine, other: &SequentialBook, place: usize) -> bool 
 
 impl Worlds {
     /// Three engines in which nothing is booked, with room for a run in which messages are forgotten or for one in which none is.
+    ///
+    /// # Errors
+    ///
+    /// Where memory is refused.
     pub fn new(rt: &HostRuntime, forgets: bool) -> Result<Worlds> {
         let alloc = rt.alloc();
         let room = if forgets { MANY_ENTRIES } else { ENTRIES };
@@ -120,6 +124,10 @@ impl Worlds {
     }
 
     /// A piece comes on a connection.
+    ///
+    /// # Errors
+    ///
+    /// Where a message of the piece can't be judged, or memory is refused.
     pub fn chunk(&mut self, dice: &mut Dice) -> Result<()> {
         let now = dice.now()?;
         let conn = dice.roll(4);
@@ -181,6 +189,10 @@ impl Worlds {
     }
 
     /// The front of a queue is taken.
+    ///
+    /// # Errors
+    ///
+    /// Where the dice have no further moment.
     pub fn take(&mut self, dice: &mut Dice) -> Result<()> {
         let d = dice.roll(5);
         let now = dice.now()?;
@@ -192,6 +204,10 @@ impl Worlds {
     }
 
     /// An attempt is settled, that of the last ticket or another.
+    ///
+    /// # Errors
+    ///
+    /// Where the dice have no further moment.
     pub fn settle(&mut self, dice: &mut Dice) -> Result<()> {
         let number = self.number(dice);
         let ticket = dice.ticket(self.last, number);
@@ -214,6 +230,10 @@ impl Worlds {
     }
 
     /// A plan is deployed.
+    ///
+    /// # Errors
+    ///
+    /// Where the plan can't be read, or memory is refused.
     pub fn deploy(&mut self, dice: &mut Dice) -> Result<()> {
         let plan = plan_of(self.alloc, dice.said())?;
         let _ = self.other.deploy(Arc::try_clone(&plan)?);
@@ -221,8 +241,12 @@ impl Worlds {
         Ok(())
     }
 
-    /// Messages are forgotten in the second world, once the blocks that began have ended: those under way may be of keys that
-    /// are forgotten. An error where messages are forgotten that may not be, or kept that may be forgotten.
+    /// Messages are forgotten in the second world, once the blocks that began have ended: those under way may
+    /// be of keys that are forgotten.
+    ///
+    /// # Errors
+    ///
+    /// Where messages are forgotten that may not be, or kept that may be forgotten, or memory is refused.
     pub fn prune(&mut self, dice: &mut Dice) -> Result<()> {
         let now = dice.now()?;
         for conn in 0..4 {
@@ -263,8 +287,12 @@ impl Worlds {
         self.bytewise.run(&steps);
     }
 
-    /// An error where there are two numbers of entries, two plans in force, or two lengths of a queue, or where the worlds
-    /// count a destination or a channel in two ways.
+    /// Compares the numbers of entries, the plans in force, the lengths of a queue, and what the worlds count
+    /// at a destination and at a channel.
+    ///
+    /// # Errors
+    ///
+    /// Where two of them differ, or memory is refused.
     pub fn compare(&self, dice: &mut Dice) -> Result<()> {
         let (book, bytewise) = (self.whole.book(), self.bytewise.book());
         let len = self.other.entries().len();
@@ -288,7 +316,11 @@ impl Worlds {
         Ok(())
     }
 
-    /// An error where a queue or a slot is not the same in the first world and in the sequential engine.
+    /// Compares queues and slots of the first world with those of the sequential engine.
+    ///
+    /// # Errors
+    ///
+    /// Where one is not the same, or memory is refused.
     pub fn compare_queues(&self) -> Result<()> {
         for d in 0..5 {
             if !is_alike(self.whole.book(), &self.other, d, d)? {
@@ -305,8 +337,11 @@ impl Worlds {
             && !self.bytewise.ended(conn)
     }
 
-    /// How many bytes the connections were sent. An error where one was sent other bytes in the other world, or has
-    /// ended.
+    /// How many bytes the connections were sent.
+    ///
+    /// # Errors
+    ///
+    /// Where one was sent other bytes in the other world, or has ended.
     pub fn compare_output(&self) -> Result<usize> {
         let mut sent = 0_usize;
         for conn in 0..4 {
@@ -338,8 +373,12 @@ impl Worlds {
         self.compare_history(again)
     }
 
-    /// How many entries there are. An error where one isn't the same in all three, or where a world that takes the
-    /// steps of the history has another.
+    /// How many entries there are.
+    ///
+    /// # Errors
+    ///
+    /// Where one isn't the same in all three, where a world that takes the steps of the history has another, or
+    /// where memory is refused.
     pub fn compare_entries(&self, rt: &HostRuntime) -> Result<usize> {
         self.compare_history(&self.whole)?;
         self.compare_history(&self.bytewise)?;

@@ -9,6 +9,10 @@ use row_store::RowStore;
 use std::alloc::{AllocError, Global};
 
 /// Replies, a block a line.
+///
+/// # Errors
+///
+/// Where memory is refused.
 pub fn replies_shown(alloc: Global, bytes: &[u8]) -> Result<String, AllocError> {
     if bytes.is_empty() {
         return Ok(String::new(alloc));
@@ -34,6 +38,10 @@ fn add_arrival(
 }
 
 /// Adds the arrivals of which receipts were kept.
+///
+/// # Errors
+///
+/// Where memory is refused.
 pub fn add_receipts(text: &mut String, receipts: &[Receipt]) -> Result<(), AllocError> {
     for receipt in receipts {
         let len = receipt.raw.as_slice().len();
@@ -50,6 +58,10 @@ pub fn add_receipts(text: &mut String, receipts: &[Receipt]) -> Result<(), Alloc
 }
 
 /// Adds the arrivals that a book holds from an entry on.
+///
+/// # Errors
+///
+/// Where memory is refused.
 pub fn add_entries<S: RowStore<Addressed<Letter>>>(
     text: &mut String,
     book: &Book<S>,
@@ -72,6 +84,10 @@ pub fn add_entries<S: RowStore<Addressed<Letter>>>(
 }
 
 /// Adds what the blocks of a connection and its end were.
+///
+/// # Errors
+///
+/// Where memory is refused.
 pub fn add_end<K>(text: &mut String, report: &ServeReport<K>) -> Result<(), AllocError> {
     writeln!(
         text,

@@ -49,6 +49,10 @@ fn destination_shown(
 }
 
 /// A plan, by its channels and its destinations.
+///
+/// # Errors
+///
+/// Where memory is refused.
 pub fn plan_shown(alloc: Global, plan: &Plan) -> Result<String, AllocError> {
     let mut text = String::new(alloc);
     for place in 0..plan.channels() {
@@ -73,6 +77,10 @@ fn deployment_shown(alloc: Global, plan: &Plan) -> Result<String, AllocError> {
 }
 
 /// An entry.
+///
+/// # Errors
+///
+/// Where memory is refused.
 pub fn entry_shown(alloc: Global, entry: &Entry) -> Result<String, AllocError> {
     match entry {
         Entry::Arrival {
@@ -106,6 +114,10 @@ pub fn entry_shown(alloc: Global, entry: &Entry) -> Result<String, AllocError> {
 }
 
 /// A step.
+///
+/// # Errors
+///
+/// Where memory is refused.
 pub fn step_shown(alloc: Global, step: &Step) -> Result<String, AllocError> {
     match step {
         Step::Chunk { conn, bytes, now } => {
@@ -125,6 +137,10 @@ pub fn step_shown(alloc: Global, step: &Step) -> Result<String, AllocError> {
 }
 
 /// Bytes that a connection was sent, a block a line.
+///
+/// # Errors
+///
+/// Where memory is refused.
 pub fn sent_shown(alloc: Global, conn: u32, bytes: &[u8]) -> Result<String, AllocError> {
     if bytes.is_empty() {
         return Ok(String::new(alloc));

@@ -8,6 +8,10 @@ use play_script::shown;
 use std::alloc::{AllocError, Global};
 
 /// The answer to an arrival.
+///
+/// # Errors
+///
+/// Where memory is refused.
 pub fn arrived(alloc: Global, answer: Result<Receipt, NotBooked>) -> Result<String, AllocError> {
     match answer {
         Ok(receipt) => format!(in alloc; "entry {}, {:?}", receipt.entry, receipt.told),
@@ -28,6 +32,10 @@ fn job_shown(alloc: Global, job: &Job) -> Result<String, AllocError> {
 }
 
 /// The answer to a take.
+///
+/// # Errors
+///
+/// Where memory is refused.
 pub fn taken(alloc: Global, answer: Result<Job, TakeRefusal>) -> Result<String, AllocError> {
     match answer {
         Ok(job) => job_shown(alloc, &job),
@@ -37,6 +45,10 @@ pub fn taken(alloc: Global, answer: Result<Job, TakeRefusal>) -> Result<String, 
 }
 
 /// The answer to a cancellation.
+///
+/// # Errors
+///
+/// Where memory is refused.
 pub fn cancelled(alloc: Global, answer: Result<u32, CancelRefusal>) -> Result<String, AllocError> {
     match answer {
         Ok(mask) => format!(in alloc; "mask {mask}"),
@@ -46,6 +58,10 @@ pub fn cancelled(alloc: Global, answer: Result<u32, CancelRefusal>) -> Result<St
 }
 
 /// The answer to a deployment.
+///
+/// # Errors
+///
+/// Where memory is refused.
 pub fn deployed(alloc: Global, answer: Result<(), DeployRefusal>) -> Result<String, AllocError> {
     match answer {
         Ok(()) => String::from_str(alloc, "ok"),
@@ -55,6 +71,10 @@ pub fn deployed(alloc: Global, answer: Result<(), DeployRefusal>) -> Result<Stri
 }
 
 /// The answer to a pruning.
+///
+/// # Errors
+///
+/// Where memory is refused.
 pub fn pruned(alloc: Global, answer: Result<(), PruneRefusal>) -> Result<String, AllocError> {
     match answer {
         Ok(()) => String::from_str(alloc, "ok"),
@@ -64,6 +84,10 @@ pub fn pruned(alloc: Global, answer: Result<(), PruneRefusal>) -> Result<String,
 }
 
 /// The messages of a queue.
+///
+/// # Errors
+///
+/// Where memory is refused.
 pub fn fronts(alloc: Global, answer: Result<Vec<Front>, AllocError>) -> Result<String, AllocError> {
     let Ok(found) = answer else {
         return no_memory(alloc);
@@ -76,6 +100,10 @@ pub fn fronts(alloc: Global, answer: Result<Vec<Front>, AllocError>) -> Result<S
 }
 
 /// The numbers of messages.
+///
+/// # Errors
+///
+/// Where memory is refused.
 pub fn numbers(alloc: Global, answer: Result<Vec<u32>, AllocError>) -> Result<String, AllocError> {
     let Ok(found) = answer else {
         return no_memory(alloc);

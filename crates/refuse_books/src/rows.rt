@@ -88,6 +88,10 @@ fn push_last(
 }
 
 /// The result of adding a row behind a number of others, and of all queues then.
+///
+/// # Errors
+///
+/// Where standard output can't be written, or memory is refused outside of the call's own requests.
 pub fn rows_after(alloc: Global, window: &Window, count: u32) -> Result<String> {
     let count = count.min(1_000);
     let mut told = String::new(alloc);

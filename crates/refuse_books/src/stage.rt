@@ -71,6 +71,10 @@ fn entries(alloc: Global, window: &Window, count: usize) -> Result<String> {
 
 impl Stage {
     /// An empty book of the built-in plan.
+    ///
+    /// # Errors
+    ///
+    /// Where memory is refused.
     pub fn new(rt: &HostRuntime) -> Result<Stage> {
         let plan = Arc::new(rt.alloc(), Plan::built_in(rt.alloc())?)?;
         stage_of(rt, plan, EVENTS_MAX)
@@ -194,6 +198,11 @@ impl Stage {
     }
 
     /// The answer to a call.
+    ///
+    /// # Errors
+    ///
+    /// Where the words are no such call, standard output can't be written, or memory is refused outside of the
+    /// call's own requests.
     pub fn answer(&mut self, rt: &HostRuntime, window: &Window, call: &str) -> Result<String> {
         let mut words = call.split_whitespace();
         match word(&mut words)? {

@@ -155,6 +155,11 @@ impl Plans {
     }
 
     /// The answer to a call, if it is one by a plan.
+    ///
+    /// # Errors
+    ///
+    /// Where the words are no such call, standard output can't be written, or memory is refused outside of the
+    /// call's own requests.
     pub fn answer(
         &mut self,
         rt: &HostRuntime,

@@ -39,6 +39,10 @@ fn fed(alloc: Global, fault: FrameFault) -> Result<String, AllocError> {
 
 impl Stores {
     /// Empty stores.
+    ///
+    /// # Errors
+    ///
+    /// Where memory is refused.
     pub fn new(rt: &HostRuntime) -> Result<Stores> {
         let alloc = rt.alloc();
         Ok(Stores {
@@ -50,6 +54,10 @@ impl Stores {
     }
 
     /// What the stores hold.
+    ///
+    /// # Errors
+    ///
+    /// Where memory is refused.
     pub fn state(&self) -> Result<String, AllocError> {
         format!(in self.alloc; "{} keys", self.added)
     }
@@ -102,6 +110,11 @@ impl Stores {
     }
 
     /// The answer to a call, if it is one on a store.
+    ///
+    /// # Errors
+    ///
+    /// Where the words are no such call, standard output can't be written, or memory is refused outside of the
+    /// call's own requests.
     pub fn answer(&mut self, window: &Window, name: &str, words: &str) -> Result<Option<String>> {
         Ok(match name {
             "feed" => Some(self.feed(window, words)?),

@@ -36,12 +36,20 @@ fn path(alloc: Global, window: &Window, text: &str) -> Result<String> {
 
 impl Text {
     /// A message that is a header alone.
+    ///
+    /// # Errors
+    ///
+    /// Where memory is refused.
     pub fn new(alloc: Global) -> Result<Text> {
         let message = Message::parse(alloc, b"MSH|^~\\&")?;
         Ok(Text { alloc, message })
     }
 
     /// The message.
+    ///
+    /// # Errors
+    ///
+    /// Where memory is refused.
     pub fn state(&self) -> Result<String, AllocError> {
         shown(self.alloc, &self.message.print()?)
     }
@@ -162,6 +170,11 @@ impl Text {
     }
 
     /// The answer to a call.
+    ///
+    /// # Errors
+    ///
+    /// Where the words are no such call, standard output can't be written, or memory is refused outside of the
+    /// call's own requests.
     pub fn answer(&mut self, window: &Window, name: &str, words: &str) -> Result<String> {
         match name {
             "message" => self.parse(window, words),

@@ -61,6 +61,10 @@ fn world_of(
 
 impl Stage {
     /// A world of the built-in plan with no connection.
+    ///
+    /// # Errors
+    ///
+    /// Where memory is refused.
     pub fn new(rt: &HostRuntime) -> Result<Stage> {
         let plan = Arc::new(rt.alloc(), Plan::built_in(rt.alloc())?)?;
         Ok(Stage {
@@ -159,6 +163,11 @@ impl Stage {
     }
 
     /// The answer to a call.
+    ///
+    /// # Errors
+    ///
+    /// Where the words are no such call, standard output can't be written, or memory is refused outside of the
+    /// call's own requests.
     pub fn answer(&mut self, rt: &HostRuntime, window: &Window, call: &str) -> Result<String> {
         let mut words = call.split_whitespace();
         match word(&mut words)? {

@@ -7,6 +7,10 @@ use plan_table::plan_table;
 
 /// Prints the size of the plan in a file and, where `verbose`, a table of which messages go where. What the plan is unlikely to
 /// mean, and how many messages the largest book takes, is said on standard error.
+///
+/// # Errors
+///
+/// The fault of the file or of the plan, of standard output, or of memory.
 pub fn check<'a>(rt: &HostRuntime, path: &'a str, verbose: bool) -> Result<Ended, Trouble<'a>> {
     let plan = warned_plan(rt, path, EVENTS_MAX)?;
     let mut text = format!(in rt.alloc(); "{}\n", PlanSize::of(&plan))?;
