@@ -22,10 +22,6 @@ impl<'a> Window<'a> {
     }
 
     /// Writes that the call's requests begin.
-    ///
-    /// # Errors
-    ///
-    /// Where standard output can't be written.
     pub fn begin(&self) -> io::Result<()> {
         if self.tried {
             println!(self.rt; "begin")?;
@@ -34,10 +30,6 @@ impl<'a> Window<'a> {
     }
 
     /// Writes that the call's requests have ended.
-    ///
-    /// # Errors
-    ///
-    /// Where standard output can't be written.
     pub fn end(&self) -> io::Result<()> {
         if self.tried {
             println!(self.rt; "end")?;
