@@ -6,11 +6,14 @@ use crate::dice::Dice;
 use crate::worlds::Worlds;
 use anyhow::{Result, bail};
 
-/// How many runs there are, each with engines in which nothing is booked.
-const RUNS: u32 = 24;
+/// How many pairs of runs there are, each run with engines in which nothing came. The second of a pair forgets messages.
+const PAIRS: u32 = 20;
 
-/// How many steps a run takes.
-const STEPS: u32 = 250;
+/// How many steps a run takes that forgets no message.
+const STEPS: u32 = 200;
+
+/// How many steps a run takes that forgets messages: fewer, since there the sequential engine has room for all.
+const FORGETTING: u32 = 100;
 
 /// Takes a step at random. None forgets messages where none are to be forgotten.
 fn step(dice: &mut Dice, worlds: &mut Worlds, forgets: bool) -> Result<()> {
@@ -28,7 +31,7 @@ fn step(dice: &mut Dice, worlds: &mut Worlds, forgets: bool) -> Result<()> {
     }
 }
 
-/// Compares the results of a run. An error where nothing was booked or sent.
+/// Compares what came of a run. An error where nothing was booked or sent.
 fn compare_ends(rt: &HostRuntime, worlds: &Worlds) -> Result<()> {
     worlds.compare_queues()?;
     let sent = worlds.compare_output()?;
@@ -41,7 +44,8 @@ fn compare_ends(rt: &HostRuntime, worlds: &Worlds) -> Result<()> {
 /// Takes the steps of one run.
 fn take_steps(seed: u32, worlds: &mut Worlds, forgets: bool) -> Result<()> {
     let mut dice = Dice::new(seed);
-    for _ in 0..STEPS {
+    let steps = if forgets { FORGETTING } else { STEPS };
+    for _ in 0..steps {
         step(&mut dice, worlds, forgets)?;
         worlds.compare(&mut dice)?;
     }
@@ -55,27 +59,27 @@ struct Made {
     forgotten: u32,
 }
 
-/// Takes the steps of one run with engines in which nothing is booked, and compares their results.
-fn run(rt: &HostRuntime, seed: u32) -> Result<Made> {
-    let forgets = seed % 2 == 1;
-    let mut worlds = Worlds::new(rt, forgets)?;
-    take_steps(seed, &mut worlds, forgets)?;
-    compare_ends(rt, &worlds)?;
+/// Takes the steps of one run, and compares what came of them.
+fn run_worlds(rt: &HostRuntime, seed: u32, worlds: &mut Worlds, forgets: bool) -> Result<Made> {
+    take_steps(seed, worlds, forgets)?;
+    compare_ends(rt, worlds)?;
     Ok(Made {
         deployments: worlds.deployments(),
         forgotten: worlds.forgotten(),
     })
 }
 
-/// Takes the steps of all runs, and prints how many they were.
-///
-/// # Errors
-///
-/// The first difference; that no plan was deployed, or no message forgotten; that memory is refused, or
-/// standard output can't be written.
+/// Makes one run with engines in which nothing came.
+fn run(rt: &HostRuntime, seed: u32) -> Result<Made> {
+    let forgets = seed % 2 == 1;
+    let mut worlds = Worlds::new(rt, forgets)?;
+    run_worlds(rt, seed, &mut worlds, forgets)
+}
+
+/// Takes the steps of all runs, and says how many they were. An error where no plan was deployed, or no message forgotten.
 pub fn compare_steps(rt: &HostRuntime) -> Result<()> {
     let (mut deployments, mut forgotten) = (0_u32, 0_u32);
-    for seed in 0..RUNS {
+    for seed in 0..PAIRS * 2 {
         let made = run(rt, seed)?;
         deployments = deployments.saturating_add(made.deployments);
         forgotten = forgotten.saturating_add(made.forgotten);
@@ -83,6 +87,6 @@ pub fn compare_steps(rt: &HostRuntime) -> Result<()> {
     if deployments == 0 || forgotten == 0 {
         bail!("{deployments} plans were deployed, and {forgotten} messages forgotten");
     }
-    println!(rt; "{} steps, no difference", RUNS * STEPS)?;
+    println!(rt; "{} steps, no difference", PAIRS * (STEPS + FORGETTING))?;
     Ok(())
 }
