@@ -1,14 +1,11 @@
 /* Refuses one request for memory of the program that it is loaded into, by LD_PRELOAD.
  *
- * Requests are counted from a line 'begin' on standard output up to a line 'end'. The one whose number stands in the variable
- * REFUSE is refused, counted from 1, and so is every later one of the window where REFUSE_ALL is set; REFUSE_FROM counts all
- * requests of the process from its start instead, with no such lines. A refusal is told by the line 'refused' on standard
- * error, once.
+ * Requests are counted from a line 'begin' on standard output up to a line 'end', and the one whose number stands in the
+ * variable REFUSE, from 1 on, is refused. REFUSE_FROM in its place counts all requests of the process from its start, and looks
+ * for no lines. A refusal writes the line 'refused' on standard error.
  */
 #define _GNU_SOURCE
-#include <dlfcn.h>
 #include <errno.h>
-#include <pthread.h>
 #include <stdatomic.h>
 #include <stddef.h>
 #include <stdlib.h>
@@ -25,12 +22,14 @@ extern void *__libc_memalign(size_t, size_t);
 static _Atomic long counted;
 static _Atomic int open_window;
 static long refused_number = -1;
+static int has_lines = 1;
 
 __attribute__((constructor)) static void read_number(void)
 {
     const char *word = getenv("REFUSE"), *from = getenv("REFUSE_FROM");
     if (from) {
         refused_number = atol(from);
+        has_lines = 0;
         atomic_store(&open_window, 1);
     } else if (word) {
         refused_number = atol(word);
@@ -49,7 +48,7 @@ static int is_refused(void)
 
 static void look_at(int fd, const void *bytes, size_t len)
 {
-    if (fd != 1 || getenv("REFUSE_FROM")) return;
+    if (fd != 1 || !has_lines) return;
     if (len >= 5 && !memcmp(bytes, "begin", 5)) {
         atomic_store(&counted, 0);
         atomic_store(&open_window, 1);
@@ -62,6 +61,11 @@ ssize_t write(int fd, const void *bytes, size_t len)
 {
     look_at(fd, bytes, len);
     return syscall(SYS_write, fd, bytes, len);
+}
+
+ssize_t __write(int fd, const void *bytes, size_t len)
+{
+    return write(fd, bytes, len);
 }
 
 ssize_t writev(int fd, const struct iovec *parts, int count)

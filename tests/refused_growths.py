@@ -61,12 +61,13 @@ def plain(call, library, name, before):
         first, answer, after, again, last = answers(lines, calls)
         if first != was:
             raise Wrong(f'it began with {first}')
-        if answer == NO_MEMORY and refused:
+        lacking = answer.startswith(NO_MEMORY)
+        if lacking and refused:
             if (after, again, last) != (was, due, became):
                 raise Wrong(f'refused, {after}; then {again}, {last}')
         elif (answer, after) != (due, became):
             raise Wrong(f'{answer}, {after}')
-        return refused, answer == NO_MEMORY
+        return refused, lacking
     return look
 
 
@@ -237,7 +238,7 @@ def main():
     if compiler is None:
         print('NOT TRIED: there is no C compiler for the library that refuses requests for memory')
         return 0
-    wanted, wrong, calls, requests = (sys.argv + [''])[1], 0, 0, 0
+    wanted, wrong, calls, requests = (sys.argv + [''])[1], 0, 0, {}
     with tempfile.TemporaryDirectory() as folder:
         library = os.path.join(folder, 'refuse.so')
         subprocess.run([compiler, '-shared', '-fPIC', '-O1', '-o', library, os.path.join(HERE, 'refuse.c')], check=True)
@@ -253,10 +254,14 @@ def main():
                 refused, told, fault = each_in_turn(look())
             except (Wrong, OSError, subprocess.SubprocessError, ValueError) as broken:
                 refused, told, fault = 0, 0, f'with memory: {broken}'
-            wrong, calls, requests = wrong + (fault is not None), calls + 1, requests + refused
+            wrong, calls = wrong + (fault is not None), calls + 1
+            requests[name] = requests.get(name, 0) + refused
             print(f'{name}: {call[:60]}: {refused} requests refused, {told} told' + (f'; WRONG: {fault}' if fault else ''),
                   flush=True)
-    print(f'{calls} calls, {requests} requests refused: {"as it should be" if not wrong else f"{wrong} WRONG"}')
+    for name in (name for name, refused in requests.items() if not refused):
+        wrong += 1
+        print(f'{name}: WRONG: none of its requests was met')
+    print(f'{calls} calls, {sum(requests.values())} requests refused: {"as it should be" if not wrong else f"{wrong} WRONG"}')
     return 1 if wrong else 0
 
 

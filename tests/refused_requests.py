@@ -6,7 +6,8 @@ Usage: tests/refused_requests.py [--from N] [--to N] [--jobs N] [CRATE..]
 It runs 'rt try --test --fail-alloc N' in the crates below, for N from 1 until no request is refused, and so needs no proof.
 A test that holds under each refusal has a twin that does the same with memory to spare: where the twin fails, the Nth
 request was one of the test's. Where a test has no twin, its requests are told here. Each N builds the tests anew, half a
-minute or more, so this is run by hand. The exit status is 0 where all held. Plain Python 3, no packages.
+minute or more, so this is run by hand; the test command runs tests/refused_growths.py, which refuses requests of built
+programs. The exit status is 0 where all held. Plain Python 3, no packages.
 """
 import argparse
 import concurrent.futures
@@ -24,8 +25,7 @@ TESTS = [
     ('delivery_tests', 'refused_delivering::holds_where_memory_is_refused',
      'refused_delivering::all_is_done_with_memory_to_spare'),
     ('lock_tests', 'refused_calls::holds_where_memory_is_refused', 'refused_calls::all_is_done_with_memory_to_spare'),
-    ('rows_tests', 'dropped::each_item_is_dropped_once', 37),
-    ('world_tests', 'refused::each_connection_is_told_what_was_booked', 130),
+    ('rows_tests', 'dropped::each_item_is_dropped_once', 41),
 ]
 
 

@@ -1,0 +1,193 @@
+//! Books in which messages wait, and what is delivered of them.
+
+ghost use Rattle.std.specs.Prelude.{◌≡◌, ◌+◌, IfSome, IsTrue, length};
+ghost use Rattle.judge_core.specs.Judging.{is_bookable};
+ghost use Rattle.event_log.specs.History.{next_place, plan_in_force};
+ghost use Rattle.event_log.specs.Counting.{counted};
+
+use crate::played::{Agreeing, Leaping};
+use book_core::{Book, EVENTS_MAX, Letter};
+use book_lock::{Closed, Opening, Shared, Station};
+use call_window::Window;
+use conn_worker::Clock;
+use delivery_worker::{DeliverReport, deliver};
+use dest_queue::Addressed;
+use judge_core::{Judged, fits_block, judge};
+use log::Log;
+use plan_text::Plan;
+use record_list::RecordList;
+use row_store::RowStore;
+use std::alloc::Global;
+use std::hash::RandomState;
+use std::marker::Brand;
+use std::sync::ledger::{Blank, Ledger};
+use std::sync::{Arc, Wait};
+use std::time;
+
+/// The rows of the books.
+pub type Rows = RecordList<Addressed<Letter>>;
+
+/// Messages with the control ids M1 and M2.
+pub const MESSAGES: [&str; 2] = [
+    "MSH|^~\\&|REG|HOSP|ENG|HUB|20231114221300||ADT^A01^ADT_A01|M1|P|2.5.1\rPID|1||77^^^H\r",
+    "MSH|^~\\&|REG|HOSP|ENG|HUB|20231114221300||ADT^A01^ADT_A01|M2|P|2.5.1\rPID|1||77^^^H\r",
+];
+
+/// The two as blocks.
+pub const BLOCKS: [&str; 2] = [
+    "\x0bMSH|^~\\&|REG|HOSP|ENG|HUB|20231114221300||ADT^A01^ADT_A01|M1|P|2.5.1\rPID|1||77^^^H\r\x1c\r",
+    "\x0bMSH|^~\\&|REG|HOSP|ENG|HUB|20231114221300||ADT^A01^ADT_A01|M2|P|2.5.1\rPID|1||77^^^H\r\x1c\r",
+];
+
+/// A message on the first channel of a plan, judged by it. None where memory was refused.
+fn judged(alloc: Global, plan: &Arc<Plan>, text: &str) -> Option<Judged>
+    ensures { IfSome result (λ judged. IsTrue (is_bookable judged.raw)) }
+{
+    let raw = Vec::from_slice(alloc, text.as_bytes()).ok()?;
+    if plan.channels() == 0 || !fits_block(&raw) {
+        return None;
+    }
+    let judged = judge(alloc, plan, 0, raw).ok()?;
+    if judged.bookable() {
+        Some(judged)
+    } else {
+        None
+    }
+}
+
+/// An empty book of the built-in plan. None where memory was refused.
+fn empty_book<S: RowStore<Addressed<Letter>>>(rt: &HostRuntime) -> Option<Book<S>> {
+    let alloc = rt.alloc();
+    let hasher = RandomState::new(rt).ok()?;
+    let plan = Arc::new(alloc, Plan::built_in(alloc).ok()?).ok()?;
+    Some(Book::new(alloc, plan, EVENTS_MAX, hasher))
+}
+
+/// Books messages that came by connection 0. None where memory was refused.
+fn fill<S: RowStore<Addressed<Letter>>>(
+    alloc: Global,
+    book: &mut Book<S>,
+    messages: &[&str],
+) -> Option<()> {
+    for text in messages {
+        let judged = judged(alloc, book.plan(), text)?;
+        book.arrive(0, &judged).ok()?;
+    }
+    Some(())
+}
+
+/// A book of the built-in plan in which so many messages wait, at most two. None where memory was refused.
+pub fn waiting<S: RowStore<Addressed<Letter>> + Drop>(
+    rt: &HostRuntime,
+    messages: usize,
+) -> Option<Book<S>> {
+    let mut book = empty_book(rt)?;
+    fill(rt.alloc(), &mut book, &MESSAGES[..messages.min(2)])?;
+    Some(book)
+}
+
+/// More turns than the two messages and one retry take.
+const TURNS: u64 = 12;
+
+/// What came of delivering, and the book after it.
+#[derive(Drop)]
+pub struct Delivered<S: RowStore<Addressed<Letter>>> {
+    pub report: DeliverReport,
+    pub closed: Closed<S>,
+}
+
+/// Delivers what waits at the last of the stations, in a window.
+fn deliver_at<
+    A: Opening,
+    T: Ledger,
+    U: Ledger,
+    S: RowStore<Addressed<Letter>>,
+    H: Wait + time::Clock + Log,
+    C: Clock,
+>(
+    rt: &H,
+    alloc: Global,
+    shared: &Shared<A, T, U, S>,
+    stations: &mut [Station<T, U>],
+    link: &mut Agreeing,
+    clock: &mut C,
+    window: Window<'_>,
+) -> Option<DeliverReport> {
+    let station = stations.last_mut()?;
+    shared.finish(rt);
+    window.begin().ok()?;
+    let report = deliver(rt, alloc, shared, station, link, 0, clock, TURNS);
+    window.end().ok()?;
+    Some(report)
+}
+
+/// Shares a book, delivers what waits in it, and closes it. None where memory was refused for sharing it.
+fn deliver_and_close<
+    A: Opening,
+    T: Ledger,
+    U: Ledger,
+    S: RowStore<Addressed<Letter>> + Drop,
+    H: Wait + time::Clock + Log,
+    C: Clock,
+>(
+    rt: &H,
+    alloc: Global,
+    book: Book<S>,
+    arrivals: Blank,
+    takes: Blank,
+    settlements: Blank,
+    link: &mut Agreeing,
+    clock: &mut C,
+    window: Window<'_>,
+) -> Option<Delivered<S>>
+    requires counts { counted book ≡ A.counts }
+    requires first { next_place book ≡ A.first }
+    requires channels { length (plan_in_force book).channels ≡ A.channels }
+    requires arrivals { (arrivals.name ≡ A.name) × (arrivals.parts ≡ A.parts) × (A.parts ≡ 1) }
+    requires takes { (takes.name ≡ T.name) × (takes.parts ≡ T.parts) × (T.parts ≡ 2) }
+    requires settlements { (settlements.name ≡ U.name) × (settlements.parts ≡ U.parts) × (U.parts ≡ 2) }
+{
+    let opened = Shared::<A, T, U, S>::new(alloc, book, 0, 1, arrivals, takes, settlements);
+    let (shared, desks, mut stations) = opened.ok()?;
+    let report = deliver_at(rt, alloc, &shared, &mut stations, link, clock, window)?;
+    let closed = shared.close(desks, stations).ok()?;
+    Some(Delivered { report, closed })
+}
+
+/// Delivers what waits in a book over a link by a clock. None where there is no book, or memory was refused for sharing it.
+pub fn deliver_by<S: RowStore<Addressed<Letter>> + Drop, H: Wait + time::Clock + Log, C: Clock>(
+    rt: &H,
+    alloc: Global,
+    book: Option<Book<S>>,
+    link: &mut Agreeing,
+    clock: &mut C,
+    window: Window<'_>,
+) -> Option<Delivered<S>> {
+    deliver_and_close::<Brand, Brand, Brand, S, H, C>(
+        rt,
+        alloc,
+        book?,
+        Blank::new(1),
+        Blank::new(2),
+        Blank::new(2),
+        link,
+        clock,
+        window,
+    )
+}
+
+/// Delivers what waits in a book over a link, by a clock that leaps by twenty seconds at each look. None where there is no
+/// book, or memory was refused for sharing it.
+pub fn deliver_all<S: RowStore<Addressed<Letter>> + Drop, H: Wait + time::Clock + Log>(
+    rt: &H,
+    alloc: Global,
+    book: Option<Book<S>>,
+    link: &mut Agreeing,
+    window: Window<'_>,
+) -> Option<Delivered<S>> {
+    let mut clock = Leaping {
+        seconds: 0,
+        leap: 20,
+    };
+    deliver_by(rt, alloc, book, link, &mut clock, window)
+}
