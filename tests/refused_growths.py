@@ -3,7 +3,7 @@
 
 Usage: tests/refused_growths.py [WORD]
 
-The scripts of the programs refuse_calls, refuse_books, refuse_worlds and refuse_delivery have calls behind 'try '. For each of
+The scripts of the programs refuse_calls, refuse_books and refuse_worlds have calls behind 'try '. For each of
 them the built program makes the calls before it, and then that call under a small C library, tests/refuse.c, which refuses the
 Nth request for memory that the call makes. A call that was refused memory says so, has changed nothing that can be seen, and
 made again it answers as if it had never been refused; or it goes on without that memory, and answers as it does with it. Then
@@ -154,28 +154,10 @@ def step(call, library, name, before):
     return look
 
 
-def delivery(call, library, name, before):
-    """A delivery of messages that wait: each is delivered, in order, with at most one attempt more."""
-    calls = [f'try {call}']
-    (due,) = answers(ran(name, before + calls, library)[0], calls)
-    if not due.endswith(' as it has to be'):
-        raise Wrong(due)
-
-    def look(number):
-        lines, refused = ran(name, before + calls, library, 'REFUSE', number)
-        (told,) = answers(lines, calls)
-        if not told.endswith(' as it has to be') or not refused and told != due:
-            raise Wrong(told)
-        return refused, told != due
-    return look
-
-
 def kind(name, call):
     """How a call is looked at."""
     if name == 'refuse_worlds':
         return {'chunk': chunk, 'steps': plain}.get(call.split()[0], step)
-    if name == 'refuse_delivery':
-        return delivery
     return {'feed': feed, 'rows': rows}.get(call.split()[0], plain)
 
 
@@ -243,8 +225,7 @@ def main():
         library = os.path.join(folder, 'refuse.so')
         subprocess.run([compiler, '-shared', '-fPIC', '-O1', '-o', library, os.path.join(HERE, 'refuse.c')], check=True)
         looks = [(name, call, lambda name=name, call=call, before=before: kind(name, call)(call, library, name, before))
-                 for name in ('refuse_calls', 'refuse_books', 'refuse_worlds', 'refuse_delivery')
-                 if os.path.isdir(os.path.join(CRATES, name))
+                 for name in ('refuse_calls', 'refuse_books', 'refuse_worlds')
                  for call, before in tries(name)]
         looks.append(('hl7_engine', 'answer', lambda: answering(library)))
         for name, call, look in looks:
