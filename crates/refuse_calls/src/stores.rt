@@ -77,7 +77,10 @@ impl Stores {
     /// The events to come, which are taken.
     fn events(&mut self) -> Result<String, AllocError> {
         let mut told = String::from_str(self.alloc, "events:")?;
-        while let Some(event) = self.framer.next() {
+        for _ in 0..u64::MAX {
+            let Some(event) = self.framer.next() else {
+                break;
+            };
             push_event(&mut told, &event)?;
         }
         Ok(told)

@@ -197,7 +197,10 @@ pub fn serve(
 
 /// Takes all events to come.
 fn drain(framer: &mut Framer, events: &mut Vec<FrameEvent>) -> Result<(), AllocError> {
-    while let Some(event) = framer.next() {
+    for _ in 0..u64::MAX {
+        let Some(event) = framer.next() else {
+            break;
+        };
         events.push(event)?;
     }
     Ok(())
