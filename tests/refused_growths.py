@@ -8,7 +8,7 @@ them the built program makes the calls before it, and then that call under a sma
 Nth request for memory that the call makes. A call that was refused memory says so, has changed nothing that can be seen, and
 made again it answers as if it had never been refused; or it goes on without that memory, and answers as it does with it. Then
 the program hl7_engine answers a stream while each of its own requests is refused in turn. With a WORD, only lines that have it
-are tried. Where there is no C compiler, that is told and nothing is tried. The exit status is 0 where all was so. Plain
+are tried. Where there is no C compiler, it says so and tries nothing. The exit status is 0 where all was so. Plain
 Python 3, no packages.
 """
 import os
@@ -162,7 +162,7 @@ def kind(name, call):
 
 
 def each_in_turn(look):
-    """How many requests were refused, how many of them the call told, and at which it wasn't as it has to be."""
+    """How many requests were refused, how many of them the call reported, and at which it wasn't as it has to be."""
     told = 0
     for number in range(1, MOST):
         try:
@@ -237,7 +237,7 @@ def main():
                 refused, told, fault = 0, 0, f'with memory: {broken}'
             wrong, calls = wrong + (fault is not None), calls + 1
             requests[name] = requests.get(name, 0) + refused
-            print(f'{name}: {call[:60]}: {refused} requests refused, {told} told' + (f'; WRONG: {fault}' if fault else ''),
+            print(f'{name}: {call[:60]}: {refused} requests refused, {told} reported' + (f'; WRONG: {fault}' if fault else ''),
                   flush=True)
     for name in (name for name, refused in requests.items() if not refused):
         wrong += 1
