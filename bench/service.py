@@ -1,7 +1,7 @@
 #!/usr/bin/env python3
 """Measures the built service under load, over loopback: its memory while messages go through a book of few entries, the rates in
 the first and the last tenth, the longest wait for an acknowledgment, its processor time with nothing to do, and the time of
-one message beside busy connections.
+one message beside busy connections. The service runs with MALLOC_ARENA_MAX=1, unless that is set otherwise.
 
 Usage: bench/service.py [PROGRAM] [--messages N] [--senders N] [--busy N]
 
@@ -193,6 +193,7 @@ def main():
     words.add_argument('--senders', type=int, default=8)
     words.add_argument('--busy', type=int, default=64)
     asked = words.parse_args()
+    os.environ.setdefault('MALLOC_ARENA_MAX', '1')  # as examples/service/hl7-service.service has it
     program, bounds = os.path.abspath(asked.program), Bounds()
     with tempfile.TemporaryDirectory() as folder:
         through(program, folder, asked.messages, asked.senders, bounds)

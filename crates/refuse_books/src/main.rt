@@ -6,13 +6,11 @@
 //! - `arrive TEXT`: a text arrives on channel 0, judged by the plan in force.
 //! - `take D MOMENT`, `settle NUMBER D ATTEMPT OUTCOME MOMENT`, `cancel NUMBER`, `deploy PLAN` and `prune BEFORE`.
 //! - `queued D` and `find ID`: the messages of a queue, and those with a control id.
-//! - `rows COUNT`: a row behind COUNT others in a store of linked rows, what the store is before and after, that row once more, and
-//!   then all queues, row by row. `log COUNT`: room for COUNT entries in an empty history.
+//! - `log COUNT`: room for COUNT entries in an empty history.
 //! - `state`: all that the book shows.
 #![tactic(auto)]
 
 mod answers;
-mod rows;
 mod stage;
 mod words;
 

@@ -1,7 +1,6 @@
 //! The book of a script, and calls on it.
 
 use crate::answers::{arrived, cancelled, deployed, fronts, numbers, pruned, taken};
-use crate::rows::rows_after;
 use crate::words::{moment, number, outcome, ticket, word};
 use anyhow::{Result, bail};
 use book_core::{Book, EVENTS_MAX, Letter};
@@ -189,7 +188,6 @@ impl Stage {
                 self.deploy(window, plan)
             }
             "state" => self.state(),
-            "rows" => rows_after(self.alloc, window, number(words)?),
             "log" => entries(self.alloc, window, number(words)? as usize),
             "queued" => self.queued(window, words),
             "find" => self.find(window, words),
