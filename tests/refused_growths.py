@@ -71,22 +71,6 @@ def plain(call, library, name, before):
     return look
 
 
-def rows(call, library, name, before):
-    """A row that isn't added where it is refused memory: the program shows the store, and adds the row again."""
-    calls = [f'try {call}']
-    (due,) = answers(ran(name, before + calls, library)[0], calls)
-    was, _, became = due.partition('; ok')
-
-    def look(number):
-        lines, refused = ran(name, before + calls, library, 'REFUSE', number)
-        (told,) = answers(lines, calls)
-        lacking = f'; {NO_MEMORY}' in told
-        if told != (f'{was}; {NO_MEMORY}{was}{became}' if lacking and refused else due):
-            raise Wrong(told)
-        return refused, lacking
-    return look
-
-
 def feed(call, library, name, before):
     """A piece of a stream that is refused memory: the stream has failed from then on, and its first events can be taken."""
     calls = [f'try {call}', call, 'events']
@@ -158,7 +142,7 @@ def kind(name, call):
     """How a call is looked at."""
     if name == 'refuse_worlds':
         return {'chunk': chunk, 'steps': plain}.get(call.split()[0], step)
-    return {'feed': feed, 'rows': rows}.get(call.split()[0], plain)
+    return {'feed': feed}.get(call.split()[0], plain)
 
 
 def each_in_turn(look):
