@@ -21,7 +21,11 @@ impl<'a> Window<'a> {
         Window { rt, tried }
     }
 
-    /// Writes that the call's requests begin. It asks for no memory.
+    /// Writes that the call's requests begin. It requests no memory.
+    ///
+    /// # Errors
+    ///
+    /// Where standard output can't be written.
     pub fn begin(&self) -> io::Result<()> {
         if self.tried {
             io::writer(self.rt).write_all(b"begin\n")?;
@@ -29,7 +33,11 @@ impl<'a> Window<'a> {
         Ok(())
     }
 
-    /// Writes that the call's requests have ended. It asks for no memory.
+    /// Writes that the call's requests have ended. It requests no memory.
+    ///
+    /// # Errors
+    ///
+    /// Where standard output can't be written.
     pub fn end(&self) -> io::Result<()> {
         if self.tried {
             io::writer(self.rt).write_all(b"end\n")?;

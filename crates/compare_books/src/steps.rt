@@ -76,7 +76,12 @@ fn run(rt: &HostRuntime, seed: u32) -> Result<Made> {
     run_worlds(rt, seed, &mut worlds, forgets)
 }
 
-/// Takes the steps of all runs, and says how many they were. An error where no plan was deployed, or no message forgotten.
+/// Takes the steps of all runs, and prints how many they were.
+///
+/// # Errors
+///
+/// The first difference; that no plan was deployed, or no message forgotten; that memory is refused, or standard output
+/// can't be written.
 pub fn compare_steps(rt: &HostRuntime) -> Result<()> {
     let (mut deployments, mut forgotten) = (0_u32, 0_u32);
     for seed in 0..PAIRS * 2 {
