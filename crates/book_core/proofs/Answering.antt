@@ -2,7 +2,7 @@
 use Rattle.std.proofs.Common.{◌≡◌, ℕ, Bool, true, false, not, List, Option, None, Some, Result, Ok, Err, refl, sym, ◌∙◌, ap, subst}
 use Rattle.std.specs.Prelude.{if◌then◌else◌, IsTrue}
 use Rattle.std.specs.Option.{option_map_or}
-use Rattle.std.specs.Result.{IsErrAnd}
+use Rattle.std.specs.Result.{IsErrAnd, is_ok}
 use Rattle.hl7_head.specs.declared.ack.Cause.TheVariants.{IdReused}
 use Rattle.plan_text.specs.Entries.{PlanEntry}
 use Rattle.judge_core.specs.declared.judged.Verdict.{Verdict}
@@ -12,6 +12,7 @@ use Rattle.event_log.specs.declared.entry.Told.{Told}
 use Rattle.event_log.specs.declared.entry.Told.TheVariants as told
 use Rattle.event_log.specs.History.{History, message_count, plan_in_force}
 use Rattle.event_log.specs.Answers.{answer, brings_at, is_kept, known, told_by}
+use Rattle.event_log.specs.Event.{AsksLast, Event, Refusal, Reply, answer as event_answer}
 use Rattle.event_log.specs.Room.{exceeds, is_full, own}
 use Rattle.book_core.specs.declared.receipt.NotBooked.{NotBooked}
 use Rattle.book_core.specs.declared.receipt.NotBooked.TheVariants.{NoMemory, Full}
@@ -102,3 +103,8 @@ never-full h g channel raw same room refused =
 pub refused-memory : {T : Type 0} (r : Result T NotBooked) → IsErrAnd r (λ e. e ≡ NoMemory) → r ≡ Err Full → ⊥
 refused-memory (Ok x) is full = cc
 refused-memory (Err e) is full = cc
+
+-- an event that is answered is refused for memory last
+pub asks-last : (e : Event) (old : History) (result : Result (Reply e) (Refusal e)) (reply : Reply e) → event_answer old e ≡ Ok reply → AsksLast e old result
+asks-last e old (Ok x) reply is = tt
+asks-last e old (Err refusal) reply is = λ memory. ap is_ok is

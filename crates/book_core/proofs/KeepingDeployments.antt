@@ -1,5 +1,5 @@
 -- A book is kept by a deployment.
-use Rattle.std.proofs.Common.{◌≡◌, ℕ, ◌+◌, ◌-◌, ◌<◌, ◌≤◌, Bool, true, false, not, cond, suc, nat_lt, List, [], ◌∷◌, length, Option, None, Some, Result, Err, refl, sym, ◌∙◌, ap, arith, length-append}
+use Rattle.std.proofs.Common.{◌≡◌, ℕ, ◌+◌, ◌-◌, ◌<◌, ◌≤◌, Bool, true, false, not, cond, suc, nat_lt, List, [], ◌∷◌, length, Option, None, Some, refl, sym, ◌∙◌, ap, arith, length-append}
 use Rattle.std.specs.Prelude.{find}
 use Rattle.std.specs.List.{range_with_len}
 use Rattle.std.specs.Option.{option_map_or}
@@ -12,9 +12,9 @@ use Rattle.stat_count.specs.Statistics.{Statistics}
 use Rattle.event_log.specs.declared.entry.Entry.TheVariants.{Deploy}
 use Rattle.event_log.specs.History.{History, deliveries, followed_by, names, plan_in_force, slot}
 use Rattle.event_log.specs.declared.refusal.DeployRefusal.{DeployRefusal}
-use Rattle.event_log.specs.declared.refusal.DeployRefusal.TheVariants.{ChannelsDiffer, DestinationInUse, Full, TooMany}
+use Rattle.event_log.specs.declared.refusal.DeployRefusal.TheVariants.{ChannelsDiffer, DestinationInUse, Full, NoMemory, TooMany}
 use Rattle.event_log.specs.Deployment.{deploy_answer, deployments, first_lost, same_channels}
-use Rattle.event_log.specs.Legal.{MayDeploy}
+use Rattle.event_log.proofs.Events.{Deployable}
 use Rattle.event_log.specs.Room.{owed}
 use Rattle.event_log.proofs.Deploying.{allowed-parts, deploy-step}
 use Rattle.event_log.proofs.Following.{message_count-same, slot-same}
@@ -87,13 +87,15 @@ never-full true false None is = cc
 never-full true few (Some d) is = cc
 never-full false few lost is = cc
 
-pub said-full : {Q : Type 0} (h : History) (plan : PlanEntry) (r : DeployRefusal) → deploy_answer h plan ≡ Some r
-    → (◌≡◌ {A = Result (Unit {0}) DeployRefusal} (Err r) (Err Full) → (deploy_answer h plan ≡ None) × Q) × ((deploy_answer h plan ≡ None) × Q → ◌≡◌ {A = Result (Unit {0}) DeployRefusal} (Err r) (Err Full))
-said-full h plan r said = (
-  λ e. let same : r ≡ Full = cc in
-      absurd (never-full (same_channels (plan_in_force h) plan) (nat_lt (deployments h) 1000) (first_lost h plan) (sym (deploy-said h plan) ∙ (said ∙ ap (λ r. Some r) same))),
-  λ none. let no = sym none.0 ∙ said in absurd cc,
-)
+no-memory : (same few : Bool) (lost : Option ℕ) → said_by same lost few ≡ Some NoMemory → ⊥
+no-memory true true None is = cc
+no-memory true false None is = cc
+no-memory true few (Some d) is = cc
+no-memory false few lost is = cc
+
+-- a refusal that is answered isn't for want of memory
+pub never-memory : (h : History) (plan : PlanEntry) (r : DeployRefusal) → deploy_answer h plan ≡ Some r → r ≡ NoMemory → ⊥
+never-memory h plan r said is = no-memory (same_channels (plan_in_force h) plan) (nat_lt (deployments h) 1000) (first_lost h plan) (sym (deploy-said h plan) ∙ (said ∙ ap (λ r. Some r) is))
 
 -- there is room where the log has room
 pub has-room : (over room : Bool) → room ≡ not over → room ≡ true → over ≡ false
@@ -116,7 +118,7 @@ none-left p d past = let none : 32 - d ≡ 0 = omega arith in ap (λ k. find p (
 -- ---- the book
 
 module _ (h : History) (rows : List (Row (Addressed Letter))) (index : List Known) (tally : Statistics) (flights room : ℕ) (kept : IsKept h rows index tally flights room)
-    (plan : PlanEntry) (may : MayDeploy h plan) where
+    (plan : PlanEntry) (may : Deployable h plan) where
   deployed : DeployStep h plan
   deployed = deploy-step h kept.sound plan may
 

@@ -29,6 +29,7 @@ use Rattle.event_log.proofs.Deploying.{deploy-step}
 use Rattle.event_log.proofs.Fitting.{sound-before, take-past}
 use Rattle.event_log.proofs.Following.{follows-since, take-whole}
 use Rattle.event_log.proofs.Reading.{slot-inside}
+use Rattle.event_log.proofs.Events.{arrivable, deployable}
 use Rattle.event_log.proofs.Replaying.{take-more}
 use Rattle.event_log.proofs.Settling.{settle-step}
 use Rattle.event_log.proofs.Taking.{take-step}
@@ -84,13 +85,13 @@ settle-taken (Failed cause) counts some are = omega arith
 -- so it stays with each entry that may follow
 taken-after : (h : History) (e : Entry) → IsSound h → MayFollow h e → ((d : ℕ) → d < 32 → AreTaken (destination_counts h d)) → (d : ℕ) → d < 32 → AreTaken (destination_counts (followed_by h e) d)
 taken-after h (Arrival conn channel raw reply) sound may were d below =
-    subst AreTaken (sym (arrived-counts h conn channel raw reply sound (arrival-step h sound conn channel raw reply may) d)) (by (list_any (λ e. e == d) (slots_added (plan_in_force h) channel raw reply)))
+    subst AreTaken (sym (arrived-counts h conn channel raw reply sound (arrival-step h sound conn channel raw reply (arrivable h conn channel raw reply may)) d)) (by (list_any (λ e. e == d) (slots_added (plan_in_force h) channel raw reply)))
   where
     by : (b : Bool) → AreTaken (cond b (waits_one (destination_counts h d)) (destination_counts h d))
     by true = were d below
     by false = were d below
 taken-after h (Take ticket now) sound may were d below =
-    let step = (take-step h sound ticket.destination now ticket may).1 in
+    let step = (take-step h sound ticket.destination now ticket may.replied).1 in
     let inside = slot-inside h sound ticket.number ticket.destination (Waiting step.attempts step.due) step.waited in
     let are = counted-are h in
     subst AreTaken ((counted-take h now ticket (counted h) step inside are).destination d below)
@@ -98,19 +99,19 @@ taken-after h (Take ticket now) sound may were d below =
     (take-taken (destination_at ticket.destination (counted h)) (subst AreTaken (sym (are.destination ticket.destination inside)) (were ticket.destination inside)))
     (subst AreTaken (sym (are.destination d below)) (were d below)))
 taken-after h (Settle outcome ticket now after) sound may were d below =
-    let step = settle-step h sound ticket outcome now after may in
+    let step = settle-step h sound ticket outcome now after may.replied in
     let inside = settle-inside h ticket outcome now after step in
     let are = counted-are h in
     subst AreTaken ((counted-settle h ticket outcome now after (counted h) step are).destination d below)
     (changed-at AreTaken (settled_one after) (counted h) ticket.destination d (destination-inside h ticket.destination inside)
     (settle-taken after (destination_at ticket.destination (counted h)) (settle-flies h ticket outcome now after (counted h) step are) (subst AreTaken (sym (are.destination ticket.destination inside)) (were ticket.destination inside)))
     (subst AreTaken (sym (are.destination d below)) (were d below)))
-taken-after h (Cancel number mask) sound may were d below = subst AreTaken (sym (cancelled-counts h number mask (cancel-step h sound number mask may) d)) (by (bit_at mask d == 1))
+taken-after h (Cancel number mask) sound may were d below = subst AreTaken (sym (cancelled-counts h number mask (cancel-step h sound number mask may.replied) d)) (by (bit_at mask d == 1))
   where
     by : (b : Bool) → AreTaken (cond b (cancelled_one (destination_counts h d)) (destination_counts h d))
     by true = were d below
     by false = were d below
-taken-after h (Deploy plan) sound may were d below = subst AreTaken (sym (deployed-counts h plan (deploy-step h sound plan may) d)) (were d below)
+taken-after h (Deploy plan) sound may were d below = subst AreTaken (sym (deployed-counts h plan (deploy-step h sound plan (deployable h plan may)) d)) (were d below)
 
 -- and holds of each sound history, as far as it was booked
 taken-before : (h : History) → IsSound h → (k d : ℕ) → d < 32 → AreTaken (destination_counts (continued h.opening (take k h.entries)) d)
@@ -200,7 +201,7 @@ deploy-sums h plan sound may = record {
   takes = and-none _ _ (sum-same (λ (c : DestinationCounts). c.attempts) (destination_counts (followed_by h (Deploy plan))) (destination_counts h)
       (λ d. attempts-kept h (Deploy plan) d refl) (range_with_len 0 32));
   settlements = and-none _ _ (sum-same (λ (c : DestinationCounts). c.attempts - c.inflight) (destination_counts (followed_by h (Deploy plan))) (destination_counts h)
-      (λ d. ap (λ (k : DestinationCounts). k.attempts - k.inflight) (deployed-counts h plan (deploy-step h sound plan may) d)) (range_with_len 0 32));
+      (λ d. ap (λ (k : DestinationCounts). k.attempts - k.inflight) (deployed-counts h plan (deploy-step h sound plan (deployable h plan may)) d)) (range_with_len 0 32));
 }
 
 -- an arrival adds one to its channel
@@ -241,7 +242,7 @@ arrival-sums h conn channel raw reply sound may known =
       takes = and-none _ _ (sum-same (λ (c : DestinationCounts). c.attempts) (destination_counts (followed_by h (Arrival conn channel raw reply))) (destination_counts h)
           (λ d. attempts-kept h (Arrival conn channel raw reply) d refl) (range_with_len 0 32));
       settlements = and-none _ _ (sum-same (λ (c : DestinationCounts). c.attempts - c.inflight) (destination_counts (followed_by h (Arrival conn channel raw reply))) (destination_counts h)
-          (λ d. ap (λ (k : DestinationCounts). k.attempts - k.inflight) (arrived-counts h conn channel raw reply sound (arrival-step h sound conn channel raw reply may) d)
+          (λ d. ap (λ (k : DestinationCounts). k.attempts - k.inflight) (arrived-counts h conn channel raw reply sound (arrival-step h sound conn channel raw reply (arrivable h conn channel raw reply may)) d)
           ∙ by d (list_any (λ e. e == d) (slots_added (plan_in_force h) channel raw reply))) (range_with_len 0 32));
     }
   where

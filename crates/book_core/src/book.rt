@@ -8,14 +8,16 @@ ghost use Rattle.judge_core.specs.Delivering.{destinations_of};
 ghost use Rattle.judge_core.specs.Judging.{is_bookable, verdict};
 ghost use Rattle.dest_queue.specs.States.{is_live};
 ghost use Rattle.event_log.specs.History.{control_id, control_id_of, deliveries, entry_at, followed_by, message_at, message_count, names, next_place, opened_by, payload, plan_in_force, queue, remaining, slot};
-ghost use Rattle.event_log.specs.Answers.{answer, cancel_answer, settle_answer, take_answer};
+ghost use Rattle.event_log.specs.Answers.{answer, cancel_answer, take_answer};
 ghost use Rattle.event_log.specs.Deployment.{deploy_answer, deployments, first_lost, is_lost};
+ghost use Rattle.event_log.specs.Event.{AsksLast, Does, arrive, cancel, deploy, result_map, settle, take};
 ghost use Rattle.event_log.specs.Folding.{is_live_message, prune_answer, pruned};
 ghost use Rattle.event_log.specs.Legal.{IsSound, MayFollow};
-ghost use Rattle.event_log.specs.Room.{exceeds, is_full, owed, own_owed};
+ghost use Rattle.event_log.specs.Room.{is_full, owed, own_owed};
 ghost use Rattle.event_log.specs.Counting.{counted};
 ghost use Rattle.book_core.specs.Headline.{KeepsItsPromise};
 ghost use Rattle.book_core.specs.Questions.{CameBy, came_as, first_live, front_at, has_control_id, is_tight, live_at, queued_as, settled_before};
+ghost use Rattle.book_core.specs.Receiving.{IsReceipt, reply_of};
 ghost use Rattle.book_core.specs.Sending.{IsGain, awaits_ack, goes_to, owed_waiting};
 
 use crate::arrival::{Gain, add_gain, gain_of, own_of, told};
@@ -375,21 +377,20 @@ impl<S: RowStore<Addressed<Letter>>> Book<S> {
     pub fn arrive(&mut self, conn: u32, judged: &Judged) -> Result<Receipt, NotBooked>
         requires bookable { IsTrue (is_bookable judged.now.raw) }
 
-        // The receipt says what the entry says, and has its index.
-        ensures entry { IfOk result (λ receipt. receipt.entry ≡ next_place self.old) }
-        ensures conn { IfOk result (λ receipt. receipt.conn ≡ conn) }
-        ensures channel { IfOk result (λ receipt. receipt.channel ≡ judged.now.channel) }
-        ensures raw { IfOk result (λ receipt. receipt.raw ≡ judged.now.raw) }
-        ensures told { IfOk result (λ receipt. answer self.old judged.now.channel judged.now.raw ≡ Some receipt.told) }
-        ensures booked { IfOk result (λ receipt.
-            self.new ≡ followed_by self.old (Entry.Arrival conn judged.now.channel judged.now.raw receipt.told)) }
-        ensures follows { IfOk result (λ receipt. MayFollow self.old (Entry.Arrival conn judged.now.channel judged.now.raw receipt.told)) }
+        ensures does { Does (arrive conn judged.now.channel judged.now.raw)
+            self.old self.new (reply_of result) }
+        ensures memory { AsksLast (arrive conn judged.now.channel judged.now.raw)
+            self.old (reply_of result) }
 
-        // It is judged by the plan in force, and there is room for it.
-        ensures plan { IsErrOf result NotBooked.PlanChanged ↔ judged.now.plan ≢ plan_in_force self.old }
-        ensures full { IsErrOf result NotBooked.Full ↔
-            (judged.now.plan ≡ plan_in_force self.old) × IsTrue (is_full self.old judged.now.channel judged.now.raw) }
-        ensures err { OnErr result (self.new ≡ self.old) }
+        // The receipt has the index of the entry, and says what the entry says.
+        ensures receipt { IfOk result
+            (IsReceipt (next_place self.old) conn judged.now.channel judged.now.raw) }
+
+        // The message was judged by the plan in force.
+        ensures plan { IsErrOf result NotBooked.PlanChanged
+            ↔ judged.now.plan ≢ plan_in_force self.old }
+        ensures same_plan { IsErrOf result NotBooked.Full
+            → judged.now.plan ≡ plan_in_force self.old }
     {
         if !judged.plan().same(self.log.plan()) {
             return Err(NotBooked::PlanChanged);
@@ -401,17 +402,13 @@ impl<S: RowStore<Addressed<Letter>>> Book<S> {
     fn book_arrival(&mut self, conn: u32, judged: &Judged) -> Result<Receipt, NotBooked>
         requires bookable { IsTrue (is_bookable judged.now.raw) }
         requires same_plan { judged.now.plan ≡ plan_in_force self.old }
-        ensures entry { IfOk result (λ receipt. receipt.entry ≡ next_place self.old) }
-        ensures conn { IfOk result (λ receipt. receipt.conn ≡ conn) }
-        ensures channel { IfOk result (λ receipt. receipt.channel ≡ judged.now.channel) }
-        ensures raw { IfOk result (λ receipt. receipt.raw ≡ judged.now.raw) }
-        ensures told { IfOk result (λ receipt. answer self.old judged.now.channel judged.now.raw ≡ Some receipt.told) }
-        ensures booked { IfOk result (λ receipt.
-            self.new ≡ followed_by self.old (Entry.Arrival conn judged.now.channel judged.now.raw receipt.told)) }
-        ensures follows { IfOk result (λ receipt. MayFollow self.old (Entry.Arrival conn judged.now.channel judged.now.raw receipt.told)) }
-        ensures full { IsErrOf result NotBooked.Full ↔ IsTrue (is_full self.old judged.now.channel judged.now.raw) }
+        ensures does { Does (arrive conn judged.now.channel judged.now.raw)
+            self.old self.new (reply_of result) }
+        ensures memory { AsksLast (arrive conn judged.now.channel judged.now.raw)
+            self.old (reply_of result) }
+        ensures receipt { IfOk result
+            (IsReceipt (next_place self.old) conn judged.now.channel judged.now.raw) }
         ensures plan { result ≢ Err NotBooked.PlanChanged }
-        ensures err { OnErr result (self.new ≡ self.old) }
     {
         let told = told(&self.log, &self.keys, judged);
         let gain = gain_of(told, judged);
@@ -490,13 +487,11 @@ impl<S: RowStore<Addressed<Letter>>> Book<S> {
     /// `Idle` where the queue is empty, `InFlightNow` where the front is under way, `NotDue` where it waits for a later
     /// moment, and `NoMemory` where a growth was refused. A refusal leaves the book as it was.
     pub fn take(&mut self, d: u32, now: Moment) -> Result<Job, TakeRefusal>
-        ensures answer { IfOk result (λ job. take_answer self.old d now ≡ Ok job.ticket) }
+        ensures does { Does (take d now) self.old self.new (result_map (λ job. job.ticket) result) }
+        ensures memory { AsksLast (take d now) self.old (result_map (λ job. job.ticket) result) }
         ensures control_id { IfOk result (λ job. job.control_id ≡ control_id self.old job.ticket.number) }
         ensures payload { IfOk result (λ job. job.payload ≡ payload self.old job.ticket.number d) }
         ensures ack { IfOk result (λ job. job.ack ≡ awaits_ack (plan_in_force self.old) d) }
-        ensures booked { IfOk result (λ job. self.new ≡ followed_by self.old (Entry.Take job.ticket now)) }
-        ensures refused { IfErr result (λ e. (take_answer self.old d now ≡ Err e) ⊎ (e ≡ TakeRefusal.NoMemory) × IsOk (take_answer self.old d now)) }
-        ensures err { OnErr result (self.new ≡ self.old) }
     {
         let ticket = self.ticket(d, now)?;
         let (control_id, payload) = self.letter(ticket.number, d)?;
@@ -558,13 +553,11 @@ impl<S: RowStore<Addressed<Letter>>> Book<S> {
         outcome: Outcome,
         now: Moment,
     ) -> Result<SlotState, SettleRefusal>
-        ensures answer { result ≡ settle_answer self.old ticket.now outcome now }
+        ensures does { Does (settle ticket.now outcome now) self.old self.new result }
 
         // A retry is due on the day after the last moment of the calendar at the latest.
         ensures due { (attempts due : ℕ) → result ≡ Ok (SlotState.Waiting attempts due)
             → due ≤ 253370851199 }
-        ensures booked { IfOk result (λ state. self.new ≡ followed_by self.old (Entry.Settle outcome ticket.now now state)) }
-        ensures err { OnErr result (self.new ≡ self.old) }
     {
         let ticket = *ticket;
         let max = attempts_max(self.log.plan(), ticket.destination);
@@ -605,12 +598,8 @@ impl<S: RowStore<Addressed<Letter>>> Book<S> {
     /// `NoSuchMessage`, `NothingWaiting` where the message waits nowhere, and `NoMemory` where a growth was refused. A
     /// refusal leaves the book as it was.
     pub fn cancel(&mut self, number: u32) -> Result<u32, CancelRefusal>
-        ensures answer { IfOk result (λ mask. cancel_answer self.old number ≡ Ok mask) }
-        ensures booked { IfOk result (λ mask. self.new ≡ followed_by self.old (Entry.Cancel number mask)) }
-        ensures refused { IfErr result (λ e.
-            (cancel_answer self.old number ≡ Err e)
-            ⊎ (e ≡ CancelRefusal.NoMemory) × IsOk (cancel_answer self.old number)) }
-        ensures err { OnErr result (self.new ≡ self.old) }
+        ensures does { Does (cancel number) self.old self.new result }
+        ensures memory { AsksLast (cancel number) self.old result }
     {
         let waiting = self.waiting_owed(number)?;
         self.log.reserve(self.flights as usize + 1)?;
@@ -651,13 +640,8 @@ impl<S: RowStore<Addressed<Letter>>> Book<S> {
     /// attempts, then `TooMany` where a thousand plans were deployed, then `Full` where there is no room for one more entry,
     /// and then `NoMemory` where a growth was refused. A refusal leaves the book as it was, and drops the plan.
     pub fn deploy(&mut self, plan: Arc<Plan>) -> Result<(), DeployRefusal>
-        ensures answer { OnOk result (MayFollow self.old (Entry.Deploy (arc_value plan))) }
-        ensures booked { OnOk result (self.new ≡ followed_by self.old (Entry.Deploy (arc_value plan))) }
-        ensures refused { IfErr result (λ e.
-            (deploy_answer self.old (arc_value plan) ≡ Some e)
-            ⊎ (deploy_answer self.old (arc_value plan) ≡ None) × ((e ≡ DeployRefusal.Full) ⊎ (e ≡ DeployRefusal.NoMemory))) }
-        ensures full { IsErrOf result DeployRefusal.Full ↔ (deploy_answer self.old (arc_value plan) ≡ None) × IsTrue (exceeds self.old 0) }
-        ensures err { OnErr result (self.new ≡ self.old) }
+        ensures does { Does (deploy (arc_value plan)) self.old self.new result }
+        ensures memory { AsksLast (deploy (arc_value plan)) self.old result }
     {
         if let Some(refusal) = self.deploy_answer(&plan) {
             return Err(refusal);

@@ -1,18 +1,17 @@
 //! The value behind the lock.
 
-ghost use Rattle.std.specs.Prelude.{◌≡◌, ◌≢◌, ◌+◌, ◌-◌, ◌<◌, ◌≤◌, ◌⊎◌, ◌↔◌, ℕ, Ok, Err, IsOk, IfOk, IfErr, IfSome, OnOk, OnErr, OnSome, IsErrOf, IsNone, IsTrue, None, Some, false, if◌then◌else◌, nat_lt, length, slice_get};
+ghost use Rattle.std.specs.Prelude.{◌≡◌, ◌≢◌, ◌+◌, ◌-◌, ◌<◌, ◌≤◌, ◌⊎◌, ◌↔◌, ℕ, Ok, Err, IfOk, IfErr, IfSome, OnOk, OnErr, OnSome, IsErrOf, IsNone, IsTrue, None, Some, false, if◌then◌else◌, nat_lt, length, slice_get};
 ghost use Rattle.std.specs.Arc.{arc_value};
 ghost use Rattle.judge_core.specs.Judging.{is_bookable};
 ghost use Rattle.stat_count.specs.Sums.{arrivals};
-ghost use Rattle.event_log.specs.History.{control_id, followed_by, message_count, next_place, payload, plan_in_force};
-ghost use Rattle.event_log.specs.Answers.{answer, cancel_answer, settle_answer, take_answer};
-ghost use Rattle.event_log.specs.Deployment.{deploy_answer};
+ghost use Rattle.event_log.specs.History.{control_id, message_count, next_place, payload, plan_in_force};
+ghost use Rattle.event_log.specs.Answers.{answer};
+ghost use Rattle.event_log.specs.Event.{AsksLast, Does, arrive, cancel, deploy, result_map, settle, take};
 ghost use Rattle.event_log.specs.Folding.{is_live_message, prune_answer, pruned};
-ghost use Rattle.event_log.specs.Legal.{MayFollow};
-ghost use Rattle.event_log.specs.Room.{exceeds, is_full};
 ghost use Rattle.event_log.specs.Counting.{counted};
 ghost use Rattle.book_core.specs.Headline.{KeepsItsPromise};
 ghost use Rattle.book_core.specs.Questions.{first_live, front_at, settled_before};
+ghost use Rattle.book_core.specs.Receiving.{IsReceipt, reply_of};
 ghost use Rattle.book_core.specs.Sending.{awaits_ack};
 ghost use Rattle.book_lock.specs.Rises.{AddsUp, arrivals_rise, settlements_rise, takes_rise, with_book};
 ghost use Rattle.book_lock.specs.Shares.{with_settlement, with_take};
@@ -240,19 +239,19 @@ impl<A: Opening, T: Ledger, U: Ledger, S: RowStore<Addressed<Letter>>> Locked<A,
         judged: &Judged,
     ) -> Result<Receipt, NotBooked>
         requires { IsTrue (is_bookable judged.now.raw) }
-        ensures entry { IfOk result (λ receipt. receipt.entry ≡ next_place self.old.book) }
-        ensures conn { IfOk result (λ receipt. receipt.conn ≡ conn) }
-        ensures channel { IfOk result (λ receipt. receipt.channel ≡ judged.now.channel) }
-        ensures raw { IfOk result (λ receipt. receipt.raw ≡ judged.now.raw) }
-        ensures told { IfOk result (λ receipt. answer self.old.book judged.now.channel judged.now.raw ≡ Some receipt.told) }
-        ensures booked { IfOk result (λ receipt.
-            self.new ≡ with_book self.old (followed_by self.old.book (Entry.Arrival conn judged.now.channel judged.now.raw receipt.told))) }
+        ensures does { Does (arrive conn judged.now.channel judged.now.raw)
+            self.old.book self.new.book (reply_of result) }
+        ensures memory { AsksLast (arrive conn judged.now.channel judged.now.raw)
+            self.old.book (reply_of result) }
+        ensures book { self.new ≡ with_book self.old self.new.book }
+        ensures receipt { IfOk result
+            (IsReceipt (next_place self.old.book) conn judged.now.channel judged.now.raw) }
+        ensures plan { IsErrOf result NotBooked.PlanChanged
+            ↔ judged.now.plan ≢ plan_in_force self.old.book }
+        ensures same_plan { IsErrOf result NotBooked.Full
+            → judged.now.plan ≡ plan_in_force self.old.book }
         ensures counted { OnOk result (desk.new ≡ desk.old + 1) }
-
-        ensures plan { IsErrOf result NotBooked.PlanChanged ↔ judged.now.plan ≢ plan_in_force self.old.book }
-        ensures full { IsErrOf result NotBooked.Full ↔
-            (judged.now.plan ≡ plan_in_force self.old.book) × IsTrue (is_full self.old.book judged.now.channel judged.now.raw) }
-        ensures err { OnErr result ((self.new ≡ self.old) × (desk.new ≡ desk.old)) }
+        ensures err { OnErr result (desk.new ≡ desk.old) }
     {
         three_sums();
         self.book.rules();
@@ -273,16 +272,14 @@ impl<A: Opening, T: Ledger, U: Ledger, S: RowStore<Addressed<Letter>>> Locked<A,
         d: u32,
         now: Moment,
     ) -> Result<Job, TakeRefusal>
-        ensures answer { IfOk result (λ job. take_answer self.old.book d now ≡ Ok job.ticket) }
+        ensures does { Does (take d now) self.old.book self.new.book (result_map (λ job. job.ticket) result) }
+        ensures memory { AsksLast (take d now) self.old.book (result_map (λ job. job.ticket) result) }
+        ensures book { self.new ≡ with_book self.old self.new.book }
         ensures control_id { IfOk result (λ job. job.control_id ≡ control_id self.old.book job.ticket.number) }
         ensures payload { IfOk result (λ job. job.payload ≡ payload self.old.book job.ticket.number d) }
         ensures ack { IfOk result (λ job. job.ack ≡ awaits_ack (plan_in_force self.old.book) d) }
-        ensures booked { IfOk result (λ job. self.new ≡ with_book self.old (followed_by self.old.book (Entry.Take job.ticket now))) }
         ensures counted { OnOk result (station.new ≡ with_take station.old) }
-        ensures refused { IfErr result (λ e.
-            (take_answer self.old.book d now ≡ Err e)
-            ⊎ (e ≡ TakeRefusal.NoMemory) × IsOk (take_answer self.old.book d now)) }
-        ensures err { OnErr result ((self.new ≡ self.old) × (station.new ≡ station.old)) }
+        ensures err { OnErr result (station.new ≡ station.old) }
     {
         three_sums();
         self.book.rules();
@@ -303,11 +300,10 @@ impl<A: Opening, T: Ledger, U: Ledger, S: RowStore<Addressed<Letter>>> Locked<A,
         outcome: Outcome,
         now: Moment,
     ) -> Result<SlotState, SettleRefusal>
-        ensures answer { result ≡ settle_answer self.old.book ticket.now outcome now }
-        ensures booked { IfOk result (λ state.
-            self.new ≡ with_book self.old (followed_by self.old.book (Entry.Settle outcome ticket.now now state))) }
+        ensures does { Does (settle ticket.now outcome now) self.old.book self.new.book result }
+        ensures book { self.new ≡ with_book self.old self.new.book }
         ensures counted { OnOk result (station.new ≡ with_settlement station.old) }
-        ensures err { OnErr result ((self.new ≡ self.old) × (station.new ≡ station.old)) }
+        ensures err { OnErr result (station.new ≡ station.old) }
     {
         three_sums();
         self.book.rules();
@@ -322,12 +318,9 @@ impl<A: Opening, T: Ledger, U: Ledger, S: RowStore<Addressed<Letter>>> Locked<A,
     ///
     /// The book's, in its order. A refusal leaves the book as it was.
     pub fn cancel(&mut self, number: u32) -> Result<u32, CancelRefusal>
-        ensures answer { IfOk result (λ mask. cancel_answer self.old.book number ≡ Ok mask) }
-        ensures booked { IfOk result (λ mask. self.new ≡ with_book self.old (followed_by self.old.book (Entry.Cancel number mask))) }
-        ensures refused { IfErr result (λ e.
-            (cancel_answer self.old.book number ≡ Err e)
-            ⊎ (e ≡ CancelRefusal.NoMemory) × IsOk (cancel_answer self.old.book number)) }
-        ensures err { OnErr result (self.new ≡ self.old) }
+        ensures does { Does (cancel number) self.old.book self.new.book result }
+        ensures memory { AsksLast (cancel number) self.old.book result }
+        ensures book { self.new ≡ with_book self.old self.new.book }
     {
         three_sums();
         self.book.rules();
@@ -341,14 +334,10 @@ impl<A: Opening, T: Ledger, U: Ledger, S: RowStore<Addressed<Letter>>> Locked<A,
     ///
     /// The book's, in its order. A refusal leaves the book as it was, and drops the plan.
     pub fn deploy(&mut self, plan: Arc<Plan>) -> Result<(), DeployRefusal>
-        ensures answer { OnOk result (MayFollow self.old.book (Entry.Deploy (arc_value plan))) }
-        ensures booked { OnOk result (self.new ≡ with_book self.old (followed_by self.old.book (Entry.Deploy (arc_value plan)))) }
-        ensures refused { IfErr result (λ e.
-            (deploy_answer self.old.book (arc_value plan) ≡ Some e)
-            ⊎ (deploy_answer self.old.book (arc_value plan) ≡ None) × ((e ≡ DeployRefusal.Full) ⊎ (e ≡ DeployRefusal.NoMemory))) }
-        ensures full { IsErrOf result DeployRefusal.Full ↔ (deploy_answer self.old.book (arc_value plan) ≡ None) × IsTrue (exceeds self.old.book 0) }
+        ensures does { Does (deploy (arc_value plan)) self.old.book self.new.book result }
+        ensures memory { AsksLast (deploy (arc_value plan)) self.old.book result }
+        ensures book { self.new ≡ with_book self.old self.new.book }
         ensures channels { OnOk result (length (arc_value plan).channels ≡ A.channels) }
-        ensures err { OnErr result (self.new ≡ self.old) }
     {
         three_sums();
         self.book.rules();
@@ -438,21 +427,20 @@ impl<A: Opening, T: Ledger, U: Ledger, S: RowStore<Addressed<Letter>>> Locked<A,
     ) -> Tidied
         requires { IsTrue (is_bookable judged.now.raw) }
         ensures tidying { IsTidying keep self.old result.tidying }
-        ensures entry { IfOk result.receipt (λ receipt. receipt.entry ≡ next_place (left_by self.old result.tidying).book) }
-        ensures conn { IfOk result.receipt (λ receipt. receipt.conn ≡ conn) }
-        ensures channel { IfOk result.receipt (λ receipt. receipt.channel ≡ judged.now.channel) }
-        ensures raw { IfOk result.receipt (λ receipt. receipt.raw ≡ judged.now.raw) }
-        ensures told { IfOk result.receipt (λ receipt.
-            answer (left_by self.old result.tidying).book judged.now.channel judged.now.raw ≡ Some receipt.told) }
-        ensures booked { IfOk result.receipt (λ receipt.
-            self.new ≡ with_book (left_by self.old result.tidying)
-            (followed_by (left_by self.old result.tidying).book (Entry.Arrival conn judged.now.channel judged.now.raw receipt.told))) }
+        ensures does { Does (arrive conn judged.now.channel judged.now.raw)
+            (left_by self.old result.tidying).book self.new.book (reply_of result.receipt) }
+        ensures memory { AsksLast (arrive conn judged.now.channel judged.now.raw)
+            (left_by self.old result.tidying).book (reply_of result.receipt) }
+        ensures book { self.new ≡ with_book (left_by self.old result.tidying) self.new.book }
+        ensures receipt { IfOk result.receipt
+            (IsReceipt (next_place (left_by self.old result.tidying).book)
+            conn judged.now.channel judged.now.raw) }
+        ensures plan { IsErrOf result.receipt NotBooked.PlanChanged
+            ↔ judged.now.plan ≢ plan_in_force (left_by self.old result.tidying).book }
+        ensures same_plan { IsErrOf result.receipt NotBooked.Full
+            → judged.now.plan ≡ plan_in_force (left_by self.old result.tidying).book }
         ensures counted { OnOk result.receipt (desk.new ≡ desk.old + 1) }
-        ensures plan { IsErrOf result.receipt NotBooked.PlanChanged ↔ judged.now.plan ≢ plan_in_force (left_by self.old result.tidying).book }
-        ensures full { IsErrOf result.receipt NotBooked.Full ↔
-            (judged.now.plan ≡ plan_in_force (left_by self.old result.tidying).book)
-            × IsTrue (is_full (left_by self.old result.tidying).book judged.now.channel judged.now.raw) }
-        ensures err { OnErr result.receipt ((self.new ≡ left_by self.old result.tidying) × (desk.new ≡ desk.old)) }
+        ensures err { OnErr result.receipt (desk.new ≡ desk.old) }
     {
         let tidying = self.tidy(keep);
         let receipt = self.arrive(desk, conn, judged);

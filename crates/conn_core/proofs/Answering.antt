@@ -1,13 +1,19 @@
 -- What becomes of a message, as the book says it.
-use Rattle.std.proofs.Common.{◌≡◌, ◌≢◌, List, [], ◌∷◌, Result, Ok, Err, IfOk, IfErr, OnErr, Some, IsTrue, refl}
+use Rattle.std.proofs.Common.{◌≡◌, ◌≢◌, ℕ, Bool, true, false, cond, List, [], ◌∷◌, Option, None, Some, Result, Ok, Err, IfOk, IfErr, OnErr, IsTrue, inl, inr, refl, sym, ◌∙◌, ap}
+use Rattle.std.specs.Option.{option_map_or}
 use Rattle.std.specs.Prelude.{IsErrOf, ◌↔◌}
+use Rattle.std.specs.Result.{is_ok, result_map_both}
 use Rattle.book_core.specs.declared.receipt.NotBooked.{NotBooked}
-use Rattle.book_core.specs.declared.receipt.NotBooked.TheVariants.{Full, PlanChanged}
+use Rattle.book_core.specs.declared.receipt.NotBooked.TheVariants.{Full, NoMemory, PlanChanged}
+use Rattle.book_core.specs.Refusing.{arrive_refusal}
 use Rattle.book_core.specs.declared.receipt.Receipt.{Receipt}
 use Rattle.event_log.specs.declared.entry.Told.{Told}
 use Rattle.event_log.specs.Answers.{answer}
+use Rattle.event_log.specs.Event.{AsksLast, Does, answer as event_answer, arrive}
+use Rattle.event_log.specs.Event as event
 use Rattle.event_log.specs.History.{History, plan_in_force}
 use Rattle.event_log.specs.Room.{is_full}
+use Rattle.event_log.proofs.Events.{arrival-full, arrival-room, arrival-told}
 use Rattle.judge_core.specs.Judging.{Judgement}
 use Rattle.conn_core.specs.Booking.{BookAnswers, receipts_of}
 use Rattle.conn_core.specs.Replies.{told_by}
@@ -38,6 +44,40 @@ module _ (book : History) (judged : Judgement) where
       → IfErr r (λ refusal. BookAnswers book judged (Err refusal))
   answers_refused (Ok receipt) plan full = tt
   answers_refused (Err refusal) plan full = record { told = tt; plan = exactly_told (Err refusal) PlanChanged plan; full = exactly_told (Err refusal) Full full }
+
+-- an arrival for which there is no room
+was-full : (h : History) (conn channel : ℕ) (raw : List ℕ) → event_answer h (arrive conn channel raw) ≡ Err event.full → is_full h channel raw ≡ true
+was-full h conn channel raw is = by (is_full h channel raw) (answer h channel raw) is
+  where
+    by : (b : Bool) (o : Option Told) → cond b (Err event.full) (option_map_or (λ t. Ok t) o (Err event.no_message)) ≡ Err event.full → b ≡ true
+    by true o e = refl
+    by false None e = absurd cc
+    by false (Some t) e = absurd cc
+
+-- what a call that does an arrival says of it
+module _ (book new : History) (judged : Judgement) (conn : ℕ) where
+  pub told_said : (r : Result Receipt NotBooked)
+      → Does (arrive conn judged.channel judged.raw) book new (result_map_both (λ (receipt : Receipt). receipt.told) arrive_refusal r)
+      → IfOk r (λ receipt. answer book judged.channel judged.raw ≡ Some receipt.told)
+  told_said (Ok receipt) does = arrival-told book conn judged.channel judged.raw receipt.told does.replied
+  told_said (Err refusal) does = tt
+
+  pub full_said : (r : Result Receipt NotBooked)
+      → Does (arrive conn judged.channel judged.raw) book new (result_map_both (λ (receipt : Receipt). receipt.told) arrive_refusal r)
+      → AsksLast (arrive conn judged.channel judged.raw) book (result_map_both (λ (receipt : Receipt). receipt.told) arrive_refusal r)
+      → (IsErrOf r PlanChanged ↔ judged.plan ≢ plan_in_force book) → (IsErrOf r Full → judged.plan ≡ plan_in_force book)
+      → IsErrOf r Full ↔ (judged.plan ≡ plan_in_force book) × IsTrue (is_full book judged.channel judged.raw)
+  full_said (Ok receipt) does last plan same =
+      (λ e. absurd cc, λ p. let none = sym p.1 ∙ arrival-room book conn judged.channel judged.raw receipt.told does.replied in absurd cc)
+  full_said (Err NoMemory) does last plan same =
+      (λ e. absurd cc, λ p. let none = sym (last refl) ∙ ap is_ok (arrival-full book conn judged.channel judged.raw p.1) in absurd cc)
+  full_said (Err Full) does last plan same =
+      let past : is_full book judged.channel judged.raw ≡ true = elim does.refused [
+        | inl is ↦ was-full book conn judged.channel judged.raw is
+        | inr other ↦ elim other [ inl x ↦ absurd cc | inr x ↦ absurd cc ]
+      ] in
+      (λ e. (same refl, past), λ p. refl)
+  full_said (Err PlanChanged) does last plan same = (λ e. absurd cc, λ p. absurd (plan.0 refl p.0))
 
 -- what holds of the one receipt, or of none, holds of the receipts that an outcome brings
 pub booked_in : (P : List Receipt → Type 0) (o : Result Receipt NotBooked) → IfOk o (λ r. P (r ∷ [])) → OnErr o (P []) → P (receipts_of o)

@@ -1,39 +1,26 @@
 -- What answers and events book.
-use Rattle.std.proofs.Common.{◌≡◌, ℕ, ◌+◌, Bool, true, false, cond, ◌==◌, nat_lt, List, [], ◌∷◌, ◌++◌, slice_get, Option, None, Some, Result, Ok, Err, refl, sym, ap, ◌∙◌, append_assoc, append-nil, eq-eqb}
+use Rattle.std.proofs.Common.{◌≡◌, ℕ, ◌+◌, true, false, cond, ◌==◌, List, [], ◌∷◌, ◌++◌, Option, None, Some, Result, Ok, Err, refl, sym, ap, ◌∙◌, append_assoc, append-nil, eq-eqb}
 use Rattle.std.specs.List.{cons_option}
-use Rattle.std.specs.Option.{is_none, option_map, option_map_or}
-use Rattle.std.specs.Result.{result_ok}
 use Rattle.std.proofs.lemmas.Bool.{ne_eqb}
 use Rattle.std.proofs.lemmas.List.Elements.{filter_map-append}
 use Rattle.book_core.specs.declared.receipt.NotBooked.{NotBooked}
-use Rattle.plan_text.specs.Entries.{IsPlan, PlanEntry}
-use Rattle.dest_queue.specs.declared.Outcome.{Outcome}
-use Rattle.dest_queue.specs.declared.SettleRefusal.{SettleRefusal}
-use Rattle.dest_queue.specs.declared.SlotState.{SlotState}
-use Rattle.dest_queue.specs.declared.SlotState.TheVariants.{Waiting, InFlight, Delivered, Failed}
 use Rattle.event_log.specs.declared.entry.Entry.{Entry}
-use Rattle.event_log.specs.declared.entry.Entry.TheVariants.{Arrival, Take, Settle, Cancel, Deploy}
-use Rattle.event_log.specs.declared.entry.Ticket.{Ticket}
+use Rattle.event_log.specs.declared.entry.Entry.TheVariants.{Arrival}
 use Rattle.event_log.specs.declared.entry.Told.{Told}
-use Rattle.event_log.specs.declared.refusal.TakeRefusal.{TakeRefusal}
-use Rattle.event_log.specs.declared.refusal.TakeRefusal.TheVariants.{Idle, NotDue}
-use Rattle.event_log.specs.declared.refusal.CancelRefusal.{CancelRefusal}
-use Rattle.event_log.specs.declared.refusal.DeployRefusal.{DeployRefusal}
-use Rattle.event_log.specs.Answers.{cancel_answer, settle_answer, take_answer, front_answer}
-use Rattle.event_log.specs.Deployment.{deploy_answer}
-use Rattle.event_log.specs.History.{History, followed_by, queue, slot}
+use Rattle.event_log.specs.History.{History, followed_by}
 use Rattle.event_log.specs.Legal.{IsLegal, MayFollow}
-use Rattle.event_log.specs.Replay.{next, asked, ended, planned, revoked}
-use Rattle.event_log.specs.Room.{exceeds}
+use Rattle.event_log.specs.Event as event
+use Rattle.event_log.specs.Event.{CanCome, Event, Refusal, Reply, after, entry_of, next}
+use Rattle.event_log.proofs.Events.{may-follow}
 use Rattle.event_log.proofs.Following.{legal-followed_by}
 use Rattle.conn_core.specs.Messages.{BookedMessage, booked, booked_with}
 use Rattle.conn_core.specs.Replies.{Answer}
 use Rattle.engine_model.specs.Run.{arrival_on, arrivals}
-use Rattle.engine_model.specs.Steps.{AreAnswered, MayBeTold, after_answer, after_answers, history_with}
+use Rattle.engine_model.specs.Steps.{AreAnswered, IsNoArrival, IsOutcome, after_answer, after_answers, history_with}
 
 -- ---- answers
 
-legal-answer : (conn channel : ℕ) (h : History) (raw : List ℕ) (outcome : Result Told NotBooked) → IsLegal h → MayBeTold h channel raw outcome → IsLegal (history_with conn channel h raw outcome)
+legal-answer : (conn channel : ℕ) (h : History) (raw : List ℕ) (outcome : Result Told NotBooked) → IsLegal h → IsOutcome conn channel h raw outcome → IsLegal (history_with conn channel h raw outcome)
 legal-answer conn channel h raw (Ok told) legal may = legal-followed_by h (Arrival conn channel raw told) legal may
 legal-answer conn channel h raw (Err refusal) legal may = legal
 
@@ -94,50 +81,18 @@ brings_none h e legal may none =
       arrivals = λ conn. arrivals-followed_by conn h e ∙ ap (λ o. arrivals conn h ++ cons_option o []) (none conn) ∙ append-nil (arrivals conn h);
     }
 
-front_answer-for : (d now n : ℕ) (o : Option SlotState) (ticket : Ticket) → front_answer d now n o ≡ Ok ticket → ticket.destination ≡ d
-front_answer-for d now n None ticket e = absurd cc
-front_answer-for d now n (Some (Waiting attempts due)) ticket e =
-    elim (nat_lt now due) as (λ b. cond b (Err (NotDue due)) (Ok (record { number = n; destination = d; attempt = attempts + 1 })) ≡ Ok ticket → ticket.destination ≡ d) [
-      | true ↦ λ f. absurd cc
-      | false ↦ λ f. let same : record { number = n; destination = d; attempt = attempts + 1 } ≡ ticket = cc in ap (λ (t : Ticket). t.destination) (sym same)
-    ] e
-front_answer-for d now n (Some (InFlight attempt)) ticket e = absurd cc
-front_answer-for d now n (Some Delivered) ticket e = absurd cc
-front_answer-for d now n (Some (Failed cause)) ticket e = absurd cc
+no-arrival : (e : Event) → IsNoArrival e → (reply : Reply e) (conn : ℕ) → arrival_on conn (entry_of e reply) ≡ None
+no-arrival (event.arrive conn channel raw) none reply on = absurd none
+no-arrival (event.take d now) none reply on = refl
+no-arrival (event.settle ticket outcome now) none reply on = refl
+no-arrival (event.cancel number) none reply on = refl
+no-arrival (event.deploy plan) none reply on = refl
 
--- a ticket is for the destination that was asked
-pub take-for : (h : History) (d now : ℕ) (ticket : Ticket) → take_answer h d now ≡ Ok ticket → ticket.destination ≡ d
-take-for h d now ticket is = by (slice_get (queue h d) 0) is
+-- an event that is possible, but no arrival
+pub event-keeps : (h : History) (e : Event) → IsNoArrival e → CanCome e → IsLegal h → BringsNone h (next h e)
+event-keeps h e none possible legal = by (event.answer h e) refl
   where
-    by : (o : Option ℕ) → option_map_or (λ n. front_answer d now n (slot h n d)) o (Err Idle) ≡ Ok ticket → ticket.destination ≡ d
-    by None is = absurd cc
-    by (Some n) is = front_answer-for d now n (slot h n d) ticket is
-
-pub taking-keeps : (h : History) (d now : ℕ) → IsLegal h → BringsNone h (next h (asked d now))
-taking-keeps h d now legal = by (take_answer h d now) refl
-  where
-    by : (o : Result Ticket TakeRefusal) → take_answer h d now ≡ o → BringsNone h (option_map_or (λ e. followed_by h e) (option_map (λ ticket. Take ticket now) (result_ok o)) h)
-    by (Ok ticket) is = brings_none h (Take ticket now) legal (ap (λ n. take_answer h n now) (take-for h d now ticket is) ∙ is) (λ conn. refl)
+    by : (o : Result (Reply e) (Refusal e)) → event.answer h e ≡ o → BringsNone h (after h e o)
+    by (Ok reply) is = brings_none h (entry_of e reply) legal (may-follow h e reply possible is) (no-arrival e none reply)
     by (Err refusal) is = record { legal = legal; arrivals = λ conn. refl }
 
-pub settling-keeps : (h : History) (ticket : Ticket) (outcome : Outcome) (now : ℕ) → IsLegal h → BringsNone h (next h (ended ticket outcome now))
-settling-keeps h ticket outcome now legal = by (settle_answer h ticket outcome now) refl
-  where
-    by : (o : Result SlotState SettleRefusal) → settle_answer h ticket outcome now ≡ o → BringsNone h (option_map_or (λ e. followed_by h e) (option_map (λ state. Settle outcome ticket now state) (result_ok o)) h)
-    by (Ok state) is = brings_none h (Settle outcome ticket now state) legal is (λ conn. refl)
-    by (Err refusal) is = record { legal = legal; arrivals = λ conn. refl }
-
-pub deploying-keeps : (h : History) (plan : PlanEntry) → IsPlan plan → IsLegal h → BringsNone h (next h (planned plan))
-deploying-keeps h plan good legal = by (exceeds h 0) (deploy_answer h plan) refl refl
-  where
-    by : (b : Bool) (o : Option DeployRefusal) → exceeds h 0 ≡ b → deploy_answer h plan ≡ o → BringsNone h (option_map_or (λ e. followed_by h e) (cond b None (cond (is_none o) (Some (Deploy plan)) None)) h)
-    by true o full is = record { legal = legal; arrivals = λ conn. refl }
-    by false None full is = brings_none h (Deploy plan) legal (record { good = good; allowed = is; room = full }) (λ conn. refl)
-    by false (Some refusal) full is = record { legal = legal; arrivals = λ conn. refl }
-
-pub cancelling-keeps : (h : History) (number : ℕ) → IsLegal h → BringsNone h (next h (revoked number))
-cancelling-keeps h number legal = by (cancel_answer h number) refl
-  where
-    by : (o : Result ℕ CancelRefusal) → cancel_answer h number ≡ o → BringsNone h (option_map_or (λ e. followed_by h e) (option_map (λ mask. Cancel number mask) (result_ok o)) h)
-    by (Ok mask) is = brings_none h (Cancel number mask) legal is (λ conn. refl)
-    by (Err refusal) is = record { legal = legal; arrivals = λ conn. refl }

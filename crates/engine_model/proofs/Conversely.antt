@@ -17,7 +17,7 @@ use Rattle.engine_model.proofs.Reaching.{reaches}
 
 -- the text of an arrival that was booked came in a block
 pub came : (h : History) (place : ℕ) (e : Entry) → IsLegal h → Some e ≡ slice_get h.entries place → CameInBlock e
-came h place (Arrival conn channel raw told) legal at = (follows-since h legal place (Arrival conn channel raw told) (sym at)).fits.plain
+came h place (Arrival conn channel raw told) legal at = (follows-since h legal place (Arrival conn channel raw told) (sym at)).possible.plain
 came h place (Take ticket now) legal at = tt
 came h place (Settle outcome ticket now state) legal at = tt
 came h place (Cancel number mask) legal at = tt

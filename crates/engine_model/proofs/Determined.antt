@@ -12,22 +12,23 @@ use Rattle.conn_core.proofs.Numbering.{numbered-append}
 use Rattle.engine_model.proofs.Duly.{dues-append}
 use Rattle.engine_model.specs.Run.{Connection}
 use Rattle.engine_model.specs.Promise.{IsFrontOf, NoneLacked}
-use Rattle.engine_model.specs.Steps.{AreAnswered, MayBeTold, ReadsOn, RepliesFront, after_answer, after_answers}
+use Rattle.event_log.proofs.Events.{arrival-room, arrival-told}
+use Rattle.engine_model.specs.Steps.{AreAnswered, IsOutcome, ReadsOn, RepliesFront, after_answer, after_answers}
 
 abbrev raws : List Answer → List (List ℕ)
 raws answers = map (λ (a : Answer). a.raw) answers
 
-outcome-same : (h : History) (channel : ℕ) (raw : List ℕ) (o p : Result Told NotBooked) → MayBeTold h channel raw o → MayBeTold h channel raw p → o ≢ Err NoMemory → p ≢ Err NoMemory → o ≡ p
-outcome-same h channel raw (Ok s) (Ok t) one two some some' = let same : s ≡ t = same_Some s t (sym one.answered ∙ two.answered) in ap (λ t. Ok t) same
-outcome-same h channel raw (Ok s) (Err NoMemory) one two some some' = absurd (some' refl)
-outcome-same h channel raw (Ok s) (Err Full) one two some some' = let room = one.room in absurd cc
-outcome-same h channel raw (Ok s) (Err PlanChanged) one two some some' = absurd two
-outcome-same h channel raw (Err NoMemory) p one two some some' = absurd (some refl)
-outcome-same h channel raw (Err Full) (Ok t) one two some some' = let room = two.room in absurd cc
-outcome-same h channel raw (Err Full) (Err NoMemory) one two some some' = absurd (some' refl)
-outcome-same h channel raw (Err Full) (Err Full) one two some some' = refl
-outcome-same h channel raw (Err Full) (Err PlanChanged) one two some some' = absurd two
-outcome-same h channel raw (Err PlanChanged) p one two some some' = absurd one
+outcome-same : (conn : ℕ) (h : History) (channel : ℕ) (raw : List ℕ) (o p : Result Told NotBooked) → IsOutcome conn channel h raw o → IsOutcome conn channel h raw p → o ≢ Err NoMemory → p ≢ Err NoMemory → o ≡ p
+outcome-same conn h channel raw (Ok s) (Ok t) one two some some' = let same : s ≡ t = same_Some s t (sym (arrival-told h conn channel raw s one.replied) ∙ arrival-told h conn channel raw t two.replied) in ap (λ t. Ok t) same
+outcome-same conn h channel raw (Ok s) (Err NoMemory) one two some some' = absurd (some' refl)
+outcome-same conn h channel raw (Ok s) (Err Full) one two some some' = let room = arrival-room h conn channel raw s one.replied in absurd cc
+outcome-same conn h channel raw (Ok s) (Err PlanChanged) one two some some' = absurd two
+outcome-same conn h channel raw (Err NoMemory) p one two some some' = absurd (some refl)
+outcome-same conn h channel raw (Err Full) (Ok t) one two some some' = let room = arrival-room h conn channel raw t two.replied in absurd cc
+outcome-same conn h channel raw (Err Full) (Err NoMemory) one two some some' = absurd (some' refl)
+outcome-same conn h channel raw (Err Full) (Err Full) one two some some' = refl
+outcome-same conn h channel raw (Err Full) (Err PlanChanged) one two some some' = absurd two
+outcome-same conn h channel raw (Err PlanChanged) p one two some some' = absurd one
 
 answer-same : (a b : Answer) → a.raw ≡ b.raw → a.outcome ≡ b.outcome → a.moment ≡ b.moment → a ≡ b
 answer-same a b one two three =
@@ -42,7 +43,7 @@ answers-same conn channel now h (x ∷ xs) [] same one two some some' = absurd c
 answers-same conn channel now h (x ∷ xs) (y ∷ ys) same one two some some' =
     let raw : x.raw ≡ y.raw = cc in
     let rest : raws xs ≡ raws ys = cc in
-    let outcome : x.outcome ≡ y.outcome = outcome-same h channel x.raw x.outcome y.outcome one.0 (subst (λ r. MayBeTold h channel r y.outcome) (sym raw) two.0) some.0 some'.0 in
+    let outcome : x.outcome ≡ y.outcome = outcome-same conn h channel x.raw x.outcome y.outcome one.0 (subst (λ r. IsOutcome conn channel h r y.outcome) (sym raw) two.0) some.0 some'.0 in
     let is : x ≡ y = answer-same x y raw outcome (one.1 ∙ sym two.1) in
     let onward : AreAnswered conn channel now (after_answer conn channel h x) ys = subst (λ (a : Answer). AreAnswered conn channel now (after_answer conn channel h a) ys) (sym is) two.2 in
     ap (λ a. a ∷ xs) is ∙ ap (λ l. y ∷ l) (answers-same conn channel now (after_answer conn channel h x) xs ys rest one.2 onward some.1 some'.1)

@@ -8,6 +8,7 @@ use Rattle.book_core.specs.declared.receipt.Receipt.{Receipt}
 use Rattle.event_log.specs.declared.entry.Entry.TheVariants.{Arrival}
 use Rattle.event_log.specs.declared.entry.Told.{Told}
 use Rattle.event_log.specs.History.{History, followed_by, plan_in_force}
+use Rattle.event_log.proofs.Events.{arrivable-follows}
 use Rattle.event_log.proofs.Following.{plan-kept_all}
 use Rattle.event_log.specs.Room.{is_full}
 use Rattle.judge_core.specs.Judging.{Judgement, is_bookable}
@@ -19,7 +20,7 @@ use Rattle.conn_core.specs.Replies.{Answer, answer_to, dues, dues_of, numbered, 
 use Rattle.engine_model.proofs.Duly.{dues-append}
 use Rattle.engine_model.specs.declared.connection.Answered.{Answered}
 use Rattle.engine_model.specs.declared.connection.Words.{Words}
-use Rattle.engine_model.specs.Steps.{MayBeTold, EndsWithin, history_with}
+use Rattle.engine_model.specs.Steps.{IsOutcome, EndsWithin, history_with}
 use Rattle.engine_model.specs.Amid.{Amid}
 use Rattle.engine_model.specs.Handling.{Handles, HandlesFront, IsBooked, IsCounted, answer_of, answer_with, said}
 use Rattle.engine_model.proofs.Amidst.{amid-answered, amid-cut, amid-ends, amid-passed}
@@ -50,7 +51,7 @@ module _ (conn channel now : ℕ) (raw : List ℕ) (outcome : Result Told NotBoo
   -- a message that was answered
   pub handles-message : w'.replies.bytes.items ≡ w.replies.bytes.items ++ numbered conn (w.replies.made + 1) (dues_of a) → Handles conn channel now (block raw ∷ []) h h' w w'
   handles-message output handled from c stream same amid =
-      let may : MayBeTold h c.channel raw outcome = subst (λ n. MayBeTold h n raw outcome) (sym same) books.may in
+      let may : IsOutcome conn c.channel h raw outcome = subst (λ n. IsOutcome conn n h raw outcome) (sym same) books.may in
       let is : history_with conn c.channel h raw outcome ≡ h' = ap (λ n. history_with conn n h raw outcome) same ∙ sym books.booked in
       subst (λ g. Amid conn now (handled ++ block raw ∷ []) from g c (said channel stream false w')) is
       (amid-answered conn now handled from h c (said channel stream false w) amid (block raw) raw outcome (brings raw bookable) may (said channel stream false w')
@@ -59,7 +60,7 @@ module _ (conn channel now : ℕ) (raw : List ℕ) (outcome : Result Told NotBoo
   -- or with the first of its acknowledgments, as the connection has to end
   pub handles-cut : (count : ℕ) → w'.replies.bytes.items ≡ w.replies.bytes.items ++ numbered conn (w.replies.made + 1) (take count (dues_of a)) → HandlesFront conn channel now (block raw ∷ []) h h' w w'
   handles-cut count output handled later from c bytes same amid are =
-      let may : MayBeTold h c.channel raw outcome = subst (λ n. MayBeTold h n raw outcome) (sym same) books.may in
+      let may : IsOutcome conn c.channel h raw outcome = subst (λ n. IsOutcome conn n h raw outcome) (sym same) books.may in
       let is : history_with conn c.channel h raw outcome ≡ h' = ap (λ n. history_with conn n h raw outcome) same ∙ sym books.booked in
       subst (λ g. EndsWithin conn bytes now from g c (said channel (c.stream ++ bytes) true w')) is
       (amid-cut conn now handled from h c (said channel (c.stream ++ bytes) false w) amid (block raw) raw outcome (brings raw bookable) may bytes later
@@ -128,7 +129,7 @@ module _ (conn now : ℕ) (j : Judgement) (h h' : History) (old new : List Answe
       → map answer_of new ≡ map answer_of old ++ answer_with j.raw (told_by o) now ∷ [] → IsBooked conn j.channel now j.raw (told_by o) h h' old new
   is_booked (Ok r) is more none told refused kept =
       record {
-        may = record { fits = data_is; room = room_left h j.channel j.raw (λ f. let e = told.full.1 (same, f) in absurd cc); answered = told.told };
+        may = arrivable-follows h conn j.channel j.raw r.told (record { fits = data_is; room = room_left h j.channel j.raw (λ f. let e = told.full.1 (same, f) in absurd cc); answered = told.told });
         booked =
             more.history
             ∙ ap (λ c. followed_by h (Arrival c r.channel r.raw r.told)) is.0

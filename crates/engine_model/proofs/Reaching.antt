@@ -1,8 +1,6 @@
 -- A legal history comes of the steps made of its entries.
 use Rattle.std.proofs.Common.{◌≡◌, ℕ, ◌+◌, ◌<◌, ◌≤◌, Bool, true, false, cond, zero, suc, List, [], ◌∷◌, ◌++◌, length, map, take, set, slice_get, Option, None, Some, Ok, inl, inr, refl, sym, ap, ◌∙◌, subst, append_assoc, append-nil, length-append, arith}
 use Rattle.std.specs.List.{cons_option}
-use Rattle.std.specs.Option.{option_map, option_map_or}
-use Rattle.std.specs.Result.{result_ok}
 use Rattle.std.proofs.lemmas.List.Elements.{filter_map-append}
 use Rattle.mllp_frame.specs.Event.{block}
 use Rattle.mllp_frame.specs.Framing.{block_bytes, blocks, open_end}
@@ -13,9 +11,9 @@ use Rattle.event_log.specs.declared.entry.Entry.TheVariants.{Arrival, Take, Sett
 use Rattle.event_log.specs.declared.entry.Told.{Told}
 use Rattle.event_log.specs.Answers.{answer}
 use Rattle.event_log.specs.History.{History, followed_by}
-use Rattle.event_log.specs.Legal.{IsLegal, MayArrive, MayFollow}
+use Rattle.event_log.specs.Legal.{IsLegal, MayFollow}
+use Rattle.event_log.proofs.Events.{arrival-told, next-again}
 use Rattle.event_log.proofs.Following.{follows-since, take-below, take-whole}
-use Rattle.event_log.proofs.Rerun.{answered-again}
 use Rattle.conn_core.specs.Messages.{message_of, messages, messages_of}
 use Rattle.conn_core.specs.Replies.{Answer, dues, numbered}
 use Rattle.engine_model.specs.Run.{Connection, Run, silent, started}
@@ -64,7 +62,7 @@ module _ (channels : List ℕ) (n : ℕ) (r : Run) (ready : AllReady channels n 
   still : (h' : History) → AllReady channels (n + 1) (with_history r h')
   still h' conn channel at = let x = ready conn channel at in let y = later n x in record { c = y.c; at = y.at; ready = y.ready }
 
-  module _ (conn : ℕ) (raw : List ℕ) (told : Told) (c : Connection) (at : slice_get r.connections conn ≡ Some c) (c_is : Ready c.channel n c) (may : MayArrive r.history c.channel raw told) (few : n + 1 < frame_events_max) where
+  module _ (conn : ℕ) (raw : List ℕ) (told : Told) (c : Connection) (at : slice_get r.connections conn ≡ Some c) (c_is : Ready c.channel n c) (may : MayFollow r.history (Arrival conn c.channel raw told)) (few : n + 1 < frame_events_max) where
     abbrev new : Answer
     new = record { raw = raw; outcome = Ok told; moment = 0 }
 
@@ -75,7 +73,7 @@ module _ (channels : List ℕ) (n : ℕ) (r : Run) (ready : AllReady channels n 
     heard = record { history = followed_by r.history (Arrival conn c.channel raw told); connections = set r.connections conn grown; folded = r.folded }
 
     events : blocks (c.stream ++ block_bytes raw) ≡ blocks c.stream ++ block raw ∷ []
-    events = block_behind c.stream raw c_is.outside may.fits
+    events = block_behind c.stream raw c_is.outside may.possible
 
     counted : length (blocks (c.stream ++ block_bytes raw)) ≤ n + 1
     counted = let before : length (blocks c.stream) ≤ n = c_is.few in omega (arith, ap length events, length-append (blocks c.stream) (block raw ∷ []))
@@ -91,7 +89,7 @@ module _ (channels : List ℕ) (n : ℕ) (r : Run) (ready : AllReady channels n 
       each_once =
           ap messages_of events
           ∙ filter_map-append message_of (blocks c.stream) (block raw ∷ [])
-          ∙ ap (λ b. messages c.stream ++ cons_option (cond b (Some raw) None) []) (bookable r.history c.channel raw told may.answered);
+          ∙ ap (λ b. messages c.stream ++ cons_option (cond b (Some raw) None) []) (bookable r.history c.channel raw told (arrival-told r.history conn c.channel raw told may.replied));
       output = refl;
       stays = refl;
       within = omega (arith, counted, few);
@@ -103,7 +101,7 @@ module _ (channels : List ℕ) (n : ℕ) (r : Run) (ready : AllReady channels n 
         (subst (λ b. HearsIf b conn (block_bytes raw) 0 r heard c) (sym c_is.stays) (record { to = grown; only = refl; stays = refl; does = inl reads }))
 
     grown-ready : Ready c.channel (n + 1) grown
-    grown-ready = record { channel_is = refl; stays = refl; outside = nothing_open_behind c.stream raw c_is.outside may.fits; few = counted }
+    grown-ready = record { channel_is = refl; stays = refl; outside = nothing_open_behind c.stream raw c_is.outside may.possible; few = counted }
 
     heard-ready : slice_get channels conn ≡ Some c.channel → AllReady channels (n + 1) heard
     heard-ready mine k channel got =
@@ -121,13 +119,13 @@ module _ (channels : List ℕ) (n : ℕ) (r : Run) (ready : AllReady channels n 
     reached : slice_get channels conn ≡ Some c.channel → Reached channels n r (Arrival conn c.channel raw told)
     reached mine = record { to = heard; steps = hears; history = refl; ready = heard-ready mine }
 
-  arrived : (conn channel : ℕ) (raw : List ℕ) (told : Told) → slice_get channels conn ≡ Some channel → MayArrive r.history channel raw told → n + 1 < frame_events_max → Reached channels n r (Arrival conn channel raw told)
+  arrived : (conn channel : ℕ) (raw : List ℕ) (told : Told) → slice_get channels conn ≡ Some channel → MayFollow r.history (Arrival conn channel raw told) → n + 1 < frame_events_max → Reached channels n r (Arrival conn channel raw told)
   arrived conn channel raw told mine may few =
       let x = ready conn channel mine in
       let is : x.c.channel ≡ channel = x.ready.channel_is in
       let own : Ready x.c.channel n x.c = subst (λ m. Ready m n x.c) (sym is) x.ready in
       subst (λ m. Reached channels n r (Arrival conn m raw told)) is
-      (reached conn raw told x.c x.at own (subst (λ m. MayArrive r.history m raw told) (sym is) may) few (mine ∙ ap (λ m. Some m) (sym is)))
+      (reached conn raw told x.c x.at own (subst (λ m. MayFollow r.history (Arrival conn m raw told)) (sym is) may) few (mine ∙ ap (λ m. Some m) (sym is)))
 
   -- each entry that may follow comes of its step
   step : (e : Entry) → MayFollow r.history e → ((conn channel : ℕ) (raw : List ℕ) (told : Told) → e ≡ Arrival conn channel raw told → slice_get channels conn ≡ Some channel) → n + 1 < frame_events_max → Reached channels n r e
@@ -135,28 +133,28 @@ module _ (channels : List ℕ) (n : ℕ) (r : Run) (ready : AllReady channels n 
   step (Take ticket now) may keeps few =
       record {
         to = with_history r (followed_by r.history (Take ticket now));
-        steps = inl (ap (λ o. with_history r (option_map_or (λ e. followed_by r.history e) (option_map (λ t. Take t now) (result_ok o)) r.history)) (sym may));
+        steps = (tt, inl (tt, ap (with_history r) (sym (next-again r.history (Take ticket now) may))));
         history = refl;
         ready = still (followed_by r.history (Take ticket now));
       }
   step (Settle outcome ticket now state) may keeps few =
       record {
         to = with_history r (followed_by r.history (Settle outcome ticket now state));
-        steps = ap (λ o. with_history r (option_map_or (λ e. followed_by r.history e) (option_map (λ s. Settle outcome ticket now s) (result_ok o)) r.history)) (sym may);
+        steps = (tt, inl (tt, ap (with_history r) (sym (next-again r.history (Settle outcome ticket now state) may))));
         history = refl;
         ready = still (followed_by r.history (Settle outcome ticket now state));
       }
   step (Cancel number mask) may keeps few =
       record {
         to = with_history r (followed_by r.history (Cancel number mask));
-        steps = inl (ap (λ o. with_history r (option_map_or (λ e. followed_by r.history e) (option_map (λ m. Cancel number m) (result_ok o)) r.history)) (sym may));
+        steps = (tt, inl (tt, ap (with_history r) (sym (next-again r.history (Cancel number mask) may))));
         history = refl;
         ready = still (followed_by r.history (Cancel number mask));
       }
   step (Deploy plan) may keeps few =
       record {
         to = with_history r (followed_by r.history (Deploy plan));
-        steps = inl (may.good, ap (λ o. with_history r (option_map_or (λ e. followed_by r.history e) o r.history)) (sym (answered-again r.history (Deploy plan) may)));
+        steps = (tt, inl (may.possible, ap (with_history r) (sym (next-again r.history (Deploy plan) may))));
         history = refl;
         ready = still (followed_by r.history (Deploy plan));
       }

@@ -6,13 +6,13 @@ use Rattle.plan_text.specs.Entries.{PlanEntry}
 use Rattle.event_log.proofs.Following.{legal-since}
 use Rattle.event_log.specs.Folding.{pruned}
 use Rattle.event_log.specs.History.{History, Opening, begun, blank}
-use Rattle.event_log.specs.Replay.{next, asked, ended, revoked, planned}
+use Rattle.event_log.specs.Event.{next}
 use Rattle.conn_core.specs.Messages.{booked}
 use Rattle.engine_model.specs.Run.{Connection, Run, booked_since, folded_at, opened, silent, started}
-use Rattle.engine_model.specs.Turn.{Turn, chunk, taking, settling, cancelling, deploying, pruning}
+use Rattle.engine_model.specs.Turn.{Turn, chunk, event, prune}
 use Rattle.engine_model.specs.Steps.{Runs, Steps, folded_run, with_history}
 use Rattle.engine_model.specs.Promise.{AreRead, AreWritten, KeepsItsWord}
-use Rattle.engine_model.proofs.Booking.{BringsNone, cancelling-keeps, deploying-keeps, settling-keeps, taking-keeps}
+use Rattle.engine_model.proofs.Booking.{BringsNone, event-keeps}
 use Rattle.engine_model.proofs.Hearing.{hears_at}
 
 -- an event that brings no arrival
@@ -56,24 +56,12 @@ folding-keeps bound r word =
 
 pub step-keeps : (step : Turn) (r r' : Run) → KeepsItsWord r → Steps step r r' → KeepsItsWord r'
 step-keeps (chunk conn bytes now) r r' word does = hears_at (slice_get r.connections conn) conn bytes now r r' refl does word
-step-keeps (taking d now) r r' word does =
-    elim does [
-      | inl is ↦ subst KeepsItsWord (sym is) (quiet r (next r.history (asked d now)) (taking-keeps r.history d now word.legal) word)
-      | inr is ↦ subst KeepsItsWord (sym is) word
+step-keeps (event e) r r' word does =
+    elim does.1 [
+      | inl is ↦ subst KeepsItsWord (sym is.1) (quiet r (next r.history e) (event-keeps r.history e does.0 is.0 word.legal) word)
+      | inr is ↦ subst KeepsItsWord (sym is.1) word
     ]
-step-keeps (settling ticket outcome now) r r' word does =
-    subst KeepsItsWord (sym does) (quiet r (next r.history (ended ticket outcome now)) (settling-keeps r.history ticket outcome now word.legal) word)
-step-keeps (cancelling number) r r' word does =
-    elim does [
-      | inl is ↦ subst KeepsItsWord (sym is) (quiet r (next r.history (revoked number)) (cancelling-keeps r.history number word.legal) word)
-      | inr is ↦ subst KeepsItsWord (sym is) word
-    ]
-step-keeps (deploying plan) r r' word does =
-    elim does [
-      | inl is ↦ subst KeepsItsWord (sym is.1) (quiet r (next r.history (planned plan)) (deploying-keeps r.history plan is.0 word.legal) word)
-      | inr is ↦ subst KeepsItsWord (sym is) word
-    ]
-step-keeps (pruning bound) r r' word does =
+step-keeps (prune bound) r r' word does =
     elim does [
       | inl is ↦ subst KeepsItsWord (sym is.1) (folding-keeps bound r word)
       | inr is ↦ subst KeepsItsWord (sym is) word

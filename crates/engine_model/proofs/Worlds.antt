@@ -1,34 +1,28 @@
 -- What the calls of a world are, as steps of a run.
-use Rattle.std.proofs.Common.{◌≡◌, ℕ, zero, suc, ◌+◌, ◌<◌, true, false, Bool, List, [], ◌∷◌, ◌++◌, All, length, map, take, drop, set, get_or, slice_get, None, Some, Result, Ok, Err, OnErr, OnOk, IfOk, inl, inr, refl, sym, ap, ◌∙◌, subst, append-nil, arith}
+use Rattle.std.proofs.Common.{◌≡◌, ℕ, zero, suc, ◌+◌, ◌<◌, true, false, Bool, List, [], ◌∷◌, ◌++◌, All, length, map, take, drop, set, get_or, slice_get, None, Some, Result, Ok, Err, OnOk, inl, inr, refl, sym, ap, ◌∙◌, subst, append-nil, arith}
 use Rattle.std.specs.List.{AllByRecursion}
-use Rattle.std.specs.Option.{option_map, option_map_or}
-use Rattle.std.specs.Result.{is_ok, result_ok}
+use Rattle.std.specs.Option.{option_map}
+use Rattle.std.specs.Result.{is_ok}
 use Rattle.std.proofs.lemmas.List.{drop_all, length-map, map-append, take_more}
 use Rattle.std.proofs.lemmas.List.Elements.{recursion_from_All}
 use Rattle.plan_text.specs.Entries.{PlanEntry}
-use Rattle.book_core.specs.declared.letter.Job.{Job}
-use Rattle.dest_queue.specs.declared.Outcome.{Outcome}
-use Rattle.dest_queue.specs.declared.SettleRefusal.{SettleRefusal}
-use Rattle.dest_queue.specs.declared.SlotState.{SlotState}
 use Rattle.event_log.specs.declared.entry.Entry.{Entry}
 use Rattle.event_log.specs.declared.entry.Entry.TheVariants.{Cancel, Deploy, Settle, Take}
-use Rattle.event_log.specs.declared.entry.Ticket.{Ticket}
-use Rattle.event_log.specs.declared.refusal.CancelRefusal.{CancelRefusal}
-use Rattle.event_log.specs.declared.refusal.DeployRefusal.{DeployRefusal}
-use Rattle.event_log.specs.declared.refusal.TakeRefusal.{TakeRefusal}
-use Rattle.event_log.specs.Answers.{cancel_answer, settle_answer, take_answer}
+use Rattle.event_log.specs.Answers.{settle_answer}
+use Rattle.event_log.specs.Event.{Does, Event, Refusal, Reply, entry_of}
+use Rattle.event_log.specs.Event as event
 use Rattle.event_log.specs.Folding.{prune_answer, pruned}
 use Rattle.event_log.specs.History.{History, deployed_by, followed_by, opened_by, plan_in_force}
-use Rattle.event_log.specs.Legal.{MayFollow}
 use Rattle.event_log.proofs.Deploying.{channels-same}
+use Rattle.event_log.proofs.Events.{deployable, does-follow, next-is, next-same}
 use Rattle.event_log.proofs.Following.{plan-followed_by, plan-kept, take-whole}
-use Rattle.event_log.proofs.Rerun.{answered-again}
 use Rattle.engine_model.specs.declared.connection.Connected.{Connected}
 use Rattle.engine_model.specs.Handling.{HearsOn, answer_of}
 use Rattle.engine_model.specs.Promise.{KeepsItsWord}
 use Rattle.engine_model.specs.Run.{Connection, Run, opened, silent}
-use Rattle.engine_model.specs.Steps.{HearsAt, HearsIf, Runs, Steps, folded_run}
-use Rattle.engine_model.specs.Turn.{Turn, chunk, taking, settling, cancelling, deploying, pruning}
+use Rattle.engine_model.specs.Steps.{Happens, HearsAt, HearsIf, IsNoArrival, Runs, Steps, folded_run}
+use Rattle.engine_model.specs.Turn as turn
+use Rattle.engine_model.specs.Turn.{Turn, chunk}
 use Rattle.engine_model.specs.View.{IsFit, IsOpen, IsWorld, connection_of, run_of, with_folded}
 use Rattle.engine_model.proofs.Stepping.{opened-keeps, runs-append, step-keeps}
 
@@ -39,42 +33,40 @@ runs-more f xs i x r between r' inside is one two =
     let grown : map f (take (i + 1) xs) ≡ map f (take i xs) ++ f x ∷ [] = ap (map f) (take_more xs i x inside) ∙ map-append f (take i xs) (get_or xs i x ∷ []) ∙ ap (λ y. map f (take i xs) ++ f y ∷ []) (sym is) in
     subst (λ l. Runs l r r') (sym grown) (runs-append (map f (take i xs)) (f x ∷ []) r between r' one (r', two, refl))
 
--- ---- take, settle and cancel
+-- ---- an event
 
--- what a book makes of a take
-pub took : (h h' : History) (cs : List Connected) (d now : ℕ) (o : Result Job TakeRefusal) → IfOk o (λ job. take_answer h d now ≡ Ok job.ticket) → IfOk o (λ job. h' ≡ followed_by h (Take job.ticket now)) → OnErr o (h' ≡ h)
-    → Steps (taking d now) (run_of h cs) (run_of h' cs)
-took h h' cs d now (Ok job) answered booked left =
-    inl (ap (λ g. run_of g cs) (booked ∙ ap (λ o. option_map_or (λ e. followed_by h e) (option_map (λ t. Take t now) (result_ok o)) h) (sym answered)))
-took h h' cs d now (Err e) answered booked left = inr (ap (λ g. run_of g cs) left)
+-- what a book makes of an event
+pub does-step : (e : Event) → IsNoArrival e → (h h' : History) (cs : List Connected) (o : Result (Reply e) (Refusal e)) → Does e h h' o → Steps (turn.event e) (run_of h cs) (run_of h' cs)
+does-step e none h h' cs (Ok reply) does = (none, inl (does.possible, ap (λ g. run_of g cs) (does.booked ∙ sym (next-is h e reply does.replied))))
+does-step e none h h' cs (Err refusal) does = (none, by e none refusal does)
+  where
+    by : (e : Event) → IsNoArrival e → (refusal : Refusal e) → Does e h h' (Err refusal) → Happens e (run_of h cs) (run_of h' cs)
+    by (event.arrive conn channel raw) none refusal does = absurd none
+    by (event.settle ticket outcome now) none refusal does =
+        let said : settle_answer h ticket outcome now ≡ Err refusal = elim does.refused [
+          | inl is ↦ is
+          | inr other ↦ elim other [ inl x ↦ absurd x | inr x ↦ absurd x ]
+        ] in
+        inl (tt, ap (λ g. run_of g cs) (does.unchanged ∙ sym (next-same h (event.settle ticket outcome now) refusal said)))
+    by (event.take d now) none refusal does = inr (tt, ap (λ g. run_of g cs) does.unchanged)
+    by (event.cancel number) none refusal does = inr (tt, ap (λ g. run_of g cs) does.unchanged)
+    by (event.deploy plan) none refusal does = inr (tt, ap (λ g. run_of g cs) does.unchanged)
 
--- of a settlement
-pub settled : (h h' : History) (cs : List Connected) (ticket : Ticket) (outcome : Outcome) (now : ℕ) (o : Result SlotState SettleRefusal) → o ≡ settle_answer h ticket outcome now
-    → IfOk o (λ state. h' ≡ followed_by h (Settle outcome ticket now state)) → OnErr o (h' ≡ h) → Steps (settling ticket outcome now) (run_of h cs) (run_of h' cs)
-settled h h' cs ticket outcome now (Ok state) answered booked left =
-    ap (λ g. run_of g cs) (booked ∙ ap (λ o. option_map_or (λ e. followed_by h e) (option_map (λ s. Settle outcome ticket now s) (result_ok o)) h) answered)
-settled h h' cs ticket outcome now (Err e) answered booked left =
-    ap (λ g. run_of g cs) (left ∙ ap (λ o. option_map_or (λ e. followed_by h e) (option_map (λ s. Settle outcome ticket now s) (result_ok o)) h) answered)
+-- the plan in force has as many channels
+pub same-channels : (e : Event) → IsNoArrival e → (h h' : History) (o : Result (Reply e) (Refusal e)) → Does e h h' o → length (plan_in_force h').channels ≡ length (plan_in_force h).channels
+same-channels e none h h' (Err refusal) does = ap (λ (g : History). length (plan_in_force g).channels) does.unchanged
+same-channels e none h h' (Ok reply) does = ap (λ (g : History). length (plan_in_force g).channels) does.booked ∙ by e none reply does
+  where
+    kept : (x : Entry) → deployed_by x ≡ None → length (plan_in_force (followed_by h x)).channels ≡ length (plan_in_force h).channels
+    kept x no = ap (λ (p : PlanEntry). length p.channels) (plan-kept h x no)
 
--- of a cancellation
-pub cancelled : (h h' : History) (cs : List Connected) (number : ℕ) (o : Result ℕ CancelRefusal) → IfOk o (λ mask. cancel_answer h number ≡ Ok mask) → IfOk o (λ mask. h' ≡ followed_by h (Cancel number mask)) → OnErr o (h' ≡ h)
-    → Steps (cancelling number) (run_of h cs) (run_of h' cs)
-cancelled h h' cs number (Ok mask) answered booked left =
-    inl (ap (λ g. run_of g cs) (booked ∙ ap (λ o. option_map_or (λ e. followed_by h e) (option_map (λ m. Cancel number m) (result_ok o)) h) (sym answered)))
-cancelled h h' cs number (Err e) answered booked left = inr (ap (λ g. run_of g cs) left)
-
--- of a deployment
-pub deployed : (h h' : History) (cs : List Connected) (plan : PlanEntry) (o : Result (Unit {0}) DeployRefusal) → OnOk o (MayFollow h (Deploy plan)) → OnOk o (h' ≡ followed_by h (Deploy plan)) → OnErr o (h' ≡ h)
-    → Steps (deploying plan) (run_of h cs) (run_of h' cs)
-deployed h h' cs plan (Ok x) answered booked left =
-    inl (answered.good, ap (λ g. run_of g cs) (booked ∙ ap (λ o. option_map_or (λ e. followed_by h e) o h) (sym (answered-again h (Deploy plan) answered))))
-deployed h h' cs plan (Err e) answered booked left = inr (ap (λ g. run_of g cs) left)
-
--- its plan has as many channels
-pub same-channels : (h h' : History) (plan : PlanEntry) (o : Result (Unit {0}) DeployRefusal) → OnOk o (MayFollow h (Deploy plan)) → OnOk o (h' ≡ followed_by h (Deploy plan)) → OnErr o (h' ≡ h)
-    → length (plan_in_force h').channels ≡ length (plan_in_force h).channels
-same-channels h h' plan (Ok x) answered booked left = ap (λ (g : History). length (plan_in_force g).channels) booked ∙ (ap (λ (p : PlanEntry). length p.channels) (plan-followed_by h (Deploy plan)) ∙ channels-same h plan answered)
-same-channels h h' plan (Err e) answered booked left = ap (λ (g : History). length (plan_in_force g).channels) left
+    by : (e : Event) → IsNoArrival e → (reply : Reply e) → Does e h h' (Ok reply) → length (plan_in_force (followed_by h (entry_of e reply))).channels ≡ length (plan_in_force h).channels
+    by (event.arrive conn channel raw) none reply does = absurd none
+    by (event.take d now) none ticket does = kept (Take ticket now) refl
+    by (event.settle ticket outcome now) none state does = kept (Settle outcome ticket now state) refl
+    by (event.cancel number) none mask does = kept (Cancel number mask) refl
+    by (event.deploy plan) none done does =
+        ap (λ (p : PlanEntry). length p.channels) (plan-followed_by h (Deploy plan)) ∙ channels-same h plan (deployable h plan (does-follow (event.deploy plan) h h' done does))
 
 -- ---- prune
 
@@ -89,20 +81,15 @@ folded-there (c ∷ cs) =
     ∙ ap (λ l. length (map answer_of c.words.answers.items) ∷ l) (folded-there cs)
 
 -- what a book makes of a pruning
-pub pruned-by : (h h' : History) (cs cs' : List Connected) (bound : ℕ) → prune_answer h bound ≡ None → h' ≡ pruned bound h → cs' ≡ map with_folded cs → Steps (pruning bound) (run_of h cs) (run_of h' cs')
+pub pruned-by : (h h' : History) (cs cs' : List Connected) (bound : ℕ) → prune_answer h bound ≡ None → h' ≡ pruned bound h → cs' ≡ map with_folded cs → Steps (turn.prune bound) (run_of h cs) (run_of h' cs')
 pruned-by h h' cs cs' bound may is noted =
     let there : run_of (pruned bound h) (map with_folded cs) ≡ folded_run bound (run_of h cs) =
     ap (λ l. record { history = pruned bound h; connections = l; folded = map (λ (c : Connected). c.folded) (map with_folded cs) }) (same-connections cs)
     ∙ ap (λ l. record { history = pruned bound h; connections = map connection_of cs; folded = l }) (folded-there cs) in
     inl (may, ap (λ g. run_of g cs') is ∙ ap (λ l. run_of (pruned bound h) l) noted ∙ there)
 
-pub unpruned : (h h' : History) (cs : List Connected) (bound : ℕ) → h' ≡ h → Steps (pruning bound) (run_of h cs) (run_of h' cs)
+pub unpruned : (h h' : History) (cs : List Connected) (bound : ℕ) → h' ≡ h → Steps (turn.prune bound) (run_of h cs) (run_of h' cs)
 unpruned h h' cs bound left = inr (ap (λ g. run_of g cs) left)
-
--- the plan stays with each of the others
-pub same-plan : {T E : Type 0} (h h' : History) (f : T → Entry) (o : Result T E) → ((x : T) → deployed_by (f x) ≡ None) → IfOk o (λ x. h' ≡ followed_by h (f x)) → OnErr o (h' ≡ h) → plan_in_force h' ≡ plan_in_force h
-same-plan h h' f (Ok x) none booked left = ap plan_in_force booked ∙ plan-kept h (f x) (none x)
-same-plan h h' f (Err e) none booked left = ap plan_in_force left
 
 -- ---- a chunk
 
@@ -168,14 +155,12 @@ fit-set n (x ∷ cs) zero c all one = (one, all.1)
 fit-set n (x ∷ cs) (suc i) c all one = (all.0, fit-set n cs i c all.1 one)
 
 -- after an event that is no chunk
-pub world-on : (turn : Turn) (h h' : History) (cs : List Connected) → IsWorld h cs → Steps turn (run_of h cs) (run_of h' cs) → plan_in_force h' ≡ plan_in_force h → IsWorld h' cs
-world-on turn h h' cs w does same =
-    record { fit = subst (λ p. AllByRecursion (IsFit (length p.channels)) cs) (sym same) w.fit; word = step-keeps turn (run_of h cs) (run_of h' cs) w.word does }
-
--- after a deployment
-pub world-deployed : (turn : Turn) (h h' : History) (cs : List Connected) → IsWorld h cs → Steps turn (run_of h cs) (run_of h' cs) → length (plan_in_force h').channels ≡ length (plan_in_force h).channels → IsWorld h' cs
-world-deployed turn h h' cs w does same =
-    record { fit = subst (λ n. AllByRecursion (IsFit n) cs) (sym same) w.fit; word = step-keeps turn (run_of h cs) (run_of h' cs) w.word does }
+pub world-on : (e : Event) → IsNoArrival e → (h h' : History) (cs : List Connected) (o : Result (Reply e) (Refusal e)) → IsWorld h cs → Does e h h' o → IsWorld h' cs
+world-on e none h h' cs o w does =
+    record {
+      fit = subst (λ n. AllByRecursion (IsFit n) cs) (sym (same-channels e none h h' o does)) w.fit;
+      word = step-keeps (turn.event e) (run_of h cs) (run_of h' cs) w.word (does-step e none h h' cs o does);
+    }
 
 -- after a chunk
 pub world-heard : (turn : Turn) (h h' : History) (cs : List Connected) (i : ℕ) (c : Connected) → IsWorld h cs → Steps turn (run_of h cs) (run_of h' (set cs i c)) → plan_in_force h' ≡ plan_in_force h → IsFit (length (plan_in_force h).channels) c

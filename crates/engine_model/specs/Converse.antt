@@ -6,16 +6,17 @@ use Rattle.event_log.specs.declared.entry.Told.{Told}
 use Rattle.event_log.specs.History.{History}
 use Rattle.mllp_frame.specs.Framing.{IsData, block_bytes}
 use Rattle.engine_model.specs.Run.{Run, started}
-use Rattle.engine_model.specs.Turn.{Turn, chunk, taking, settling, cancelling, deploying}
+use Rattle.event_log.specs.Event.{cancel, deploy, settle, take}
+use Rattle.engine_model.specs.Turn.{Turn, chunk, event}
 use Rattle.engine_model.specs.Steps.{Runs}
 
 -- the step of an entry: an arrival comes as one whole block
 abbrev pub step_of : Entry → Turn
 step_of (Arrival conn channel raw told) = chunk conn (block_bytes raw) 0
-step_of (Take ticket now) = taking ticket.destination now
-step_of (Settle outcome ticket now state) = settling ticket outcome now
-step_of (Cancel number mask) = cancelling number
-step_of (Deploy plan) = deploying plan
+step_of (Take ticket now) = event (take ticket.destination now)
+step_of (Settle outcome ticket now state) = event (settle ticket outcome now)
+step_of (Cancel number mask) = event (cancel number)
+step_of (Deploy plan) = event (deploy plan)
 
 -- the steps of a history, one an entry
 abbrev pub steps_of : History → List Turn

@@ -1,32 +1,32 @@
 -- Which run follows from which by a step.
-use Rattle.std.specs.Prelude.{◌≡◌, ◌<◌, ◌≤◌, ◌⊎◌, ◌+◌, ℕ, Bool, true, false, List, [], ◌∷◌, ◌++◌, length, map, set, slice_get, Option, None, Some, Result, Ok, Err, ⊤}
+use Rattle.std.specs.Prelude.{◌≡◌, ◌<◌, ◌≤◌, ◌⊎◌, ◌+◌, ℕ, Bool, true, false, List, [], ◌∷◌, ◌++◌, length, map, set, slice_get, Option, None, Some, Result, Ok, Err, ⊤, ⊥}
 use Rattle.book_core.specs.declared.receipt.NotBooked.{NotBooked}
 use Rattle.book_core.specs.declared.receipt.NotBooked.TheVariants.{NoMemory, Full, PlanChanged}
 use Rattle.event_log.specs.declared.entry.Entry.TheVariants.{Arrival}
 use Rattle.event_log.specs.declared.entry.Told.{Told}
+use Rattle.event_log.specs.Event.{CanCome, Event, arrive, cancel, deploy, next, settle, take}
 use Rattle.event_log.specs.Folding.{prune_answer, pruned}
 use Rattle.event_log.specs.History.{History, followed_by}
-use Rattle.event_log.specs.Legal.{MayArrive}
-use Rattle.plan_text.specs.Entries.{IsPlan}
-use Rattle.event_log.specs.Replay.{next, asked, ended, revoked, planned}
+use Rattle.event_log.specs.Legal.{MayFollow}
 use Rattle.event_log.specs.Room.{is_full}
 use Rattle.mllp_frame.specs.Framing.{blocks}
 use Rattle.conn_core.specs.Messages.{messages}
 use Rattle.conn_core.specs.Replies.{Answer, Due, dues, numbered}
 use Rattle.engine_model.specs.Run.{Connection, Run}
-use Rattle.engine_model.specs.Turn.{Turn, chunk, taking, settling, cancelling, deploying, pruning}
+use Rattle.engine_model.specs.Turn.{Turn, chunk, event, prune}
 
 -- the most frame events of a connection: having had that many it ends
 unfoldable pub frame_events_max : ℕ
 frame_events_max = 1_000_000_000
 
--- What may become of a message that arrives on a channel: it is booked, with the answer; where there is no room, it is
--- answered so; and only where there is room it may be answered that memory was refused. The plan is the one in force.
-abbrev pub MayBeTold : History → ℕ → List ℕ → Result Told NotBooked → Type 0
-MayBeTold h channel raw (Ok told) = MayArrive h channel raw told
-MayBeTold h channel raw (Err Full) = is_full h channel raw ≡ true
-MayBeTold h channel raw (Err NoMemory) = is_full h channel raw ≡ false
-MayBeTold h channel raw (Err PlanChanged) = ⊥
+-- What may become of a message that arrives over a connection on a channel: it is booked with the sequential engine's
+-- reply; it is refused where there is no room; or, only where there is room, it is refused for lack of memory. It was
+-- judged by the plan in force.
+abbrev pub IsOutcome : ℕ → ℕ → History → List ℕ → Result Told NotBooked → Type 0
+IsOutcome conn channel h raw (Ok told) = MayFollow h (Arrival conn channel raw told)
+IsOutcome conn channel h raw (Err Full) = is_full h channel raw ≡ true
+IsOutcome conn channel h raw (Err NoMemory) = is_full h channel raw ≡ false
+IsOutcome conn channel h raw (Err PlanChanged) = ⊥
 
 -- the history after a message with this outcome: with its arrival, if it was booked
 abbrev pub history_with : ℕ → ℕ → History → List ℕ → Result Told NotBooked → History
@@ -45,7 +45,7 @@ after_answers conn channel h (a ∷ answers) = after_answers conn channel (after
 abbrev pub AreAnswered : ℕ → ℕ → ℕ → History → List Answer → Type 0
 AreAnswered conn channel now h [] = ⊤
 AreAnswered conn channel now h (a ∷ answers) =
-    MayBeTold h channel a.raw a.outcome × (a.moment ≡ now) × AreAnswered conn channel now (after_answer conn channel h a) answers
+    IsOutcome conn channel h a.raw a.outcome × (a.moment ≡ now) × AreAnswered conn channel now (after_answer conn channel h a) answers
 
 -- A prefix of the replies to these answers, numbered from here on: whole acknowledgments, and all but some of the last
 -- message's.
@@ -121,15 +121,32 @@ folded_run bound r = record {
   folded = map (λ (c : Connection). length c.answers) r.connections;
 }
 
--- One step. An event that the sequential engine refuses books nothing, and a take, a cancellation, a deployment and a pruning may
--- be refused for memory; a settlement needs none. What is deployed is a plan.
+-- whether an event is a step by itself: all are but arrivals, which are events of pieces
+abbrev pub IsNoArrival : Event → Type 0
+IsNoArrival (arrive conn channel raw) = ⊥
+IsNoArrival (take d now) = ⊤
+IsNoArrival (settle ticket outcome now) = ⊤
+IsNoArrival (cancel number) = ⊤
+IsNoArrival (deploy plan) = ⊤
+
+-- whether an event may be refused for lack of memory: a settlement needs none
+abbrev pub NeedsMemory : Event → Type 0
+NeedsMemory (arrive conn channel raw) = ⊤
+NeedsMemory (take d now) = ⊤
+NeedsMemory (settle ticket outcome now) = ⊥
+NeedsMemory (cancel number) = ⊤
+NeedsMemory (deploy plan) = ⊤
+
+-- An event changes what is booked as the sequential engine does, which books nothing where it refuses the event, or
+-- changes nothing for lack of memory.
+abbrev pub Happens : Event → Run → Run → Type 0
+Happens e r r' = (CanCome e × (r' ≡ with_history r (next r.history e))) ⊎ (NeedsMemory e × (r' ≡ r))
+
+-- One step; a pruning too may be refused for lack of memory.
 abbrev pub Steps : Turn → Run → Run → Type 0
 Steps (chunk conn bytes now) r r' = HearsAt (slice_get r.connections conn) conn bytes now r r'
-Steps (taking d now) r r' = (r' ≡ with_history r (next r.history (asked d now))) ⊎ (r' ≡ r)
-Steps (settling ticket outcome now) r r' = r' ≡ with_history r (next r.history (ended ticket outcome now))
-Steps (cancelling number) r r' = (r' ≡ with_history r (next r.history (revoked number))) ⊎ (r' ≡ r)
-Steps (deploying plan) r r' = (IsPlan plan × (r' ≡ with_history r (next r.history (planned plan)))) ⊎ (r' ≡ r)
-Steps (pruning bound) r r' = ((prune_answer r.history bound ≡ None) × (r' ≡ folded_run bound r)) ⊎ (r' ≡ r)
+Steps (event e) r r' = IsNoArrival e × Happens e r r'
+Steps (prune bound) r r' = ((prune_answer r.history bound ≡ None) × (r' ≡ folded_run bound r)) ⊎ (r' ≡ r)
 
 -- step after step
 abbrev pub Runs : List Turn → Run → Run → Type 0

@@ -9,7 +9,8 @@ use Rattle.engine_model.specs.declared.connection.Connected.{Connected}
 use Rattle.engine_model.specs.declared.step.Step.{Step}
 use Rattle.engine_model.specs.declared.step.Step.TheVariants.{Chunk, Take, Settle, Cancel, Deploy, Prune}
 use Rattle.engine_model.specs.Run.{Connection, Run}
-use Rattle.engine_model.specs.Turn.{Turn, chunk, taking, settling, cancelling, deploying, pruning}
+use Rattle.event_log.specs.Event.{cancel, deploy, settle, take}
+use Rattle.engine_model.specs.Turn.{Turn, chunk, event, prune}
 use Rattle.engine_model.specs.Promise.{KeepsItsWord}
 
 abbrev pub connection_of : Connected → Connection
@@ -33,11 +34,11 @@ pub record IsFit (channels : ℕ) (c : Connected) : Type 0 where
 -- the turn of a run that a step is
 abbrev pub turn_by : Step → Turn
 turn_by (Chunk conn bytes now) = chunk conn bytes.items now
-turn_by (Take d now) = taking d now
-turn_by (Settle ticket outcome now) = settling ticket outcome now
-turn_by (Cancel number) = cancelling number
-turn_by (Deploy plan) = deploying (arc_value plan)
-turn_by (Prune before) = pruning before
+turn_by (Take d now) = event (take d now)
+turn_by (Settle ticket outcome now) = event (settle ticket outcome now)
+turn_by (Cancel number) = event (cancel number)
+turn_by (Deploy plan) = event (deploy (arc_value plan))
+turn_by (Prune before) = prune before
 
 -- the run of a world with this history and these connections
 abbrev pub run_of : History → List Connected → Run

@@ -5,7 +5,8 @@ ghost use Rattle.std.specs.Arc.{arc_value};
 ghost use Rattle.engine_model.specs.Promise.{KeepsItsWord};
 ghost use Rattle.engine_model.specs.Run.{ended_at, opened, output_of, silent};
 ghost use Rattle.engine_model.specs.Steps.{Runs, Steps};
-ghost use Rattle.engine_model.specs.Turn.{chunk, taking, settling, cancelling, deploying, pruning};
+ghost use Rattle.event_log.specs.Event.{cancel, deploy, settle, take};
+ghost use Rattle.engine_model.specs.Turn.{chunk, event, prune};
 ghost use Rattle.engine_model.specs.View.{IsOpen, connection_of, turn_by, with_folded};
 
 use crate::connection::Connected;
@@ -117,28 +118,28 @@ impl<S: RowStore<Addressed<Letter>>> World<S> {
 
     /// The front of a queue is taken.
     fn take(&mut self, d: u32, now: Moment)
-        ensures { Steps (taking d now) self.old self.new }
+        ensures { Steps (event (take d now)) self.old self.new }
     {
         let _ = self.book.take(d, now);
     }
 
     /// An attempt is settled.
     fn settle(&mut self, ticket: &Ticket, outcome: Outcome, now: Moment)
-        ensures { Steps (settling ticket.now outcome now) self.old self.new }
+        ensures { Steps (event (settle ticket.now outcome now)) self.old self.new }
     {
         let _ = self.book.settle(ticket, outcome, now);
     }
 
     /// A message is cancelled.
     fn cancel(&mut self, number: u32)
-        ensures { Steps (cancelling number) self.old self.new }
+        ensures { Steps (event (cancel number)) self.old self.new }
     {
         let _ = self.book.cancel(number);
     }
 
     /// A plan is deployed.
     fn deploy(&mut self, plan: &Arc<Plan>)
-        ensures { Steps (deploying (arc_value plan.now)) self.old self.new }
+        ensures { Steps (event (deploy (arc_value plan.now))) self.old self.new }
     {
         if let Ok(plan) = Arc::try_clone(plan) {
             let _ = self.book.deploy(plan);
@@ -147,7 +148,7 @@ impl<S: RowStore<Addressed<Letter>>> World<S> {
 
     /// The messages below a number are forgotten, and the history is folded.
     fn prune(&mut self, before: u32)
-        ensures { Steps (pruning before) self.old self.new }
+        ensures { Steps (prune before) self.old self.new }
     {
         if self.book.prune(before).is_ok() {
             note_folding(&mut self.connections);

@@ -10,6 +10,7 @@ use Rattle.plan_text.specs.Entries.{PlanEntry}
 use Rattle.event_log.specs.declared.entry.Ticket.{Ticket}
 use Rattle.event_log.specs.declared.entry.Told.TheVariants as told
 use Rattle.event_log.specs.declared.refusal.CancelRefusal.TheVariants.{NoSuchMessage, NothingWaiting}
+use Rattle.event_log.specs.declared.refusal.DeployRefusal.{DeployRefusal}
 use Rattle.event_log.specs.declared.refusal.DeployRefusal.TheVariants.{ChannelsDiffer, DestinationInUse, TooMany}
 use Rattle.dest_queue.specs.declared.SlotState.{SlotState}
 use Rattle.dest_queue.specs.declared.SlotState.TheVariants.{Waiting, InFlight, Delivered, Failed}
@@ -18,10 +19,13 @@ use Rattle.event_log.specs.declared.refusal.TakeRefusal.TheVariants.{Idle}
 use Rattle.event_log.specs.declared.refusal.TakeRefusal.TheVariants as take_refusal
 use Rattle.hl7_head.specs.declared.ack.Cause.TheVariants.{IdReused}
 use Rattle.event_log.specs.History.{History, control_id_of, is_queued, message_at, message_count, plan_in_force, queue, slot}
-use Rattle.event_log.specs.Alike.{AnswersAlike, Aside, IsAlike, IsApart, SendsAlike}
+use Rattle.event_log.specs.Alike.{RepliesAlike, Aside, IsAlike, IsMet, SendsAlike}
 use Rattle.event_log.specs.Answers.{answer, attempts_max, cancel_answer, front_answer, interval, known, mask_where, settle_answer, take_answer, told_again, told_by, waits}
 use Rattle.event_log.specs.Deployment.{deploy_answer, is_lost, same_channels, stays}
-use Rattle.event_log.specs.Replay.{Request, asked, came, ended, planned, revoked}
+use Rattle.event_log.specs.Event as event
+use Rattle.event_log.specs.Event.{Event}
+use Rattle.event_log.specs.Room.{exceeds}
+use Rattle.event_log.proofs.Events.{arrival_by, deployment_by}
 use Rattle.event_log.proofs.Reading.{front-lives}
 
 -- the front that was taken
@@ -113,10 +117,24 @@ module _ (aside : Aside) (h k : History) (alike : IsAlike aside h k) where
       by None is = refl
       by (Some place) is = ap (λ b. Some (cond b (told.Repeat place) (told.Refused IdReused))) (alike.bytes (key_of channel raw) raw place apart is)
 
-  -- an event that names nothing left aside gets the same answer
-  pub answers-alike : (request : Request) → IsApart aside request → AnswersAlike h k request
-  answers-alike (came conn channel raw) apart = answer-alike channel raw apart
-  answers-alike (asked d now) apart = (take-alike d now, sends-alike d now)
-  answers-alike (ended ticket outcome now) apart = settle-alike ticket outcome now apart
-  answers-alike (revoked n) apart = cancel-alike n apart
-  answers-alike (planned plan) apart = deploy-alike plan
+  -- an arrival and a deployment have room in both, or are refused by both
+  arrival-alike : (conn channel : ℕ) (raw : List ℕ) → IsMet aside h k (event.arrive conn channel raw) → event.answer k (event.arrive conn channel raw) ≡ event.answer h (event.arrive conn channel raw)
+  arrival-alike conn channel raw met =
+      ap (λ b. arrival_by b (answer k channel raw)) met.its_room ∙ ap (arrival_by false) (answer-alike channel raw met.apart) ∙ sym (ap (λ b. arrival_by b (answer h channel raw)) met.room)
+
+  deployment-alike : (plan : PlanEntry) → IsMet aside h k (event.deploy plan) → event.answer k (event.deploy plan) ≡ event.answer h (event.deploy plan)
+  deployment-alike plan met =
+      ap (λ o. deployment_by o (exceeds k 0)) (deploy-alike plan)
+      ∙ by (deploy_answer h plan) (exceeds h 0) (exceeds k 0) met.room (λ none. met.its_room (deploy-alike plan ∙ none))
+    where
+      by : (o : Option DeployRefusal) (past its_past : Bool) → (o ≡ None → past ≡ false) → (o ≡ None → its_past ≡ false) → deployment_by o its_past ≡ deployment_by o past
+      by None past its_past room its_room = ap (deployment_by None) (its_room refl ∙ sym (room refl))
+      by (Some refusal) past its_past room its_room = refl
+
+  -- an event that names nothing left aside, and for which both have room, gets the same reply
+  pub answers-alike : (e : Event) → IsMet aside h k e → RepliesAlike h k e
+  answers-alike (event.arrive conn channel raw) met = record { replied = arrival-alike conn channel raw met; sends = tt }
+  answers-alike (event.take d now) met = record { replied = take-alike d now; sends = sends-alike d now }
+  answers-alike (event.settle ticket outcome now) met = record { replied = settle-alike ticket outcome now met.apart; sends = tt }
+  answers-alike (event.cancel n) met = record { replied = cancel-alike n met.apart; sends = tt }
+  answers-alike (event.deploy plan) met = record { replied = deployment-alike plan met; sends = tt }

@@ -21,8 +21,9 @@ use Rattle.event_log.specs.declared.entry.Told.TheVariants as told
 use Rattle.event_log.specs.History.{History, accepted, accepted_by, accepted_under, deliveries, followed_by, message_count, names, plan_in_force, slot, state}
 use Rattle.event_log.specs.Answers.{answer, attempts_max, brings_at, known, told_by}
 use Rattle.event_log.specs.Room.{in_flight, is_full, is_in_flight, message_total, owed, own, own_owed, slot_owed, slots_added, total}
-use Rattle.event_log.specs.Legal.{IsSound, IsWithin, MayArrive}
+use Rattle.event_log.specs.Legal.{IsSound, IsWithin}
 use Rattle.event_log.proofs.Adding.{fresh, fresh-in_flight, fresh-owed}
+use Rattle.event_log.proofs.Events.{Arrivable, arrivable-follows}
 use Rattle.event_log.proofs.Following.{accepted-followed_by, accepted-kept, deliveries-same, funext, known-followed_by, legal-followed_by, message-newest, message-older, message_count-longer, message_count-same, plan-kept, slot-same, state-followed_by}
 use Rattle.event_log.proofs.Steps.{ArrivalStep, IsNumbered}
 use Rattle.event_log.proofs.Totals.{total-grown, total-same}
@@ -84,7 +85,7 @@ room-left : (count more bound old new own : ℕ) → nat_lt bound (count + old +
 room-left count more bound old new own enough longer owes =
     let le : count + old + 1 + own ≤ bound = grind (arith, nat_tests) in omega arith
 
-module _ (h : History) (sound : IsSound h) (conn channel : ℕ) (raw : List ℕ) (reply : Told) (may : MayArrive h channel raw reply) where
+module _ (h : History) (sound : IsSound h) (conn channel : ℕ) (raw : List ℕ) (reply : Told) (may : Arrivable h channel raw reply) where
   -- it owes what its slots owe
   own-is : own h channel raw ≡ own_owed (plan_in_force h) (slots_added (plan_in_force h) channel raw reply)
   own-is = ap (λ o. option_map_or (λ told. own_owed (plan_in_force h) (slots_added (plan_in_force h) channel raw told)) o 0) may.answered
@@ -121,7 +122,7 @@ module _ (h : History) (sound : IsSound h) (conn channel : ℕ) (raw : List ℕ)
     sound = record {
       opening = sound.opening;
       plan = subst IsPlan (sym plan-after) sound.plan;
-      legal = legal-followed_by h (Arrival conn channel raw reply) sound.legal may;
+      legal = legal-followed_by h (Arrival conn channel raw reply) sound.legal (arrivable-follows h conn channel raw reply may);
       deliveries = goes;
       attempts = λ n d. subst (λ p. IfSome (slot (followed_by h (Arrival conn channel raw reply)) n d) (IsWithin (attempts_max p d))) (sym plan-after) (within n d);
       to_come = λ n d beyond. state-after n d ∙ sound.to_come n d (omega arith);
@@ -247,7 +248,7 @@ module _ (h : History) (sound : IsSound h) (conn channel : ℕ) (raw : List ℕ)
         within-more (omega (arith, more-count)) owed-more flight-more
 
 -- an arrival that may be booked next
-pub arrival-step : (h : History) → IsSound h → (conn channel : ℕ) (raw : List ℕ) (reply : Told) → MayArrive h channel raw reply → ArrivalStep h conn channel raw reply
+pub arrival-step : (h : History) → IsSound h → (conn channel : ℕ) (raw : List ℕ) (reply : Told) → Arrivable h channel raw reply → ArrivalStep h conn channel raw reply
 arrival-step h sound conn channel raw (told.Accepted number) may = step-more h sound conn channel raw (told.Accepted number) may refl refl (accepted-number h channel raw number may.answered)
 arrival-step h sound conn channel raw told.Filtered may = step-kept h sound conn channel raw told.Filtered may refl refl tt
 arrival-step h sound conn channel raw (told.Refused cause) may = step-kept h sound conn channel raw (told.Refused cause) may refl refl tt

@@ -224,7 +224,7 @@ module _ (h : History) (sound : IsSound h) (n mask : ℕ) (is : cancel_answer h 
   sound-after = record {
     opening = sound.opening;
     plan = subst IsPlan (sym plan) sound.plan;
-    legal = legal-followed_by h (Cancel n mask) sound.legal is;
+    legal = legal-followed_by h (Cancel n mask) sound.legal (record { possible = tt; replied = is });
     deliveries = λ m. subst AreDeliveries (sym (deliveries-same h (followed_by h (Cancel n mask)) refl same-messages m)) (sound.deliveries m);
     attempts = λ m d. subst (λ p. IfSome (slot (followed_by h (Cancel n mask)) m d) (IsWithin (attempts_max p d))) (sym plan) (within-after m d);
     to_come = to_come-after;

@@ -17,8 +17,9 @@ use Rattle.event_log.specs.declared.refusal.DeployRefusal.TheVariants.{ChannelsD
 use Rattle.event_log.specs.History.{History, accepted, deliveries, followed_by, is_queued, message_count, names, plan_in_force, queue, slot, state}
 use Rattle.event_log.specs.Answers.{attempts_max}
 use Rattle.event_log.specs.Deployment.{deploy_answer, deployments, first_lost, is_lost, same_channels, same_name, stays}
-use Rattle.event_log.specs.Legal.{IsSound, IsWithin, MayDeploy}
+use Rattle.event_log.specs.Legal.{IsSound, IsWithin}
 use Rattle.event_log.specs.Room.{in_flight, is_in_flight, message_total, owed, slot_owed, total}
+use Rattle.event_log.proofs.Events.{Deployable, deployable-follows}
 use Rattle.event_log.proofs.Following.{accepted-kept, deliveries-same, known-kept, legal-followed_by, message_count-same, plan-followed_by, slot-same, state-followed_by}
 use Rattle.event_log.proofs.Reading.{slot-exists, slot-inside}
 use Rattle.event_log.proofs.Steps.{DeployStep}
@@ -47,7 +48,7 @@ pointwise-length (x ∷ xs) (y ∷ ys) is = elim (same_name x y) as (λ b. (b &&
     [ true ↦ λ e. ap (λ n. suc n) (pointwise-length xs ys e) | false ↦ λ e. absurd cc ] is
 
 -- a plan that may be deployed has as many channels as the one in force
-pub channels-same : (h : History) (plan : PlanEntry) → MayDeploy h plan → length plan.channels ≡ length (plan_in_force h).channels
+pub channels-same : (h : History) (plan : PlanEntry) → Deployable h plan → length plan.channels ≡ length (plan_in_force h).channels
 channels-same h plan may = sym (pointwise-length (plan_in_force h).channels plan.channels (allowed-parts h plan may.allowed).0)
 
 -- what isn't found among numbers doesn't stand there
@@ -97,7 +98,7 @@ room-left count more bound owes owes' enough longer same = let le : count + owes
 
 -- ---- the deployment
 
-module _ (h : History) (sound : IsSound h) (plan : PlanEntry) (may : MayDeploy h plan) where
+module _ (h : History) (sound : IsSound h) (plan : PlanEntry) (may : Deployable h plan) where
   -- the plan is in force
   in-force : plan_in_force (followed_by h (Deploy plan)) ≡ plan
   in-force = plan-followed_by h (Deploy plan)
@@ -164,7 +165,7 @@ module _ (h : History) (sound : IsSound h) (plan : PlanEntry) (may : MayDeploy h
   sound-after = record {
     opening = sound.opening;
     plan = subst IsPlan (sym in-force) may.good;
-    legal = legal-followed_by h (Deploy plan) sound.legal may;
+    legal = legal-followed_by h (Deploy plan) sound.legal (deployable-follows h plan may);
     deliveries = λ n. subst AreDeliveries (sym (deliveries-same h (followed_by h (Deploy plan)) refl same-messages n)) (sound.deliveries n);
     attempts = λ n d. subst (λ p. IfSome (slot (followed_by h (Deploy plan)) n d) (IsWithin (attempts_max p d))) (sym in-force)
         (subst (λ o. IfSome o (IsWithin (attempts_max plan d))) (sym (slot-after n d)) (within-same n d));
@@ -174,7 +175,7 @@ module _ (h : History) (sound : IsSound h) (plan : PlanEntry) (may : MayDeploy h
   }
 
 -- a plan that may be deployed next
-pub deploy-step : (h : History) → IsSound h → (plan : PlanEntry) → MayDeploy h plan → DeployStep h plan
+pub deploy-step : (h : History) → IsSound h → (plan : PlanEntry) → Deployable h plan → DeployStep h plan
 deploy-step h sound plan may = record {
   sound = sound-after h sound plan may;
   nothing = record { accepted = same-messages h sound plan may; known = λ key. known-kept h (Deploy plan) key refl };

@@ -17,15 +17,16 @@ use Rattle.event_log.proofs.Following.{follows-since, take-whole}
 use Rattle.event_log.proofs.Beginning.{begun-sound}
 use Rattle.event_log.proofs.Replaying.{take-more}
 use Rattle.event_log.proofs.Settling.{settle-less, settle-step}
+use Rattle.event_log.proofs.Events.{arrivable, deployable}
 use Rattle.event_log.proofs.Taking.{take-step}
 
 -- a sound history stays sound with an entry that may follow
 pub sound-followed_by : (h : History) (e : Entry) → IsSound h → MayFollow h e → IsSound (followed_by h e)
-sound-followed_by h (Arrival conn channel raw reply) sound may = (arrival-step h sound conn channel raw reply may).sound
-sound-followed_by h (Take ticket now) sound may = (take-step h sound ticket.destination now ticket may).1.sound
-sound-followed_by h (Settle outcome ticket now state) sound may = (settle-step h sound ticket outcome now state may).sound
-sound-followed_by h (Cancel number mask) sound may = (cancel-step h sound number mask may).sound
-sound-followed_by h (Deploy plan) sound may = (deploy-step h sound plan may).sound
+sound-followed_by h (Arrival conn channel raw reply) sound may = (arrival-step h sound conn channel raw reply (arrivable h conn channel raw reply may)).sound
+sound-followed_by h (Take ticket now) sound may = (take-step h sound ticket.destination now ticket may.replied).1.sound
+sound-followed_by h (Settle outcome ticket now state) sound may = (settle-step h sound ticket outcome now state may.replied).sound
+sound-followed_by h (Cancel number mask) sound may = (cancel-step h sound number mask may.replied).sound
+sound-followed_by h (Deploy plan) sound may = (deploy-step h sound plan (deployable h plan may)).sound
 
 -- the first items, where there is no other
 pub take-past : {A : Type 0} (xs : List A) (k : ℕ) → slice_get xs k ≡ None → take (suc k) xs ≡ take k xs

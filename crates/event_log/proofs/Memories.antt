@@ -42,7 +42,7 @@ FitsBlock (Cancel number mask) = Unit {0}
 FitsBlock (Deploy plan) = Unit {0}
 
 fits-of : (h : History) (e : Entry) → MayFollow h e → FitsBlock e
-fits-of h (Arrival conn channel raw reply) may = may.fits
+fits-of h (Arrival conn channel raw reply) may = may.possible
 fits-of h (Take ticket now) may = tt
 fits-of h (Settle outcome ticket now state) may = tt
 fits-of h (Cancel number mask) may = tt

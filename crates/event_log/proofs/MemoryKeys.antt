@@ -19,6 +19,7 @@ use Rattle.event_log.specs.Answers.{answer, brings_at, has_key, is_kept, known, 
 use Rattle.event_log.specs.Folding.{arrivals, folded, is_forgotten, recalled}
 use Rattle.event_log.specs.History.{History, Remembered, begun, followed_by, message_count, plan_in_force}
 use Rattle.event_log.specs.Legal.{IsLegal, IsSound, MayFollow}
+use Rattle.event_log.proofs.Events.{arrival-told}
 use Rattle.event_log.proofs.Following.{follows-since, take-below, take-whole}
 use Rattle.event_log.proofs.Recalling.{arrivals-are, with_more, get-after, recalled_all, renewed}
 use Rattle.event_log.proofs.RecallingKeys.{known-arrivals}
@@ -122,7 +123,7 @@ apart-with h (Arrival conn channel raw reply) may apart = by (is_kept reply) ref
     by : (b : Bool) → is_kept reply ≡ b → AreApart (seen h ++ option_to_list (cond b (Some (key_of channel raw)) None))
     by true kept =
         all_pairs_push (λ a b. bytes_eq a b ≡ false) (seen h) (key_of channel raw) apart
-        (λ k d inside. fresh-key h channel raw (new-key h channel raw reply may.answered kept) k d inside)
+        (λ k d inside. fresh-key h channel raw (new-key h channel raw reply (arrival-told h conn channel raw reply may.replied) kept) k d inside)
     by false kept = subst AreApart (sym (append-nil (seen h))) apart
 apart-with h (Take ticket now) may apart = subst AreApart (sym (append-nil (seen h))) apart
 apart-with h (Settle outcome ticket now state) may apart = subst AreApart (sym (append-nil (seen h))) apart

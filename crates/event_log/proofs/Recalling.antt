@@ -20,6 +20,7 @@ use Rattle.event_log.specs.Answers.{answer, brings_at, known, told_again, told_b
 use Rattle.event_log.specs.Folding.{arrivals, recalled, recalled_from}
 use Rattle.event_log.specs.History.{Accepted, History, Remembered, accepted_by, accepted_from, begun, entry_at, followed_by, is_numbered, message_at, message_count, message_of, number_of, number_told, plan_after, plan_in_force, remembered_as}
 use Rattle.event_log.specs.Legal.{IsLegal, IsSound, MayFollow}
+use Rattle.event_log.proofs.Events.{arrival-told}
 use Rattle.event_log.proofs.Following.{entry-since, follows-since, plan-followed_by, take-below, take-whole}
 use Rattle.event_log.proofs.OneMore.{count-followed_by, lt-tells}
 
@@ -115,7 +116,7 @@ answered-number h channel raw i is = by (is_bookable raw) (known h (key_of chann
     by true (Some place) v e = again (brings_at h raw place) place e
 
 follows-number : (h : History) (e : Entry) → MayFollow h e → (j : ℕ) → number_in e ≡ Some j → j ≡ message_count h
-follows-number h (Arrival conn channel raw (told.Accepted i)) may j is = let same : i ≡ j = cc in sym same ∙ answered-number h channel raw i may.answered
+follows-number h (Arrival conn channel raw (told.Accepted i)) may j is = let same : i ≡ j = cc in sym same ∙ answered-number h channel raw i (arrival-told h conn channel raw (told.Accepted i) may.replied)
 follows-number h (Arrival conn channel raw told.Filtered) may j is = absurd cc
 follows-number h (Arrival conn channel raw (told.Refused cause)) may j is = absurd cc
 follows-number h (Arrival conn channel raw (told.Repeat place)) may j is = absurd cc

@@ -20,6 +20,7 @@ use Rattle.event_log.specs.History.{Accepted, History, Remembered, accepted, acc
 use Rattle.event_log.specs.Answers.{answer, brings, brings_at, brought_before, has_key, is_first, keeps, known, known_before, told_by}
 use Rattle.event_log.specs.Legal.{HasArrival, IsGoodOpening, IsLegal, IsRemembered}
 use Rattle.event_log.proofs.Arriving.{accepted-number}
+use Rattle.event_log.proofs.Events.{arrival-told}
 use Rattle.event_log.proofs.Following.{accepted-kept, entry-held, entry-since, follows-since, last-after}
 use Rattle.event_log.proofs.Beginning.{find-all}
 
@@ -207,7 +208,7 @@ message-arrived h legal n m got =
         let by = arrived-by (plan_in_force earlier) at.item m at.brings in
         let there : slice_get h.entries at.place ≡ Some (Arrival by.0 m.channel m.raw (told.Accepted by.1)) = at.there ∙ ap (λ e. Some e) by.2 in
         let may = follows-since h legal at.place (Arrival by.0 m.channel m.raw (told.Accepted by.1)) there in
-        let next = accepted-number earlier m.channel m.raw by.1 may.answered in
+        let next = accepted-number earlier m.channel m.raw by.1 (arrival-told earlier by.0 m.channel m.raw (told.Accepted by.1) may.replied) in
         let count = at.after in
         let past : h.opening.messages ≤ n = grind (arith, nat_tests) in
         let number : by.1 ≡ n = omega arith in
@@ -223,7 +224,7 @@ pub accepted-is : (h : History) → IsLegal h → (place conn channel n : ℕ) (
 accepted-is h legal place conn channel n raw got =
     let k : ℕ = place - h.opening.places in
     let may = legal.follows place (Arrival conn channel raw (told.Accepted n)) got in
-    let number : n ≡ message_count (before h place) = accepted-number (before h place) channel raw n may.answered in
+    let number : n ≡ message_count (before h place) = accepted-number (before h place) channel raw n (arrival-told (before h place) conn channel raw (told.Accepted n) may.replied) in
     let since : nat_lt n h.opening.messages ≡ false = grind (arith, nat_tests) in
     let own : n - h.opening.messages ≡ length (accepted (before h place)) = omega arith in
     rw (since, own) (get-brought h.opening.plan h.entries k (Arrival conn channel raw (told.Accepted n)) (accepted_under (plan_in_force (before h place)) channel raw)
@@ -268,7 +269,7 @@ filtered-is h legal place conn channel raw got =
     let held = at.0 in
     let past : h.opening.places ≤ place = grind (arith, nat_tests) in
     let next : place + 1 - h.opening.places ≡ suc (place - h.opening.places) = omega arith in (
-      filtered-answer (before h place) channel raw may.answered,
+      filtered-answer (before h place) channel raw (arrival-told (before h place) conn channel raw told.Filtered may.replied),
       rw next (ap (λ es. accepted (record { opening = h.opening; entries = es })) (take-more h.entries (place - h.opening.places) (Arrival conn channel raw told.Filtered) at.1)
           ∙ accepted-kept (before h place) (Arrival conn channel raw told.Filtered) refl),
     )
@@ -364,7 +365,7 @@ pub repeat-is : (h : History) → IsGoodOpening h.opening → IsLegal h → (pla
     → (first < place) × (is_first h channel raw first ≡ true)
 repeat-is h good legal place conn channel first raw got =
     let may = legal.follows place (Arrival conn channel raw (told.Repeat first)) got in
-    let seen = repeat-found (before h place) channel raw first may.answered in
+    let seen = repeat-found (before h place) channel raw first (arrival-told (before h place) conn channel raw (told.Repeat first) may.replied) in
     let held = (entry-held h place (Arrival conn channel raw (told.Repeat first)) got).0 in
     let past : h.opening.places ≤ place = grind (arith, nat_tests) in
     let inside = known-inside (before h place) (key_of channel raw) first good seen.0 in

@@ -1,9 +1,8 @@
 -- Histories that are alike stay alike with each event that they answer, and with every list of events.
 use Rattle.std.proofs.Common.{◌≡◌, ◌≢◌, ℕ, ◌+◌, ◌<◌, inl, inr, Bool, true, false, cond, ◌==◌, ◌&&◌, nat_lt, List, [], ◌∷◌, length, Option, None, Some, Result, Ok, Err, refl, sym, ◌∙◌, ap, subst, arith}
-use Rattle.std.specs.Prelude.{find, is_some, slice_get}
+use Rattle.std.specs.Prelude.{find, is_some}
 use Rattle.std.specs.List.{AllByRecursion, position_or_len}
-use Rattle.std.specs.Option.{is_none, option_map, option_map_or}
-use Rattle.std.specs.Result.{result_ok}
+use Rattle.std.specs.Option.{option_map, option_map_or}
 use Rattle.std.specs.Int.{bit_at}
 use Rattle.std.proofs.lemmas.Bool.Decides.{eqb_tells, nat_tests}
 use Rattle.std.proofs.lemmas.List.Elements.{recursion_from_All}
@@ -12,21 +11,17 @@ use Rattle.dest_queue.specs.declared.SlotState.TheVariants.{Waiting, InFlight, D
 use Rattle.dest_queue.specs.declared.FailCause.TheVariants.{Cancelled}
 use Rattle.dest_queue.specs.declared.Outcome.{Outcome}
 use Rattle.dest_queue.specs.States.{is_live, settle_answer as slot_answer}
-use Rattle.plan_text.specs.Entries.{PlanEntry}
 use Rattle.event_log.specs.declared.entry.Entry.{Entry}
 use Rattle.event_log.specs.declared.entry.Entry.TheVariants.{Arrival, Take, Settle, Cancel, Deploy}
 use Rattle.event_log.specs.declared.entry.Ticket.{Ticket}
-use Rattle.event_log.specs.declared.entry.Told.{Told}
 use Rattle.event_log.specs.declared.refusal.CancelRefusal.TheVariants.{NoSuchMessage, NothingWaiting}
-use Rattle.event_log.specs.declared.refusal.DeployRefusal.{DeployRefusal}
-use Rattle.event_log.specs.History.{History, Remembered, followed_by, is_for, is_queued, message_at, next_place, plan_in_force, queue, slot}
-use Rattle.event_log.specs.Alike.{AllAnswerAlike, AreMet, Aside, IsAlike, IsMet}
-use Rattle.event_log.specs.Answers.{answer, attempts_max, cancel_answer, front_answer, has_key, interval, keeps, known, known_before, mask_where, settle_answer, take_answer, waits}
-use Rattle.event_log.specs.Deployment.{deploy_answer}
+use Rattle.event_log.specs.History.{History, Remembered, followed_by, is_for, is_queued, message_at, next_place, plan_in_force, queue, slot, state_by}
+use Rattle.event_log.specs.Alike.{AllReplyAlike, AreMet, Aside, IsAlike, IsMet}
+use Rattle.event_log.specs.Answers.{answer, attempts_max, cancel_answer, has_key, interval, keeps, known, known_before, mask_where, settle_answer, take_answer, waits}
 use Rattle.event_log.specs.Legal.{IsSound}
-use Rattle.event_log.specs.Replay.{Request, answered_by, asked, came, ended, next, planned, revoked, run}
-use Rattle.event_log.specs.Room.{exceeds}
-use Rattle.event_log.proofs.AnsweringAlike.{Taken, answers-alike, front-outside, take-alike, taken}
+use Rattle.event_log.specs.Event as event
+use Rattle.event_log.specs.Event.{Event, Refusal, Reply, after, entry_of, next, run}
+use Rattle.event_log.proofs.AnsweringAlike.{answers-alike, front-outside, taken}
 use Rattle.event_log.proofs.Reading.{front-exists, front-lives, message-exists, slot-exists}
 use Rattle.event_log.proofs.StayingAlike.{Moves, Orderly, added-alike, moved-alike}
 
@@ -144,88 +139,47 @@ pub record Both (aside : Aside) (h k : History) : Type 0 where
 both : (aside : Aside) (h k : History) → IsAlike aside h k × Orderly h × Orderly k → Both aside h k
 both aside h k w = record { alike = w.0; orderly = w.1; its_orderly = w.2 }
 
--- what is refused is not booked, whether or not there is room for it
-room-or-refused : (full : Bool) (refusal : Option DeployRefusal) (entry : Option Entry) → (refusal ≡ None → full ≡ false)
-    → cond full None (cond (is_none refusal) entry None) ≡ cond (is_none refusal) entry None
-room-or-refused full None entry room = ap (λ b. cond b None entry) (room refl)
-room-or-refused true (Some refusal) entry room = refl
-room-or-refused false (Some refusal) entry room = refl
-
 module _ (aside : Aside) (h k : History) (now_both : Both aside h k) where
-  -- an entry that touches no slot is booked by both
-  came-both : (conn channel : ℕ) (raw : List ℕ) → IsMet aside h k (came conn channel raw) → Both aside (next h (came conn channel raw)) (next k (came conn channel raw))
-  came-both conn channel raw met =
-      subst (λ o. Both aside (option_map_or (λ e. followed_by h e) o h) (next k (came conn channel raw))) (sym mine)
-      (subst (λ o. Both aside (option_map_or (λ e. followed_by h e) (option_map (λ t. Arrival conn channel raw t) (answer h channel raw)) h) (option_map_or (λ e. followed_by k e) o k)) (sym yours)
-      (by (answer h channel raw)))
+  -- an event with the same reply is booked by both, or by none
+  booked-both : (e : Event) → event.answer k e ≡ event.answer h e
+      → ((reply : Reply e) → event.answer h e ≡ Ok reply → Both aside (followed_by h (entry_of e reply)) (followed_by k (entry_of e reply)))
+      → Both aside (next h e) (next k e)
+  booked-both e same books = subst (λ r. Both aside (next h e) (after k e r)) (sym same) (by (event.answer h e) refl)
     where
-      mine : answered_by h (came conn channel raw) ≡ option_map (λ t. Arrival conn channel raw t) (answer h channel raw)
-      mine = ap (λ b. cond b None (option_map (λ t. Arrival conn channel raw t) (answer h channel raw))) met.room
+      by : (r : Result (Reply e) (Refusal e)) → event.answer h e ≡ r → Both aside (after h e r) (after k e r)
+      by (Ok reply) is = books reply is
+      by (Err refusal) is = now_both
 
-      yours : answered_by k (came conn channel raw) ≡ option_map (λ t. Arrival conn channel raw t) (answer h channel raw)
-      yours =
-          ap (λ b. cond b None (option_map (λ t. Arrival conn channel raw t) (answer k channel raw))) met.its_room
-          ∙ ap (option_map (λ t. Arrival conn channel raw t)) (answers-alike aside h k now_both.alike (came conn channel raw) met.apart)
-
-      by : (o : Option Told) → Both aside (option_map_or (λ e. followed_by h e) (option_map (λ t. Arrival conn channel raw t) o) h) (option_map_or (λ e. followed_by k e) (option_map (λ t. Arrival conn channel raw t) o) k)
-      by None = now_both
-      by (Some t) =
-          both aside (followed_by h (Arrival conn channel raw t)) (followed_by k (Arrival conn channel raw t))
-          (added-alike aside h k now_both.alike now_both.orderly now_both.its_orderly (Arrival conn channel raw t) (λ n d. refl))
-
-  planned-both : (plan : PlanEntry) → IsMet aside h k (planned plan) → Both aside (next h (planned plan)) (next k (planned plan))
-  planned-both plan met =
-      subst (λ o. Both aside (option_map_or (λ e. followed_by h e) o h) (next k (planned plan))) (sym mine)
-      (subst (λ o. Both aside (option_map_or (λ e. followed_by h e) (cond (is_none (deploy_answer h plan)) (Some (Deploy plan)) None) h) (option_map_or (λ e. followed_by k e) o k)) (sym yours)
-      (by (is_none (deploy_answer h plan))))
-    where
-      mine : answered_by h (planned plan) ≡ cond (is_none (deploy_answer h plan)) (Some (Deploy plan)) None
-      mine = room-or-refused (exceeds h 0) (deploy_answer h plan) (Some (Deploy plan)) met.room
-
-      yours : answered_by k (planned plan) ≡ cond (is_none (deploy_answer h plan)) (Some (Deploy plan)) None
-      yours =
-          room-or-refused (exceeds k 0) (deploy_answer k plan) (Some (Deploy plan)) met.its_room
-          ∙ ap (λ o. cond (is_none o) (Some (Deploy plan)) None) (answers-alike aside h k now_both.alike (planned plan) met.apart)
-
-      by : (b : Bool) → Both aside (option_map_or (λ e. followed_by h e) (cond b (Some (Deploy plan)) None) h) (option_map_or (λ e. followed_by k e) (cond b (Some (Deploy plan)) None) k)
-      by false = now_both
-      by true =
-          both aside (followed_by h (Deploy plan)) (followed_by k (Deploy plan)) (added-alike aside h k now_both.alike now_both.orderly now_both.its_orderly (Deploy plan) (λ n d. refl))
+  -- an entry that touches no slot
+  added-both : (x : Entry) → ((n d : ℕ) → state_by n d x ≡ None) → Both aside (followed_by h x) (followed_by k x)
+  added-both x leaves = both aside (followed_by h x) (followed_by k x) (added-alike aside h k now_both.alike now_both.orderly now_both.its_orderly x leaves)
 
   -- an entry that leaves slots of one message in another state
-  moved-both : {A E : Type 0} → (entry : A → Entry) (number : A → ℕ) (answered its_answered : Result A E) → its_answered ≡ answered → ((a : A) → answered ≡ Ok a → Moves aside h (entry a) (number a))
-      → Both aside (option_map_or (λ e. followed_by h e) (option_map entry (result_ok answered)) h) (option_map_or (λ e. followed_by k e) (option_map entry (result_ok its_answered)) k)
-  moved-both entry number (Ok a) its_answered same moves =
-      subst (λ r. Both aside (followed_by h (entry a)) (option_map_or (λ e. followed_by k e) (option_map entry (result_ok r)) k)) (sym same)
-      (both aside (followed_by h (entry a)) (followed_by k (entry a)) (moved-alike aside h k now_both.alike now_both.orderly now_both.its_orderly (entry a) (number a) (moves a refl)))
-  moved-both entry number (Err e) its_answered same moves =
-      subst (λ r. Both aside h (option_map_or (λ e. followed_by k e) (option_map entry (result_ok r)) k)) (sym same) now_both
+  moved-both : (x : Entry) (n : ℕ) → Moves aside h x n → Both aside (followed_by h x) (followed_by k x)
+  moved-both x n moves = both aside (followed_by h x) (followed_by k x) (moved-alike aside h k now_both.alike now_both.orderly now_both.its_orderly x n moves)
 
   -- each event is booked by both, or by none
-  pub next-both : (request : Request) → IsMet aside h k request → Both aside (next h request) (next k request)
-  next-both (came conn channel raw) met = came-both conn channel raw met
-  next-both (planned plan) met = planned-both plan met
-  next-both (asked d now) met =
-      moved-both (λ ticket. Take ticket now) (λ ticket. ticket.number) (take_answer h d now) (take_answer k d now)
-      (take-alike aside h k now_both.alike d now) (λ ticket is. take-moves aside h k now_both.alike d now ticket is)
-  next-both (ended ticket outcome now) met =
-      moved-both (λ s. Settle outcome ticket now s) (λ s. ticket.number) (settle_answer h ticket outcome now) (settle_answer k ticket outcome now)
-      (answers-alike aside h k now_both.alike (ended ticket outcome now) met.apart) (λ s is. settle-moves aside h ticket outcome now s met.apart is)
-  next-both (revoked n) met =
-      moved-both (λ mask. Cancel n mask) (λ mask. n) (cancel_answer h n) (cancel_answer k n)
-      (answers-alike aside h k now_both.alike (revoked n) met.apart) (λ mask is. cancel-moves aside h n mask met.apart is)
+  pub next-both : (e : Event) → IsMet aside h k e → Both aside (next h e) (next k e)
+  next-both e met = booked-both e (answers-alike aside h k now_both.alike e met).replied (books e met)
+    where
+      books : (e : Event) → IsMet aside h k e → (reply : Reply e) → event.answer h e ≡ Ok reply → Both aside (followed_by h (entry_of e reply)) (followed_by k (entry_of e reply))
+      books (event.arrive conn channel raw) met told is = added-both (Arrival conn channel raw told) (λ n d. refl)
+      books (event.take d now) met ticket is = moved-both (Take ticket now) ticket.number (take-moves aside h k now_both.alike d now ticket is)
+      books (event.settle ticket outcome now) met state is = moved-both (Settle outcome ticket now state) ticket.number (settle-moves aside h ticket outcome now state met.apart is)
+      books (event.cancel n) met mask is = moved-both (Cancel n mask) n (cancel-moves aside h n mask met.apart is)
+      books (event.deploy plan) met done is = added-both (Deploy plan) (λ n d. refl)
 
 -- ---- every list of events
 
-pub run-both : (aside : Aside) (h k : History) → Both aside h k → (requests : List Request) → AreMet aside h k requests → Both aside (run h requests) (run k requests)
+pub run-both : (aside : Aside) (h k : History) → Both aside h k → (es : List Event) → AreMet aside h k es → Both aside (run h es) (run k es)
 run-both aside h k now_both [] met = now_both
-run-both aside h k now_both (request ∷ requests) met = run-both aside (next h request) (next k request) (next-both aside h k now_both request met.0) requests met.1
+run-both aside h k now_both (e ∷ es) met = run-both aside (next h e) (next k e) (next-both aside h k now_both e met.0) es met.1
 
-pub answers-both : (aside : Aside) (h k : History) → Both aside h k → (requests : List Request) → AreMet aside h k requests → AllAnswerAlike h k requests
+pub answers-both : (aside : Aside) (h k : History) → Both aside h k → (es : List Event) → AreMet aside h k es → AllReplyAlike h k es
 answers-both aside h k now_both [] met = tt
-answers-both aside h k now_both (request ∷ requests) met =
+answers-both aside h k now_both (e ∷ es) met =
     let here = met.0 in
-    (answers-alike aside h k now_both.alike request here.apart, answers-both aside (next h request) (next k request) (next-both aside h k now_both request here) requests met.1)
+    (answers-alike aside h k now_both.alike e here, answers-both aside (next h e) (next k e) (next-both aside h k now_both e here) es met.1)
 
 pub sound-both : (aside : Aside) (h k : History) → IsSound h → IsSound k → IsAlike aside h k → Both aside h k
 sound-both aside h k sound its_sound alike = record { alike = alike; orderly = sound-orderly h sound; its_orderly = sound-orderly k its_sound }

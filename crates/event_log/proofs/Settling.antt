@@ -83,7 +83,7 @@ module _ (h : History) (sound : IsSound h) (ticket : Ticket) (outcome : Outcome)
         landed = landing.landed;
         allowed = allowed;
         exists = slot-exists h ticket.number ticket.destination (InFlight ticket.attempt) flew;
-        sound = touched-sound h (Settle outcome ticket now after) ticket.number ticket.destination (InFlight ticket.attempt) after touches sound may landing.within landing.less;
+        sound = touched-sound h (Settle outcome ticket now after) ticket.number ticket.destination (InFlight ticket.attempt) after touches sound (record { possible = tt; replied = may }) landing.within landing.less;
         nothing = touched-nothing h (Settle outcome ticket now after) ticket.number ticket.destination (InFlight ticket.attempt) after touches;
         state = λ n d. state-followed_by h (Settle outcome ticket now after) n d ∙ state-picked (is_for n d ticket) after (state h n d);
         owed = touched-owed h (Settle outcome ticket now after) ticket.number ticket.destination (InFlight ticket.attempt) after touches sound;

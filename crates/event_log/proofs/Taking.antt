@@ -68,7 +68,7 @@ module _ (h : History) (sound : IsSound h) (now : ℕ) (ticket : Ticket) (attemp
     allowed = allowed;
     exists = slot-exists h ticket.number ticket.destination (Waiting attempts due) waited;
     front = front;
-    sound = touched-sound h (Take ticket now) ticket.number ticket.destination (Waiting attempts due) (InFlight ticket.attempt) touches sound may
+    sound = touched-sound h (Take ticket now) ticket.number ticket.destination (Waiting attempts due) (InFlight ticket.attempt) touches sound (record { possible = tt; replied = may })
         (let left = allowed in omega arith)
         (subst (λ a. 2 * (attempts_max (plan_in_force h) ticket.destination - a) + 2 + 1 ≤ 2 * (attempts_max (plan_in_force h) ticket.destination - attempts) + 1) (sym attempt)
         (less-owed (attempts_max (plan_in_force h) ticket.destination) attempts allowed));

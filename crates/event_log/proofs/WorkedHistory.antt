@@ -14,6 +14,7 @@ use Rattle.event_log.specs.Answers.{answer, settle_answer, take_answer}
 use Rattle.event_log.specs.Legal.{IsLegal}
 use Rattle.event_log.specs.Room.{is_full, total}
 use Rattle.event_log.specs.Rows.{attempt, came, exhausted, first, is_accepted, first_attempt, first_retry, second_attempt, third_failed, last_taken, taken, tried, waits}
+use Rattle.event_log.proofs.Events.{arrival-answered}
 use Rattle.event_log.proofs.Following.{legal-followed_by, legal-since}
 
 -- the message fits a block
@@ -32,13 +33,13 @@ has-room = refl
 legal-came : IsLegal (history_of built_in 20 came)
 legal-came =
     legal-followed_by (opened_by built_in 20) (Arrival 0 0 first (Accepted 0)) (legal-since (opened_by built_in 20) (λ k e got. absurd cc))
-    (record { fits = fits; room = has-room; answered = is_accepted })
+    (record { possible = fits; replied = arrival-answered (opened_by built_in 20) 0 0 first (Accepted 0) has-room is_accepted })
 
 legal-taken : IsLegal (history_of built_in 20 taken)
-legal-taken = legal-followed_by (history_of built_in 20 came) (Take (attempt 1) 0) legal-came first_attempt
+legal-taken = legal-followed_by (history_of built_in 20 came) (Take (attempt 1) 0) legal-came (record { possible = tt; replied = first_attempt })
 
 legal-waits : IsLegal (history_of built_in 20 waits)
-legal-waits = legal-followed_by (history_of built_in 20 taken) (Settle Again (attempt 1) 100 (Waiting 1 110)) legal-taken first_retry
+legal-waits = legal-followed_by (history_of built_in 20 taken) (Settle Again (attempt 1) 100 (Waiting 1 110)) legal-taken (record { possible = tt; replied = first_retry })
 
 -- the second attempt has to be made again too
 retry-2 : settle_answer (history_of built_in 20 (waits ++ Take (attempt 2) 110 ∷ [])) (attempt 2) Again 111 ≡ Ok (Waiting 2 121)
@@ -53,8 +54,8 @@ legal-last_taken : IsLegal (history_of built_in 20 last_taken)
 legal-last_taken =
     legal-followed_by (history_of built_in 20 (waits ++ tried 2 110 111)) (Take (attempt 3) 121)
     (legal-followed_by (history_of built_in 20 (waits ++ Take (attempt 2) 110 ∷ [])) (Settle Again (attempt 2) 111 (Waiting 2 121))
-    (legal-followed_by (history_of built_in 20 waits) (Take (attempt 2) 110) legal-waits second_attempt) retry-2) third
+    (legal-followed_by (history_of built_in 20 waits) (Take (attempt 2) 110) legal-waits (record { possible = tt; replied = second_attempt })) (record { possible = tt; replied = retry-2 })) (record { possible = tt; replied = third })
 
 -- the whole of it: three attempts, and none after them
 pub legal-exhausted : IsLegal (history_of built_in 20 exhausted)
-legal-exhausted = legal-followed_by (history_of built_in 20 last_taken) (Settle Again (attempt 3) 121 (Failed Exhausted)) legal-last_taken third_failed
+legal-exhausted = legal-followed_by (history_of built_in 20 last_taken) (Settle Again (attempt 3) 121 (Failed Exhausted)) legal-last_taken (record { possible = tt; replied = third_failed })

@@ -4,11 +4,11 @@ use Rattle.std.specs.List.{list_any}
 use Rattle.judge_core.specs.Judging.{key_of}
 use Rattle.event_log.specs.declared.entry.Ticket.{Ticket}
 use Rattle.event_log.specs.History.{History, control_id, entry_at, is_queued, message_at, message_count, next_place, payload, plan_in_force, queue, slot}
-use Rattle.event_log.specs.Answers.{answer, brings_at, cancel_answer, has_key, known, settle_answer, take_answer}
+use Rattle.event_log.specs.Answers.{brings_at, has_key, known, take_answer}
 use Rattle.event_log.specs.Counting.{channel_counts, destination_counts}
 use Rattle.event_log.specs.Deployment.{deploy_answer, deployments}
 use Rattle.event_log.specs.Folding.{arrivals, is_forgotten}
-use Rattle.event_log.specs.Replay.{Request, asked, came, ended, next, planned, revoked}
+use Rattle.event_log.specs.Event.{Event, answer, arrive, cancel, deploy, next, settle, take}
 use Rattle.event_log.specs.Room.{exceeds, is_full}
 
 -- messages, keys and indices that are left aside
@@ -48,27 +48,27 @@ pub record IsAlike (aside : Aside) (h k : History) : Type 0 where
 
 -- an event names nothing that is left aside: not the key of the text that arrived, and not the message of a
 -- settlement or a cancellation
-abbrev pub IsApart : Aside → Request → Type 0
-IsApart aside (came conn channel raw) = aside.keys (key_of channel raw) ≡ false
-IsApart aside (asked d now) = Unit {0}
-IsApart aside (ended ticket outcome now) = aside.messages ticket.number ≡ false
-IsApart aside (revoked number) = aside.messages number ≡ false
-IsApart aside (planned plan) = Unit {0}
+abbrev pub IsApart : Aside → Event → Type 0
+IsApart aside (arrive conn channel raw) = aside.keys (key_of channel raw) ≡ false
+IsApart aside (take d now) = Unit {0}
+IsApart aside (settle ticket outcome now) = aside.messages ticket.number ≡ false
+IsApart aside (cancel number) = aside.messages number ≡ false
+IsApart aside (deploy plan) = Unit {0}
 
 -- There is room for an event: for an arrival, and for a deployment that nothing else refuses. A take, a settlement and a
 -- cancellation need none.
-abbrev pub Fits : History → Request → Type 0
-Fits h (came conn channel raw) = is_full h channel raw ≡ false
-Fits h (asked d now) = Unit {0}
-Fits h (ended ticket outcome now) = Unit {0}
-Fits h (revoked number) = Unit {0}
-Fits h (planned plan) = deploy_answer h plan ≡ None → exceeds h 0 ≡ false
+abbrev pub Fits : History → Event → Type 0
+Fits h (arrive conn channel raw) = is_full h channel raw ≡ false
+Fits h (take d now) = Unit {0}
+Fits h (settle ticket outcome now) = Unit {0}
+Fits h (cancel number) = Unit {0}
+Fits h (deploy plan) = deploy_answer h plan ≡ None → exceeds h 0 ≡ false
 
 -- an event that names nothing aside and for which both histories have room
-pub record IsMet (aside : Aside) (h k : History) (request : Request) : Type 0 where
-  pub apart : IsApart aside request
-  pub room : Fits h request
-  pub its_room : Fits k request
+pub record IsMet (aside : Aside) (h k : History) (e : Event) : Type 0 where
+  pub apart : IsApart aside e
+  pub room : Fits h e
+  pub its_room : Fits k e
 
 -- a ticket has the same control id and the same payload, and the plan in force has its destination with the same entry, so that
 -- an acknowledgment is expected by both or by neither
@@ -77,20 +77,25 @@ pub record SendsAlike (h k : History) (ticket : Ticket) : Type 0 where
   pub text : payload k ticket.number ticket.destination ≡ payload h ticket.number ticket.destination
   pub destination : slice_get (plan_in_force k).destinations ticket.destination ≡ slice_get (plan_in_force h).destinations ticket.destination
 
--- both histories give the same answer to an event, also where they refuse it, and a take sends the same
-abbrev pub AnswersAlike : History → History → Request → Type 0
-AnswersAlike h k (came conn channel raw) = answer k channel raw ≡ answer h channel raw
-AnswersAlike h k (asked d now) = (take_answer k d now ≡ take_answer h d now) × IfOk (take_answer h d now) (SendsAlike h k)
-AnswersAlike h k (ended ticket outcome now) = settle_answer k ticket outcome now ≡ settle_answer h ticket outcome now
-AnswersAlike h k (revoked number) = cancel_answer k number ≡ cancel_answer h number
-AnswersAlike h k (planned plan) = deploy_answer k plan ≡ deploy_answer h plan
+-- a take sends the same
+abbrev pub TakesAlike : History → History → Event → Type 0
+TakesAlike h k (arrive conn channel raw) = Unit {0}
+TakesAlike h k (take d now) = IfOk (take_answer h d now) (SendsAlike h k)
+TakesAlike h k (settle ticket outcome now) = Unit {0}
+TakesAlike h k (cancel number) = Unit {0}
+TakesAlike h k (deploy plan) = Unit {0}
+
+-- both histories give the same reply to an event, or refuse it for the same reason, and a take sends the same
+pub record RepliesAlike (h k : History) (e : Event) : Type 0 where
+  pub replied : answer k e ≡ answer h e
+  pub sends : TakesAlike h k e
 
 -- each of these events, in this order, is met so by the histories that those before it have left
-abbrev pub AreMet : Aside → History → History → List Request → Type 0
+abbrev pub AreMet : Aside → History → History → List Event → Type 0
 AreMet aside h k [] = Unit {0}
-AreMet aside h k (request ∷ requests) = IsMet aside h k request × AreMet aside (next h request) (next k request) requests
+AreMet aside h k (e ∷ es) = IsMet aside h k e × AreMet aside (next h e) (next k e) es
 
 -- and gets the same answer
-abbrev pub AllAnswerAlike : History → History → List Request → Type 0
-AllAnswerAlike h k [] = Unit {0}
-AllAnswerAlike h k (request ∷ requests) = AnswersAlike h k request × AllAnswerAlike (next h request) (next k request) requests
+abbrev pub AllReplyAlike : History → History → List Event → Type 0
+AllReplyAlike h k [] = Unit {0}
+AllReplyAlike h k (e ∷ es) = RepliesAlike h k e × AllReplyAlike (next h e) (next k e) es

@@ -1,5 +1,5 @@
 -- Histories that a sequential engine gives.
-use Rattle.std.specs.Prelude.{◌≡◌, ◌<◌, ◌≤◌, ◌+◌, ◌*◌, ℕ, true, false, List, [], length, map, None, Some, Ok, is_some, IfSome, All, AllPairs}
+use Rattle.std.specs.Prelude.{◌≡◌, ◌<◌, ◌≤◌, ◌+◌, ◌*◌, ℕ, true, false, [], length, map, Some, Ok, is_some, IfSome, All, AllPairs}
 use Rattle.std.specs.List.{filter_map}
 use Rattle.std.specs.List.Sorted.{IsStrictlyIncreasing}
 use Rattle.mllp_frame.specs.Framing.{IsBlockData}
@@ -9,35 +9,19 @@ use Rattle.judge_core.specs.Judging.{key_of}
 use Rattle.dest_queue.specs.declared.SlotState.{SlotState}
 use Rattle.dest_queue.specs.declared.SlotState.TheVariants.{Waiting, InFlight, Delivered, Failed}
 use Rattle.stat_count.specs.Statistics.{IsStatistics, Statistics}
-use Rattle.event_log.specs.declared.entry.Told.{Told}
 use Rattle.event_log.specs.declared.entry.Told.TheVariants as told
 use Rattle.event_log.specs.declared.entry.Entry.{Entry}
-use Rattle.event_log.specs.declared.entry.Entry.TheVariants.{Arrival, Take, Settle, Cancel, Deploy}
+use Rattle.event_log.specs.declared.entry.Entry.TheVariants.{Arrival}
 use Rattle.event_log.specs.History.{Accepted, History, Opening, Remembered, before, begun, deliveries, entry_at, forgotten_messages, message_at, message_count, message_of, number_of, plan_in_force, remembered_as, slot, state}
-use Rattle.event_log.specs.Answers.{answer, attempts_max, cancel_answer, has_key, is_kept, settle_answer, take_answer}
+use Rattle.event_log.specs.Answers.{attempts_max, has_key, is_kept}
+use Rattle.event_log.specs.Event.{CanCome, answer, event_of, reply_of}
 use Rattle.event_log.specs.Counting.{destination_counts}
-use Rattle.event_log.specs.Deployment.{deploy_answer}
-use Rattle.event_log.specs.Room.{exceeds, is_full, owed}
+use Rattle.event_log.specs.Room.{owed}
 
--- an arrival that may be booked next: it can have been in a block, there is room, and its reply is the answer
-pub record MayArrive (h : History) (channel : ℕ) (raw : List ℕ) (reply : Told) : Type 0 where
-  pub fits : IsBlockData raw
-  pub room : is_full h channel raw ≡ false
-  pub answered : answer h channel raw ≡ Some reply
-
--- a plan that may be deployed next: nothing is against it, and there is room for its entry
-pub record MayDeploy (h : History) (plan : PlanEntry) : Type 0 where
-  pub good : IsPlan plan
-  pub allowed : deploy_answer h plan ≡ None
-  pub room : exceeds h 0 ≡ false
-
--- an entry may be booked next: its reply is the answer
-abbrev pub MayFollow : History → Entry → Type 0
-MayFollow h (Arrival conn channel raw told) = MayArrive h channel raw told
-MayFollow h (Take ticket now) = take_answer h ticket.destination now ≡ Ok ticket
-MayFollow h (Settle outcome ticket now state) = settle_answer h ticket outcome now ≡ Ok state
-MayFollow h (Cancel number mask) = cancel_answer h number ≡ Ok mask
-MayFollow h (Deploy plan) = MayDeploy h plan
+-- an entry may be booked next: its event is possible, and its reply is the sequential engine's
+pub record MayFollow (h : History) (x : Entry) : Type 0 where
+  pub possible : CanCome (event_of x)
+  pub replied : answer h (event_of x) ≡ Ok (reply_of x)
 
 -- each entry might be booked after those before it
 pub record IsLegal (h : History) : Type 0 where

@@ -4,6 +4,7 @@ pub mod Answers
 pub mod Deployment
 pub mod Room
 pub mod Counting
+pub mod Event
 pub mod Legal
 pub mod Coding
 pub mod Rows

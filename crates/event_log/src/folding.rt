@@ -4,13 +4,13 @@ ghost use Rattle.std.specs.Prelude.{◌≡◌, ◌<◌, ◌≤◌, ◌+◌, ℕ,
 ghost use Rattle.std.specs.List.{filter_map};
 ghost use Rattle.std.specs.List.Sorted.{IsStrictlyIncreasing};
 ghost use Rattle.judge_core.specs.Judging.{key_of};
-ghost use Rattle.event_log.specs.Alike.{AllAnswerAlike, AnswersAlike, AreMet, Aside, IsAlike, IsMet, forgotten_by};
+ghost use Rattle.event_log.specs.Alike.{AllReplyAlike, RepliesAlike, AreMet, Aside, IsAlike, IsMet, forgotten_by};
 ghost use Rattle.event_log.specs.Answers.{has_key, known};
 ghost use Rattle.event_log.specs.Counting.{destination_counts};
 ghost use Rattle.event_log.specs.Folding.{arrival_place, folded, prune_answer, pruned};
 ghost use Rattle.event_log.specs.History.{History, message_count, number_of, plan_in_force};
 ghost use Rattle.event_log.specs.Legal.{IsGoodOpening, IsMemory, IsSound};
-ghost use Rattle.event_log.specs.Replay.{Request, next, run};
+ghost use Rattle.event_log.specs.Event.{Event, next, run};
 ghost use Rattle.event_log.specs.Room.{owed};
 
 use fixed_numbers::EVENTS_MAX;
@@ -44,21 +44,21 @@ pub fn folding_rules()
 
     // Two histories that are alike, but for what is left aside, answer alike each event that names nothing of it, where both have room for it. They
     // stay alike with it.
-    ensures answered { (aside : Aside) (h k : History) (request : Request) → IsSound h → IsSound k →
-        IsAlike aside h k → IsMet aside h k request → AnswersAlike h k request }
-    ensures followed { (aside : Aside) (h k : History) (request : Request) → IsSound h → IsSound k → IsAlike aside h k → IsMet aside h k request
-        → IsAlike aside (next h request) (next k request) }
+    ensures answered { (aside : Aside) (h k : History) (e : Event) → IsSound h → IsSound k →
+        IsAlike aside h k → IsMet aside h k e → RepliesAlike h k e }
+    ensures followed { (aside : Aside) (h k : History) (e : Event) → IsSound h → IsSound k → IsAlike aside h k → IsMet aside h k e
+        → IsAlike aside (next h e) (next k e) }
 
     // So it is with every list of such events.
-    ensures answered_all { (aside : Aside) (h k : History) (requests : List Request) → IsSound h → IsSound k →
-        IsAlike aside h k → AreMet aside h k requests → AllAnswerAlike h k requests }
-    ensures run_on { (aside : Aside) (h k : History) (requests : List Request) → IsSound h → IsSound k → IsAlike aside h k → AreMet aside h k requests
-        → IsAlike aside (run h requests) (run k requests) }
+    ensures answered_all { (aside : Aside) (h k : History) (es : List Event) → IsSound h → IsSound k →
+        IsAlike aside h k → AreMet aside h k es → AllReplyAlike h k es }
+    ensures run_on { (aside : Aside) (h k : History) (es : List Event) → IsSound h → IsSound k → IsAlike aside h k → AreMet aside h k es
+        → IsAlike aside (run h es) (run k es) }
 
     // So a pruned history answers like the one that was pruned, event by event, as long as they name nothing that was forgotten and both have room.
-    ensures pruned_answers { (h : History) (bound : ℕ) (requests : List Request) → IsSound h → prune_answer h bound ≡ None
-        → AreMet (forgotten_by bound h) h (pruned bound h) requests → AllAnswerAlike h (pruned bound h) requests }
-    ensures pruned_runs { (h : History) (bound : ℕ) (requests : List Request) → IsSound h → prune_answer h bound ≡ None
-        → AreMet (forgotten_by bound h) h (pruned bound h) requests
-        → IsAlike (forgotten_by bound h) (run h requests) (run (pruned bound h) requests) }
+    ensures pruned_answers { (h : History) (bound : ℕ) (es : List Event) → IsSound h → prune_answer h bound ≡ None
+        → AreMet (forgotten_by bound h) h (pruned bound h) es → AllReplyAlike h (pruned bound h) es }
+    ensures pruned_runs { (h : History) (bound : ℕ) (es : List Event) → IsSound h → prune_answer h bound ≡ None
+        → AreMet (forgotten_by bound h) h (pruned bound h) es
+        → IsAlike (forgotten_by bound h) (run h es) (run (pruned bound h) es) }
 {}

@@ -1,6 +1,6 @@
 //! What holds of every history.
 
-ghost use Rattle.std.specs.Prelude.{◌≡◌, ◌<◌, ◌≤◌, ◌+◌, ℕ, List, Ok, None, Some, All, IsTrue, IsFalse};
+ghost use Rattle.std.specs.Prelude.{◌≡◌, ◌<◌, ◌≤◌, ◌+◌, ◌⊎◌, ℕ, List, Result, Ok, Err, None, Some, true, false, All, IsTrue, IsFalse};
 ghost use Rattle.std.specs.List.{AllWithin, HoldsAt};
 ghost use Rattle.plan_text.specs.Entries.{PlanEntry, IsPlan};
 ghost use Rattle.dest_queue.specs.declared.SlotState.{SlotState};
@@ -11,8 +11,14 @@ ghost use Rattle.event_log.specs.declared.entry.Entry.TheVariants.{Take, Settle,
 ghost use Rattle.event_log.specs.History.{History, followed_by, next_place, opened_by};
 ghost use Rattle.event_log.specs.Answers.{cancel_answer, keeps, known, known_before, settle_answer, take_answer};
 ghost use Rattle.event_log.specs.Legal.{IsGoodOpening, IsLegal, IsSound, MayFollow};
+ghost use Rattle.event_log.specs.declared.entry.Told.{Told};
+ghost use Rattle.event_log.specs.declared.refusal.DeployRefusal.{DeployRefusal};
+ghost use Rattle.event_log.specs.declared.refusal.DeployRefusal.TheVariants as deploy_refusal;
+ghost use Rattle.event_log.specs.Answers.{answer as arrival_answer};
+ghost use Rattle.event_log.specs.Deployment.{deploy_answer};
+ghost use Rattle.event_log.specs.Event.{CanCome, Does, Event, Refusal, Reply, answer, arrive, cancel, deploy, entry_of, event_of, full, next, settle, take};
 ghost use Rattle.event_log.specs.Replay.{replay};
-ghost use Rattle.event_log.specs.Room.{owed};
+ghost use Rattle.event_log.specs.Room.{exceeds, is_full, owed};
 
 /// The laws of histories, for every plan, bound, entry and key.
 pub fn history_rules()
@@ -44,4 +50,33 @@ pub fn history_rules()
         AllWithin (λ e. IsFalse (keeps key e)) h.entries 0 place }
     ensures unknown { (h : History) (key : List ℕ) → known h key ≡ None →
         (known_before h.opening key ≡ None) × All (λ e. IsFalse (keeps key e)) h.entries }
+{}
+
+/// The laws of events, for every history.
+pub fn event_rules()
+    // The reply to an event is by its kind one of five.
+    ensures arrival { (h : History) (conn channel : ℕ) (raw : List ℕ) (told : Told) →
+        is_full h channel raw ≡ false → arrival_answer h channel raw ≡ Some told →
+        answer h (arrive conn channel raw) ≡ Ok told }
+    ensures arrival_full { (h : History) (conn channel : ℕ) (raw : List ℕ) →
+        is_full h channel raw ≡ true → answer h (arrive conn channel raw) ≡ Err full }
+    ensures taken { (h : History) (d now : ℕ) → answer h (take d now) ≡ take_answer h d now }
+    ensures settled { (h : History) (ticket : Ticket) (outcome : Outcome) (now : ℕ) →
+        answer h (settle ticket outcome now) ≡ settle_answer h ticket outcome now }
+    ensures cancelled { (h : History) (number : ℕ) → answer h (cancel number) ≡ cancel_answer h number }
+    ensures deployed { (h : History) (plan : PlanEntry) →
+        deploy_answer h plan ≡ None → exceeds h 0 ≡ false → answer h (deploy plan) ≡ Ok tt }
+    ensures deployed_full { (h : History) (plan : PlanEntry) →
+        deploy_answer h plan ≡ None → exceeds h 0 ≡ true → answer h (deploy plan) ≡ Err deploy_refusal.Full }
+    ensures not_deployed { (h : History) (plan : PlanEntry) (refusal : DeployRefusal) →
+        deploy_answer h plan ≡ Some refusal → answer h (deploy plan) ≡ Err refusal }
+
+    // An entry that may follow is what its event brings, and what is booked of a possible event may follow.
+    ensures again { (h : History) (e : Entry) → MayFollow h e → next h (event_of e) ≡ followed_by h e }
+    ensures follows { (h : History) (e : Event) (reply : Reply e) →
+        CanCome e → answer h e ≡ Ok reply → MayFollow h (entry_of e reply) }
+
+    // A call that does an event leaves the history after it, or as it was.
+    ensures leaves { (e : Event) (old new : History) (result : Result (Reply e) (Refusal e)) →
+        Does e old new result → (new ≡ next old e) ⊎ (new ≡ old) }
 {}

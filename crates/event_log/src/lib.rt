@@ -15,7 +15,7 @@ pub use deployment::{keeps_destination, same_channels};
 pub use entry::{DeployedPlan, Entry, Ticket, Told};
 pub use fixed_numbers::{DEPLOYMENTS_MAX, EVENTS_MAX, PLACES_MAX, PRUNINGS_MAX};
 pub use folding::folding_rules;
-pub use laws::history_rules;
+pub use laws::{event_rules, history_rules};
 pub use log::{Log, slot_owed};
 pub use opening::{Opening, Remembered};
 pub use refusal::{CancelRefusal, DeployRefusal, PruneRefusal, TakeRefusal};

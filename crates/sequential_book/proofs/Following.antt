@@ -11,6 +11,7 @@ use Rattle.event_log.specs.Legal.{IsSound, MayFollow}
 use Rattle.event_log.proofs.Arriving.{arrival-step}
 use Rattle.event_log.proofs.Cancelling.{cancel-step}
 use Rattle.event_log.proofs.Deploying.{deploy-step}
+use Rattle.event_log.proofs.Events.{arrivable, deployable}
 use Rattle.event_log.proofs.Following.{last-after}
 use Rattle.event_log.proofs.Beginning.{opened-sound}
 use Rattle.event_log.proofs.Settling.{settle-step}
@@ -20,11 +21,11 @@ use Rattle.sequential_book.specs.Reading.{IsJudgeable, IsPlain}
 
 -- a sound history stays sound with an entry that may follow
 sound-followed_by : (h : History) → IsSound h → (e : Entry) → MayFollow h e → IsSound (followed_by h e)
-sound-followed_by h sound (Arrival conn channel raw told) may = (arrival-step h sound conn channel raw told may).sound
-sound-followed_by h sound (Take ticket now) may = (take-step h sound ticket.destination now ticket may).1.sound
-sound-followed_by h sound (Settle outcome ticket now state) may = (settle-step h sound ticket outcome now state may).sound
-sound-followed_by h sound (Cancel number mask) may = (cancel-step h sound number mask may).sound
-sound-followed_by h sound (Deploy plan) may = (deploy-step h sound plan may).sound
+sound-followed_by h sound (Arrival conn channel raw told) may = (arrival-step h sound conn channel raw told (arrivable h conn channel raw told may)).sound
+sound-followed_by h sound (Take ticket now) may = (take-step h sound ticket.destination now ticket may.replied).1.sound
+sound-followed_by h sound (Settle outcome ticket now state) may = (settle-step h sound ticket outcome now state may.replied).sound
+sound-followed_by h sound (Cancel number mask) may = (cancel-step h sound number mask may.replied).sound
+sound-followed_by h sound (Deploy plan) may = (deploy-step h sound plan (deployable h plan may)).sound
 
 -- what is kept true stays true
 pub plain-followed_by : (h : History) → IsPlain h → (e : Entry) → MayFollow h e → IsJudgeable (length h.opening.plan.channels) e → IsPlain (followed_by h e)

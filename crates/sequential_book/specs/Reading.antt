@@ -1,12 +1,19 @@
 -- What the plain engine keeps true of its entries, and how it recognises the accepted arrivals among them.
-use Rattle.std.specs.Prelude.{◌≡◌, ◌≤◌, ◌<◌, ℕ, Bool, true, false, length, All}
+use Rattle.std.specs.Prelude.{◌≡◌, ◌≤◌, ◌<◌, ℕ, Bool, true, false, length, All, Option, None, Some, Result, Ok, Err}
 use Rattle.mllp_frame.specs.Framing.{IsBlockData}
 use Rattle.event_log.specs.declared.entry.Told.{Told}
 use Rattle.event_log.specs.declared.entry.Told.TheVariants as told
 use Rattle.event_log.specs.declared.entry.Entry.{Entry}
 use Rattle.event_log.specs.declared.entry.Entry.TheVariants.{Arrival, Take, Settle, Cancel, Deploy}
+use Rattle.dest_queue.specs.declared.SettleRefusal.{SettleRefusal}
+use Rattle.dest_queue.specs.declared.SlotState.{SlotState}
+use Rattle.event_log.specs.Event.{ArriveRefusal, full, no_memory}
 use Rattle.event_log.specs.History.{History}
 use Rattle.event_log.specs.Legal.{IsSound}
+use Rattle.sequential_book.specs.declared.refusal.NotBooked.{NotBooked}
+use Rattle.sequential_book.specs.declared.refusal.NotBooked.TheVariants as not_booked
+use Rattle.sequential_book.specs.declared.refusal.NotSettled.{NotSettled}
+use Rattle.sequential_book.specs.declared.refusal.NotSettled.TheVariants as not_settled
 
 -- whether a message was accepted
 abbrev pub is_accepted : Told → Bool
@@ -45,3 +52,14 @@ pub record IsPlain (h : History) : Type 0 where
   pub sound : IsSound h
   pub judgeable : All (IsJudgeable (length h.opening.plan.channels)) h.entries
   pub bound : h.opening.events_max ≤ 1000000
+
+-- why an arrival isn't booked
+abbrev pub arrive_refusal : NotBooked → ArriveRefusal
+arrive_refusal not_booked.Full = full
+arrive_refusal not_booked.NoMemory = no_memory
+
+-- what became of a settlement, unless memory was refused
+abbrev pub settled : Result SlotState NotSettled → Option (Result SlotState SettleRefusal)
+settled (Ok state) = Some (Ok state)
+settled (Err (not_settled.Refused refusal)) = Some (Err refusal)
+settled (Err not_settled.NoMemory) = None

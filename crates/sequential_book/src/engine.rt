@@ -1,15 +1,13 @@
 //! The plain engine itself.
 
-ghost use Rattle.std.specs.Prelude.{◌≡◌, ◌≤◌, ◌⊎◌, Ok, Err, IfOk, IfErr, OnOk, OnErr, IsErrOf, IsTrue, None, Some, false, length};
+ghost use Rattle.std.specs.Prelude.{◌≡◌, ◌≤◌, Ok, Err, IfOk, IfSome, OnOk, OnErr, IsTrue, Some, length};
 ghost use Rattle.std.specs.Arc.{arc_value};
 ghost use Rattle.judge_core.specs.Judging.{is_bookable};
-ghost use Rattle.dest_queue.specs.declared.SettleRefusal.{SettleRefusal};
+ghost use Rattle.event_log.specs.Event.{Does, arrive, cancel, deploy, result_map_err, settle, take};
 ghost use Rattle.event_log.specs.History.{followed_by, opened_by, plan_in_force, queue, slot};
-ghost use Rattle.event_log.specs.Answers.{answer, cancel_answer, settle_answer, take_answer};
-ghost use Rattle.event_log.specs.Deployment.{deploy_answer};
+ghost use Rattle.event_log.specs.Answers.{answer};
 ghost use Rattle.event_log.specs.Legal.{MayFollow};
-ghost use Rattle.event_log.specs.Room.{exceeds, is_full};
-ghost use Rattle.sequential_book.specs.Reading.{IsJudgeable};
+ghost use Rattle.sequential_book.specs.Reading.{IsJudgeable, arrive_refusal, settled};
 
 mod answers;
 mod slots;
@@ -111,11 +109,8 @@ impl SequentialBook {
     pub fn arrive(&mut self, conn: u32, judged: &Judged) -> Result<Told, NotBooked>
         requires bookable { IsTrue (is_bookable judged.now.raw) }
         requires same_plan { judged.now.plan ≡ plan_in_force self.old }
-        ensures told { IfOk result (λ told. answer self.old judged.now.channel judged.now.raw ≡ Some told) }
-        ensures booked { IfOk result (λ told. self.new ≡ followed_by self.old (Entry.Arrival conn judged.now.channel judged.now.raw told)) }
-        ensures room { OnOk result (is_full self.old judged.now.channel judged.now.raw ≡ false) }
-        ensures full { IsErrOf result NotBooked.Full → IsTrue (is_full self.old judged.now.channel judged.now.raw) }
-        ensures err { OnErr result (self.new ≡ self.old) }
+        ensures { Does (arrive conn judged.now.channel judged.now.raw)
+            self.old self.new (result_map_err arrive_refusal result) }
     {
         self.rules();
         let told = self.answer(judged)?;
@@ -139,10 +134,7 @@ impl SequentialBook {
     /// `Idle` where the queue is empty, `InFlightNow` where the front is under way, `NotDue` where it waits for a later
     /// moment, and `NoMemory` where memory was refused. Nothing changes then.
     pub fn take(&mut self, d: u32, now: Moment) -> Result<Ticket, TakeRefusal>
-        ensures answer { IfOk result (λ ticket. take_answer self.old d now ≡ Ok ticket) }
-        ensures booked { IfOk result (λ ticket. self.new ≡ followed_by self.old (Entry.Take ticket now)) }
-        ensures refused { IfErr result (λ e. (take_answer self.old d now ≡ Err e) ⊎ (e ≡ TakeRefusal.NoMemory)) }
-        ensures err { OnErr result (self.new ≡ self.old) }
+        ensures { Does (take d now) self.old self.new result }
     {
         let ticket = self.take_answer(d, now)??;
         self.book(Entry::Take { ticket, now })?;
@@ -160,11 +152,9 @@ impl SequentialBook {
         outcome: Outcome,
         now: Moment,
     ) -> Result<SlotState, NotSettled>
-        ensures answer { IfOk result (λ state. settle_answer self.old ticket.now outcome now ≡ Ok state) }
-        ensures booked { IfOk result (λ state. self.new ≡ followed_by self.old (Entry.Settle outcome ticket.now now state)) }
-        ensures refused { (refusal : SettleRefusal) → result ≡ Err (NotSettled.Refused refusal) →
-            settle_answer self.old ticket.now outcome now ≡ Err refusal }
-        ensures err { OnErr result (self.new ≡ self.old) }
+        ensures does { IfSome (settled result)
+            (λ said. Does (settle ticket.now outcome now) self.old self.new said) }
+        ensures no_memory { OnErr result (self.new ≡ self.old) }
     {
         let state = self.settle_answer(ticket, outcome, now)??;
         self.book(Entry::Settle {
@@ -183,10 +173,7 @@ impl SequentialBook {
     /// `NoSuchMessage`, `NothingWaiting` where the message waits nowhere, and `NoMemory` where memory was refused.
     /// Nothing changes then.
     pub fn cancel(&mut self, number: u32) -> Result<u32, CancelRefusal>
-        ensures answer { IfOk result (λ mask. cancel_answer self.old number ≡ Ok mask) }
-        ensures booked { IfOk result (λ mask. self.new ≡ followed_by self.old (Entry.Cancel number mask)) }
-        ensures refused { IfErr result (λ e. (cancel_answer self.old number ≡ Err e) ⊎ (e ≡ CancelRefusal.NoMemory)) }
-        ensures err { OnErr result (self.new ≡ self.old) }
+        ensures { Does (cancel number) self.old self.new result }
     {
         let mask = self.cancel_answer(number)??;
         self.book(Entry::Cancel { number, mask })?;
@@ -200,12 +187,7 @@ impl SequentialBook {
     /// `ChannelsDiffer`, `DestinationInUse`, `TooMany`, `Full` where there is no room for one more entry, and `NoMemory`
     /// where memory was refused. Nothing changes then.
     pub fn deploy(&mut self, plan: Arc<Plan>) -> Result<(), DeployRefusal>
-        ensures answer { OnOk result (MayFollow self.old (Entry.Deploy (arc_value plan))) }
-        ensures booked { OnOk result (self.new ≡ followed_by self.old (Entry.Deploy (arc_value plan))) }
-        ensures refused { IfErr result (λ e.
-            (deploy_answer self.old (arc_value plan) ≡ Some e) ⊎ (e ≡ DeployRefusal.Full) ⊎ (e ≡ DeployRefusal.NoMemory)) }
-        ensures full { IsErrOf result DeployRefusal.Full → (deploy_answer self.old (arc_value plan) ≡ None) × IsTrue (exceeds self.old 0) }
-        ensures err { OnErr result (self.new ≡ self.old) }
+        ensures { Does (deploy (arc_value plan)) self.old self.new result }
     {
         self.rules();
         if let Some(refusal) = self.deploy_answer(&plan)? {

@@ -13,25 +13,25 @@ use Rattle.event_log.proofs.RunningAlike.{answers-both, next-both, run-both, sou
 use Rattle.event_log.proofs.folding.folding_rules.Goals as goal
 
 pub returns-clause-answered : goal.returns-clause-answered
-returns-clause-answered c = λ aside h k request sound its_sound alike met. answers-alike aside h k alike request met.apart
+returns-clause-answered c = λ aside h k e sound its_sound alike met. answers-alike aside h k alike e met
 
 pub returns-clause-followed : goal.returns-clause-followed
-returns-clause-followed c = λ aside h k request sound its_sound alike met. (next-both aside h k (sound-both aside h k sound its_sound alike) request met).alike
+returns-clause-followed c = λ aside h k e sound its_sound alike met. (next-both aside h k (sound-both aside h k sound its_sound alike) e met).alike
 
 pub returns-clause-answered_all : goal.returns-clause-answered_all
-returns-clause-answered_all c = λ aside h k requests sound its_sound alike met. answers-both aside h k (sound-both aside h k sound its_sound alike) requests met
+returns-clause-answered_all c = λ aside h k es sound its_sound alike met. answers-both aside h k (sound-both aside h k sound its_sound alike) es met
 
 pub returns-clause-run_on : goal.returns-clause-run_on
-returns-clause-run_on c = λ aside h k requests sound its_sound alike met. (run-both aside h k (sound-both aside h k sound its_sound alike) requests met).alike
+returns-clause-run_on c = λ aside h k es sound its_sound alike met. (run-both aside h k (sound-both aside h k sound its_sound alike) es met).alike
 
 pub returns-clause-folded : goal.returns-clause-folded
 returns-clause-folded c = λ h bound sound may. pruned-alike h sound bound may
 
 pub returns-clause-pruned_answers : goal.returns-clause-pruned_answers
-returns-clause-pruned_answers c = λ h bound requests sound may met. answers-both (forgotten_by bound h) h (pruned bound h) (pruned-both h sound bound may) requests met
+returns-clause-pruned_answers c = λ h bound es sound may met. answers-both (forgotten_by bound h) h (pruned bound h) (pruned-both h sound bound may) es met
 
 pub returns-clause-pruned_runs : goal.returns-clause-pruned_runs
-returns-clause-pruned_runs c = λ h bound requests sound may met. (run-both (forgotten_by bound h) h (pruned bound h) (pruned-both h sound bound may) requests met).alike
+returns-clause-pruned_runs c = λ h bound es sound may met. (run-both (forgotten_by bound h) h (pruned bound h) (pruned-both h sound bound may) es met).alike
 
 pub returns-clause-memories : goal.returns-clause-memories
 returns-clause-memories c = λ h bound sound. folded-memories h sound bound

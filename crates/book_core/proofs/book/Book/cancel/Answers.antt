@@ -1,21 +1,10 @@
-use Rattle.std.proofs.Common.{◌≡◌, ◌≤◌, true, inl, inr, refl, sym, ◌∙◌, ap, arith}
+use Rattle.std.proofs.Common.{◌≡◌, ◌≤◌, true, refl, sym, ◌∙◌, ap, arith, rules}
 use Rattle.std.specs.Prelude.{is_ok}
-use Rattle.std.proofs.lemmas.Result.{err_from_is_err_and}
 use Rattle.event_log.specs.Answers.{cancel_answer}
 use Rattle.event_log.specs.History.{plan_in_force, slot}
 use Rattle.book_core.specs.Sending.{owed_waiting}
 use Rattle.book_core.proofs.KeepingCancels.{asked-cancel, asked-row, cancelled-less, cancelled-owed, cancelled-waits, cancelled-within, kept-cancelled}
 use Rattle.book_core.proofs.book.Book.cancel.Goals as goal
-
-pub returns-in_err-waiting-clause-refused : goal.returns-in_err-waiting-clause-refused
-returns-in_err-waiting-clause-refused g c =
-    let p = err_from_is_err_and c.from_residual.result c.from_residual.ensures.1 in
-    rw (p.1, p.2) (inl c.in_err-waiting.ensures.refused)
-
-pub returns-in_err-reserve-clause-refused : goal.returns-in_err-reserve-clause-refused
-returns-in_err-reserve-clause-refused g c =
-    let p = err_from_is_err_and c.from_residual-in_err-reserve.result c.from_residual-in_err-reserve.ensures.1 in
-    rw p.1 (inr (p.2, c.in_ok-waiting.ensures.waits))
 
 pub unreachable-requires : goal.unreachable-requires
 unreachable-requires g c =
@@ -51,7 +40,7 @@ invariant_of-self-2 g c =
     let left : c.self.inside.flights ≤ c.push.new.self.room = omega (arith, c.in_ok-reserve.ensures.ok, c.push.ensures.room) in
     rw (c.push.ensures.history, c.reserve.ensures.history, c.cancel_waiting.ensures.cancelled) (kept-cancelled _ _ _ _ _ _ c.self.invariant c.args.number asked c.in-Some.mask (omega arith) c.in-Some.ensures.mask c.count_cancelled.new.counts c.push.new.self.room c.count_cancelled.ensures left)
 
-pub returns-clause-answer : goal.returns-clause-answer
-returns-clause-answer g c =
+pub returns-clause-does : goal.returns-clause-does
+returns-clause-does g c =
     let asked : is_ok (cancel_answer c.self.inside.log.history c.args.number) ≡ true = ap (λ h. is_ok (cancel_answer h c.args.number)) c.self.view_is ∙ c.in_ok-waiting.ensures.waits in
-    ap (λ h. cancel_answer h c.args.number) (sym c.self.view_is) ∙ asked-cancel _ _ _ _ _ _ c.self.invariant c.args.number asked c.in-Some.mask (omega arith) c.in-Some.ensures.mask
+    record { possible = tt; replied = ap (λ h. cancel_answer h c.args.number) (sym c.self.view_is) ∙ asked-cancel _ _ _ _ _ _ c.self.invariant c.args.number asked c.in-Some.mask (omega arith) c.in-Some.ensures.mask; booked = search rules; refused = tt; unchanged = tt }

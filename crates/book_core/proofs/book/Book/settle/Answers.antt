@@ -1,4 +1,4 @@
-use Rattle.std.proofs.Common.{◌≡◌, ◌≤◌, ◌+◌, ◌-◌, arith, Ok, ◌∙◌, ap, sym, refl}
+use Rattle.std.proofs.Common.{◌≡◌, ◌≤◌, ◌+◌, ◌-◌, arith, Ok, Err, ◌∙◌, ap, sym, refl, rules, inl}
 use Rattle.std.proofs.lemmas.Result.{err_from_is_err_and}
 use Rattle.dest_queue.specs.declared.SlotState.TheVariants.{InFlight}
 use Rattle.event_log.specs.Answers.{attempts_max, interval, settle_answer}
@@ -8,12 +8,14 @@ use Rattle.book_core.proofs.Keeping.{asked-settle, kept-settled, settled-flies, 
 use Rattle.book_core.proofs.Settled.{settled-due}
 use Rattle.book_core.proofs.book.Book.settle.Goals as goal
 
-pub returns-in_err-state-clause-answer : goal.returns-in_err-state-clause-answer
-returns-in_err-state-clause-answer g c =
+pub returns-in_err-state-clause-does : goal.returns-in_err-state-clause-does
+returns-in_err-state-clause-does g c =
     let max : c.attempts_max-max.result ≡ attempts_max (plan_in_force c.self.inside.log.history) c.args.ticket.now.destination = c.attempts_max-max.ensures.value ∙ ap (λ p. attempts_max p c.args.ticket.now.destination) (c.deref.ensures ∙ c.plan.ensures) in
     let wait : c.interval-interval.result ≡ interval (plan_in_force c.self.inside.log.history) c.args.ticket.now.destination = c.interval-interval.ensures.value ∙ ap (λ p. interval p c.args.ticket.now.destination) (c.deref-2.ensures ∙ c.plan-2.ensures) in
     let p = err_from_is_err_and c.from_residual.result c.from_residual.ensures.1 in
-    rw (p.1, p.2) (rw (max, wait, c.secs.ensures.value) at c.in_err-state.ensures.answer ∙ (asked-settle _ _ _ _ _ _ c.self.invariant c.args.ticket.now c.args.outcome c.args.now ∙ ap (λ h. settle_answer h c.args.ticket.now c.args.outcome c.args.now) c.self.view_is))
+    let there : c.from_residual.result ≡ settle_answer c.args.self.now c.args.ticket.now c.args.outcome c.args.now = rw (p.1, p.2) (rw (max, wait, c.secs.ensures.value) at c.in_err-state.ensures.answer ∙ (asked-settle _ _ _ _ _ _ c.self.invariant c.args.ticket.now c.args.outcome c.args.now ∙ ap (λ h. settle_answer h c.args.ticket.now c.args.outcome c.args.now) c.self.view_is)) in
+    let said : settle_answer c.args.self.now c.args.ticket.now c.args.outcome c.args.now ≡ Err p.0 = sym there ∙ p.1 in
+    rw p.1 (record { possible = tt; replied = tt; booked = tt; refused = inl said; unchanged = search rules })
 
 pub count_settled-requires-clause-place : goal.count_settled-requires-clause-place
 count_settled-requires-clause-place g c =
@@ -83,13 +85,19 @@ invariant_of-self-2 g c =
     sym (asked-settle _ _ _ _ _ _ c.self.invariant c.args.ticket.now c.args.outcome c.args.now) ∙ sym (rw (max, wait, c.secs.ensures.value) at c.in_ok-state.ensures.answer) in
     rw (c.push.ensures.history, c.in_ok-state.ensures.settled, c.count_settled.ensures) (kept-settled _ _ _ _ _ _ c.self.invariant c.args.ticket.now c.args.outcome c.args.now c.in_ok-state.state asked c.push.new.self.room c.push.ensures.room)
 
-pub returns-clause-answer : goal.returns-clause-answer
-returns-clause-answer g c =
+pub returns-clause-does : goal.returns-clause-does
+returns-clause-does g c =
     let max : c.attempts_max-max.result ≡ attempts_max (plan_in_force c.self.inside.log.history) c.args.ticket.now.destination = c.attempts_max-max.ensures.value ∙ ap (λ p. attempts_max p c.args.ticket.now.destination) (c.deref.ensures ∙ c.plan.ensures) in
     let wait : c.interval-interval.result ≡ interval (plan_in_force c.self.inside.log.history) c.args.ticket.now.destination = c.interval-interval.ensures.value ∙ ap (λ p. interval p c.args.ticket.now.destination) (c.deref-2.ensures ∙ c.plan-2.ensures) in
     let asked : settle_answer c.self.inside.log.history c.args.ticket.now c.args.outcome c.args.now ≡ Ok c.in_ok-state.state =
     sym (asked-settle _ _ _ _ _ _ c.self.invariant c.args.ticket.now c.args.outcome c.args.now) ∙ sym (rw (max, wait, c.secs.ensures.value) at c.in_ok-state.ensures.answer) in
-    sym asked ∙ ap (λ h. settle_answer h c.args.ticket.now c.args.outcome c.args.now) c.self.view_is
+    record {
+      possible = tt;
+      replied = ap (λ h. settle_answer h c.args.ticket.now c.args.outcome c.args.now) (sym c.self.view_is) ∙ asked;
+      booked = search rules;
+      refused = tt;
+      unchanged = tt;
+    }
 
 pub returns-clause-due : goal.returns-clause-due
 returns-clause-due g c = λ attempts due is.

@@ -1,9 +1,8 @@
-use Rattle.std.proofs.Common.{rules, ◌≡◌, ◌↔◌, ap, subst, arith, refl}
-use Rattle.std.specs.Prelude.{IsErrOf, IsTrue}
-use Rattle.book_core.specs.declared.receipt.NotBooked.TheVariants.{Full}
-use Rattle.event_log.specs.History.{History, plan_in_force}
-use Rattle.event_log.specs.Room.{is_full}
+use Rattle.std.proofs.Common.{arith, refl}
+use Rattle.event_log.specs.History.{plan_in_force}
 use Rattle.event_log.specs.declared.entry.Entry.TheVariants.{Arrival}
+use Rattle.event_log.specs.Event.{arrive}
+use Rattle.event_log.proofs.Events.{does-follow}
 use Rattle.book_lock.specs.Rises.{Held}
 use Rattle.book_lock.proofs.Following.{arrivals_fit, few_entries, known_channel, next, still}
 use Rattle.book_lock.proofs.locked.Locked.arrive.Goals as goal
@@ -20,15 +19,8 @@ invariant_of-self-2 g c =
     let judged = c.args.judged.now in
     let told = c.in_ok-receipt.receipt.told in
     let known = known_channel judged.plan (plan_in_force h.book) judged.channel (λ other. let w = c.in_ok-receipt.ensures.plan.1 other in cc) (omega (arith, c.channel-channel.ensures.value, c.channel-channel.ensures.known)) in
-    let rise = c.three_sums.ensures.arrival h.book c.args.conn judged.channel judged.raw told c.rules.ensures.sound c.in_ok-receipt.ensures.follows known in
+    let rise = c.three_sums.ensures.arrival h.book c.args.conn judged.channel judged.raw told c.rules.ensures.sound (does-follow (arrive c.args.conn judged.channel judged.raw) h.book c.arrive.new.self told c.in_ok-receipt.ensures.does) known in
     let n = next h (Arrival c.args.conn judged.channel judged.raw told) c.arrive.new.self g.A.Opening.counts g.A.Opening.first g.A.Opening.channels
     c.self.inside.arrivals.total c.self.inside.takes.total c.self.inside.settlements.total 1 0 0 c.count.new.book.total c.self.inside.takes.total c.self.inside.settlements.total
-    c.in_ok-receipt.ensures.booked (still h (Arrival c.args.conn judged.channel judged.raw told) refl) c.self.invariant.0 c.self.invariant.1 rise c.count.ensures.total (omega arith) (omega arith) in
+    c.in_ok-receipt.ensures.does.booked (still h (Arrival c.args.conn judged.channel judged.raw told) refl) c.self.invariant.0 c.self.invariant.1 rise c.count.ensures.total (omega arith) (omega arith) in
     (n.0, n.1, c.self.invariant.2, c.self.invariant.3, c.self.invariant.4)
-
-pub returns-in_err-receipt-clause-full : goal.returns-in_err-receipt-clause-full
-returns-in_err-receipt-clause-full g c =
-    let b : c.self.inside.book ≡ c.args.self.now.book = ap (λ (h : Held). h.book) c.self.view_is in
-    let judged = c.args.judged.now in
-    let there : IsErrOf c.from_residual.result Full ↔ (judged.plan ≡ plan_in_force c.self.inside.book) × IsTrue (is_full c.self.inside.book judged.channel judged.raw) = search rules in
-    subst (λ (h : History). IsErrOf c.from_residual.result Full ↔ (judged.plan ≡ plan_in_force h) × IsTrue (is_full h judged.channel judged.raw)) b there

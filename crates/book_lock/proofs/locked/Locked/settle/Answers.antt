@@ -1,8 +1,5 @@
-use Rattle.std.proofs.Common.{◌≡◌, sym, ap, ◌∙◌, arith, refl}
+use Rattle.std.proofs.Common.{arith, refl}
 use Rattle.event_log.specs.declared.entry.Entry.TheVariants.{Settle}
-use Rattle.std.proofs.Common.{rules}
-use Rattle.event_log.specs.Answers.{settle_answer}
-use Rattle.event_log.specs.History.{History}
 use Rattle.book_lock.specs.Rises.{Held}
 use Rattle.book_lock.proofs.Following.{few_entries, next, settlements_fit, still}
 use Rattle.book_lock.proofs.locked.Locked.settle.Goals as goal
@@ -18,19 +15,8 @@ invariant_of-self-2 g c =
     let h : Held = record { book = c.self.inside.book; opening = c.self.inside.opening; first = c.self.inside.first; admitted = c.self.inside.admitted } in
     let ticket = c.args.ticket.now in
     let state = c.in_ok-state.state in
-    let rise = c.three_sums.ensures.settlement h.book ticket c.args.outcome c.args.now state c.rules.ensures.sound (sym c.in_ok-state.ensures.answer) in
+    let rise = c.three_sums.ensures.settlement h.book ticket c.args.outcome c.args.now state c.rules.ensures.sound c.in_ok-state.ensures.does.replied in
     let n = next h (Settle c.args.outcome ticket c.args.now state) c.settle.new.self g.A.Opening.counts g.A.Opening.first g.A.Opening.channels
     c.self.inside.arrivals.total c.self.inside.takes.total c.self.inside.settlements.total 0 0 1 c.self.inside.arrivals.total c.self.inside.takes.total c.count_settlement.new.book.total
-    c.in_ok-state.ensures.booked (still h (Settle c.args.outcome ticket c.args.now state) refl) c.self.invariant.0 c.self.invariant.1 rise (omega arith) (omega arith) c.count_settlement.ensures.total in
+    c.in_ok-state.ensures.does.booked (still h (Settle c.args.outcome ticket c.args.now state) refl) c.self.invariant.0 c.self.invariant.1 rise (omega arith) (omega arith) c.count_settlement.ensures.total in
     (n.0, n.1, c.self.invariant.2, c.self.invariant.3, c.self.invariant.4)
-
-pub returns-in_err-state-clause-answer : goal.returns-in_err-state-clause-answer
-returns-in_err-state-clause-answer g c =
-    let b : c.self.inside.book ≡ c.args.self.now.book = ap (λ (h : Held). h.book) c.self.view_is in
-    let there : c.from_residual.result ≡ settle_answer c.self.inside.book c.args.ticket.now c.args.outcome c.args.now = search rules in
-    there ∙ ap (λ (h : History). settle_answer h c.args.ticket.now c.args.outcome c.args.now) b
-
-pub returns-clause-answer : goal.returns-clause-answer
-returns-clause-answer g c =
-    let b : c.self.inside.book ≡ c.args.self.now.book = ap (λ (h : Held). h.book) c.self.view_is in
-    c.in_ok-state.ensures.answer ∙ ap (λ (h : History). settle_answer h c.args.ticket.now c.args.outcome c.args.now) b

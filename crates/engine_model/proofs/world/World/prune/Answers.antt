@@ -1,10 +1,9 @@
-use Rattle.std.proofs.Common.{◌≡◌, ◌++◌, List, None, drop, length, map, take, subst}
-use Rattle.event_log.specs.Folding.{prune_answer, pruned}
+use Rattle.std.proofs.Common.{◌++◌, List, drop, length, take, subst}
 use Rattle.engine_model.specs.declared.connection.Connected.{Connected}
 use Rattle.engine_model.specs.Run.{Run}
 use Rattle.engine_model.specs.Steps.{Steps}
-use Rattle.engine_model.specs.Turn.{pruning}
-use Rattle.engine_model.specs.View.{run_of, with_folded}
+use Rattle.engine_model.specs.Turn.{prune}
+use Rattle.engine_model.specs.View.{run_of}
 use Rattle.engine_model.proofs.Worlds.{all-noted, pruned-by, when-ok, world-folded}
 use Rattle.engine_model.proofs.world.World.prune.Goals as goal
 
@@ -21,7 +20,7 @@ pub returns-then-is_ok : goal.returns-then-is_ok
 returns-then-is_ok g c =
     let cs : List Connected = c.self.inside.connections.items in
     let now : List Connected = take c.self.inside.connections.len (c.note_folding.new.connections ++ drop (length c.note_folding.new.connections) cs) in
-    subst (λ (r : Run). Steps (pruning c.args.before) r (run_of c.prune.new.self now)) c.self.view_is
+    subst (λ (r : Run). Steps (prune c.args.before) r (run_of c.prune.new.self now)) c.self.view_is
     (pruned-by c.self.inside.book c.prune.new.self cs now c.args.before
     (when-ok c.prune.result c.is_ok.result c.is_ok.ensures.value c.if-is_ok.true c.prune.ensures.answer)
     (when-ok c.prune.result c.is_ok.result c.is_ok.ensures.value c.if-is_ok.true c.prune.ensures.folded)

@@ -1,12 +1,15 @@
-use Rattle.std.proofs.Common.{refl}
-use Rattle.dest_queue.specs.declared.SlotState.{SlotState}
-use Rattle.event_log.specs.declared.entry.Entry.TheVariants.{Settle}
-use Rattle.engine_model.specs.Turn.{settling}
-use Rattle.engine_model.proofs.Worlds.{same-plan, settled, world-on}
+use Rattle.std.proofs.Common.{subst}
+use Rattle.event_log.specs.Event as event
+use Rattle.engine_model.specs.Steps.{Steps}
+use Rattle.engine_model.specs.Turn as turn
+use Rattle.engine_model.specs.View.{run_of}
+use Rattle.engine_model.proofs.Worlds.{does-step, world-on}
 use Rattle.engine_model.proofs.world.World.settle.Goals as goal
 
 pub invariant_of-self : goal.invariant_of-self
-invariant_of-self g c =
-    world-on (settling c.args.ticket.now c.args.outcome c.args.now) c.self.inside.book c.settle.new.self c.self.inside.connections.items c.self.invariant
-    (settled c.self.inside.book c.settle.new.self c.self.inside.connections.items c.args.ticket.now c.args.outcome c.args.now c.settle.result c.settle.ensures.answer c.settle.ensures.booked c.settle.ensures.err)
-    (same-plan c.self.inside.book c.settle.new.self (λ (state : SlotState). Settle c.args.outcome c.args.ticket.now c.args.now state) c.settle.result (λ x. refl) c.settle.ensures.booked c.settle.ensures.err)
+invariant_of-self g c = world-on (event.settle c.args.ticket.now c.args.outcome c.args.now) tt c.self.inside.book c.settle.new.self c.self.inside.connections.items _ c.self.invariant c.settle.ensures.does
+
+pub returns : goal.returns
+returns g c =
+    subst (λ r. Steps (turn.event (event.settle c.args.ticket.now c.args.outcome c.args.now)) r (run_of c.settle.new.self c.self.inside.connections.items)) c.self.view_is
+    (does-step (event.settle c.args.ticket.now c.args.outcome c.args.now) tt c.self.inside.book c.settle.new.self c.self.inside.connections.items _ c.settle.ensures.does)
