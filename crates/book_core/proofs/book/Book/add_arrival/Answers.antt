@@ -5,6 +5,7 @@ use Rattle.judge_core.specs.Judging.{verdict as decided}
 use Rattle.event_log.specs.Answers.{answer}
 use Rattle.event_log.specs.History.{control_id_of, next_place, plan_in_force}
 use Rattle.event_log.specs.Room.{is_full, owed, own, own_owed}
+use Rattle.event_log.proofs.Events.{arrivable-follows}
 use Rattle.book_core.specs.Sending.{goes_to, has_key}
 use Rattle.book_core.proofs.Gains.{gain-added, gain-owed, key-kept}
 use Rattle.book_core.proofs.KeepingArrivals.{arrived-next, arrived-owed, arrived-within, few-received, few-repeats, few-slots, kept-arrived, key-unknown, keys-arrived}
@@ -104,4 +105,4 @@ invariant_of-self-2 g c =
 pub returns-clause-follows : goal.returns-clause-follows
 returns-clause-follows g c =
     let fits : IsBlockData c.args.judged.now.raw = rw c.raw.ensures.value at c.raw.ensures.fits in
-    record { fits = fits; room = c.requires.room; answered = c.requires.told }
+    arrivable-follows c.args.self.now c.args.conn c.args.judged.now.channel c.args.judged.now.raw c.args.told (record { fits = fits; room = c.requires.room; answered = c.requires.told })
