@@ -1,5 +1,7 @@
-use Rattle.std.proofs.Common.{arith, refl}
-use Rattle.event_log.specs.History.{plan_in_force}
+use Rattle.std.proofs.Common.{◌≡◌, ap, arith, refl, rules, subst}
+use Rattle.std.specs.Prelude.{IsErrOf}
+use Rattle.book_core.specs.declared.receipt.NotBooked.TheVariants.{Full}
+use Rattle.event_log.specs.History.{History, plan_in_force}
 use Rattle.event_log.specs.declared.entry.Entry.TheVariants.{Arrival}
 use Rattle.event_log.specs.Event.{arrive}
 use Rattle.event_log.proofs.Events.{does-follow}
@@ -24,3 +26,9 @@ invariant_of-self-2 g c =
     c.self.inside.arrivals.total c.self.inside.takes.total c.self.inside.settlements.total 1 0 0 c.count.new.book.total c.self.inside.takes.total c.self.inside.settlements.total
     c.in_ok-receipt.ensures.does.booked (still h (Arrival c.args.conn judged.channel judged.raw told) refl) c.self.invariant.0 c.self.invariant.1 rise c.count.ensures.total (omega arith) (omega arith) in
     (n.0, n.1, c.self.invariant.2, c.self.invariant.3, c.self.invariant.4)
+
+pub returns-in_err-receipt-clause-same_plan : goal.returns-in_err-receipt-clause-same_plan
+returns-in_err-receipt-clause-same_plan g c =
+    let b : c.self.inside.book ≡ c.args.self.now.book = ap (λ (h : Held). h.book) c.self.view_is in
+    let there : IsErrOf c.from_residual.result Full → c.args.judged.now.plan ≡ plan_in_force c.self.inside.book = search rules in
+    subst (λ (h : History). IsErrOf c.from_residual.result Full → c.args.judged.now.plan ≡ plan_in_force h) b there
