@@ -58,7 +58,7 @@ same-channels e none h h' (Err refusal) does = ap (λ (g : History). length (pla
 same-channels e none h h' (Ok reply) does = ap (λ (g : History). length (plan_in_force g).channels) does.booked ∙ by e none reply does
   where
     kept : (x : Entry) → deployed_by x ≡ None → length (plan_in_force (followed_by h x)).channels ≡ length (plan_in_force h).channels
-    kept x no = ap (λ (p : PlanEntry). length p.channels) (plan-kept h x no)
+    kept x stays = ap (λ (p : PlanEntry). length p.channels) (plan-kept h x stays)
 
     by : (e : Event) → IsNoArrival e → (reply : Reply e) → Does e h h' (Ok reply) → length (plan_in_force (followed_by h (entry_of e reply))).channels ≡ length (plan_in_force h).channels
     by (event.arrive conn channel raw) none reply does = absurd none
@@ -190,7 +190,7 @@ world-folded h h' cs cs' bound w may is noted =
       fit =
           subst (λ l. AllByRecursion (IsFit (length (plan_in_force h').channels)) l) (sym noted)
           (subst (λ (g : History). AllByRecursion (IsFit (length (plan_in_force g).channels)) (map with_folded cs)) (sym is) (fit-folded (length (plan_in_force h).channels) cs w.fit));
-      word = step-keeps (pruning bound) (run_of h cs) (run_of h' cs') w.word (pruned-by h h' cs cs' bound may is noted);
+      word = step-keeps (turn.prune bound) (run_of h cs) (run_of h' cs') w.word (pruned-by h h' cs cs' bound may is noted);
     }
 
 -- ---- the opened world
