@@ -26,8 +26,8 @@ CLAIMS = (
     ('Serving', 'the clauses `served`, `read_fault`, `write_fault` and `flushed` of `serve_within` and `answer_stream`: '
      '`ServesAndBooks`, `Serves`, `Books` and how faults are counted, on top of replies and of what a history is',
      ['conn_worker.Serving.ServesAndBooks', 'conn_core.Booking.Books', 'conn_worker.Faults.*']),
-    ('A message at a book', 'the clause `told` of `answer_block`: `BookAnswers`, on top of `answer` and `is_full`',
-     ['conn_core.Booking.BookAnswers']),
+    ('A message at a book', 'the clause `told` of `answer_block`: `OutcomeAtBook`, on top of `answer` and `is_full`',
+     ['conn_core.Booking.OutcomeAtBook']),
     ('Delivering', 'the clause `attempts` of `deliver`: `Delivers`, on top of framing and of what a message is',
      ['delivery_worker.Delivering.Delivers']),
     ('A shared book', 'the clauses of `close` and `audit`: what adds up, which receipts are due, which fault is first',

@@ -11,7 +11,7 @@ use Rattle.judge_core.specs.Judging.{is_bookable, key_of, verdict as decided}
 use Rattle.event_log.specs.declared.entry.Told.{Told}
 use Rattle.event_log.specs.declared.entry.Told.TheVariants as told
 use Rattle.event_log.specs.History.{History, message_count, plan_in_force}
-use Rattle.event_log.specs.Answers.{answer, brings_at, is_kept, known, told_by}
+use Rattle.event_log.specs.Answers.{arrival_answer, brings_at, is_kept, known, told_by}
 use Rattle.event_log.specs.Event.{AsksLast, Event, Refusal, Reply, answer as event_answer}
 use Rattle.event_log.specs.Room.{exceeds, is_full, own}
 use Rattle.book_core.specs.declared.receipt.NotBooked.{NotBooked}
@@ -47,8 +47,8 @@ accepting-told true None same v count reply is = accepting-by v count reply is
 accepting-told true (Some place) same v count reply is = accepting-again (same place) place v reply is
 
 -- the answer is one that fits the verdict
-pub told-accepting : (h : History) (plan : PlanEntry) (channel : ℕ) (raw : List ℕ) (v : Verdict) (reply : Told) → plan ≡ plan_in_force h → v ≡ decided plan channel raw → answer h channel raw ≡ Some reply → IsAccepting reply v
-unfolding answer
+pub told-accepting : (h : History) (plan : PlanEntry) (channel : ℕ) (raw : List ℕ) (v : Verdict) (reply : Told) → plan ≡ plan_in_force h → v ≡ decided plan channel raw → arrival_answer h channel raw ≡ Some reply → IsAccepting reply v
+unfolding arrival_answer
 told-accepting h plan channel raw v reply same says is =
     subst (IsAccepting reply) (sym (says ∙ ap (λ p. decided p channel raw) same))
     (accepting-told (is_bookable raw) (known h (key_of channel raw)) (brings_at h raw) (decided (plan_in_force h) channel raw) (message_count h) reply is)
@@ -70,8 +70,8 @@ unknown-told true None same v count reply is keeps = refl
 unknown-told true (Some place) same v count reply is keeps = absurd (again-kept (same place) place reply is keeps)
 
 -- the key of a message that is kept by it is not known
-pub told-unknown : (h : History) (channel : ℕ) (raw : List ℕ) (reply : Told) → answer h channel raw ≡ Some reply → is_kept reply ≡ true → known h (key_of channel raw) ≡ None
-unfolding answer
+pub told-unknown : (h : History) (channel : ℕ) (raw : List ℕ) (reply : Told) → arrival_answer h channel raw ≡ Some reply → is_kept reply ≡ true → known h (key_of channel raw) ≡ None
+unfolding arrival_answer
 told-unknown h channel raw reply is keeps =
     unknown-told (is_bookable raw) (known h (key_of channel raw)) (brings_at h raw) (decided (plan_in_force h) channel raw) (message_count h) reply is keeps
 

@@ -12,7 +12,7 @@ use Rattle.dest_queue.specs.declared.slots.Addressed.{Addressed}
 use Rattle.event_log.specs.declared.entry.Told.{Told}
 use Rattle.event_log.specs.declared.entry.Told.TheVariants as told
 use Rattle.event_log.specs.History.{History, plan_in_force}
-use Rattle.event_log.specs.Answers.{answer, is_kept}
+use Rattle.event_log.specs.Answers.{arrival_answer, is_kept}
 use Rattle.event_log.specs.Room.{own, own_owed, slots_added}
 use Rattle.event_log.proofs.Steps.{IsNumbered}
 use Rattle.book_core.specs.declared.arrival.Gain.{Gain}
@@ -56,12 +56,12 @@ pub gain-added : (h : History) (plan : PlanEntry) (channel : ℕ) (raw : List �
 gain-added h plan channel raw reply id g same is = goes-added plan channel raw reply id g is ∙ ap (λ p. slots_added p channel raw reply) same
 
 -- what they owe is what the arrival owes
-pub gain-owed : (h : History) (plan : PlanEntry) (channel : ℕ) (raw : List ℕ) (reply : Told) (id : List ℕ) (g : Gain) (mine : ℕ) → plan ≡ plan_in_force h → answer h channel raw ≡ Some reply
+pub gain-owed : (h : History) (plan : PlanEntry) (channel : ℕ) (raw : List ℕ) (reply : Told) (id : List ℕ) (g : Gain) (mine : ℕ) → plan ≡ plan_in_force h → arrival_answer h channel raw ≡ Some reply
     → IsGain reply id (decided plan channel raw) g → mine ≡ own_owed (plan_in_force h) (destinations_of (goes_to g)) → mine ≡ own h channel raw
 gain-owed h plan channel raw reply id g mine same answered is owes =
     owes ∙ (ap (own_owed (plan_in_force h)) (gain-added h plan channel raw reply id g same is) ∙ sym (own-answered h channel raw reply answered))
   where
-    own-answered : (h : History) (channel : ℕ) (raw : List ℕ) (reply : Told) → answer h channel raw ≡ Some reply → own h channel raw ≡ own_owed (plan_in_force h) (slots_added (plan_in_force h) channel raw reply)
+    own-answered : (h : History) (channel : ℕ) (raw : List ℕ) (reply : Told) → arrival_answer h channel raw ≡ Some reply → own h channel raw ≡ own_owed (plan_in_force h) (slots_added (plan_in_force h) channel raw reply)
     own-answered h channel raw reply answered = rw answered refl
 
 -- there is room for the next number

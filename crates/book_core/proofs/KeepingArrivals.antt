@@ -14,7 +14,7 @@ use Rattle.stat_count.specs.Statistics.{Statistics, channel_at, destination_at, 
 use Rattle.event_log.specs.declared.entry.Told.{Told}
 use Rattle.event_log.specs.declared.entry.Entry.TheVariants.{Arrival}
 use Rattle.event_log.specs.History.{History, control_id_of, followed_by, message_count, next_place, plan_in_force}
-use Rattle.event_log.specs.Answers.{answer, is_kept, known}
+use Rattle.event_log.specs.Answers.{arrival_answer, is_kept, known}
 use Rattle.event_log.specs.Room.{is_full, owed, own, slots_added}
 use Rattle.event_log.proofs.Arriving.{arrival-step}
 use Rattle.event_log.proofs.Steps.{ArrivalStep}
@@ -59,11 +59,11 @@ module _ (h : History) (rows : List (Row (Addressed Letter))) (index : List Know
   few-slots d below = omega (arith, slots_of-places h kept.sound.opening tally d below kept.are_counted, few-places)
 
   -- the key of a message that is kept by it is not in the index
-  pub key-unknown : (channel : ℕ) (raw looked : List ℕ) (reply : Told) (keeps : Bool) → answer h channel raw ≡ Some reply → keeps ≡ is_kept reply → looked ≡ key_of channel raw → keeps ≡ true → place_of looked index ≡ None
+  pub key-unknown : (channel : ℕ) (raw looked : List ℕ) (reply : Told) (keeps : Bool) → arrival_answer h channel raw ≡ Some reply → keeps ≡ is_kept reply → looked ≡ key_of channel raw → keeps ≡ true → place_of looked index ≡ None
   key-unknown channel raw looked reply keeps is kept-is key kept-by =
       ap (λ k. place_of k index) key ∙ (kept.keys_agree (key_of channel raw) ∙ told-unknown h channel raw reply is (sym kept-is ∙ kept-by))
 
-  module _ (conn channel : ℕ) (raw : List ℕ) (reply : Told) (fits : IsBlockData raw) (enough : is_full h channel raw ≡ false) (answered : answer h channel raw ≡ Some reply) where
+  module _ (conn channel : ℕ) (raw : List ℕ) (reply : Told) (fits : IsBlockData raw) (enough : is_full h channel raw ≡ false) (answered : arrival_answer h channel raw ≡ Some reply) where
     -- what it changes
     arrived : ArrivalStep h conn channel raw reply
     arrived = arrival-step h kept.sound conn channel raw reply (record { fits = fits; room = enough; answered = answered })

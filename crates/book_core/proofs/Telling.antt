@@ -7,7 +7,7 @@ use Rattle.hl7_head.specs.declared.ack.Cause.TheVariants.{IdReused}
 use Rattle.judge_core.specs.Judging.{is_bookable, key_of, verdict}
 use Rattle.event_log.specs.declared.entry.Told.TheVariants.{Refused, Repeat}
 use Rattle.event_log.specs.History.{History, message_count, plan_in_force}
-use Rattle.event_log.specs.Answers.{answer, brings_at, known, told_again, told_by}
+use Rattle.event_log.specs.Answers.{arrival_answer, brings_at, known, told_again, told_by}
 use Rattle.book_core.specs.Parts.{KeysAgree}
 
 -- what the index finds of a key is the place at which the history has it
@@ -21,18 +21,18 @@ brought h raw read place test b same tested told = ap (λ r. brings_at h r place
 module _ (h : History) (channel : ℕ) (raw : List ℕ) (bookable : is_bookable raw ≡ true) where
   -- by the place of its key
   by-place : (place : Option ℕ) → known h (key_of channel raw) ≡ place
-      → answer h channel raw ≡ option_map_or (λ n. Some (told_again h raw n)) place (told_by (message_count h) (verdict (plan_in_force h) channel raw))
-  unfolding answer
+      → arrival_answer h channel raw ≡ option_map_or (λ n. Some (told_again h raw n)) place (told_by (message_count h) (verdict (plan_in_force h) channel raw))
+  unfolding arrival_answer
   by-place place found = rw (bookable, found) refl
 
   -- the same bytes came before
-  pub told-repeat : (place : ℕ) → known h (key_of channel raw) ≡ Some place → brings_at h raw place ≡ true → answer h channel raw ≡ Some (Repeat place)
+  pub told-repeat : (place : ℕ) → known h (key_of channel raw) ≡ Some place → brings_at h raw place ≡ true → arrival_answer h channel raw ≡ Some (Repeat place)
   told-repeat place found same = by-place (Some place) found ∙ ap (λ b. Some (if b then Repeat place else Refused IdReused)) same
 
   -- other bytes came before
-  pub told-reused : (place : ℕ) → known h (key_of channel raw) ≡ Some place → brings_at h raw place ≡ false → answer h channel raw ≡ Some (Refused IdReused)
+  pub told-reused : (place : ℕ) → known h (key_of channel raw) ≡ Some place → brings_at h raw place ≡ false → arrival_answer h channel raw ≡ Some (Refused IdReused)
   told-reused place found other = by-place (Some place) found ∙ ap (λ b. Some (if b then Repeat place else Refused IdReused)) other
 
   -- its key is not known
-  pub told-first : known h (key_of channel raw) ≡ None → answer h channel raw ≡ told_by (message_count h) (verdict (plan_in_force h) channel raw)
+  pub told-first : known h (key_of channel raw) ≡ None → arrival_answer h channel raw ≡ told_by (message_count h) (verdict (plan_in_force h) channel raw)
   told-first unknown = by-place None unknown

@@ -9,7 +9,7 @@ ghost use Rattle.judge_core.specs.Judging.{is_bookable, verdict};
 ghost use Rattle.dest_queue.specs.declared.SlotState.{SlotState};
 ghost use Rattle.dest_queue.specs.SlotsBy.{slots_by};
 ghost use Rattle.event_log.specs.History.{control_id_of, names, plan_in_force};
-ghost use Rattle.event_log.specs.Answers.{answer};
+ghost use Rattle.event_log.specs.Answers.{arrival_answer};
 ghost use Rattle.event_log.specs.Room.{own_owed};
 ghost use Rattle.book_core.specs.Parts.{KeysAgree};
 ghost use Rattle.book_core.specs.Sending.{AddsGain, AddsRow, HasRoomFor, IsAccepting, IsGain, goes_to, has_key};
@@ -28,7 +28,7 @@ pub fn told(log: &Log, keys: &Keys, judged: &Judged) -> Told
     requires bookable { IsTrue (is_bookable judged.now.raw) }
     requires same_plan { judged.now.plan ≡ plan_in_force log.now.history }
     requires keys { KeysAgree log.now.history keys.now.known }
-    ensures { answer log.now.history judged.now.channel judged.now.raw ≡ Some result }
+    ensures { arrival_answer log.now.history judged.now.channel judged.now.raw ≡ Some result }
 {
     match keys.find(judged.key()) {
         Some(place) if log.brings(place, judged.raw().as_slice()) => Told::Repeat(place),

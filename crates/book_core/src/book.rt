@@ -8,7 +8,7 @@ ghost use Rattle.judge_core.specs.Delivering.{destinations_of};
 ghost use Rattle.judge_core.specs.Judging.{is_bookable, verdict};
 ghost use Rattle.dest_queue.specs.States.{is_live};
 ghost use Rattle.event_log.specs.History.{control_id, control_id_of, deliveries, entry_at, followed_by, message_at, message_count, names, next_place, opened_by, payload, plan_in_force, queue, remaining, slot};
-ghost use Rattle.event_log.specs.Answers.{answer, cancel_answer, take_answer};
+ghost use Rattle.event_log.specs.Answers.{arrival_answer, cancel_answer, take_answer};
 ghost use Rattle.event_log.specs.Deployment.{deploy_answer, deployments, first_lost, is_lost};
 ghost use Rattle.event_log.specs.Event.{AsksLast, Does, arrive, cancel, deploy, result_map, settle, take};
 ghost use Rattle.event_log.specs.Folding.{is_live_message, prune_answer, pruned};
@@ -431,7 +431,7 @@ impl<S: RowStore<Addressed<Letter>>> Book<S> {
     ) -> Result<Receipt, AllocError>
         requires same_plan { judged.now.plan ≡ plan_in_force self.old }
         requires room { is_full self.old judged.now.channel judged.now.raw ≡ false }
-        requires told { answer self.old judged.now.channel judged.now.raw ≡ Some told }
+        requires told { arrival_answer self.old judged.now.channel judged.now.raw ≡ Some told }
         requires gain { IsGain told (control_id_of judged.now.raw) (verdict judged.now.plan judged.now.channel judged.now.raw) gain }
         requires own { own ≡ own_owed (plan_in_force self.old) (destinations_of (goes_to gain)) }
         ensures entry { IfOk result (λ receipt. receipt.entry ≡ next_place self.old) }

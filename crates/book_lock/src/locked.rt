@@ -5,7 +5,6 @@ ghost use Rattle.std.specs.Arc.{arc_value};
 ghost use Rattle.judge_core.specs.Judging.{is_bookable};
 ghost use Rattle.stat_count.specs.Sums.{arrivals};
 ghost use Rattle.event_log.specs.History.{control_id, message_count, next_place, payload, plan_in_force};
-ghost use Rattle.event_log.specs.Answers.{answer};
 ghost use Rattle.event_log.specs.Event.{AsksLast, Does, arrive, cancel, deploy, result_map, settle, take};
 ghost use Rattle.event_log.specs.Folding.{is_live_message, prune_answer, pruned};
 ghost use Rattle.event_log.specs.Counting.{counted};

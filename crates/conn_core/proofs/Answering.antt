@@ -8,14 +8,14 @@ use Rattle.book_core.specs.declared.receipt.NotBooked.TheVariants.{Full, NoMemor
 use Rattle.book_core.specs.Refusing.{arrive_refusal}
 use Rattle.book_core.specs.declared.receipt.Receipt.{Receipt}
 use Rattle.event_log.specs.declared.entry.Told.{Told}
-use Rattle.event_log.specs.Answers.{answer}
+use Rattle.event_log.specs.Answers.{arrival_answer}
 use Rattle.event_log.specs.Event.{AsksLast, Does, answer as event_answer, arrive}
 use Rattle.event_log.specs.Event as event
 use Rattle.event_log.specs.History.{History, plan_in_force}
 use Rattle.event_log.specs.Room.{is_full}
 use Rattle.event_log.proofs.Events.{arrival-full, arrival-room, arrival-told}
 use Rattle.judge_core.specs.Judging.{Judgement}
-use Rattle.conn_core.specs.Booking.{BookAnswers, receipts_of}
+use Rattle.conn_core.specs.Booking.{OutcomeAtBook, receipts_of}
 use Rattle.conn_core.specs.Replies.{told_by}
 
 -- the same refusal, of what was told
@@ -32,22 +32,22 @@ exactly_told r e both = (λ h. both.0 (of_told r e h), λ p. to_told r e (both.1
 
 module _ (book : History) (judged : Judgement) where
   -- a message that was booked
-  pub answers_told : (r : Result Receipt NotBooked) → IfOk r (λ receipt. answer book judged.channel judged.raw ≡ Some receipt.told)
+  pub answers_told : (r : Result Receipt NotBooked) → IfOk r (λ receipt. arrival_answer book judged.channel judged.raw ≡ Some receipt.told)
       → (IsErrOf r PlanChanged ↔ judged.plan ≢ plan_in_force book) → (IsErrOf r Full ↔ (judged.plan ≡ plan_in_force book) × IsTrue (is_full book judged.channel judged.raw))
-      → IfOk r (λ receipt. BookAnswers book judged (Ok receipt.told))
+      → IfOk r (λ receipt. OutcomeAtBook book judged (Ok receipt.told))
   answers_told (Ok receipt) told plan full = record { told = told; plan = exactly_told (Ok receipt) PlanChanged plan; full = exactly_told (Ok receipt) Full full }
   answers_told (Err refusal) told plan full = tt
 
   -- one that was not
   pub answers_refused : (r : Result Receipt NotBooked)
       → (IsErrOf r PlanChanged ↔ judged.plan ≢ plan_in_force book) → (IsErrOf r Full ↔ (judged.plan ≡ plan_in_force book) × IsTrue (is_full book judged.channel judged.raw))
-      → IfErr r (λ refusal. BookAnswers book judged (Err refusal))
+      → IfErr r (λ refusal. OutcomeAtBook book judged (Err refusal))
   answers_refused (Ok receipt) plan full = tt
   answers_refused (Err refusal) plan full = record { told = tt; plan = exactly_told (Err refusal) PlanChanged plan; full = exactly_told (Err refusal) Full full }
 
 -- an arrival for which there is no room
 was-full : (h : History) (conn channel : ℕ) (raw : List ℕ) → event_answer h (arrive conn channel raw) ≡ Err event.full → is_full h channel raw ≡ true
-was-full h conn channel raw is = by (is_full h channel raw) (answer h channel raw) is
+was-full h conn channel raw is = by (is_full h channel raw) (arrival_answer h channel raw) is
   where
     by : (b : Bool) (o : Option Told) → cond b (Err event.full) (option_map_or (λ t. Ok t) o (Err event.no_message)) ≡ Err event.full → b ≡ true
     by true o e = refl
@@ -58,7 +58,7 @@ was-full h conn channel raw is = by (is_full h channel raw) (answer h channel ra
 module _ (book new : History) (judged : Judgement) (conn : ℕ) where
   pub told_said : (r : Result Receipt NotBooked)
       → Does (arrive conn judged.channel judged.raw) book new (result_map_both (λ (receipt : Receipt). receipt.told) arrive_refusal r)
-      → IfOk r (λ receipt. answer book judged.channel judged.raw ≡ Some receipt.told)
+      → IfOk r (λ receipt. arrival_answer book judged.channel judged.raw ≡ Some receipt.told)
   told_said (Ok receipt) does = arrival-told book conn judged.channel judged.raw receipt.told does.replied
   told_said (Err refusal) does = tt
 

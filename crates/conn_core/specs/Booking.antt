@@ -7,7 +7,7 @@ use Rattle.std.proofs.lemmas.List.{map-append}
 use Rattle.book_core.specs.declared.receipt.NotBooked.{NotBooked}
 use Rattle.book_core.specs.declared.receipt.NotBooked.TheVariants.{Full, PlanChanged}
 use Rattle.book_core.specs.declared.receipt.Receipt.{Receipt}
-use Rattle.event_log.specs.Answers.{answer}
+use Rattle.event_log.specs.Answers.{arrival_answer}
 use Rattle.event_log.specs.History.{History, deployed_by, next_place, plan_in_force}
 use Rattle.event_log.specs.Room.{is_full}
 use Rattle.event_log.specs.declared.entry.Entry.{Entry}
@@ -34,8 +34,8 @@ pub record Books (old new : History) (receipts : List Receipt) : Type 0 where
 -- What becomes of a message: it gets the answer of the history, or is not booked: because it was judged by another
 -- plan than the one in force, exactly where it was; then because there is no room, exactly where there is none; or
 -- because memory is refused.
-pub record BookAnswers (book : History) (judged : Judgement) (outcome : Result Told NotBooked) : Type 0 where
-  pub told : IfOk outcome (λ told. answer book judged.channel judged.raw ≡ Some told)
+pub record OutcomeAtBook (book : History) (judged : Judgement) (outcome : Result Told NotBooked) : Type 0 where
+  pub told : IfOk outcome (λ told. arrival_answer book judged.channel judged.raw ≡ Some told)
   pub plan : IsErrOf outcome PlanChanged ↔ judged.plan ≢ plan_in_force book
   pub full : IsErrOf outcome Full ↔ (judged.plan ≡ plan_in_force book) × IsTrue (is_full book judged.channel judged.raw)
 

@@ -14,7 +14,7 @@ use Rattle.conn_core.proofs.Numbering.{numbered-append}
 use Rattle.engine_model.proofs.Duly.{dues-append}
 use Rattle.engine_model.specs.Run.{Connection}
 use Rattle.engine_model.specs.Amid.{Amid}
-use Rattle.engine_model.specs.Steps.{AreAnswered, EndsWithin, IsOutcome, ReadsOn, after_answer, after_answers, frame_events_max, history_with}
+use Rattle.engine_model.specs.Steps.{AreAnswered, EndsWithin, IsAnswered, ReadsOn, after_answer, after_answers, frame_events_max, history_with}
 
 abbrev raws : List Answer → List (List ℕ)
 raws answers = map (λ (a : Answer). a.raw) answers
@@ -25,7 +25,7 @@ after_answers-push conn channel h [] a = refl
 after_answers-push conn channel h (x ∷ answers) a = after_answers-push conn channel (after_answer conn channel h x) answers a
 
 pub answered-push : (conn channel now : ℕ) (h : History) (answers : List Answer) (a : Answer) → AreAnswered conn channel now h answers
-    → IsOutcome conn channel (after_answers conn channel h answers) a.raw a.outcome → a.moment ≡ now → AreAnswered conn channel now h (answers ++ a ∷ [])
+    → IsAnswered conn channel (after_answers conn channel h answers) a.raw a.outcome → a.moment ≡ now → AreAnswered conn channel now h (answers ++ a ∷ [])
 answered-push conn channel now h [] a all may at = (may, at, tt)
 answered-push conn channel now h (x ∷ answers) a all may at = (all.0, all.1, answered-push conn channel now (after_answer conn channel h x) answers a all.2 may at)
 
@@ -81,12 +81,12 @@ module _ (conn now : ℕ) (handled : List Event) (h h' : History) (c c' : Connec
       }
 
   -- a message that is answered
-  module _ (e : Event) (raw : List ℕ) (outcome : Result Told NotBooked) (brings : message_of e ≡ Some raw) (may : IsOutcome conn c.channel h' raw outcome) where
+  module _ (e : Event) (raw : List ℕ) (outcome : Result Told NotBooked) (brings : message_of e ≡ Some raw) (may : IsAnswered conn c.channel h' raw outcome) where
     abbrev one : Answer
     one = record { raw = raw; outcome = outcome; moment = now }
 
     now-answered : AreAnswered conn c.channel now h (s.new ++ one ∷ [])
-    now-answered = answered-push conn c.channel now h s.new one s.answered (subst (λ g. IsOutcome conn c.channel g raw outcome) s.booked may) refl
+    now-answered = answered-push conn c.channel now h s.new one s.answered (subst (λ g. IsAnswered conn c.channel g raw outcome) s.booked may) refl
 
     now-booked : history_with conn c.channel h' raw outcome ≡ after_answers conn c.channel h (s.new ++ one ∷ [])
     now-booked = ap (λ g. history_with conn c.channel g raw outcome) s.booked ∙ sym (after_answers-push conn c.channel h s.new one)

@@ -16,11 +16,11 @@ use Rattle.event_log.proofs.Following.{legal-followed_by}
 use Rattle.conn_core.specs.Messages.{BookedMessage, booked, booked_with}
 use Rattle.conn_core.specs.Replies.{Answer}
 use Rattle.engine_model.specs.Run.{arrival_on, arrivals}
-use Rattle.engine_model.specs.Steps.{AreAnswered, IsNoArrival, IsOutcome, after_answer, after_answers, history_with}
+use Rattle.engine_model.specs.Steps.{AreAnswered, IsNoArrival, IsAnswered, after_answer, after_answers, history_with}
 
 -- ---- answers
 
-legal-answer : (conn channel : ℕ) (h : History) (raw : List ℕ) (outcome : Result Told NotBooked) → IsLegal h → IsOutcome conn channel h raw outcome → IsLegal (history_with conn channel h raw outcome)
+legal-answer : (conn channel : ℕ) (h : History) (raw : List ℕ) (outcome : Result Told NotBooked) → IsLegal h → IsAnswered conn channel h raw outcome → IsLegal (history_with conn channel h raw outcome)
 legal-answer conn channel h raw (Ok told) legal may = legal-followed_by h (Arrival conn channel raw told) legal may
 legal-answer conn channel h raw (Err refusal) legal may = legal
 
@@ -95,4 +95,3 @@ event-keeps h e none possible legal = by (event.answer h e) refl
     by : (o : Result (Reply e) (Refusal e)) → event.answer h e ≡ o → BringsNone h (after h e o)
     by (Ok reply) is = brings_none h (entry_of e reply) legal (may-follow h e reply possible is) (no-arrival e none reply)
     by (Err refusal) is = record { legal = legal; arrivals = λ conn. refl }
-

@@ -13,12 +13,12 @@ use Rattle.engine_model.proofs.Duly.{dues-append}
 use Rattle.engine_model.specs.Run.{Connection}
 use Rattle.engine_model.specs.Promise.{IsFrontOf, NoneLacked}
 use Rattle.event_log.proofs.Events.{arrival-room, arrival-told}
-use Rattle.engine_model.specs.Steps.{AreAnswered, IsOutcome, ReadsOn, RepliesFront, after_answer, after_answers}
+use Rattle.engine_model.specs.Steps.{AreAnswered, IsAnswered, ReadsOn, RepliesFront, after_answer, after_answers}
 
 abbrev raws : List Answer → List (List ℕ)
 raws answers = map (λ (a : Answer). a.raw) answers
 
-outcome-same : (conn : ℕ) (h : History) (channel : ℕ) (raw : List ℕ) (o p : Result Told NotBooked) → IsOutcome conn channel h raw o → IsOutcome conn channel h raw p → o ≢ Err NoMemory → p ≢ Err NoMemory → o ≡ p
+outcome-same : (conn : ℕ) (h : History) (channel : ℕ) (raw : List ℕ) (o p : Result Told NotBooked) → IsAnswered conn channel h raw o → IsAnswered conn channel h raw p → o ≢ Err NoMemory → p ≢ Err NoMemory → o ≡ p
 outcome-same conn h channel raw (Ok s) (Ok t) one two some some' = let same : s ≡ t = same_Some s t (sym (arrival-told h conn channel raw s one.replied) ∙ arrival-told h conn channel raw t two.replied) in ap (λ t. Ok t) same
 outcome-same conn h channel raw (Ok s) (Err NoMemory) one two some some' = absurd (some' refl)
 outcome-same conn h channel raw (Ok s) (Err Full) one two some some' = let room = arrival-room h conn channel raw s one.replied in absurd cc
@@ -43,7 +43,7 @@ answers-same conn channel now h (x ∷ xs) [] same one two some some' = absurd c
 answers-same conn channel now h (x ∷ xs) (y ∷ ys) same one two some some' =
     let raw : x.raw ≡ y.raw = cc in
     let rest : raws xs ≡ raws ys = cc in
-    let outcome : x.outcome ≡ y.outcome = outcome-same conn h channel x.raw x.outcome y.outcome one.0 (subst (λ r. IsOutcome conn channel h r y.outcome) (sym raw) two.0) some.0 some'.0 in
+    let outcome : x.outcome ≡ y.outcome = outcome-same conn h channel x.raw x.outcome y.outcome one.0 (subst (λ r. IsAnswered conn channel h r y.outcome) (sym raw) two.0) some.0 some'.0 in
     let is : x ≡ y = answer-same x y raw outcome (one.1 ∙ sym two.1) in
     let onward : AreAnswered conn channel now (after_answer conn channel h x) ys = subst (λ (a : Answer). AreAnswered conn channel now (after_answer conn channel h a) ys) (sym is) two.2 in
     ap (λ a. a ∷ xs) is ∙ ap (λ l. y ∷ l) (answers-same conn channel now (after_answer conn channel h x) xs ys rest one.2 onward some.1 some'.1)

@@ -14,13 +14,13 @@ use Rattle.event_log.specs.Room.{is_full}
 use Rattle.judge_core.specs.Judging.{Judgement, is_bookable}
 use Rattle.mllp_frame.specs.Event.{Event, block}
 use Rattle.mllp_frame.specs.Framing.{IsBlockData, blocks}
-use Rattle.conn_core.specs.Booking.{BookAnswers, Books, arrival_by}
+use Rattle.conn_core.specs.Booking.{OutcomeAtBook, Books, arrival_by}
 use Rattle.conn_core.specs.Messages.{message_of}
 use Rattle.conn_core.specs.Replies.{Answer, answer_to, dues, dues_of, numbered, told_by}
 use Rattle.engine_model.proofs.Duly.{dues-append}
 use Rattle.engine_model.specs.declared.connection.Answered.{Answered}
 use Rattle.engine_model.specs.declared.connection.Words.{Words}
-use Rattle.engine_model.specs.Steps.{IsOutcome, EndsWithin, history_with}
+use Rattle.engine_model.specs.Steps.{IsAnswered, EndsWithin, history_with}
 use Rattle.engine_model.specs.Amid.{Amid}
 use Rattle.engine_model.specs.Handling.{Handles, HandlesFront, IsBooked, IsCounted, answer_of, answer_with, said}
 use Rattle.engine_model.proofs.Amidst.{amid-answered, amid-cut, amid-ends, amid-passed}
@@ -51,7 +51,7 @@ module _ (conn channel now : ℕ) (raw : List ℕ) (outcome : Result Told NotBoo
   -- a message that was answered
   pub handles-message : w'.replies.bytes.items ≡ w.replies.bytes.items ++ numbered conn (w.replies.made + 1) (dues_of a) → Handles conn channel now (block raw ∷ []) h h' w w'
   handles-message output handled from c stream same amid =
-      let may : IsOutcome conn c.channel h raw outcome = subst (λ n. IsOutcome conn n h raw outcome) (sym same) books.may in
+      let may : IsAnswered conn c.channel h raw outcome = subst (λ n. IsAnswered conn n h raw outcome) (sym same) books.may in
       let is : history_with conn c.channel h raw outcome ≡ h' = ap (λ n. history_with conn n h raw outcome) same ∙ sym books.booked in
       subst (λ g. Amid conn now (handled ++ block raw ∷ []) from g c (said channel stream false w')) is
       (amid-answered conn now handled from h c (said channel stream false w) amid (block raw) raw outcome (brings raw bookable) may (said channel stream false w')
@@ -60,7 +60,7 @@ module _ (conn channel now : ℕ) (raw : List ℕ) (outcome : Result Told NotBoo
   -- or with the first of its acknowledgments, as the connection has to end
   pub handles-cut : (count : ℕ) → w'.replies.bytes.items ≡ w.replies.bytes.items ++ numbered conn (w.replies.made + 1) (take count (dues_of a)) → HandlesFront conn channel now (block raw ∷ []) h h' w w'
   handles-cut count output handled later from c bytes same amid are =
-      let may : IsOutcome conn c.channel h raw outcome = subst (λ n. IsOutcome conn n h raw outcome) (sym same) books.may in
+      let may : IsAnswered conn c.channel h raw outcome = subst (λ n. IsAnswered conn n h raw outcome) (sym same) books.may in
       let is : history_with conn c.channel h raw outcome ≡ h' = ap (λ n. history_with conn n h raw outcome) same ∙ sym books.booked in
       subst (λ g. EndsWithin conn bytes now from g c (said channel (c.stream ++ bytes) true w')) is
       (amid-cut conn now handled from h c (said channel (c.stream ++ bytes) false w) amid (block raw) raw outcome (brings raw bookable) may bytes later
@@ -125,7 +125,7 @@ room_left h channel raw other = by (is_full h channel raw) other
 module _ (conn now : ℕ) (j : Judgement) (h h' : History) (old new : List Answered) (same : j.plan ≡ plan_in_force h) (data_is : IsBlockData j.raw) where
   -- a message that was judged by the plan in force is told what may be told, is booked so, and its answer is kept
   pub is_booked : (o : Result Receipt NotBooked) → IfOk o (λ r. (r.conn ≡ conn) × (r.channel ≡ j.channel) × (r.raw ≡ j.raw))
-      → IfOk o (λ r. Books h h' (r ∷ [])) → OnErr o (Books h h' []) → IfOk o (λ r. BookAnswers h j (Ok r.told)) → IfErr o (λ e. BookAnswers h j (Err e))
+      → IfOk o (λ r. Books h h' (r ∷ [])) → OnErr o (Books h h' []) → IfOk o (λ r. OutcomeAtBook h j (Ok r.told)) → IfErr o (λ e. OutcomeAtBook h j (Err e))
       → map answer_of new ≡ map answer_of old ++ answer_with j.raw (told_by o) now ∷ [] → IsBooked conn j.channel now j.raw (told_by o) h h' old new
   is_booked (Ok r) is more none told refused kept =
       record {

@@ -9,7 +9,7 @@ use Rattle.judge_core.specs.Judging.{is_bookable}
 use Rattle.event_log.specs.declared.entry.Entry.{Entry}
 use Rattle.event_log.specs.declared.entry.Entry.TheVariants.{Arrival, Take, Settle, Cancel, Deploy}
 use Rattle.event_log.specs.declared.entry.Told.{Told}
-use Rattle.event_log.specs.Answers.{answer}
+use Rattle.event_log.specs.Answers.{arrival_answer}
 use Rattle.event_log.specs.History.{History, followed_by}
 use Rattle.event_log.specs.Legal.{IsLegal, MayFollow}
 use Rattle.event_log.proofs.Events.{arrival-told, next-again}
@@ -42,8 +42,8 @@ later : {r : Run} {conn channel : ℕ} (n : ℕ) → ReadyAt r conn channel n �
 later n x = record { c = x.c; at = x.at; ready = record { channel_is = x.ready.channel_is; stays = x.ready.stays; outside = x.ready.outside; few = let few : length (blocks x.c.stream) ≤ n = x.ready.few in omega arith } }
 
 -- only a message that can be booked has an answer
-bookable : (h : History) (channel : ℕ) (raw : List ℕ) (told : Told) → answer h channel raw ≡ Some told → is_bookable raw ≡ true
-unfolding answer
+bookable : (h : History) (channel : ℕ) (raw : List ℕ) (told : Told) → arrival_answer h channel raw ≡ Some told → is_bookable raw ≡ true
+unfolding arrival_answer
 bookable h channel raw told is = by (is_bookable raw) _ is
   where
     by : (b : Bool) (o : Option Told) → cond b o None ≡ Some told → b ≡ true

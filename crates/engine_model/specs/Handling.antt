@@ -9,7 +9,7 @@ use Rattle.conn_core.specs.Replies.{Answer, dues}
 use Rattle.engine_model.specs.declared.connection.Answered.{Answered}
 use Rattle.engine_model.specs.declared.connection.Words.{Words}
 use Rattle.engine_model.specs.Run.{Connection}
-use Rattle.engine_model.specs.Steps.{EndsWithin, IsOutcome, ReadsOn, history_with}
+use Rattle.engine_model.specs.Steps.{EndsWithin, IsAnswered, ReadsOn, history_with}
 use Rattle.engine_model.specs.Amid.{Amid}
 
 abbrev pub answer_of : Answered → Answer
@@ -20,7 +20,7 @@ answer_with raw outcome now = record { raw = raw; outcome = outcome; moment = no
 
 -- a message has this outcome, is booked so, and its answer is kept
 pub record IsBooked (conn channel now : ℕ) (raw : List ℕ) (outcome : Result Told NotBooked) (h h' : History) (old new : List Answered) : Type 0 where
-  pub may : IsOutcome conn channel h raw outcome
+  pub may : IsAnswered conn channel h raw outcome
   pub booked : h' ≡ history_with conn channel h raw outcome
   pub kept : map answer_of new ≡ map answer_of old ++ answer_with raw outcome now ∷ []
 

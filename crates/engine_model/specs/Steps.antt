@@ -22,11 +22,11 @@ frame_events_max = 1_000_000_000
 -- What may become of a message that arrives over a connection on a channel: it is booked with the sequential engine's
 -- reply; it is refused where there is no room; or, only where there is room, it is refused for lack of memory. It was
 -- judged by the plan in force.
-abbrev pub IsOutcome : ℕ → ℕ → History → List ℕ → Result Told NotBooked → Type 0
-IsOutcome conn channel h raw (Ok told) = MayFollow h (Arrival conn channel raw told)
-IsOutcome conn channel h raw (Err Full) = is_full h channel raw ≡ true
-IsOutcome conn channel h raw (Err NoMemory) = is_full h channel raw ≡ false
-IsOutcome conn channel h raw (Err PlanChanged) = ⊥
+abbrev pub IsAnswered : ℕ → ℕ → History → List ℕ → Result Told NotBooked → Type 0
+IsAnswered conn channel h raw (Ok told) = MayFollow h (Arrival conn channel raw told)
+IsAnswered conn channel h raw (Err Full) = is_full h channel raw ≡ true
+IsAnswered conn channel h raw (Err NoMemory) = is_full h channel raw ≡ false
+IsAnswered conn channel h raw (Err PlanChanged) = ⊥
 
 -- the history after a message with this outcome: with its arrival, if it was booked
 abbrev pub history_with : ℕ → ℕ → History → List ℕ → Result Told NotBooked → History
@@ -45,7 +45,7 @@ after_answers conn channel h (a ∷ answers) = after_answers conn channel (after
 abbrev pub AreAnswered : ℕ → ℕ → ℕ → History → List Answer → Type 0
 AreAnswered conn channel now h [] = ⊤
 AreAnswered conn channel now h (a ∷ answers) =
-    IsOutcome conn channel h a.raw a.outcome × (a.moment ≡ now) × AreAnswered conn channel now (after_answer conn channel h a) answers
+    IsAnswered conn channel h a.raw a.outcome × (a.moment ≡ now) × AreAnswered conn channel now (after_answer conn channel h a) answers
 
 -- A prefix of the replies to these answers, numbered from here on: whole acknowledgments, and all but some of the last
 -- message's.

@@ -20,7 +20,7 @@ use Rattle.event_log.specs.declared.refusal.TakeRefusal.TheVariants as take_refu
 use Rattle.hl7_head.specs.declared.ack.Cause.TheVariants.{IdReused}
 use Rattle.event_log.specs.History.{History, control_id_of, is_queued, message_at, message_count, plan_in_force, queue, slot}
 use Rattle.event_log.specs.Alike.{RepliesAlike, Aside, IsAlike, IsMet, SendsAlike}
-use Rattle.event_log.specs.Answers.{answer, attempts_max, cancel_answer, front_answer, interval, known, mask_where, settle_answer, take_answer, told_again, told_by, waits}
+use Rattle.event_log.specs.Answers.{arrival_answer, attempts_max, cancel_answer, front_answer, interval, known, mask_where, settle_answer, take_answer, told_again, told_by, waits}
 use Rattle.event_log.specs.Deployment.{deploy_answer, is_lost, same_channels, stays}
 use Rattle.event_log.specs.Event as event
 use Rattle.event_log.specs.Event.{Event}
@@ -105,8 +105,8 @@ module _ (aside : Aside) (h k : History) (alike : IsAlike aside h k) where
       let lost : is_lost k plan ≡ is_lost h plan = λ i d. nat_lt 0 (length (alike.queues d i)) && not (stays (slice_get (alike.plan i).destinations d) (slice_get plan.destinations d)) in
       λ i. cond (same_channels (alike.plan i) plan) (option_map_or (λ d. Some (DestinationInUse d)) (find (lost i) (range_with_len 0 32)) (cond (nat_lt (alike.deployments i) 1000) None (Some TooMany))) (Some ChannelsDiffer)
 
-  answer-alike : (channel : ℕ) (raw : List ℕ) → aside.keys (key_of channel raw) ≡ false → answer k channel raw ≡ answer h channel raw
-  unfolding answer
+  answer-alike : (channel : ℕ) (raw : List ℕ) → aside.keys (key_of channel raw) ≡ false → arrival_answer k channel raw ≡ arrival_answer h channel raw
+  unfolding arrival_answer
   answer-alike channel raw apart =
       (λ i. cond (is_bookable raw) (option_map_or (λ place. Some (told_again k raw place)) (alike.keys (key_of channel raw) apart i) (told_by (alike.messages i) (decided (alike.plan i) channel raw))) None)
       ∙ ap (λ o. cond (is_bookable raw) o None) (by (known h (key_of channel raw)) refl)
@@ -120,7 +120,7 @@ module _ (aside : Aside) (h k : History) (alike : IsAlike aside h k) where
   -- an arrival and a deployment have room in both, or are refused by both
   arrival-alike : (conn channel : ℕ) (raw : List ℕ) → IsMet aside h k (event.arrive conn channel raw) → event.answer k (event.arrive conn channel raw) ≡ event.answer h (event.arrive conn channel raw)
   arrival-alike conn channel raw met =
-      ap (λ b. arrival_by b (answer k channel raw)) met.its_room ∙ ap (arrival_by false) (answer-alike channel raw met.apart) ∙ sym (ap (λ b. arrival_by b (answer h channel raw)) met.room)
+      ap (λ b. arrival_by b (arrival_answer k channel raw)) met.its_room ∙ ap (arrival_by false) (answer-alike channel raw met.apart) ∙ sym (ap (λ b. arrival_by b (arrival_answer h channel raw)) met.room)
 
   deployment-alike : (plan : PlanEntry) → IsMet aside h k (event.deploy plan) → event.answer k (event.deploy plan) ≡ event.answer h (event.deploy plan)
   deployment-alike plan met =

@@ -19,7 +19,7 @@ use Rattle.event_log.specs.declared.entry.Entry.TheVariants.{Arrival}
 use Rattle.event_log.specs.declared.entry.Told.{Told}
 use Rattle.event_log.specs.declared.entry.Told.TheVariants as told
 use Rattle.event_log.specs.History.{History, accepted, accepted_by, accepted_under, deliveries, followed_by, message_count, names, plan_in_force, slot, state}
-use Rattle.event_log.specs.Answers.{answer, attempts_max, brings_at, known, told_by}
+use Rattle.event_log.specs.Answers.{arrival_answer, attempts_max, brings_at, known, told_by}
 use Rattle.event_log.specs.Room.{in_flight, is_full, is_in_flight, message_total, owed, own, own_owed, slot_owed, slots_added, total}
 use Rattle.event_log.specs.Legal.{IsSound, IsWithin}
 use Rattle.event_log.proofs.Adding.{fresh, fresh-in_flight, fresh-owed}
@@ -51,8 +51,8 @@ told-number true None same v count number is = judged-number v count number is
 told-number true (Some place) same v count number is = again-number (same place) place count number is
 
 -- an accepted message gets the next number
-pub accepted-number : (h : History) (channel : ℕ) (raw : List ℕ) (number : ℕ) → answer h channel raw ≡ Some (told.Accepted number) → number ≡ message_count h
-unfolding answer
+pub accepted-number : (h : History) (channel : ℕ) (raw : List ℕ) (number : ℕ) → arrival_answer h channel raw ≡ Some (told.Accepted number) → number ≡ message_count h
+unfolding arrival_answer
 accepted-number h channel raw number is =
     told-number (is_bookable raw) (known h (key_of channel raw)) (brings_at h raw) (decided (plan_in_force h) channel raw) (message_count h) number is
 

@@ -14,7 +14,7 @@ use Rattle.event_log.specs.declared.refusal.DeployRefusal.{DeployRefusal}
 use Rattle.event_log.specs.declared.refusal.DeployRefusal.TheVariants as deploy_refusal
 use Rattle.event_log.specs.declared.refusal.TakeRefusal.TheVariants.{Idle, NotDue}
 use Rattle.event_log.specs.History.{History, followed_by, queue, slot}
-use Rattle.event_log.specs.Answers.{answer as arrival_answer, front_answer, take_answer}
+use Rattle.event_log.specs.Answers.{arrival_answer, front_answer, take_answer}
 use Rattle.event_log.specs.Deployment.{deploy_answer}
 use Rattle.event_log.specs.Event.{ArriveRefusal, CanCome, Does, Event, Refusal, Reply, after, answer, arrive, cancel, deploy, entry_of, event_of, full, next, no_message, settle, take}
 use Rattle.event_log.specs.Legal.{MayFollow}

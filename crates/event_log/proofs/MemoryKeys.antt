@@ -15,7 +15,7 @@ use Rattle.event_log.specs.declared.entry.Entry.{Entry}
 use Rattle.event_log.specs.declared.entry.Entry.TheVariants.{Arrival, Take, Settle, Cancel, Deploy}
 use Rattle.event_log.specs.declared.entry.Told.{Told}
 use Rattle.event_log.specs.declared.entry.Told.TheVariants as told
-use Rattle.event_log.specs.Answers.{answer, brings_at, has_key, is_kept, known, told_again, told_by}
+use Rattle.event_log.specs.Answers.{arrival_answer, brings_at, has_key, is_kept, known, told_again, told_by}
 use Rattle.event_log.specs.Folding.{arrivals, folded, is_forgotten, recalled}
 use Rattle.event_log.specs.History.{History, Remembered, begun, followed_by, message_count, plan_in_force}
 use Rattle.event_log.specs.Legal.{IsLegal, IsSound, MayFollow}
@@ -71,8 +71,8 @@ keys-of h =
 
 -- ---- a key is new
 
-new-key : (h : History) (channel : ℕ) (raw : List ℕ) (t : Told) → answer h channel raw ≡ Some t → is_kept t ≡ true → known h (key_of channel raw) ≡ None
-unfolding answer
+new-key : (h : History) (channel : ℕ) (raw : List ℕ) (t : Told) → arrival_answer h channel raw ≡ Some t → is_kept t ≡ true → known h (key_of channel raw) ≡ None
+unfolding arrival_answer
 new-key h channel raw t is kept = by (is_bookable raw) (known h (key_of channel raw)) is
   where
     again : {A : Type 0} → (b : Bool) (place : ℕ) → ◌≡◌ {A = Option Told} (Some (cond b (told.Repeat place) (told.Refused IdReused))) (Some t) → A

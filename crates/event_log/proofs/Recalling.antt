@@ -16,7 +16,7 @@ use Rattle.event_log.specs.declared.entry.Entry.{Entry}
 use Rattle.event_log.specs.declared.entry.Entry.TheVariants.{Arrival, Take, Settle, Cancel, Deploy}
 use Rattle.event_log.specs.declared.entry.Told.{Told}
 use Rattle.event_log.specs.declared.entry.Told.TheVariants as told
-use Rattle.event_log.specs.Answers.{answer, brings_at, known, told_again, told_by}
+use Rattle.event_log.specs.Answers.{arrival_answer, brings_at, known, told_again, told_by}
 use Rattle.event_log.specs.Folding.{arrivals, recalled, recalled_from}
 use Rattle.event_log.specs.History.{Accepted, History, Remembered, accepted_by, accepted_from, begun, entry_at, followed_by, is_numbered, message_at, message_count, message_of, number_of, number_told, plan_after, plan_in_force, remembered_as}
 use Rattle.event_log.specs.Legal.{IsLegal, IsSound, MayFollow}
@@ -95,8 +95,8 @@ abbrev pub Numbered : ℕ → PlanEntry → List Entry → Type 0
 Numbered count plan [] = Unit {0}
 Numbered count plan (e ∷ es) = ((j : ℕ) → number_in e ≡ Some j → j ≡ count) × Numbered (count + length (option_to_list (accepted_by plan e))) (plan_after plan e) es
 
-answered-number : (h : History) (channel : ℕ) (raw : List ℕ) (i : ℕ) → answer h channel raw ≡ Some (told.Accepted i) → i ≡ message_count h
-unfolding answer
+answered-number : (h : History) (channel : ℕ) (raw : List ℕ) (i : ℕ) → arrival_answer h channel raw ≡ Some (told.Accepted i) → i ≡ message_count h
+unfolding arrival_answer
 answered-number h channel raw i is = by (is_bookable raw) (known h (key_of channel raw)) (decided (plan_in_force h) channel raw) is
   where
     again : (b : Bool) (place : ℕ) → ◌≡◌ {A = Option Told} (Some (cond b (told.Repeat place) (told.Refused IdReused))) (Some (told.Accepted i)) → i ≡ message_count h

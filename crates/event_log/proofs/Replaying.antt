@@ -17,7 +17,7 @@ use Rattle.event_log.specs.declared.entry.Told.TheVariants as told
 use Rattle.event_log.specs.declared.entry.Entry.{Entry}
 use Rattle.event_log.specs.declared.entry.Entry.TheVariants.{Arrival, Take, Settle, Cancel, Deploy}
 use Rattle.event_log.specs.History.{Accepted, History, Remembered, accepted, accepted_by, accepted_from, accepted_under, before, deployed_by, entry_at, last_from, message_at, message_count, message_of, next_place, plan_after, plan_in_force, remembered_as}
-use Rattle.event_log.specs.Answers.{answer, brings, brings_at, brought_before, has_key, is_first, keeps, known, known_before, told_by}
+use Rattle.event_log.specs.Answers.{arrival_answer, brings, brings_at, brought_before, has_key, is_first, keeps, known, known_before, told_by}
 use Rattle.event_log.specs.Legal.{HasArrival, IsGoodOpening, IsLegal, IsRemembered}
 use Rattle.event_log.proofs.Arriving.{accepted-number}
 use Rattle.event_log.proofs.Events.{arrival-told}
@@ -249,8 +249,8 @@ told-filtered false seen same v count is = absurd cc
 told-filtered true None same v count is = judged-filtered v count is
 told-filtered true (Some k) same v count is = absurd (again-filtered (same k) k is)
 
-filtered-answer : (h : History) (channel : ℕ) (raw : List ℕ) → answer h channel raw ≡ Some told.Filtered → deliveries_of (decided (plan_in_force h) channel raw) ≡ []
-unfolding answer
+filtered-answer : (h : History) (channel : ℕ) (raw : List ℕ) → arrival_answer h channel raw ≡ Some told.Filtered → deliveries_of (decided (plan_in_force h) channel raw) ≡ []
+unfolding arrival_answer
 filtered-answer h channel raw is =
     told-filtered (is_bookable raw) (known h (key_of channel raw)) (brings_at h raw) (decided (plan_in_force h) channel raw) (message_count h) is
 
@@ -296,9 +296,9 @@ told-before true None same v count place is = absurd (judged-first v count place
 told-before true (Some k) same v count place is = let parts = again-same (same k) k place is in (ap (λ k. Some k) parts.0, ap same (sym parts.0) ∙ parts.1)
 
 -- a message that is told that it came before has its key and its bytes at that place
-repeat-found : (h : History) (channel : ℕ) (raw : List ℕ) (place : ℕ) → answer h channel raw ≡ Some (told.Repeat place)
+repeat-found : (h : History) (channel : ℕ) (raw : List ℕ) (place : ℕ) → arrival_answer h channel raw ≡ Some (told.Repeat place)
     → (known h (key_of channel raw) ≡ Some place) × (brings_at h raw place ≡ true)
-unfolding answer
+unfolding arrival_answer
 repeat-found h channel raw place is =
     told-before (is_bookable raw) (known h (key_of channel raw)) (brings_at h raw) (decided (plan_in_force h) channel raw) (message_count h) place is
 

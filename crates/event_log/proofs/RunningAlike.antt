@@ -17,7 +17,7 @@ use Rattle.event_log.specs.declared.entry.Ticket.{Ticket}
 use Rattle.event_log.specs.declared.refusal.CancelRefusal.TheVariants.{NoSuchMessage, NothingWaiting}
 use Rattle.event_log.specs.History.{History, Remembered, followed_by, is_for, is_queued, message_at, next_place, plan_in_force, queue, slot, state_by}
 use Rattle.event_log.specs.Alike.{AllReplyAlike, AreMet, Aside, IsAlike, IsMet}
-use Rattle.event_log.specs.Answers.{answer, attempts_max, cancel_answer, has_key, interval, keeps, known, known_before, mask_where, settle_answer, take_answer, waits}
+use Rattle.event_log.specs.Answers.{arrival_answer, attempts_max, cancel_answer, has_key, interval, keeps, known, known_before, mask_where, settle_answer, take_answer, waits}
 use Rattle.event_log.specs.Legal.{IsSound}
 use Rattle.event_log.specs.Event as event
 use Rattle.event_log.specs.Event.{Event, Refusal, Reply, after, entry_of, next, run}

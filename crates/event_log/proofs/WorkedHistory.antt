@@ -10,7 +10,7 @@ use Rattle.dest_queue.specs.declared.Outcome.TheVariants.{Again}
 use Rattle.event_log.specs.declared.entry.Told.TheVariants.{Accepted}
 use Rattle.event_log.specs.declared.entry.Entry.TheVariants.{Arrival, Take, Settle}
 use Rattle.event_log.specs.History.{history_of, opened_by}
-use Rattle.event_log.specs.Answers.{answer, settle_answer, take_answer}
+use Rattle.event_log.specs.Answers.{arrival_answer, settle_answer, take_answer}
 use Rattle.event_log.specs.Legal.{IsLegal}
 use Rattle.event_log.specs.Room.{is_full, total}
 use Rattle.event_log.specs.Rows.{attempt, came, exhausted, first, is_accepted, first_attempt, first_retry, second_attempt, third_failed, last_taken, taken, tried, waits}
@@ -27,7 +27,7 @@ fits = record { plain = λ k d inside. clear (is_framing (get_or first k d)) (Al
 
 -- it has room
 has-room : is_full (opened_by built_in 20) 0 first ≡ false
-unfolding answer verdict header_fault key_of is_full total
+unfolding arrival_answer verdict header_fault key_of is_full total
 has-room = refl
 
 legal-came : IsLegal (history_of built_in 20 came)

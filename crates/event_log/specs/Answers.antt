@@ -92,8 +92,8 @@ told_by number verdict.Filtered = Some told.Filtered
 told_by number (verdict.Accept deliveries) = Some (told.Accepted number)
 
 -- the answer to a text that arrives on a channel; its key is looked up before it is judged
-unfoldable pub answer : History → ℕ → List ℕ → Option Told
-answer h channel raw =
+unfoldable pub arrival_answer : History → ℕ → List ℕ → Option Told
+arrival_answer h channel raw =
     if is_bookable raw then
     option_map_or (λ place. Some (told_again h raw place)) (known h (key_of channel raw))
     (told_by (message_count h) (decided (plan_in_force h) channel raw))

@@ -17,7 +17,7 @@ use Rattle.event_log.specs.declared.refusal.DeployRefusal.TheVariants as deploy_
 use Rattle.event_log.specs.declared.refusal.TakeRefusal.{TakeRefusal}
 use Rattle.event_log.specs.declared.refusal.TakeRefusal.TheVariants as take_refusal
 use Rattle.event_log.specs.History.{History, followed_by}
-use Rattle.event_log.specs.Answers.{answer as arrival_answer, cancel_answer, settle_answer, take_answer}
+use Rattle.event_log.specs.Answers.{arrival_answer, cancel_answer, settle_answer, take_answer}
 use Rattle.event_log.specs.Deployment.{deploy_answer}
 use Rattle.event_log.specs.Room.{exceeds, is_full}
 

@@ -9,7 +9,7 @@ use Rattle.event_log.specs.declared.entry.Told.TheVariants.{Accepted, Filtered, 
 use Rattle.event_log.specs.declared.entry.Entry.TheVariants.{Arrival, Take, Settle}
 use Rattle.event_log.specs.declared.refusal.CancelRefusal.TheVariants as cancel_refusal
 use Rattle.event_log.specs.declared.refusal.PruneRefusal.TheVariants.{NoSuchMessage, StillLive}
-use Rattle.event_log.specs.Answers.{answer, cancel_answer, known, settle_answer}
+use Rattle.event_log.specs.Answers.{arrival_answer, cancel_answer, known, settle_answer}
 use Rattle.event_log.specs.Counting.{channel_counts, destination_counts}
 use Rattle.event_log.specs.Folding.{folded, prune_answer, pruned}
 use Rattle.event_log.specs.History.{History, continued, entry_at, history_of, next_place, queue, slot}
@@ -80,12 +80,12 @@ pub second_known : known (pruned 1 settled) (key_of 0 second) ≡ Some 1
 unfolding verdict header_fault key_of
 second_known = refl
 
-pub second_repeated : answer (pruned 1 settled) 0 second ≡ Some (Repeat 1)
-unfolding answer verdict header_fault key_of
+pub second_repeated : arrival_answer (pruned 1 settled) 0 second ≡ Some (Repeat 1)
+unfolding arrival_answer verdict header_fault key_of
 second_repeated = refl
 
-pub first_anew : answer (pruned 1 settled) 0 first ≡ Some (Accepted 2)
-unfolding answer verdict header_fault key_of
+pub first_anew : arrival_answer (pruned 1 settled) 0 first ≡ Some (Accepted 2)
+unfolding arrival_answer verdict header_fault key_of
 first_anew = refl
 
 -- the counters keep both

@@ -9,7 +9,7 @@ use Rattle.dest_queue.specs.declared.SlotState.TheVariants.{Waiting, InFlight, D
 use Rattle.event_log.specs.declared.entry.Told.{Told}
 use Rattle.event_log.specs.declared.entry.Told.TheVariants as told
 use Rattle.event_log.specs.History.{History, numbers, plan_in_force, slot}
-use Rattle.event_log.specs.Answers.{answer, attempts_max}
+use Rattle.event_log.specs.Answers.{arrival_answer, attempts_max}
 
 -- the sum of a weight over the slots of one message
 abbrev pub message_total : (ℕ → SlotState → ℕ) → (ℕ → Option SlotState) → ℕ
@@ -55,7 +55,7 @@ slots_added plan channel raw (told.Repeat place) = []
 
 -- what the slots of an arrival would owe
 abbrev pub own : History → ℕ → List ℕ → ℕ
-own h channel raw = option_map_or (λ told. own_owed (plan_in_force h) (slots_added (plan_in_force h) channel raw told)) (answer h channel raw) 0
+own h channel raw = option_map_or (λ told. own_owed (plan_in_force h) (slots_added (plan_in_force h) channel raw told)) (arrival_answer h channel raw) 0
 
 -- one more entry, whose own slots owe `own`, exceeds what the history may hold; folded entries take no room
 abbrev pub exceeds : History → ℕ → Bool

@@ -13,7 +13,7 @@ use Rattle.event_log.specs.declared.entry.Entry.TheVariants.{Arrival, Take, Sett
 use Rattle.event_log.specs.declared.refusal.TakeRefusal.TheVariants.{Idle, InFlightNow, NotDue}
 use Rattle.event_log.specs.declared.refusal.CancelRefusal.TheVariants.{NoSuchMessage, NothingWaiting}
 use Rattle.event_log.specs.History.{history_of, opened_by, queue, slot}
-use Rattle.event_log.specs.Answers.{answer, cancel_answer, mask_where, settle_answer, take_answer}
+use Rattle.event_log.specs.Answers.{arrival_answer, cancel_answer, mask_where, settle_answer, take_answer}
 use Rattle.event_log.specs.Room.{is_full, owed, total}
 
 -- an admission with the control id 1, and one more text with that id
@@ -50,17 +50,17 @@ exhausted = last_taken ++ Settle Again (attempt 3) 121 (Failed Exhausted) ∷ []
 
 -- ---- arrivals
 
-pub is_accepted : answer (opened_by built_in 20) 0 first ≡ Some (Accepted 0)
-unfolding answer verdict header_fault key_of
+pub is_accepted : arrival_answer (opened_by built_in 20) 0 first ≡ Some (Accepted 0)
+unfolding arrival_answer verdict header_fault key_of
 is_accepted = refl
 
 -- the same bytes again, and others with that control id
-pub is_repeated : answer (history_of built_in 20 came) 0 first ≡ Some (Repeat 0)
-unfolding answer key_of
+pub is_repeated : arrival_answer (history_of built_in 20 came) 0 first ≡ Some (Repeat 0)
+unfolding arrival_answer key_of
 is_repeated = refl
 
-pub is_reused : answer (history_of built_in 20 came) 0 other ≡ Some (Refused IdReused)
-unfolding answer key_of
+pub is_reused : arrival_answer (history_of built_in 20 came) 0 other ≡ Some (Refused IdReused)
+unfolding arrival_answer key_of
 is_reused = refl
 
 -- ---- attempts
@@ -141,9 +141,9 @@ owed_settled = refl
 
 -- with its own entry these are eight: a book of eight has room for its first message, and one of seven has not
 pub has_room : is_full (opened_by built_in 8) 0 first ≡ false
-unfolding answer verdict header_fault key_of is_full total
+unfolding arrival_answer verdict header_fault key_of is_full total
 has_room = refl
 
 pub has_no_room : is_full (opened_by built_in 7) 0 first ≡ true
-unfolding answer verdict header_fault key_of is_full total
+unfolding arrival_answer verdict header_fault key_of is_full total
 has_no_room = refl

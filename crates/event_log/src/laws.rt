@@ -14,7 +14,7 @@ ghost use Rattle.event_log.specs.Legal.{IsGoodOpening, IsLegal, IsSound, MayFoll
 ghost use Rattle.event_log.specs.declared.entry.Told.{Told};
 ghost use Rattle.event_log.specs.declared.refusal.DeployRefusal.{DeployRefusal};
 ghost use Rattle.event_log.specs.declared.refusal.DeployRefusal.TheVariants as deploy_refusal;
-ghost use Rattle.event_log.specs.Answers.{answer as arrival_answer};
+ghost use Rattle.event_log.specs.Answers.{arrival_answer};
 ghost use Rattle.event_log.specs.Deployment.{deploy_answer};
 ghost use Rattle.event_log.specs.Event.{CanCome, Does, Event, Refusal, Reply, answer, arrive, cancel, deploy, entry_of, event_of, full, next, settle, take};
 ghost use Rattle.event_log.specs.Replay.{replay};

@@ -10,24 +10,24 @@ use Rattle.event_log.specs.declared.entry.Ticket.{Ticket}
 use Rattle.event_log.specs.declared.entry.Told.{Told}
 use Rattle.event_log.specs.declared.refusal.TakeRefusal.TheVariants.{Idle, NotDue}
 use Rattle.event_log.specs.History.{History, message_count, plan_in_force, queue, slot}
-use Rattle.event_log.specs.Answers.{answer, attempts_max, front_answer, known, take_answer, told_again, told_by}
+use Rattle.event_log.specs.Answers.{arrival_answer, attempts_max, front_answer, known, take_answer, told_again, told_by}
 use Rattle.event_log.specs.Legal.{IsSound, IsWithin}
 use Rattle.event_log.specs.Room.{exceeds, is_full, own_owed, slots_added}
 use Rattle.sequential_book.proofs.Messages.{found-holds}
 
 -- a message whose key is known is told so
-pub answer-known : (h : History) (channel : ℕ) (raw : List ℕ) (place : ℕ) → is_bookable raw ≡ true → known h (key_of channel raw) ≡ Some place → answer h channel raw ≡ Some (told_again h raw place)
-unfolding answer
+pub answer-known : (h : History) (channel : ℕ) (raw : List ℕ) (place : ℕ) → is_bookable raw ≡ true → known h (key_of channel raw) ≡ Some place → arrival_answer h channel raw ≡ Some (told_again h raw place)
+unfolding arrival_answer
 answer-known h channel raw place bookable found = rw (bookable, found) refl
 
 -- another is told by its verdict
 pub answer-first : (h : History) (channel : ℕ) (raw : List ℕ) → is_bookable raw ≡ true → known h (key_of channel raw) ≡ None
-    → answer h channel raw ≡ told_by (message_count h) (decided (plan_in_force h) channel raw)
-unfolding answer
+    → arrival_answer h channel raw ≡ told_by (message_count h) (decided (plan_in_force h) channel raw)
+unfolding arrival_answer
 answer-first h channel raw bookable none = rw (bookable, none) refl
 
 -- whether there is room for an arrival that is told so, by what its slots would owe
-pub full-told : (h : History) (channel : ℕ) (raw : List ℕ) (told : Told) (plan : PlanEntry) (owes : ℕ) → answer h channel raw ≡ Some told → plan ≡ plan_in_force h
+pub full-told : (h : History) (channel : ℕ) (raw : List ℕ) (told : Told) (plan : PlanEntry) (owes : ℕ) → arrival_answer h channel raw ≡ Some told → plan ≡ plan_in_force h
     → owes ≡ own_owed plan (slots_added plan channel raw told) → is_full h channel raw ≡ exceeds h owes
 unfolding is_full
 full-told h channel raw told plan owes is same owed =

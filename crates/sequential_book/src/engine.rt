@@ -5,7 +5,6 @@ ghost use Rattle.std.specs.Arc.{arc_value};
 ghost use Rattle.judge_core.specs.Judging.{is_bookable};
 ghost use Rattle.event_log.specs.Event.{Does, arrive, cancel, deploy, result_map_err, settle, take};
 ghost use Rattle.event_log.specs.History.{followed_by, opened_by, plan_in_force, queue, slot};
-ghost use Rattle.event_log.specs.Answers.{answer};
 ghost use Rattle.event_log.specs.Legal.{MayFollow};
 ghost use Rattle.sequential_book.specs.Reading.{IsJudgeable, arrive_refusal, settled};
 

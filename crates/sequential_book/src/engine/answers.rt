@@ -3,7 +3,7 @@
 ghost use Rattle.std.specs.Prelude.{◌≡◌, IfOk, IsTrue, Some};
 ghost use Rattle.judge_core.specs.Judging.{is_bookable};
 ghost use Rattle.event_log.specs.History.{plan_in_force};
-ghost use Rattle.event_log.specs.Answers.{answer, cancel_answer, settle_answer, take_answer};
+ghost use Rattle.event_log.specs.Answers.{arrival_answer, cancel_answer, settle_answer, take_answer};
 ghost use Rattle.event_log.specs.Deployment.{deploy_answer, first_lost, is_lost};
 ghost use Rattle.event_log.specs.Room.{exceeds, is_full};
 
@@ -25,7 +25,7 @@ impl SequentialBook {
     pub(crate) fn answer(&self, judged: &Judged) -> Result<Told, AllocError>
         requires bookable { IsTrue (is_bookable judged.now.raw) }
         requires same_plan { judged.now.plan ≡ plan_in_force self.now }
-        ensures { IfOk result (λ told. answer self.now judged.now.channel judged.now.raw ≡ Some told) }
+        ensures { IfOk result (λ told. arrival_answer self.now judged.now.channel judged.now.raw ≡ Some told) }
     {
         match known(self.alloc, &self.plan, &self.entries, judged.key())? {
             Some(place) => Ok(told_again(&self.entries, judged.raw().as_slice(), place)),
@@ -45,7 +45,7 @@ impl SequentialBook {
     /// Whether there is no room for an arrival with this answer.
     pub(crate) fn is_full(&self, judged: &Judged, told: Told) -> Result<bool, AllocError>
         requires same_plan { judged.now.plan ≡ plan_in_force self.now }
-        requires told { answer self.now judged.now.channel judged.now.raw ≡ Some told }
+        requires told { arrival_answer self.now judged.now.channel judged.now.raw ≡ Some told }
         ensures { IfOk result (λ full. full ≡ is_full self.now judged.now.channel judged.now.raw) }
     {
         let channel = judged.channel();

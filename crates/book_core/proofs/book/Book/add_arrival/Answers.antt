@@ -2,7 +2,7 @@ use Rattle.std.proofs.Common.{rules, ◌≡◌, ◌<◌, false, Some, ap, sym, �
 use Rattle.mllp_frame.specs.Framing.{IsBlockData}
 use Rattle.judge_core.specs.Delivering.{destinations_of}
 use Rattle.judge_core.specs.Judging.{verdict as decided}
-use Rattle.event_log.specs.Answers.{answer}
+use Rattle.event_log.specs.Answers.{arrival_answer}
 use Rattle.event_log.specs.History.{control_id_of, next_place, plan_in_force}
 use Rattle.event_log.specs.Room.{is_full, owed, own, own_owed}
 use Rattle.event_log.proofs.Events.{arrivable-follows}
@@ -17,7 +17,7 @@ add_gain-requires-clause-next g c =
     let channel = c.args.judged.now.channel in
     let raw = c.args.judged.now.raw in
     let enough : is_full h channel raw ≡ false = ap (λ k. is_full k channel raw) c.self.view_is ∙ c.requires.room in
-    let told : answer h channel raw ≡ Some c.args.told = ap (λ k. answer k channel raw) c.self.view_is ∙ c.requires.told in
+    let told : arrival_answer h channel raw ≡ Some c.args.told = ap (λ k. arrival_answer k channel raw) c.self.view_is ∙ c.requires.told in
     let fits : IsBlockData raw = rw c.raw.ensures.value at c.raw.ensures.fits in
     arrived-next _ _ _ _ _ _ c.self.invariant c.args.conn channel raw c.args.told fits enough told (control_id_of raw) (decided c.args.judged.now.plan channel raw) c.args.gain c.requires.gain
 
@@ -26,7 +26,7 @@ add_gain-requires-clause-unknown g c =
     let h = c.self.inside.log.history in
     let channel = c.args.judged.now.channel in
     let raw = c.args.judged.now.raw in
-    let told : answer h channel raw ≡ Some c.args.told = ap (λ k. answer k channel raw) c.self.view_is ∙ c.requires.told in
+    let told : arrival_answer h channel raw ≡ Some c.args.told = ap (λ k. arrival_answer k channel raw) c.self.view_is ∙ c.requires.told in
     key-unknown _ _ _ _ _ _ c.self.invariant channel raw c.key.result.now c.args.told (has_key c.args.gain) told (key-kept c.args.told (control_id_of raw) (decided c.args.judged.now.plan channel raw) c.args.gain c.requires.gain) c.key.ensures
 
 pub count_arrival-requires-clause-few : goal.count_arrival-requires-clause-few
@@ -44,7 +44,7 @@ overflow_add-owed g c =
     let channel = c.args.judged.now.channel in
     let raw = c.args.judged.now.raw in
     let enough : is_full h channel raw ≡ false = ap (λ k. is_full k channel raw) c.self.view_is ∙ c.requires.room in
-    let told : answer h channel raw ≡ Some c.args.told = ap (λ k. answer k channel raw) c.self.view_is ∙ c.requires.told in
+    let told : arrival_answer h channel raw ≡ Some c.args.told = ap (λ k. arrival_answer k channel raw) c.self.view_is ∙ c.requires.told in
     let fits : IsBlockData raw = rw c.raw.ensures.value at c.raw.ensures.fits in
     let plan : c.args.judged.now.plan ≡ plan_in_force h = c.requires.same_plan ∙ ap plan_in_force (sym c.self.view_is) in
     let before : c.owed.result ≡ owed h = c.owed.ensures.value ∙ ap owed c.reserve.ensures.history in
@@ -59,7 +59,7 @@ push-requires-clause-owed g c =
     let channel = c.args.judged.now.channel in
     let raw = c.args.judged.now.raw in
     let enough : is_full h channel raw ≡ false = ap (λ k. is_full k channel raw) c.self.view_is ∙ c.requires.room in
-    let told : answer h channel raw ≡ Some c.args.told = ap (λ k. answer k channel raw) c.self.view_is ∙ c.requires.told in
+    let told : arrival_answer h channel raw ≡ Some c.args.told = ap (λ k. arrival_answer k channel raw) c.self.view_is ∙ c.requires.told in
     let fits : IsBlockData raw = rw c.raw.ensures.value at c.raw.ensures.fits in
     let plan : c.args.judged.now.plan ≡ plan_in_force h = c.requires.same_plan ∙ ap plan_in_force (sym c.self.view_is) in
     let before : c.owed.result ≡ owed h = c.owed.ensures.value ∙ ap owed c.reserve.ensures.history in
@@ -75,7 +75,7 @@ push-requires-clause-within g c =
     let channel = c.args.judged.now.channel in
     let raw = c.args.judged.now.raw in
     let enough : is_full h channel raw ≡ false = ap (λ k. is_full k channel raw) c.self.view_is ∙ c.requires.room in
-    let told : answer h channel raw ≡ Some c.args.told = ap (λ k. answer k channel raw) c.self.view_is ∙ c.requires.told in
+    let told : arrival_answer h channel raw ≡ Some c.args.told = ap (λ k. arrival_answer k channel raw) c.self.view_is ∙ c.requires.told in
     let fits : IsBlockData raw = rw c.raw.ensures.value at c.raw.ensures.fits in
     let plan : c.args.judged.now.plan ≡ plan_in_force h = c.requires.same_plan ∙ ap plan_in_force (sym c.self.view_is) in
     let before : c.owed.result ≡ owed h = c.owed.ensures.value ∙ ap owed c.reserve.ensures.history in
@@ -90,7 +90,7 @@ invariant_of-self-2 g c =
     let channel = c.args.judged.now.channel in
     let raw = c.args.judged.now.raw in
     let enough : is_full h channel raw ≡ false = ap (λ k. is_full k channel raw) c.self.view_is ∙ c.requires.room in
-    let told : answer h channel raw ≡ Some c.args.told = ap (λ k. answer k channel raw) c.self.view_is ∙ c.requires.told in
+    let told : arrival_answer h channel raw ≡ Some c.args.told = ap (λ k. arrival_answer k channel raw) c.self.view_is ∙ c.requires.told in
     let fits : IsBlockData raw = rw c.raw.ensures.value at c.raw.ensures.fits in
     let plan : c.args.judged.now.plan ≡ plan_in_force h = c.requires.same_plan ∙ ap plan_in_force (sym c.self.view_is) in
     let added = gain-added h c.args.judged.now.plan channel raw c.args.told (control_id_of raw) c.args.gain plan c.requires.gain in

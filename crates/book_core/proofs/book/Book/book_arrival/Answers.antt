@@ -1,7 +1,7 @@
 use Rattle.std.proofs.Common.{◌≡◌, ◌∙◌, false, true, inl, refl, rules, sym, ap}
 use Rattle.event_log.specs.History.{control_id_of, plan_in_force}
 use Rattle.event_log.specs.Room.{is_full}
-use Rattle.event_log.specs.Answers.{answer}
+use Rattle.event_log.specs.Answers.{arrival_answer}
 use Rattle.event_log.specs.Event.{arrive}
 use Rattle.event_log.proofs.Events.{arrival-answered, arrival-full}
 use Rattle.book_core.proofs.Answering.{asked-full, asks-last, told-accepting}
@@ -37,4 +37,4 @@ returns-in_err-add_arrival-clause-memory g c =
     asks-last (arrive c.args.conn c.args.judged.now.channel c.args.judged.now.raw) h _ c.told-told.result
     (arrival-answered h c.args.conn c.args.judged.now.channel c.args.judged.now.raw c.told-told.result
     (ap (λ h. is_full h c.args.judged.now.channel c.args.judged.now.raw) (sym c.self.view_is) ∙ room)
-    (ap (λ h. answer h c.args.judged.now.channel c.args.judged.now.raw) (sym c.self.view_is) ∙ c.told-told.ensures))
+    (ap (λ h. arrival_answer h c.args.judged.now.channel c.args.judged.now.raw) (sym c.self.view_is) ∙ c.told-told.ensures))
