@@ -16,7 +16,7 @@ ghost use Rattle.book_core.specs.Sending.{AddsGain, AddsRow, HasRoomFor, IsAccep
 
 use crate::letter::Letter;
 use dest_queue::{Addressed, Slots};
-use dup_index::Keys;
+use dup_index::{Key, Keys};
 use event_log::{Log, Told, own_owed, told_first};
 use hl7_head::Cause;
 use judge_core::{Deliveries, Delivery, Judged, Text, TextPiece, Verdict};
@@ -158,13 +158,13 @@ fn add_row<S: RowStore<Addressed<Letter>>>(
 }
 
 /// A copy of a key, with room for it among the keys.
-fn key_to_add(alloc: Global, keys: &mut Keys, key: &[u8]) -> Result<Vec<u8>, AllocError>
+fn key_to_add(alloc: Global, keys: &mut Keys, key: &[u8]) -> Result<Key, AllocError>
     ensures known { keys.new.known ≡ keys.old.known }
-    ensures copy { IfOk result (λ copy. copy.items ≡ key.now) }
+    ensures copy { IfOk result (λ copy. copy ≡ key.now) }
     ensures room { OnOk result (0 < keys.new.room) }
 {
     keys.reserve(1)?;
-    Ok(Vec::from_slice(alloc, key)?)
+    Key::new().with(alloc, key)
 }
 
 /// Adds the row and the key that an arrival on a channel with these bytes adds, both with the index of its entry.

@@ -2,13 +2,14 @@
 //! bytes is hashed by a write of each; and for memory a short key is kept in the index itself: 32 bytes, where a list of
 //! bytes takes 24 and a block of its own, of 32 bytes or more.
 
-ghost use Rattle.std.specs.Prelude.{◌≡◌, [], ◌∷◌};
+ghost use Rattle.std.specs.Prelude.{◌≡◌, ◌≤◌, ◌++◌, [], ◌∷◌, take, IfOk};
 ghost use Rattle.std.proofs.Common.{ap};
 ghost use Rattle.std.specs.Cmp.{on_equiv, on_per, partial_equiv_from_equiv};
 ghost use Rattle.std.specs.Cmp.Lexicographic.{bytes_decides, nat_list_eq_equiv};
 ghost use Rattle.std.specs.Str.{bytes_eq};
 
 use indexmap::Equivalent;
+use std::alloc::{AllocError, Global};
 use std::hash::{Hash, Hasher};
 use std::marker::Model;
 
@@ -44,26 +45,62 @@ impl Model for Key {
     ghost invariant = { λ k. IsKept k.bytes };
 }
 
+/// The key of the first `len` of these bytes and more behind them.
+#[inline(always)]
+fn short_with(
+    alloc: Global,
+    len: u8,
+    bytes: [u8; SHORT_MAX],
+    more: &[u8],
+) -> Result<Key, AllocError>
+    requires { len ≤ 30 }
+    ensures { IfOk result (λ key. key ≡ take len bytes ++ more.now) }
+{
+    let from = len as usize;
+    if more.len() <= SHORT_MAX - from {
+        let to = from + more.len();
+        let mut bytes = bytes;
+        bytes[from..to].copy_from_slice(more);
+        return Ok(Key {
+            bytes: Bytes::Short(to as u8, bytes),
+        });
+    }
+    let mut long = Vec::with_capacity(alloc, from + more.len())?;
+    long.extend_from_slice(&bytes[..from])?;
+    long.extend_from_slice(more)?;
+    Ok(Key {
+        bytes: Bytes::Long(long),
+    })
+}
+
 impl Key {
-    /// A key of these bytes.
-    pub fn new(bytes: Vec<u8>) -> Key
-        ensures { result ≡ bytes.items }
+    /// A key of no bytes.
+    pub fn new() -> Key
+        ensures { result ≡ [] }
     {
-        let len = bytes.len();
-        if len > SHORT_MAX {
-            return Key {
-                bytes: Bytes::Long(bytes),
-            };
-        }
-        let mut short = [0; SHORT_MAX];
-        short[..len].copy_from_slice(&bytes);
         Key {
-            bytes: Bytes::Short(len as u8, short),
+            bytes: Bytes::Short(0, [0; SHORT_MAX]),
+        }
+    }
+
+    /// The key with more bytes behind its own.
+    #[inline(always)]
+    pub fn with(self, alloc: Global, more: &[u8]) -> Result<Key, AllocError>
+        ensures { IfOk result (λ key. key ≡ self ++ more.now) }
+    {
+        match self.bytes {
+            Bytes::Short(len, bytes) => short_with(alloc, len, bytes, more),
+            Bytes::Long(mut long) => {
+                long.extend_from_slice(more)?;
+                Ok(Key {
+                    bytes: Bytes::Long(long),
+                })
+            }
         }
     }
 
     /// Its bytes.
-    fn as_slice(&self) -> &[u8]
+    pub fn as_slice(&self) -> &[u8]
         ensures { result.now ≡ self.now }
     {
         match &self.bytes {

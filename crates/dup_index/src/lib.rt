@@ -7,7 +7,8 @@ ghost use Rattle.dup_index.specs.Known.{Known, place_of, from_place};
 
 mod key;
 
-use crate::key::{Key, Sought};
+pub use crate::key::Key;
+use crate::key::Sought;
 use indexmap::IndexMap;
 use std::alloc::{AllocError, Global};
 use std::hash::RandomState;
@@ -63,13 +64,13 @@ impl Keys {
     }
 
     /// Adds a key that is not known yet. There has to be room for it, so no memory is requested.
-    pub fn add(&mut self, key: Vec<u8>, place: usize)
-        requires unknown { place_of key.items self.old.known ≡ None }
+    pub fn add(&mut self, key: Key, place: usize)
+        requires unknown { place_of key self.old.known ≡ None }
         requires room { 0 < self.old.room }
-        ensures known { self.new.known ≡ self.old.known ++ record { key = key.items; place = place } ∷ [] }
+        ensures known { self.new.known ≡ self.old.known ++ record { key = key; place = place } ∷ [] }
         ensures room { self.old.room ≤ self.new.room + 1 }
     {
-        let _first = self.places.insert(Key::new(key), place).unwrap();
+        let _first = self.places.insert(key, place).unwrap();
     }
 
     /// Forgets the keys whose history index is before `place`, and releases the memory that those that stay don't

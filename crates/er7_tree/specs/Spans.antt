@@ -1,5 +1,5 @@
 -- Ranges of a text that cover its segments.
-use Rattle.std.specs.Prelude.{ℕ, ◌≤◌, List, [], ◌∷◌, length, map, slice_range}
+use Rattle.std.specs.Prelude.{◌≡◌, ℕ, ◌+◌, ◌<◌, ◌≤◌, slice_index, List, [], ◌∷◌, length, map, slice_range}
 use Rattle.er7_tree.specs.declared.segments.Span.{Span}
 use Rattle.er7_tree.specs.Tree.{Tree, IsMessage}
 use Rattle.er7_tree.specs.Delims.{Delims}
@@ -27,3 +27,9 @@ InOrder from to (span ∷ spans) = IsBetween from to span × InOrder span.end to
 pub record AreSpans (d : Delims) (text : List ℕ) (spans : List Span) : Type 0 where
   pub in_order : InOrder 0 (length text) spans
   pub message : IsMessage (spanned d text spans)
+
+-- a search for ends has not come behind the place where a segment is looked for, but for the carriage return there
+pub record IsNear (text : List ℕ) (from at : ℕ) : Type 0 where
+  pub most : at ≤ from + 1
+  pub here : from < at → from < length text → slice_index text from ≡ 13
+  pub last : from ≡ length text → at ≤ from

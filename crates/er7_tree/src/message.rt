@@ -114,8 +114,8 @@ fn spans_of(alloc: Global, text: &[u8]) -> Result<(Delims, Vec<Span>), Refusal>
         (λ refusal. Gives (Err refusal) (tree text.now)) }
     ensures in_order { IfOk result (λ read. InOrder 0 (length text.now) read.1.items) }
 {
-    let (header, delims) = read_header(text)?;
-    let spans = read_spans(alloc, text, header, delims)?;
+    let (header, delims, ends) = read_header(text)?;
+    let spans = read_spans(alloc, text, header, delims, ends)?;
     Ok((delims, spans))
 }
 

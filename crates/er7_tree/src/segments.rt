@@ -1,14 +1,15 @@
 //! The spans of the segments of a text, how segments are named, and where their fields begin. What is
 //! particular to MSH is in this file alone.
 
-ghost use Rattle.std.specs.Prelude.{◌≡◌, ◌≢◌, ◌<◌, ◌≤◌, ◌∷◌, [], length, drop, slice_index, IfSome, MatchOption};
-ghost use Rattle.er7_tree.specs.Spans.{covered, IsBetween};
+ghost use Rattle.std.specs.Prelude.{◌≡◌, ◌≢◌, ◌+◌, ◌<◌, ◌≤◌, ◌∷◌, [], length, drop, slice_index, IfSome, MatchOption};
+ghost use Rattle.lane_scan.specs.Scan.{AreAhead, IsNowhere};
+ghost use Rattle.er7_tree.specs.Spans.{covered, IsBetween, IsNear};
 ghost use Rattle.er7_tree.specs.Path.{field_place};
 ghost use Rattle.er7_tree.specs.Tree.{carriage_return, is_body, is_header, is_name, segments_of};
 
 use crate::delims::Delims;
 use fixed_numbers::{CARRIAGE_RETURN, LINE_FEED};
-use memchr::memchr;
+use lane_scan::Ahead;
 
 /// The name of the message header segment (HL7 v2.5.1, 2.15.9).
 pub const MSH: [u8; 3] = *b"MSH";
@@ -62,22 +63,49 @@ fn skip_empty(text: &[u8], from: usize) -> usize
     start
 }
 
-/// The first segment at or behind an offset. Reading goes on at its end.
-pub fn next_span(text: &[u8], from: usize) -> Option<Span>
-    requires { from ≤ length text.now }
+/// The offset of the next carriage return at or behind `from`, or the text's length where there is none.
+#[inline]
+fn next_end(text: &[u8], from: usize, ends: Ahead) -> (Ahead, usize)
+    requires within { from ≤ length text.now }
+    requires ends { AreAhead carriage_return text.now ends.at ends.end ends.bits }
+    requires behind { ends.at ≤ from }
+    ensures behind { from ≤ result.1 }
+    ensures within { result.1 ≤ length text.now }
+    ensures other { IsNowhere carriage_return text.now from result.1 }
+    ensures here { result.1 < length text.now → slice_index text.now result.1 ≡ carriage_return }
+    ensures ends { AreAhead carriage_return text.now result.0.at result.0.end result.0.bits }
+    ensures ahead { result.1 < length text.now → result.0.at ≡ result.1 + 1 }
+{
+    let mut ends = ends;
+    'ends: loop {
+        let (next, place) = ends.next(text, CARRIAGE_RETURN);
+        ends = next;
+        match place {
+            None => return (ends, text.len()),
+            Some(end) if end >= from => return (ends, end),
+            Some(_) => {}
+        }
+    }
+}
+
+/// The first segment at or behind an offset. Reading goes on at its end, and so does the search for ends.
+pub fn next_span(text: &[u8], from: usize, ends: &mut Ahead) -> Option<Span>
+    requires within { from ≤ length text.now }
+    requires ends { AreAhead carriage_return text.now ends.old.at ends.old.end ends.old.bits }
+    requires near { IsNear text.now from ends.old.at }
     ensures segment { MatchOption result (segments_of (drop from text.now) ≡ [])
         (λ span. segments_of (drop from text.now) ≡ covered text.now span ∷ segments_of (drop span.end text.now)) }
     ensures some { IfSome result (λ span. span.start < span.end) }
     ensures between { IfSome result (IsBetween from (length text.now)) }
+    ensures ends { AreAhead carriage_return text.now ends.new.at ends.new.end ends.new.bits }
+    ensures near { IfSome result (λ span. IsNear text.now span.end ends.new.at) }
 {
     let start = skip_empty(text, from);
     if start == text.len() {
         return None;
     }
-    let end = match memchr(CARRIAGE_RETURN, &text[start..]) {
-        Some(length) => start + length,
-        None => text.len(),
-    };
+    let (next, end) = next_end(text, start, *ends);
+    *ends = next;
     Some(Span { start, end })
 }
 

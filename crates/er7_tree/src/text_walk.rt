@@ -1,37 +1,42 @@
 //! Reading a text: first its header, which declares the delimiters, and then all segments in one walk.
 
 ghost use Rattle.std.specs.Prelude.{◌≡◌, ◌∷◌, ◌≤◌, drop, length, true, Ok, IfOk, MatchResult};
-ghost use Rattle.er7_tree.specs.Spans.{covered, spanned, IsBetween, InOrder};
-ghost use Rattle.er7_tree.specs.Tree.{Gives, checked, segments_of, tree};
+ghost use Rattle.lane_scan.specs.Scan.{AreAhead};
+ghost use Rattle.er7_tree.specs.Spans.{covered, spanned, IsBetween, IsNear, InOrder};
+ghost use Rattle.er7_tree.specs.Tree.{Gives, carriage_return, checked, segments_of, tree};
 
 use crate::delims::Delims;
 use crate::refusal::Refusal;
 use crate::segments::{Span, is_body, is_header, next_span};
 use fixed_numbers::MAX_SEGMENTS;
+use lane_scan::Ahead;
 use std::alloc::Global;
 
 /// Room for the spans of a usual message, made at once.
 const USUAL_SEGMENTS: usize = 16;
 
-/// The header of a text, and the delimiters that it declares.
+/// The header of a text, the delimiters that it declares, and the search for the ends of the segments behind it.
 ///
 /// # Errors
 ///
 /// The first refusal of the text, as [`Message::parse`](crate::Message::parse) orders them.
-pub fn read_header(text: &[u8]) -> Result<(Span, Delims), Refusal>
+pub fn read_header(text: &[u8]) -> Result<(Span, Delims, Ahead), Refusal>
     ensures value { MatchResult result
         (λ read. tree text.now ≡ checked (record { delims = read.1; segments = segments_of text.now }))
         (λ refusal. Gives (Err refusal) (tree text.now)) }
     ensures first { IfOk result (λ read. segments_of text.now ≡ covered text.now read.0 ∷ segments_of (drop read.0.end text.now)) }
     ensures between { IfOk result (λ read. IsBetween 0 (length text.now) read.0) }
+    ensures ends { IfOk result (λ read. AreAhead carriage_return text.now read.2.at read.2.end read.2.bits) }
+    ensures near { IfOk result (λ read. IsNear text.now read.0.end read.2.at) }
 {
-    let header = next_span(text, 0).ok_or(Refusal::NoHeader)?;
+    let mut ends = Ahead::from(0);
+    let header = next_span(text, 0, &mut ends).ok_or(Refusal::NoHeader)?;
     let segment = header.of(text);
     if !is_header(segment) {
         return Err(Refusal::NoHeader);
     }
     let delims = Delims::of_header(segment).ok_or(Refusal::BadDelimiters)?;
-    Ok((header, delims))
+    Ok((header, delims, ends))
 }
 
 /// The spans of a text's segments, of which the header is the first. One walk finds them, counts them and tests their
@@ -46,9 +51,12 @@ pub fn read_spans(
     text: &[u8],
     header: Span,
     delims: Delims,
+    ends: Ahead,
 ) -> Result<Vec<Span>, Refusal>
     requires first { segments_of text.now ≡ covered text.now header ∷ segments_of (drop header.end text.now) }
     requires between { IsBetween 0 (length text.now) header }
+    requires ends { AreAhead carriage_return text.now ends.at ends.end ends.bits }
+    requires near { IsNear text.now header.end ends.at }
     ensures value { MatchResult result
         (λ spans. checked (record { delims = delims; segments = segments_of text.now }) ≡ Ok (spanned delims text.now spans.items))
         (λ refusal. Gives (Err refusal) (checked (record { delims = delims; segments = segments_of text.now }))) }
@@ -59,7 +67,8 @@ pub fn read_spans(
     let mut bad = None;
     let mut place = 1;
     let mut at = header.end;
-    while let Some(span) = next_span(text, at) {
+    let mut ends = ends;
+    while let Some(span) = next_span(text, at, &mut ends) {
         if place == MAX_SEGMENTS {
             return Err(Refusal::TooManySegments);
         }

@@ -9,6 +9,7 @@ use Rattle.er7_tree.specs.Pieces.{split, piece_at}
 use Rattle.memchr.specs.Find.{Passes, is_byte, Nowhere}
 use Rattle.er7_tree.specs.declared.segments.Span.{Span}
 use Rattle.er7_tree.specs.Spans.{covered, IsBetween}
+use Rattle.lane_scan.specs.Scan.{IsNext, IsNowhere}
 use Rattle.hl7_head.specs.Places.{ReadsFirst}
 
 -- at a separator, a text is cut into the piece before it and the pieces after it
@@ -138,3 +139,20 @@ pub reads_whole : (text : List ℕ) (separator start end : ℕ) → start ≤ en
 reads_whole text separator start end forth in_text other =
     let size = length_range text start end forth in_text in
     reads_nowhere text separator start end forth (rw size (none_of_range text separator start end end (omega arith) other))
+
+-- where the byte stands nowhere it is no separator
+no_separator : (text : List ℕ) (separator from to : ℕ) → IsNowhere separator text from to → (k : ℕ) → from ≤ k → k < to → get_or text k 0 ≢ separator
+no_separator text separator from to none k low high same = let here = eq-eqb (get_or text k 0) separator same in let bare = none k low high in cc
+
+-- up to the next separator
+pub reads_next : (text : List ℕ) (separator start end at stop : ℕ) → at ≡ start → stop < end → end ≤ length text → IsNext separator text at stop
+    → ReadsFirst text separator (record { start = start; end = end }) (record { start = start; end = stop })
+reads_next text separator start end at stop same lt in_text next =
+    reads_to text separator start end stop (let b = next.behind in omega arith) lt in_text (eqb-true _ separator next.here)
+    (λ k low high. no_separator text separator at stop next.before k (omega arith) high)
+
+-- or up to the end, where the next one stands behind it
+pub reads_past : (text : List ℕ) (separator start end at stop : ℕ) → at ≡ start → start ≤ end → end ≤ stop → end ≤ length text → IsNowhere separator text at stop
+    → ReadsFirst text separator (record { start = start; end = end }) (record { start = start; end = end })
+reads_past text separator start end at stop same forth far in_text none =
+    reads_whole text separator start end forth in_text (λ k low high. no_separator text separator at stop none k (omega arith) (omega arith))

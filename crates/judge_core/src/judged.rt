@@ -13,6 +13,7 @@ ghost use Rattle.judge_core.specs.Judging.{header_fault, key_by, deliveries_by, 
 
 use crate::delivery::{Deliveries, by_routes, passes, transformed};
 use crate::text::{Text, TextPiece};
+use dup_index::Key;
 use er7_tree::{Message, Refusal, is_vacant};
 use fixed_numbers::CONTROL_ID_MAX;
 use hl7_head::{Cause, Header};
@@ -20,9 +21,6 @@ use plan_text::{Channel, Plan, Route};
 use std::alloc::{AllocError, Global};
 use std::marker::Model;
 use std::sync::Arc;
-
-/// What a key holds beside the three fields of the header: the channel and two separators.
-const KEY_MARKS: usize = 3;
 
 /// What is decided of a text.
 #[derive(Drop)]
@@ -61,7 +59,7 @@ pub struct Judged {
     raw: Text,
     header: Option<Header>,
     control_id: Option<TextPiece>,
-    key: Vec<u8>,
+    key: Key,
     verdict: Verdict,
 }
 
@@ -85,7 +83,7 @@ impl Model for Judged {
       fits : IsBlockData j.raw;
       header_is : j.header ≡ header_of j.raw;
       control_id_is : j.control_id ≡ option_map (λ h. h.control_id) (header_of j.raw);
-      key_is : j.key.items ≡ key_of j.channel j.raw;
+      key_is : j.key ≡ key_of j.channel j.raw;
       verdict_is : j.verdict ≡ decided (arc_value j.plan) j.channel j.raw;
     } };
 }
@@ -149,25 +147,16 @@ fn control_id_of(header: &Header) -> Result<TextPiece, AllocError>
 }
 
 /// The key of a message, by which its repeats are known.
-fn key_bytes(alloc: Global, channel: u8, header: &Header) -> Result<Vec<u8>, AllocError>
-    ensures { IfOk result (λ key. key.items ≡ key_by channel header.now) }
+fn key_bytes(alloc: Global, channel: u8, header: &Header) -> Result<Key, AllocError>
+    ensures { IfOk result (λ key. key ≡ key_by channel header.now) }
 {
-    let application = header.sending_application();
-    let facility = header.sending_facility();
-    let control_id = header.control_id();
-    let bytes = application
-        .len()
-        .saturating_add(facility.len())
-        .saturating_add(control_id.len())
-        .saturating_add(KEY_MARKS);
-    let mut key = Vec::with_capacity(alloc, bytes)?;
-    key.push(channel)?;
-    key.extend_from_slice(application)?;
-    key.push(b'\r')?;
-    key.extend_from_slice(facility)?;
-    key.push(b'\r')?;
-    key.extend_from_slice(control_id)?;
-    Ok(key)
+    Key::new()
+        .with(alloc, &[channel])?
+        .with(alloc, header.sending_application())?
+        .with(alloc, b"\r")?
+        .with(alloc, header.sending_facility())?
+        .with(alloc, b"\r")?
+        .with(alloc, header.control_id())
 }
 
 /// What becomes of a message by routes; `payload` is its text. Where the steps of one can't be taken, the whole message is
@@ -269,7 +258,7 @@ pub fn judge(
             raw,
             header: None,
             control_id: None,
-            key: Vec::new(alloc),
+            key: Key::new(),
             verdict: Verdict::Unreadable,
         });
     };
@@ -333,7 +322,7 @@ impl Judged {
     pub fn key(&self) -> &[u8]
         ensures { result.now ≡ key_of self.now.channel self.now.raw }
     {
-        &self.key
+        self.key.as_slice()
     }
 
     /// What was decided.

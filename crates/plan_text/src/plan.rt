@@ -14,11 +14,16 @@ use std::marker::Model;
 /// Two plans are equal where they say the same, wherever they lie in memory.
 #[derive(Drop)]
 pub struct Plan {
+    /// The document that it was read from. It is there for speed: plans of the same document are known to be equal by one
+    /// comparison of bytes.
+    pub(crate) document: Vec<u8>,
     pub(crate) destinations: Vec<Destination>,
     pub(crate) channels: Vec<Channel>,
 }
 
 impl Model for Plan {
+    ghost use Rattle.std.specs.Prelude.{◌≡◌, Ok};
+    ghost use Rattle.plan_text.specs.Document.{plan_in};
     ghost use Rattle.plan_text.specs.Entries.{PlanEntry, IsPlan};
     ghost use Rattle.plan_text.specs.Coding.{plan_code};
 
@@ -31,10 +36,10 @@ impl Model for Plan {
       channels = p.channels.items;
     } };
 
-    ghost invariant = { λ p. IsPlan (record {
-      destinations = p.destinations.items;
-      channels = p.channels.items;
-    }) };
+    ghost invariant = { λ p. record {
+      rules : IsPlan (record { destinations = p.destinations.items; channels = p.channels.items });
+      read : plan_in p.document.items ≡ Ok (record { destinations = p.destinations.items; channels = p.channels.items });
+    } };
 }
 
 impl Plan {
@@ -77,7 +82,7 @@ impl Plan {
     pub fn same(&self, other: &Plan) -> bool
         ensures { Decides result (self.now ≡ other.now) }
     {
-        self == other
+        self.document.as_slice() == other.document.as_slice() || self == other
     }
 }
 

@@ -1,5 +1,7 @@
 -- The links of a new last node are written one by one.
-use Rattle.std.proofs.Common.{◌≡◌, ◌≢◌, ◌≤◌, ◌<◌, ◌+◌, ◌==◌, ℕ, Bool, true, false, List, slice_index_or, slice_set, refl, sym, ap, ◌∙◌, subst, arith}
+use Rattle.std.proofs.Common.{◌≡◌, ◌≢◌, ◌≤◌, ◌<◌, ◌+◌, ◌==◌, ℕ, Bool, true, false, List, slice_index_or, slice_set, refl, sym, ap, ◌∙◌, subst, arith, ◌/◌, ◌^◌, ◌-◌}
+use lib.Pow.{shr-shr}
+use Rattle.std.proofs.Math.Nat.{zero-div}
 use Rattle.std.proofs.lemmas.List.{get_or-set_other}
 use Rattle.std.specs.declared.option.Option.{Option}
 use Rattle.std.specs.declared.option.Option.TheVariants.{None, Some}
@@ -51,3 +53,11 @@ module _ (mask : ℕ) (tails : List (Option Place)) where
 pub is_new : (b : Bool) (t : Option Place) → is_some (new_link b t) ≡ b
 is_new true t = refl
 is_new false t = refl
+
+-- a mask with no bit from d on
+pub none_above : (mask d e : ℕ) → mask / 2 ^ d ≡ 0 → d ≤ e → stands e mask ≡ false
+none_above mask d e none le =
+    let place : d + (e - d) ≡ e = omega arith in
+    let less : mask / 2 ^ d / 2 ^ (e - d) ≡ mask / 2 ^ (d + (e - d)) = shr-shr mask d (e - d) in
+    let gone : mask / 2 ^ e ≡ 0 = ap (λ k. mask / 2 ^ k) (sym place) ∙ sym less ∙ ap (λ n. n / 2 ^ (e - d)) none ∙ zero-div (2 ^ (e - d)) in
+    rw gone refl

@@ -1,6 +1,6 @@
 //! The links of a node, one for each chain that it is in.
 
-ghost use Rattle.std.specs.Prelude.{◌≡◌, ◌≢◌, ◌<◌, ℕ, true, IfOk, slice_index_or, slice_set};
+ghost use Rattle.std.specs.Prelude.{◌≡◌, ◌≢◌, ◌<◌, ◌≤◌, ℕ, true, false, IsTrue, IfOk, slice_index_or, slice_set};
 ghost use Rattle.std.specs.Option.{is_some};
 ghost use Rattle.std.specs.declared.option.Option.TheVariants.{None};
 ghost use Rattle.record_list.specs.declared.link_table.Ends.{Ends};
@@ -257,6 +257,14 @@ impl LinkTable {
             links.others.set(slot_of(queue, d), link);
         }
     }
+}
+
+/// Whether a row with this mask is in no chain from d on. It exists for speed: a row is in few chains.
+pub(crate) fn none_from(mask: u32, d: usize) -> bool
+    requires { d < 32 }
+    ensures { IsTrue result → (e : ℕ) → d ≤ e → stands e mask ≡ false }
+{
+    mask >> d == 0
 }
 
 /// Whether a row with this mask is in the chain d.

@@ -7,7 +7,7 @@ ghost use Rattle.std.specs.declared.option.Option.TheVariants.{None, Some};
 ghost use Rattle.node_heap.specs.Held.{IsHeld, find_node, drop_node, held_at};
 
 use crate::directory::Directory;
-use crate::link_table::{Link, LinkTable, QueueLinks, stands};
+use crate::link_table::{Link, LinkTable, QueueLinks, none_from, stands};
 use node_heap::{Nodes, Place};
 use row_store::Row;
 use std::alloc::{AllocError, Global};
@@ -161,6 +161,9 @@ impl<T> Links<T> {
     {
         let mut links = LinkTable::for_queues(alloc, mask)?;
         for d in 0..32 {
+            if none_from(mask, d) {
+                return Ok(links);
+            }
             if stands(mask, d) {
                 let link = Link {
                     prev: self.tails[d],
@@ -184,6 +187,9 @@ impl<T> Links<T> {
         ensures rises { self.old.visits ≤ self.new.visits }
     {
         for d in 0..32 {
+            if none_from(mask, d) {
+                return;
+            }
             if stands(mask, d) {
                 self.enter(d, at);
             }

@@ -1,13 +1,16 @@
 //! The plan of a document.
 
-ghost use Rattle.std.specs.Prelude.{◌≡◌, [], ◌≤◌, length, IsUtf8, IsErrAnd};
+ghost use Rattle.std.specs.Prelude.{◌≡◌, [], ◌≤◌, length, IsUtf8, IsErrAnd, IfOk};
 ghost use Rattle.toml.specs.View.{array_view, table_view};
 ghost use Rattle.plan_text.specs.declared.fault.FaultName.TheVariants as name;
 ghost use Rattle.plan_text.specs.AtKey.{at_key};
 ghost use Rattle.plan_text.specs.Fault.{Gives, Reads, fault_at};
 ghost use Rattle.plan_text.specs.Keys.{required};
+ghost use Rattle.plan_text.specs.Entries.{IsPlan};
 ghost use Rattle.plan_text.specs.Document.{some_within, plan_of, plan_in};
 
+use crate::channel::Channel;
+use crate::destination::Destination;
 use crate::fault::{FaultName, PlanFault, Stop};
 use crate::from_toml::channels::channels_of;
 use crate::from_toml::destinations::destinations_of;
@@ -31,8 +34,9 @@ fn some_of<'a>(key: &Key<'a>, most: usize) -> Result<&'a Array, Stop>
 }
 
 #[tactic(auto, unfolding(crate::specs::Document::plan_of))]
-fn plan_of(alloc: Global, document: &Table) -> Result<Plan, Stop>
-    ensures { Gives (λ p. p) result (plan_of (table_view document.now)) }
+fn plan_of(alloc: Global, document: &Table) -> Result<(Vec<Destination>, Vec<Channel>), Stop>
+    ensures read { Gives (λ p. record { destinations = p.0.items; channels = p.1.items }) result (plan_of (table_view document.now)) }
+    ensures rules { IfOk result (λ p. IsPlan (record { destinations = p.0.items; channels = p.1.items })) }
 {
     let keys = Keys {
         alloc,
@@ -46,10 +50,7 @@ fn plan_of(alloc: Global, document: &Table) -> Result<Plan, Stop>
         destinations.as_slice(),
         some_of(&keys.key("channel"), CHANNELS_MAX)?,
     )?;
-    Ok(Plan {
-        destinations,
-        channels,
-    })
+    Ok((destinations, channels))
 }
 
 impl Plan {
@@ -69,7 +70,14 @@ impl Plan {
         };
         match toml::table_from_str(alloc, text) {
             Ok(document) => match plan_of(alloc, &document) {
-                Ok(plan) => Ok(plan),
+                Ok((destinations, channels)) => match Vec::from_slice(alloc, text.as_bytes()) {
+                    Ok(document) => Ok(Plan {
+                        document,
+                        destinations,
+                        channels,
+                    }),
+                    Err(_) => Err(PlanFault::of_text(alloc, FaultName::NoMemory)),
+                },
                 Err(Stop::NoMemory) => Err(PlanFault::of_text(alloc, FaultName::NoMemory)),
                 Err(Stop::Fault(fault)) => Err(fault),
             },

@@ -9,19 +9,19 @@ of_ok (Ok x) P ok holds = holds
 of_ok (Err e) P ok holds = absurd (search rules)
 
 -- the key goes last
-added : (c : goal.After-unwrap-first) → seen c.insert.new.self.entries ≡ seen c.self.inside.places.entries ++ record { key = c.args.key.items; place = c.args.place } ∷ []
+added : (c : goal.After-unwrap-first) → seen c.insert.new.self.entries ≡ seen c.self.inside.places.entries ++ record { key = c.args.key; place = c.args.place } ∷ []
 added c =
     let unknown = rw (← c.self.view_is) at c.requires.unknown in
-    let absent = lookup-seen c.args.key.items c.self.inside.places.entries ∙ unknown in
+    let absent = lookup-seen c.args.key c.self.inside.places.entries ∙ unknown in
     let room = rw (← c.self.view_is) at c.requires.room in
     let inserted = of_ok c.insert.result _ (c.insert.ensures.succeeds room) c.insert.ensures.entries in
-    let last = insert_entry-new _ c.self.inside.places c.new.result c.args.place (rw c.new.ensures absent) in
-    ap seen (inserted ∙ last) ∙ map-append _ c.self.inside.places.entries _ ∙ ap (λ key. seen c.self.inside.places.entries ++ record { key = key; place = c.args.place } ∷ []) c.new.ensures
+    let last = insert_entry-new _ c.self.inside.places c.args.key c.args.place absent in
+    ap seen (inserted ∙ last) ∙ map-append _ c.self.inside.places.entries _
 
 pub invariant_of-self : goal.invariant_of-self
 invariant_of-self c =
     let unknown = rw (← c.self.view_is) at c.requires.unknown in
-    rw (added c) (EachOnce-added (seen c.self.inside.places.entries) c.args.key.items c.args.place c.self.invariant unknown)
+    rw (added c) (EachOnce-added (seen c.self.inside.places.entries) c.args.key c.args.place c.self.invariant unknown)
 
 pub returns-clause-known : goal.returns-clause-known
 returns-clause-known c = added c ∙ rw (← c.self.view_is) refl

@@ -1,15 +1,25 @@
-use Rattle.std.proofs.Common.{refl, sym, ◌∙◌, arith}
-use Rattle.std.proofs.lemmas.List.{take_rest}
-use Rattle.er7_tree.proofs.Segmenting.{first_span, last_span}
+use Rattle.std.proofs.Common.{sym, ◌∙◌, arith}
+use Rattle.er7_tree.proofs.Segmenting.{segment_from, segment-some, near-behind, near-end}
 use Rattle.er7_tree.proofs.segments.next_span.Goals as goal
 
-pub returns-in-Some-clause-segment : goal.returns-in-Some-clause-segment
-returns-in-Some-clause-segment c =
-    let from = c.skip_empty-start.ensures in
-    let found = c.in-Some.ensures in
-    sym from.same ∙ first_span c.args.text.now _ c.skip_empty-start.result _ (take_rest c.args.text.now c.skip_empty-start.result) (from.some (omega arith)) found.0.high found.1 found.0.before
+pub next_end-end-requires-clause-behind : goal.next_end-end-requires-clause-behind
+next_end-end-requires-clause-behind c =
+    let first = c.skip_empty-start.ensures in
+    near-behind c.args.text.now c.args.from c.skip_empty-start.result c.args.ends.now.at c.requires.near first.behind (omega arith) (first.some (omega arith))
 
-pub returns-in-None-clause-segment : goal.returns-in-None-clause-segment
-returns-in-None-clause-segment c =
-    let from = c.skip_empty-start.ensures in
-    sym from.same ∙ last_span c.args.text.now _ c.skip_empty-start.result (take_rest c.args.text.now c.skip_empty-start.result) refl (omega arith) c.in-None.ensures
+pub returns-clause-segment : goal.returns-clause-segment
+returns-clause-segment c =
+    let first = c.skip_empty-start.ensures in
+    let stop = c.next_end-end.ensures in
+    sym first.same ∙ segment_from c.args.text.now c.skip_empty-start.result c.next_end-end.result.1 (omega arith) (first.some (omega arith)) stop.behind stop.within stop.other stop.here
+
+pub returns-clause-some : goal.returns-clause-some
+returns-clause-some c =
+    let first = c.skip_empty-start.ensures in
+    let stop = c.next_end-end.ensures in
+    segment-some c.args.text.now c.skip_empty-start.result c.next_end-end.result.1 (omega arith) (first.some (omega arith)) stop.behind stop.here
+
+pub returns-clause-near : goal.returns-clause-near
+returns-clause-near c =
+    let stop = c.next_end-end.ensures in
+    near-end c.args.text.now c.next_end-end.result.1 c.next_end-end.result.0.at c.next_end-end.result.0.end c.next_end-end.result.0.bits stop.ends stop.within stop.here stop.ahead

@@ -64,6 +64,8 @@ loop-span-preserved-then-kept c =
                 ]
           ];
       cut = λ kept. covers_more c.args.text.now spans _ c.in-Some.span _ _ (pushed kept) covered_so_far;
+      ends = c.next_span.ensures.ends;
+      near = here.near;
       in_order = λ kept.
           subst (InOrder 0 c.in-Some.span.end) (sym (pushed kept)) (in_order_push 0 c.loop-span.at _ spans c.in-Some.span (so_far.in_order c.if-kept.true) here.between);
     }

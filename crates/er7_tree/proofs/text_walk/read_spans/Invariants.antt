@@ -1,6 +1,7 @@
 use Rattle.std.proofs.Common.{◌≡◌, ◌+◌, ◌-◌, ◌≤◌, true, ◌++◌, length, drop, map}
 use Rattle.std.specs.Option.{option_or}
-use Rattle.er7_tree.specs.Spans.{covered, InOrder}
+use Rattle.lane_scan.specs.Scan.{AreAhead}
+use Rattle.er7_tree.specs.Spans.{covered, InOrder, IsNear}
 use Rattle.er7_tree.specs.Tree.{segments_of, bad_name_place}
 use Rattle.er7_tree.proofs.text_walk.read_spans.Given as goal
 
@@ -11,6 +12,8 @@ invariant-loop-span l = record {
   few : l.place ≤ 4096;
   named : option_or l.bad (bad_name_place (l.place + 1) l.delims (segments_of (drop l.at l.text))) ≡ bad_name_place 2 l.delims (drop 1 (segments_of l.text));
   cut : l.kept ≡ true → map (covered l.text) l.spans.items ++ segments_of (drop l.at l.text) ≡ segments_of l.text;
+  ends : AreAhead 13 l.text l.ends.at l.ends.end l.ends.bits;
+  near : IsNear l.text l.at l.ends.at;
   in_order : l.kept ≡ true → InOrder 0 l.at l.spans.items;
 }
 

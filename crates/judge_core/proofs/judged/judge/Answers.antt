@@ -20,7 +20,7 @@ invariant_of-result c =
       fits = rw came c.requires.fits;
       header_is = nothing.header_is;
       control_id_is = ap (option_map (λ (h : Msh). h.control_id)) nothing.header_is;
-      key_is = c.new-in_default.ensures.items ∙ nothing.key_is;
+      key_is = c.new-in_default.ensures ∙ nothing.key_is;
       verdict_is = nothing.verdict_is;
     }
 

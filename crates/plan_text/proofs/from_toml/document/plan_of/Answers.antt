@@ -11,8 +11,8 @@ use Rattle.plan_text.proofs.from_toml.document.plan_of.Goals as goal
 pub channels_of-requires : goal.channels_of-requires
 channels_of-requires c = rw c.as_slice.ensures.value (destinations-are (table_view c.args.document.now) c.in_ok-destinations.destinations.items c.in_ok-destinations.ensures).0
 
-pub invariant_of-result : goal.invariant_of-result
-invariant_of-result c =
+pub returns-clause-rules : goal.returns-clause-rules
+returns-clause-rules c =
     let t = table_view c.args.document.now in
     let read : told (codes "channel") (required (some_within 64) (get_member (codes "channel") t)) ≡ Ok (array_view c.in_ok-some_of.field-0.now) = search rules in
     plan-is t c.in_ok-destinations.destinations.items (get_member (codes "channel") t) (array_view c.in_ok-some_of.field-0.now) c.in_ok-channels.channels.items c.in_ok-destinations.ensures read
