@@ -28,7 +28,8 @@ pub record AreSpans (d : Delims) (text : List ℕ) (spans : List Span) : Type 0 
   pub in_order : InOrder 0 (length text) spans
   pub message : IsMessage (spanned d text spans)
 
--- a search for ends has not come behind the place where a segment is looked for, but for the carriage return there
+-- a search for the ends of segments, which goes on at `at`, is not past the offset from which the next segment is read,
+-- but for the carriage return there
 pub record IsNear (text : List ℕ) (from at : ℕ) : Type 0 where
   pub most : at ≤ from + 1
   pub here : from < at → from < length text → slice_index text from ≡ 13

@@ -1,4 +1,5 @@
-//! The places of a byte in a text, one after another: 64 bytes are compared at a time, and what was found is kept as bits.
+//! The offsets of a byte in a text, one after another. It exists for speed: 64 bytes are compared at a time, and what was
+//! found is kept as bits.
 #![tactic(auto)]
 
 ghost use Rattle.std.specs.Prelude.{◌≡◌, ℕ, List, ◌+◌, ◌-◌, ◌<◌, ◌≤◌, length, take, drop, map, MatchOption};
@@ -9,7 +10,8 @@ use std::simd::Simd;
 /// How many bytes are compared at a time.
 const LANES: usize = 64;
 
-/// How far a search for a byte has come in a text, and where the byte stands from there up to a place ahead.
+/// A search for a byte in a text: it goes on at offset `at`, and each bit of `bits` says whether the byte is at an offset
+/// from `at` up to, and not with, `end`, the lowest bit at `at`.
 #[derive(Clone, Copy)]
 pub struct Ahead {
     pub at: usize,
@@ -17,7 +19,7 @@ pub struct Ahead {
     pub bits: u64,
 }
 
-/// Where the byte stands among 64 bytes of a text.
+/// The offsets of the byte among the 64 bytes of a text from `at` on, as bits.
 #[inline(always)]
 fn lanes(text: &[u8], at: usize, byte: u8) -> u64
     requires { at + 64 ≤ length text.now }
@@ -28,7 +30,7 @@ fn lanes(text: &[u8], at: usize, byte: u8) -> u64
         .to_bitmask()
 }
 
-/// Where the byte stands from a place on, of a text that is too short for the lanes there.
+/// The offsets of the byte from `at` on, as bits, in a text that is too short for the lanes there.
 fn by_one(text: &[u8], at: usize, byte: u8) -> u64
     requires within { at ≤ length text.now }
     requires few { length text.now ≤ at + 64 }
@@ -43,7 +45,7 @@ fn by_one(text: &[u8], at: usize, byte: u8) -> u64
     bits
 }
 
-/// Compares the next bytes, at least one.
+/// The search from `at` on, with the next bytes compared, at least one.
 fn look(text: &[u8], at: usize, byte: u8) -> Ahead
     requires { at < length text.now }
     ensures ahead { AreAhead byte text.now result.at result.end result.bits }
@@ -73,7 +75,7 @@ fn look(text: &[u8], at: usize, byte: u8) -> Ahead
 }
 
 impl Ahead {
-    /// At a place of a text, with nothing compared.
+    /// A search from an offset on, with nothing compared yet.
     pub fn from(place: usize) -> Ahead
         ensures at { result.at ≡ place }
         ensures ahead { (byte : ℕ) (text : List ℕ) → place ≤ length text → AreAhead byte text result.at result.end result.bits }
@@ -85,7 +87,7 @@ impl Ahead {
         }
     }
 
-    /// The next place of the byte, and the search behind it.
+    /// The search behind the next offset of the byte, and that offset; none where the byte is not in the rest of the text.
     #[inline]
     pub fn next(self, text: &[u8], byte: u8) -> (Ahead, Option<usize>)
         requires { AreAhead byte text.now self.at self.end self.bits }
