@@ -45,7 +45,11 @@ impl Model for Key {
     ghost invariant = { λ k. IsKept k.bytes };
 }
 
-/// The key of the first `len` of these bytes and more behind them.
+/// The key of the first `len` of `bytes`, followed by `more`.
+///
+/// # Errors
+///
+/// Where memory is refused for a key of more than thirty bytes.
 #[inline(always)]
 fn short_with(
     alloc: Global,
@@ -74,7 +78,7 @@ fn short_with(
 }
 
 impl Key {
-    /// A key of no bytes.
+    /// The key of no bytes.
     pub fn new() -> Key
         ensures { result ≡ [] }
     {
@@ -83,7 +87,11 @@ impl Key {
         }
     }
 
-    /// The key with more bytes behind its own.
+    /// The key followed by `more`.
+    ///
+    /// # Errors
+    ///
+    /// Where memory is refused for a key of more than thirty bytes.
     #[inline(always)]
     pub fn with(self, alloc: Global, more: &[u8]) -> Result<Key, AllocError>
         ensures { IfOk result (λ key. key ≡ self ++ more.now) }

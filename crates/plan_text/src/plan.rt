@@ -14,8 +14,8 @@ use std::marker::Model;
 /// Two plans are equal where they say the same, wherever they lie in memory.
 #[derive(Drop)]
 pub struct Plan {
-    /// The document that it was read from. It is there for speed: plans of the same document are known to be equal by one
-    /// comparison of bytes.
+    /// The document that it was read from. It is kept for speed: two plans of equal documents are equal, which one
+    /// comparison of bytes decides.
     pub(crate) document: Vec<u8>,
     pub(crate) destinations: Vec<Destination>,
     pub(crate) channels: Vec<Channel>,
