@@ -12,7 +12,7 @@ use Rattle.event_log.specs.declared.entry.Told.{Told}
 use Rattle.event_log.specs.declared.entry.Told.TheVariants as told
 use Rattle.event_log.specs.History.{History, message_count, plan_in_force}
 use Rattle.event_log.specs.Answers.{arrival_answer, brings_at, is_kept, known, told_by}
-use Rattle.event_log.specs.Event.{AsksLast, Event, Refusal, Reply, answer as event_answer}
+use Rattle.event_log.specs.Event.{MemoryIsLast, Event, Refusal, Reply, answer as event_answer}
 use Rattle.event_log.specs.Room.{exceeds, is_full, own}
 use Rattle.book_core.specs.declared.receipt.NotBooked.{NotBooked}
 use Rattle.book_core.specs.declared.receipt.NotBooked.TheVariants.{NoMemory, Full}
@@ -105,6 +105,6 @@ refused-memory (Ok x) is full = cc
 refused-memory (Err e) is full = cc
 
 -- an event that is answered is refused for memory last
-pub asks-last : (e : Event) (old : History) (result : Result (Reply e) (Refusal e)) (reply : Reply e) → event_answer old e ≡ Ok reply → AsksLast e old result
-asks-last e old (Ok x) reply is = tt
-asks-last e old (Err refusal) reply is = λ memory. ap is_ok is
+pub memory-last : (e : Event) (old : History) (result : Result (Reply e) (Refusal e)) (reply : Reply e) → event_answer old e ≡ Ok reply → MemoryIsLast e old result
+memory-last e old (Ok x) reply is = tt
+memory-last e old (Err refusal) reply is = λ memory. ap is_ok is

@@ -15,5 +15,5 @@ pub record IsReceipt (place number on : ℕ) (bytes : List ℕ) (receipt : Recei
   pub raw : receipt.raw ≡ bytes
 
 -- the reply to an arrival, or why it is refused
-abbrev pub reply_of : Result Receipt NotBooked → Result Told ArriveRefusal
-reply_of result = result_map_both (λ receipt. receipt.told) arrive_refusal result
+abbrev pub arrival_reply : Result Receipt NotBooked → Result Told ArriveRefusal
+arrival_reply result = result_map_both (λ receipt. receipt.told) arrive_refusal result

@@ -10,14 +10,14 @@ ghost use Rattle.dest_queue.specs.States.{is_live};
 ghost use Rattle.event_log.specs.History.{control_id, control_id_of, deliveries, entry_at, followed_by, message_at, message_count, names, next_place, opened_by, payload, plan_in_force, queue, remaining, slot};
 ghost use Rattle.event_log.specs.Answers.{arrival_answer, cancel_answer, take_answer};
 ghost use Rattle.event_log.specs.Deployment.{deploy_answer, deployments, first_lost, is_lost};
-ghost use Rattle.event_log.specs.Event.{AsksLast, Does, arrive, cancel, deploy, result_map, settle, take};
+ghost use Rattle.event_log.specs.Event.{MemoryIsLast, Does, arrive, cancel, deploy, result_map, settle, take};
 ghost use Rattle.event_log.specs.Folding.{is_live_message, prune_answer, pruned};
 ghost use Rattle.event_log.specs.Legal.{IsSound, MayFollow};
 ghost use Rattle.event_log.specs.Room.{is_full, owed, own_owed};
 ghost use Rattle.event_log.specs.Counting.{counted};
 ghost use Rattle.book_core.specs.Headline.{KeepsItsPromise};
 ghost use Rattle.book_core.specs.Questions.{CameBy, came_as, first_live, front_at, has_control_id, is_tight, live_at, queued_as, settled_before};
-ghost use Rattle.book_core.specs.Receiving.{IsReceipt, reply_of};
+ghost use Rattle.book_core.specs.Receiving.{IsReceipt, arrival_reply};
 ghost use Rattle.book_core.specs.Sending.{IsGain, awaits_ack, goes_to, owed_waiting};
 
 use crate::arrival::{Gain, add_gain, gain_of, own_of, told};
@@ -378,9 +378,9 @@ impl<S: RowStore<Addressed<Letter>>> Book<S> {
         requires bookable { IsTrue (is_bookable judged.now.raw) }
 
         ensures does { Does (arrive conn judged.now.channel judged.now.raw)
-            self.old self.new (reply_of result) }
-        ensures memory { AsksLast (arrive conn judged.now.channel judged.now.raw)
-            self.old (reply_of result) }
+            self.old self.new (arrival_reply result) }
+        ensures memory { MemoryIsLast (arrive conn judged.now.channel judged.now.raw)
+            self.old (arrival_reply result) }
 
         // The receipt has the index of the entry, and says what the entry says.
         ensures receipt { IfOk result
@@ -403,9 +403,9 @@ impl<S: RowStore<Addressed<Letter>>> Book<S> {
         requires bookable { IsTrue (is_bookable judged.now.raw) }
         requires same_plan { judged.now.plan ≡ plan_in_force self.old }
         ensures does { Does (arrive conn judged.now.channel judged.now.raw)
-            self.old self.new (reply_of result) }
-        ensures memory { AsksLast (arrive conn judged.now.channel judged.now.raw)
-            self.old (reply_of result) }
+            self.old self.new (arrival_reply result) }
+        ensures memory { MemoryIsLast (arrive conn judged.now.channel judged.now.raw)
+            self.old (arrival_reply result) }
         ensures receipt { IfOk result
             (IsReceipt (next_place self.old) conn judged.now.channel judged.now.raw) }
         ensures plan { result ≢ Err NotBooked.PlanChanged }
@@ -488,7 +488,7 @@ impl<S: RowStore<Addressed<Letter>>> Book<S> {
     /// moment, and `NoMemory` where a growth was refused. A refusal leaves the book as it was.
     pub fn take(&mut self, d: u32, now: Moment) -> Result<Job, TakeRefusal>
         ensures does { Does (take d now) self.old self.new (result_map (λ job. job.ticket) result) }
-        ensures memory { AsksLast (take d now) self.old (result_map (λ job. job.ticket) result) }
+        ensures memory { MemoryIsLast (take d now) self.old (result_map (λ job. job.ticket) result) }
         ensures control_id { IfOk result (λ job. job.control_id ≡ control_id self.old job.ticket.number) }
         ensures payload { IfOk result (λ job. job.payload ≡ payload self.old job.ticket.number d) }
         ensures ack { IfOk result (λ job. job.ack ≡ awaits_ack (plan_in_force self.old) d) }
@@ -599,7 +599,7 @@ impl<S: RowStore<Addressed<Letter>>> Book<S> {
     /// refusal leaves the book as it was.
     pub fn cancel(&mut self, number: u32) -> Result<u32, CancelRefusal>
         ensures does { Does (cancel number) self.old self.new result }
-        ensures memory { AsksLast (cancel number) self.old result }
+        ensures memory { MemoryIsLast (cancel number) self.old result }
     {
         let waiting = self.waiting_owed(number)?;
         self.log.reserve(self.flights as usize + 1)?;
@@ -641,7 +641,7 @@ impl<S: RowStore<Addressed<Letter>>> Book<S> {
     /// and then `NoMemory` where a growth was refused. A refusal leaves the book as it was, and drops the plan.
     pub fn deploy(&mut self, plan: Arc<Plan>) -> Result<(), DeployRefusal>
         ensures does { Does (deploy (arc_value plan)) self.old self.new result }
-        ensures memory { AsksLast (deploy (arc_value plan)) self.old result }
+        ensures memory { MemoryIsLast (deploy (arc_value plan)) self.old result }
     {
         if let Some(refusal) = self.deploy_answer(&plan) {
             return Err(refusal);

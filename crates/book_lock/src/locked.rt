@@ -5,12 +5,12 @@ ghost use Rattle.std.specs.Arc.{arc_value};
 ghost use Rattle.judge_core.specs.Judging.{is_bookable};
 ghost use Rattle.stat_count.specs.Sums.{arrivals};
 ghost use Rattle.event_log.specs.History.{control_id, message_count, next_place, payload, plan_in_force};
-ghost use Rattle.event_log.specs.Event.{AsksLast, Does, arrive, cancel, deploy, result_map, settle, take};
+ghost use Rattle.event_log.specs.Event.{MemoryIsLast, Does, arrive, cancel, deploy, result_map, settle, take};
 ghost use Rattle.event_log.specs.Folding.{is_live_message, prune_answer, pruned};
 ghost use Rattle.event_log.specs.Counting.{counted};
 ghost use Rattle.book_core.specs.Headline.{KeepsItsPromise};
 ghost use Rattle.book_core.specs.Questions.{first_live, front_at, settled_before};
-ghost use Rattle.book_core.specs.Receiving.{IsReceipt, reply_of};
+ghost use Rattle.book_core.specs.Receiving.{IsReceipt, arrival_reply};
 ghost use Rattle.book_core.specs.Sending.{awaits_ack};
 ghost use Rattle.book_lock.specs.Rises.{AddsUp, arrivals_rise, settlements_rise, takes_rise, with_book};
 ghost use Rattle.book_lock.specs.Shares.{with_settlement, with_take};
@@ -239,9 +239,9 @@ impl<A: Opening, T: Ledger, U: Ledger, S: RowStore<Addressed<Letter>>> Locked<A,
     ) -> Result<Receipt, NotBooked>
         requires { IsTrue (is_bookable judged.now.raw) }
         ensures does { Does (arrive conn judged.now.channel judged.now.raw)
-            self.old.book self.new.book (reply_of result) }
-        ensures memory { AsksLast (arrive conn judged.now.channel judged.now.raw)
-            self.old.book (reply_of result) }
+            self.old.book self.new.book (arrival_reply result) }
+        ensures memory { MemoryIsLast (arrive conn judged.now.channel judged.now.raw)
+            self.old.book (arrival_reply result) }
         ensures book { self.new ≡ with_book self.old self.new.book }
         ensures receipt { IfOk result
             (IsReceipt (next_place self.old.book) conn judged.now.channel judged.now.raw) }
@@ -272,7 +272,7 @@ impl<A: Opening, T: Ledger, U: Ledger, S: RowStore<Addressed<Letter>>> Locked<A,
         now: Moment,
     ) -> Result<Job, TakeRefusal>
         ensures does { Does (take d now) self.old.book self.new.book (result_map (λ job. job.ticket) result) }
-        ensures memory { AsksLast (take d now) self.old.book (result_map (λ job. job.ticket) result) }
+        ensures memory { MemoryIsLast (take d now) self.old.book (result_map (λ job. job.ticket) result) }
         ensures book { self.new ≡ with_book self.old self.new.book }
         ensures control_id { IfOk result (λ job. job.control_id ≡ control_id self.old.book job.ticket.number) }
         ensures payload { IfOk result (λ job. job.payload ≡ payload self.old.book job.ticket.number d) }
@@ -318,7 +318,7 @@ impl<A: Opening, T: Ledger, U: Ledger, S: RowStore<Addressed<Letter>>> Locked<A,
     /// The book's, in its order. A refusal leaves the book as it was.
     pub fn cancel(&mut self, number: u32) -> Result<u32, CancelRefusal>
         ensures does { Does (cancel number) self.old.book self.new.book result }
-        ensures memory { AsksLast (cancel number) self.old.book result }
+        ensures memory { MemoryIsLast (cancel number) self.old.book result }
         ensures book { self.new ≡ with_book self.old self.new.book }
     {
         three_sums();
@@ -334,7 +334,7 @@ impl<A: Opening, T: Ledger, U: Ledger, S: RowStore<Addressed<Letter>>> Locked<A,
     /// The book's, in its order. A refusal leaves the book as it was, and drops the plan.
     pub fn deploy(&mut self, plan: Arc<Plan>) -> Result<(), DeployRefusal>
         ensures does { Does (deploy (arc_value plan)) self.old.book self.new.book result }
-        ensures memory { AsksLast (deploy (arc_value plan)) self.old.book result }
+        ensures memory { MemoryIsLast (deploy (arc_value plan)) self.old.book result }
         ensures book { self.new ≡ with_book self.old self.new.book }
         ensures channels { OnOk result (length (arc_value plan).channels ≡ A.channels) }
     {
@@ -427,9 +427,9 @@ impl<A: Opening, T: Ledger, U: Ledger, S: RowStore<Addressed<Letter>>> Locked<A,
         requires { IsTrue (is_bookable judged.now.raw) }
         ensures tidying { IsTidying keep self.old result.tidying }
         ensures does { Does (arrive conn judged.now.channel judged.now.raw)
-            (left_by self.old result.tidying).book self.new.book (reply_of result.receipt) }
-        ensures memory { AsksLast (arrive conn judged.now.channel judged.now.raw)
-            (left_by self.old result.tidying).book (reply_of result.receipt) }
+            (left_by self.old result.tidying).book self.new.book (arrival_reply result.receipt) }
+        ensures memory { MemoryIsLast (arrive conn judged.now.channel judged.now.raw)
+            (left_by self.old result.tidying).book (arrival_reply result.receipt) }
         ensures book { self.new ≡ with_book (left_by self.old result.tidying) self.new.book }
         ensures receipt { IfOk result.receipt
             (IsReceipt (next_place (left_by self.old result.tidying).book)

@@ -9,7 +9,7 @@ use Rattle.book_core.specs.Refusing.{arrive_refusal}
 use Rattle.book_core.specs.declared.receipt.Receipt.{Receipt}
 use Rattle.event_log.specs.declared.entry.Told.{Told}
 use Rattle.event_log.specs.Answers.{arrival_answer}
-use Rattle.event_log.specs.Event.{AsksLast, Does, answer as event_answer, arrive}
+use Rattle.event_log.specs.Event.{MemoryIsLast, Does, answer as event_answer, arrive}
 use Rattle.event_log.specs.Event as event
 use Rattle.event_log.specs.History.{History, plan_in_force}
 use Rattle.event_log.specs.Room.{is_full}
@@ -64,7 +64,7 @@ module _ (book new : History) (judged : Judgement) (conn : ℕ) where
 
   pub full_said : (r : Result Receipt NotBooked)
       → Does (arrive conn judged.channel judged.raw) book new (result_map_both (λ (receipt : Receipt). receipt.told) arrive_refusal r)
-      → AsksLast (arrive conn judged.channel judged.raw) book (result_map_both (λ (receipt : Receipt). receipt.told) arrive_refusal r)
+      → MemoryIsLast (arrive conn judged.channel judged.raw) book (result_map_both (λ (receipt : Receipt). receipt.told) arrive_refusal r)
       → (IsErrOf r PlanChanged ↔ judged.plan ≢ plan_in_force book) → (IsErrOf r Full → judged.plan ≡ plan_in_force book)
       → IsErrOf r Full ↔ (judged.plan ≡ plan_in_force book) × IsTrue (is_full book judged.channel judged.raw)
   full_said (Ok receipt) does last plan same =

@@ -10,7 +10,7 @@ use Rattle.event_log.specs.declared.entry.Told.{Told}
 use Rattle.event_log.specs.History.{History, followed_by}
 use Rattle.event_log.specs.Legal.{IsLegal, MayFollow}
 use Rattle.event_log.specs.Event as event
-use Rattle.event_log.specs.Event.{CanCome, Event, Refusal, Reply, after, entry_of, next}
+use Rattle.event_log.specs.Event.{IsPossible, Event, Refusal, Reply, after, entry_of, next}
 use Rattle.event_log.proofs.Events.{may-follow}
 use Rattle.event_log.proofs.Following.{legal-followed_by}
 use Rattle.conn_core.specs.Messages.{BookedMessage, booked, booked_with}
@@ -89,7 +89,7 @@ no-arrival (event.cancel number) none reply on = refl
 no-arrival (event.deploy plan) none reply on = refl
 
 -- an event that is possible, but no arrival
-pub event-keeps : (h : History) (e : Event) → IsNoArrival e → CanCome e → IsLegal h → BringsNone h (next h e)
+pub event-keeps : (h : History) (e : Event) → IsNoArrival e → IsPossible e → IsLegal h → BringsNone h (next h e)
 event-keeps h e none possible legal = by (event.answer h e) refl
   where
     by : (o : Result (Reply e) (Refusal e)) → event.answer h e ≡ o → BringsNone h (after h e o)

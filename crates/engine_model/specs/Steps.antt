@@ -4,7 +4,7 @@ use Rattle.book_core.specs.declared.receipt.NotBooked.{NotBooked}
 use Rattle.book_core.specs.declared.receipt.NotBooked.TheVariants.{NoMemory, Full, PlanChanged}
 use Rattle.event_log.specs.declared.entry.Entry.TheVariants.{Arrival}
 use Rattle.event_log.specs.declared.entry.Told.{Told}
-use Rattle.event_log.specs.Event.{CanCome, Event, arrive, cancel, deploy, next, settle, take}
+use Rattle.event_log.specs.Event.{IsPossible, Event, arrive, cancel, deploy, next, settle, take}
 use Rattle.event_log.specs.Folding.{prune_answer, pruned}
 use Rattle.event_log.specs.History.{History, followed_by}
 use Rattle.event_log.specs.Legal.{MayFollow}
@@ -140,7 +140,7 @@ NeedsMemory (deploy plan) = ⊤
 -- An event changes what is booked as the sequential engine does, which books nothing where it refuses the event, or
 -- changes nothing for lack of memory.
 abbrev pub Happens : Event → Run → Run → Type 0
-Happens e r r' = (CanCome e × (r' ≡ with_history r (next r.history e))) ⊎ (NeedsMemory e × (r' ≡ r))
+Happens e r r' = (IsPossible e × (r' ≡ with_history r (next r.history e))) ⊎ (NeedsMemory e × (r' ≡ r))
 
 -- One step; a pruning too may be refused for lack of memory.
 abbrev pub Steps : Turn → Run → Run → Type 0

@@ -16,7 +16,7 @@ use Rattle.event_log.specs.declared.refusal.TakeRefusal.TheVariants.{Idle, NotDu
 use Rattle.event_log.specs.History.{History, followed_by, queue, slot}
 use Rattle.event_log.specs.Answers.{arrival_answer, front_answer, take_answer}
 use Rattle.event_log.specs.Deployment.{deploy_answer}
-use Rattle.event_log.specs.Event.{ArriveRefusal, CanCome, Does, Event, Refusal, Reply, after, answer, arrive, cancel, deploy, entry_of, event_of, full, next, no_message, settle, take}
+use Rattle.event_log.specs.Event.{ArriveRefusal, IsPossible, Does, Event, Refusal, Reply, after, answer, arrive, cancel, deploy, entry_of, event_of, full, next, no_message, settle, take}
 use Rattle.event_log.specs.Legal.{MayFollow}
 use Rattle.event_log.specs.Room.{exceeds, is_full}
 
@@ -127,7 +127,7 @@ pub deployable-follows : (h : History) (plan : PlanEntry) → Deployable h plan 
 deployable-follows h plan may = record { possible = may.good; replied = deployment-answered h plan may.allowed may.room }
 
 -- an event that is possible, and is answered, may follow
-pub may-follow : (h : History) (e : Event) (reply : Reply e) → CanCome e → answer h e ≡ Ok reply → MayFollow h (entry_of e reply)
+pub may-follow : (h : History) (e : Event) (reply : Reply e) → IsPossible e → answer h e ≡ Ok reply → MayFollow h (entry_of e reply)
 may-follow h (arrive conn channel raw) told possible is = record { possible = possible; replied = is }
 may-follow h (take d now) ticket possible is = record { possible = tt; replied = subst (λ x. take_answer h x now ≡ Ok ticket) (sym (ticket-destination h d now ticket is)) is }
 may-follow h (settle ticket outcome now) state possible is = record { possible = tt; replied = is }

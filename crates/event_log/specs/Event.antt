@@ -104,20 +104,20 @@ reply_of (entry.Cancel number mask) = mask
 reply_of (entry.Deploy plan) = tt
 
 -- an event that is possible: a text fits in a block, and what is deployed is a plan
-abbrev pub CanCome : Event → Type 0
-CanCome (arrive conn channel raw) = IsBlockData raw
-CanCome (take d now) = Unit {0}
-CanCome (settle ticket outcome now) = Unit {0}
-CanCome (cancel number) = Unit {0}
-CanCome (deploy plan) = IsPlan plan
+abbrev pub IsPossible : Event → Type 0
+IsPossible (arrive conn channel raw) = IsBlockData raw
+IsPossible (take d now) = Unit {0}
+IsPossible (settle ticket outcome now) = Unit {0}
+IsPossible (cancel number) = Unit {0}
+IsPossible (deploy plan) = IsPlan plan
 
 -- a refusal for lack of memory; a settlement needs none
-abbrev pub IsMemory : (e : Event) → Refusal e → Type 0
-IsMemory (arrive conn channel raw) refusal = refusal ≡ no_memory
-IsMemory (take d now) refusal = refusal ≡ take_refusal.NoMemory
-IsMemory (settle ticket outcome now) refusal = ⊥
-IsMemory (cancel number) refusal = refusal ≡ cancel_refusal.NoMemory
-IsMemory (deploy plan) refusal = refusal ≡ deploy_refusal.NoMemory
+abbrev pub IsOutOfMemory : (e : Event) → Refusal e → Type 0
+IsOutOfMemory (arrive conn channel raw) refusal = refusal ≡ no_memory
+IsOutOfMemory (take d now) refusal = refusal ≡ take_refusal.NoMemory
+IsOutOfMemory (settle ticket outcome now) refusal = ⊥
+IsOutOfMemory (cancel number) refusal = refusal ≡ cancel_refusal.NoMemory
+IsOutOfMemory (deploy plan) refusal = refusal ≡ deploy_refusal.NoMemory
 
 -- a refusal of a message that was judged by another plan than the one in force
 abbrev pub IsOutdated : (e : Event) → Refusal e → Type 0
@@ -131,19 +131,19 @@ IsOutdated (deploy plan) refusal = ⊥
 -- and no change.
 pub record Does (e : Event) (old new : History) (result : Result (Reply e) (Refusal e)) : Type 0 where
   -- what is booked is possible
-  pub possible : OnOk result (CanCome e)
+  pub possible : OnOk result (IsPossible e)
   -- its reply is the sequential engine's
   pub replied : IfOk result (λ reply. answer old e ≡ Ok reply)
   -- its entry is appended to all that was booked
   pub booked : IfOk result (λ reply. new ≡ followed_by old (entry_of e reply))
   -- a refusal is the sequential engine's, unless memory ran out or the plan has changed
-  pub refused : IfErr result (λ refusal. (answer old e ≡ Err refusal) ⊎ IsMemory e refusal ⊎ IsOutdated e refusal)
+  pub refused : IfErr result (λ refusal. (answer old e ≡ Err refusal) ⊎ IsOutOfMemory e refusal ⊎ IsOutdated e refusal)
   -- and changes nothing
   pub unchanged : OnErr result (new ≡ old)
 
 -- memory is requested last: where there is none, nothing else would refuse the event
-abbrev pub AsksLast : (e : Event) → History → Result (Reply e) (Refusal e) → Type 0
-AsksLast e old result = IfErr result (λ refusal. IsMemory e refusal → IsOk (answer old e))
+abbrev pub MemoryIsLast : (e : Event) → History → Result (Reply e) (Refusal e) → Type 0
+MemoryIsLast e old result = IfErr result (λ refusal. IsOutOfMemory e refusal → IsOk (answer old e))
 
 -- a result with a part of its value, or with its refusal by another name
 abbrev pub result_map : {T U E : Type 0} → (T → U) → Result T E → Result U E

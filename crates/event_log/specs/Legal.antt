@@ -14,13 +14,13 @@ use Rattle.event_log.specs.declared.entry.Entry.{Entry}
 use Rattle.event_log.specs.declared.entry.Entry.TheVariants.{Arrival}
 use Rattle.event_log.specs.History.{Accepted, History, Opening, Remembered, before, begun, deliveries, entry_at, forgotten_messages, message_at, message_count, message_of, number_of, plan_in_force, remembered_as, slot, state}
 use Rattle.event_log.specs.Answers.{attempts_max, has_key, is_kept}
-use Rattle.event_log.specs.Event.{CanCome, answer, event_of, reply_of}
+use Rattle.event_log.specs.Event.{IsPossible, answer, event_of, reply_of}
 use Rattle.event_log.specs.Counting.{destination_counts}
 use Rattle.event_log.specs.Room.{owed}
 
 -- an entry may be booked next: its event is possible, and its reply is the sequential engine's
 pub record MayFollow (h : History) (x : Entry) : Type 0 where
-  pub possible : CanCome (event_of x)
+  pub possible : IsPossible (event_of x)
   pub replied : answer h (event_of x) ≡ Ok (reply_of x)
 
 -- each entry might be booked after those before it

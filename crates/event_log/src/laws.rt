@@ -16,7 +16,7 @@ ghost use Rattle.event_log.specs.declared.refusal.DeployRefusal.{DeployRefusal};
 ghost use Rattle.event_log.specs.declared.refusal.DeployRefusal.TheVariants as deploy_refusal;
 ghost use Rattle.event_log.specs.Answers.{arrival_answer};
 ghost use Rattle.event_log.specs.Deployment.{deploy_answer};
-ghost use Rattle.event_log.specs.Event.{CanCome, Does, Event, Refusal, Reply, answer, arrive, cancel, deploy, entry_of, event_of, full, next, settle, take};
+ghost use Rattle.event_log.specs.Event.{IsPossible, Does, Event, Refusal, Reply, answer, arrive, cancel, deploy, entry_of, event_of, full, next, settle, take};
 ghost use Rattle.event_log.specs.Replay.{replay};
 ghost use Rattle.event_log.specs.Room.{exceeds, is_full, owed};
 
@@ -74,7 +74,7 @@ pub fn event_rules()
     // An entry that may follow is what its event brings, and what is booked of a possible event may follow.
     ensures again { (h : History) (e : Entry) → MayFollow h e → next h (event_of e) ≡ followed_by h e }
     ensures follows { (h : History) (e : Event) (reply : Reply e) →
-        CanCome e → answer h e ≡ Ok reply → MayFollow h (entry_of e reply) }
+        IsPossible e → answer h e ≡ Ok reply → MayFollow h (entry_of e reply) }
 
     // A call that does an event leaves the history after it, or as it was.
     ensures leaves { (e : Event) (old new : History) (result : Result (Reply e) (Refusal e)) →

@@ -2,7 +2,7 @@
 
 use anyhow::Result;
 use call_window::{Window, done, no_memory};
-use dup_index::Keys;
+use dup_index::{Key, Keys};
 use mllp_frame::{FrameEvent, FrameFault, Framer};
 use play_script::{bytes_of, shown};
 use std::alloc::{AllocError, Global};
@@ -97,9 +97,9 @@ impl Stores {
 
     /// Adds a key with the next index, unless it is known. Its index is printed.
     fn add_key(&mut self, text: &str) -> Result<String> {
-        let key = Vec::from_slice(self.alloc, text.as_bytes())?;
+        let key = Key::new().with(self.alloc, text.as_bytes())?;
         self.keys.reserve(1)?;
-        if self.keys.find(&key).is_none() {
+        if self.keys.find(key.as_slice()).is_none() {
             self.keys.add(key, self.added);
             self.added = self.added.saturating_add(1);
         }

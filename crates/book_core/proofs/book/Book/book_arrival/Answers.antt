@@ -4,7 +4,7 @@ use Rattle.event_log.specs.Room.{is_full}
 use Rattle.event_log.specs.Answers.{arrival_answer}
 use Rattle.event_log.specs.Event.{arrive}
 use Rattle.event_log.proofs.Events.{arrival-answered, arrival-full}
-use Rattle.book_core.proofs.Answering.{asked-full, asks-last, told-accepting}
+use Rattle.book_core.proofs.Answering.{asked-full, memory-last, told-accepting}
 use Rattle.book_core.proofs.Gains.{gain-owed}
 use Rattle.book_core.proofs.book.Book.book_arrival.Goals as goal
 
@@ -34,7 +34,7 @@ returns-in_err-add_arrival-clause-memory g c =
     let h = c.args.self.now in
     let room : is_full c.self.inside.log.history c.args.judged.now.channel c.args.judged.now.raw ≡ false =
     asked-full _ _ _ _ _ _ (gain-owed _ _ _ _ _ (control_id_of c.args.judged.now.raw) c.gain_of-gain.result _ (c.requires.same_plan ∙ ap plan_in_force (sym c.self.view_is)) c.told-told.ensures c.gain_of-gain.ensures c.own_of-own.ensures) c.room.ensures c.if-not-room.false in
-    asks-last (arrive c.args.conn c.args.judged.now.channel c.args.judged.now.raw) h _ c.told-told.result
+    memory-last (arrive c.args.conn c.args.judged.now.channel c.args.judged.now.raw) h _ c.told-told.result
     (arrival-answered h c.args.conn c.args.judged.now.channel c.args.judged.now.raw c.told-told.result
     (ap (λ h. is_full h c.args.judged.now.channel c.args.judged.now.raw) (sym c.self.view_is) ∙ room)
     (ap (λ h. arrival_answer h c.args.judged.now.channel c.args.judged.now.raw) (sym c.self.view_is) ∙ c.told-told.ensures))
