@@ -1,11 +1,13 @@
 #!/usr/bin/env python3
-"""Lists the definitions that the claims of docs/PROVED.md stand on, as the tables of docs/ARCHITECTURE.md. Plain Python 3.
+"""Writes docs/DEFINITIONS.md: the definitions that the claims of docs/PROVED.md rest on, page by page in reading order.
+Plain Python 3.
 
-Usage: bench/definitions.py [--write]
+Usage: tests/definitions.py [--write]
 
-With --write they take the place of those in docs/ARCHITECTURE.md, between its two marks; else they are printed. A claim is one definition or a few of crates/*/specs; what it stands on is found by the names that its text uses, and so
-on. Each table leaves out what stands in one before it. What is left over helps proofs alone. A definition whose name a
-variable has elsewhere may be named too many.
+A claim is one definition or a few of crates/*/specs; what it rests on is found by the names that its text uses, and so on.
+What is left over helps proofs alone. A definition whose name a variable has elsewhere may be named too many. Without
+--write the page is compared with what would be written, and the exit status is 1 where it differs, where a page of
+definitions begins with no heading, or where a page is missing from the reading order below.
 """
 import collections
 import glob
@@ -14,8 +16,30 @@ import re
 import sys
 
 CRATES = os.path.join(os.path.dirname(os.path.abspath(__file__)), '..', 'crates')
-PAGE = os.path.join(CRATES, '..', 'docs', 'ARCHITECTURE.md')
-BEGIN, END = '<!-- definitions: begin (bench/definitions.py --write) -->', '<!-- definitions: end -->'
+PAGE = os.path.join(CRATES, '..', 'docs', 'DEFINITIONS.md')
+# The pages in the order in which they are best read.
+ORDER = (
+    ('Framing and text', 'mllp_frame.Framing mllp_frame.Event er7_tree.Pieces er7_tree.Delims er7_tree.Tree er7_tree.Path '
+     'er7_tree.Escape er7_tree.Edit'),
+    ('Header, acknowledgments and moments', 'hl7_head.Header hl7_head.Msa hl7_head.Calendar hl7_head.Stamp hl7_head.Ack '
+     'hl7_head.Laws ack_rule.Due'),
+    ('Conditions and steps', 'hl7_filter.Condition hl7_filter.View hl7_transform.Check hl7_transform.Step'),
+    ('The plan', 'plan_text.Entries plan_text.Document plan_text.Keys plan_text.Kinds plan_text.Fault '
+     'plan_text.Destinations plan_text.Channels plan_text.Conditions plan_text.Steps'),
+    ('What becomes of a text', 'judge_core.Judging judge_core.Delivering'),
+    ('Events and history', 'event_log.Event event_log.History event_log.Answers event_log.Deployment event_log.Room '
+     'event_log.Legal event_log.Replay dest_queue.States dest_queue.Slots dest_queue.Queues row_store.Rows '
+     'event_log.Counting stat_count.Statistics stat_count.Sums'),
+    ('The promise of a book', 'book_core.Headline'),
+    ('What pruning leaves', 'event_log.Folding event_log.Alike'),
+    ('Replies and serving', 'conn_core.Messages conn_core.Replies conn_core.Booking conn_worker.Serving conn_worker.Faults'),
+    ('Delivering', 'delivery_worker.Stream delivery_worker.Answers delivery_worker.Delivering'),
+    ('Shares and audit', 'book_lock.Shares book_lock.Rises book_lock.Auditing'),
+    ('Every order of steps', 'engine_model.Turn engine_model.Run engine_model.Steps engine_model.Promise '
+     'engine_model.Converse'),
+    ('The program', 'engine_words.Request engine_words.Words engine_report.Lines engine_report.Findings '
+     'engine_report.Ending'),
+)
 CLAIMS = (
     ('What a message is, and what becomes of it', 'under the headline and under serving alike: `verdict` and `key_of`',
      ['judge_core.Judging.verdict', 'judge_core.Judging.key_of']),
@@ -39,7 +63,7 @@ CLAIMS = (
     ('Every order of steps', 'the clauses of `World::run`, `World::promise` and `steps_of`: `Runs`, `KeepsItsWord` and '
      '`IsRunOf`, on top of replies and of what a history is',
      ['engine_model.Steps.Runs', 'engine_model.Promise.KeepsItsWord', 'engine_model.Converse.IsRunOf']),
-    ('What a pruned history still says', 'the law `folding_rules`: `prune_answer`, `pruned`, `IsAlike` and `AllAnswerAlike`, on top of what a '
+    ('What a pruned history still says', 'the law `folding_rules`: `prune_answer`, `pruned`, `IsAlike` and `AllReplyAlike`, on top of what a '
      'history is; event_log PruningRows has worked examples',
      ['event_log.Folding.prune_answer', 'event_log.Folding.pruned', 'event_log.Alike.*']),
     ('Reading a plan', 'the clause `text` of `Plan::read`: `plan_in`. What a TOML document says is the definition of the '
@@ -142,21 +166,10 @@ def reach(modules, module, name, seen):
             reach(modules, module, first, seen)
 
 
-def rows(modules, seen):
-    for module, here in modules.items():
-        names = [name for name in here.defs if (module, name) in seen]
-        if names:
-            crate, _, file = module.split('.')
-            listed = ', '.join(f'`{name.strip("◌")}`' for name in names)
-            yield f'| {crate} {file} | {"all: " if len(names) == len(here.defs) else ""}{listed} |'
-
-
-def tables():
-    """The tables of all claims, as lines."""
-    modules = modules_of()
-    before = set()
+def claims(modules):
+    """All that the claims rest on, as pairs of module and name; and a line of each claim."""
+    seen, lines = set(), []
     for title, said, roots in CLAIMS:
-        seen = set()
         for root in roots:
             crate, file, name = root.split('.')
             module = f'{crate}.specs.{file}'
@@ -164,23 +177,67 @@ def tables():
             for each in (modules[module].defs if name == '*' else [name]):
                 assert each in modules[module].defs, f'{module} has no {each}'
                 reach(modules, module, each, seen)
-        yield from (f'**{title}** ({said}):', '', '| File | Definitions |', '|---|---|')
-        yield from rows(modules, seen - before)
+        lines.append(f'- **{title}**: {said}.')
+    return seen, lines
+
+
+def heading(module):
+    """The first line of a page, without its dashes; empty where it begins with no comment."""
+    crate, _, file = module.split('.')
+    with open(os.path.join(CRATES, crate, 'specs', f'{file}.antt'), encoding='utf-8') as page:
+        first = page.readline().strip()
+    return first[3:].rstrip('.:') if first.startswith('-- ') else ''
+
+
+def page_line(modules, seen, module):
+    crate, _, file = module.split('.')
+    here = modules[module]
+    names = [name for name in here.defs if (module, name) in seen]
+    listed = ', '.join(f'`{name.strip("◌")}`' for name in names)
+    whole = 'all: ' if len(names) == len(here.defs) else ''
+    size = sum(len(here.defs[name]) for name in names)
+    return f'| [{crate} {file}](../crates/{crate}/specs/{file}.antt) | {heading(module)} | {size} | {whole}{listed} |'
+
+
+def text_of(modules, seen, lines):
+    """The whole page."""
+    twice = collections.Counter(name for _, name in seen)
+    size = sum(len(modules[module].defs[name]) for module, name in seen)
+    yield from ('# The definitions to trust', '', '<!-- written by tests/definitions.py --write -->', '',
+                f'A proof says that code agrees with definitions. These are the {len(seen)} definitions, {size} lines in all, that what '
+                '[PROVED.md](PROVED.md) claims rests on, in the order in which they are best read. Whether they say what HL7 '
+                'v2.5.1 and the pages of docs/ mean, a reader has to see; no proof can. What else is in `specs/` helps '
+                'proofs alone. The claims:', '', *lines, '')
+    for title, pages in ORDER:
+        yield from (f'## {title}', '', '| Page | What it defines | Lines | Definitions |', '|---|---|---|---|')
+        for page in pages.split():
+            yield page_line(modules, seen, page.replace('.', '.specs.'))
         yield ''
-        before |= seen
+    both = ', '.join(f'`{name.strip("◌")}`' for name in sorted(twice) if twice[name] > 1)
+    yield from ('## Names that two pages define', '', f'A page imports the one that it means: {both}.')
 
 
 def main():
-    text = '\n'.join(tables())
-    if sys.argv[1:] != ['--write']:
-        print(text)
-        return
-    with open(PAGE, encoding='utf-8') as f:
-        head, rest = f.read().split(BEGIN)
-    _, tail = rest.split(END)
-    with open(PAGE, 'w', encoding='utf-8') as f:
-        f.write(f'{head}{BEGIN}\n\n{text}\n{END}{tail}')
+    modules = modules_of()
+    seen, lines = claims(modules)
+    listed = [page.replace('.', '.specs.') for _, pages in ORDER for page in pages.split()]
+    pages = {module for module, _ in seen}
+    wrong = [f'{module} is not in the reading order' for module in sorted(pages - set(listed))]
+    wrong += [f'{module} is in the reading order, but no claim rests on it' for module in listed if module not in pages]
+    wrong += [f'{module} begins with no heading' for module in listed if module in modules and not heading(module)]
+    if not wrong:
+        text = '\n'.join(text_of(modules, seen, lines)) + '\n'
+        if sys.argv[1:] == ['--write']:
+            with open(PAGE, 'w', encoding='utf-8') as f:
+                f.write(text)
+        with open(PAGE, encoding='utf-8') as f:
+            if f.read() != text:
+                wrong.append('docs/DEFINITIONS.md is not what tests/definitions.py --write writes')
+    for line in wrong:
+        print(f'definitions: {line}')
+    print(f'definitions: {len(listed)} pages, {len(wrong)} faults')
+    return 1 if wrong else 0
 
 
 if __name__ == '__main__':
-    main()
+    sys.exit(main())
