@@ -181,12 +181,16 @@ def by_haproxy(program, folder):
             code = sent(places[2576], tls, 'adt-sender', message(b'H6'))
         took_over = came(spare, 1)
         other.ask('stop now')
+        other.ended(LIMIT)
+        down = sent(places[2576], tls, 'adt-sender', message(b'H7'))
     lab.close()
     spare.close()
     if checked.returncode or codes != [b'CA', 'closed', 'closed', 'closed', 'closed'] or not whole or lab.came != [message(b'H1')]:
         found.append(f'haproxy: {checked.returncode}, {codes}, {len(lab.came)} came')
     if code != b'CA' or not took_over:
         found.append(f'haproxy: the second service was not reached: {code}')
+    if down != 'closed':
+        found.append(f'haproxy: a sender is answered {down} while no service is up')
     return found
 
 
