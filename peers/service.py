@@ -468,7 +468,7 @@ def tools(program, folder):
         if done.returncode:
             found.append(f'tools: promtool: {done}')
     else:
-        print('tools: no promtool, metrics and alert rules are not checked by it')
+        print('tools: promtool is not installed: metrics and alert rules are not checked by it')
     if shutil.which('systemd-analyze'):
         with open(os.path.join(examples, 'hl7-service.service'), encoding='utf-8') as file:
             text = file.read().replace('/usr/local/bin/hl7_service', program).replace('/usr/local/bin/hl7ctl', control)
@@ -479,8 +479,11 @@ def tools(program, folder):
         if done.returncode or b'hl7-service' in done.stderr:
             found.append(f'tools: systemd-analyze: {done}')
     else:
-        print('tools: no systemd-analyze, the unit is not checked by it')
-    return found + (controlled(program, folder, control) if shutil.which('flock') else [])
+        print('tools: systemd-analyze is not installed: the unit is not checked by it')
+    if not shutil.which('flock') or not shutil.which('bash'):
+        print('tools: bash or flock is not installed: hl7ctl is not tried')
+        return found
+    return found + controlled(program, folder, control)
 
 
 def controlled(program, folder, control):
