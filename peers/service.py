@@ -338,13 +338,13 @@ def forgets(program, folder):
 def pauses(program, folder):
     """Of two destinations one is down: its channel stops reading before the book is full, the other goes on, and it reads again
     once the destination is back. The book has room for what comes between two looks at it, 50 milliseconds apart."""
-    ports = free_ports(2)
+    ports, size = free_ports(2), 2_000 if checks_accesses(program) else 8_000
     up, down = Destination(lambda text, before: b'AA'), Destination(lambda text, before: b'AA', up=False)
     more = ['attempts = 1', 'interval = 1']
     text = plan([('ADT', ports[0], [('UP', None, None)]), ('ORU', ports[1], [('DOWN', None, None)])],
                 [('UP', up.port, more), ('DOWN', down.port, more)])
-    held = [message(b'D%d' % n) for n in range(8_000)]
-    with Service(program, text, folder, '--events', '24000', '--keep', '50') as service:
+    held = [message(b'D%d' % n) for n in range(size)]
+    with Service(program, text, folder, '--events', str(3 * size), '--keep', '50') as service:
         sender = Sender(ports[1], held)
         sender.start()
         paused = until(lambda: any('reading paused' in line and 'ORU' in line for line in service.said))
@@ -354,13 +354,13 @@ def pauses(program, folder):
         down.open()
         sender.join(LIMIT)
         again = until(lambda: any('reading again' in line for line in service.said))
-        whole = came(down, 8_000) and came(up, 20)
+        whole = came(down, size) and came(up, 20)
         service.ask('stop')
         status, _ = service.ended()
     up.close()
     down.close()
     codes = {field(reply, b'MSA', 1) for reply in sender.replies + through}
-    if not (paused and again and whole) or status != 0 or codes != {b'CA'} or before >= 8_000:
+    if not (paused and again and whole) or status != 0 or codes != {b'CA'} or before >= size:
         return [f'pauses: {paused} {again} {whole}, status {status}, {codes}, {before} before, {len(down.came)} came']
     return []
 
@@ -468,7 +468,7 @@ def tools(program, folder):
         if done.returncode:
             found.append(f'tools: promtool: {done}')
     else:
-        print('tools: no promtool, metrics and alert rules are not checked by it')
+        print('tools: promtool is not installed: metrics and alert rules are not checked by it')
     if shutil.which('systemd-analyze'):
         with open(os.path.join(examples, 'hl7-service.service'), encoding='utf-8') as file:
             text = file.read().replace('/usr/local/bin/hl7_service', program).replace('/usr/local/bin/hl7ctl', control)
@@ -479,8 +479,11 @@ def tools(program, folder):
         if done.returncode or b'hl7-service' in done.stderr:
             found.append(f'tools: systemd-analyze: {done}')
     else:
-        print('tools: no systemd-analyze, the unit is not checked by it')
-    return found + (controlled(program, folder, control) if shutil.which('flock') else [])
+        print('tools: systemd-analyze is not installed: the unit is not checked by it')
+    if not shutil.which('flock') or not shutil.which('bash'):
+        print('tools: bash or flock is not installed: hl7ctl is not tried')
+        return found
+    return found + controlled(program, folder, control)
 
 
 def controlled(program, folder, control):

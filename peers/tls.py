@@ -162,7 +162,8 @@ def by_stunnel(program, folder):
 
 
 def by_haproxy(program, folder):
-    """The same through HAProxy; then the first service ends, and the second takes over."""
+    """The same through HAProxy, whose health checks open no connection; then the first service ends, and the second takes over;
+    then that ends too."""
     places, tls, found = ports(), os.path.join(folder, 'tls'), []
     lab, spare = SecureLab(places[2577], tls), Destination(lambda *_: b'AA')
     second = os.path.join(folder, 'second')
@@ -175,18 +176,26 @@ def by_haproxy(program, folder):
                  sent(places[2576], tls, 'guest', message(b'H3')), sent(places[2576], tls, 'forged', message(b'H4')),
                  sent_plain(places[2576], message(b'H5'))]
         whole = came(lab, 1)
+        time.sleep(3)
+        opened = sum('connection opened' in line for line in service.said)
         service.ask('stop')
         until, code = time.monotonic() + LIMIT, 'closed'
         while code == 'closed' and time.monotonic() < until:
             code = sent(places[2576], tls, 'adt-sender', message(b'H6'))
         took_over = came(spare, 1)
         other.ask('stop now')
+        other.ended(LIMIT)
+        down = sent(places[2576], tls, 'adt-sender', message(b'H7'))
     lab.close()
     spare.close()
     if checked.returncode or codes != [b'CA', 'closed', 'closed', 'closed', 'closed'] or not whole or lab.came != [message(b'H1')]:
         found.append(f'haproxy: {checked.returncode}, {codes}, {len(lab.came)} came')
     if code != b'CA' or not took_over:
         found.append(f'haproxy: the second service was not reached: {code}')
+    if opened != 1:
+        found.append(f'haproxy: {opened} connections were opened by one sender and by health checks, which open none')
+    if down != 'closed':
+        found.append(f'haproxy: a sender is answered {down} while no service is up')
     return found
 
 

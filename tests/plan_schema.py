@@ -1,7 +1,7 @@
 #!/usr/bin/env python3
-"""Compares plan.schema.json with `check` of the built program: every plan that `check` accepts, among the examples and 300 made
-at random, the schema accepts; and each of a list of wrong plans that a schema can refuse, it refuses. Left out, which is said,
-where Python's package jsonschema isn't installed.
+"""Calls `check` of the built program on the plans of examples/, and compares plan.schema.json with it: every plan that `check`
+accepts, among the examples and 300 made at random, the schema accepts; and each of a list of wrong plans that a schema can
+refuse, it refuses. Where Python's package jsonschema isn't installed the schema is left out, which is said.
 
 Usage: tests/plan_schema.py [PROGRAM]
 """
@@ -86,39 +86,48 @@ def made(rng):
     return '\n'.join(lines) + '\n'
 
 
-def main():
+def schema():
+    """What finds the errors of a plan by the schema, or None."""
     try:
         import jsonschema  # pylint: disable=import-outside-toplevel
     except ImportError:
         print('plan.schema.json: not compared, the package jsonschema is not installed')
-        return 0
-    program = os.path.abspath(sys.argv[1] if len(sys.argv) > 1 else PROGRAM)
+        return None
     with open(os.path.join(HERE, 'plan.schema.json'), encoding='utf-8') as file:
-        validator = jsonschema.Draft202012Validator(json.load(file))
-    rng, found, right, told = random.Random(5), [], 0, 0
-    plans = []
-    for folder in ('examples', os.path.join('examples', 'service')):
-        for name in sorted(os.listdir(os.path.join(HERE, folder))):
+        return jsonschema.Draft202012Validator(json.load(file))
+
+
+def examples():
+    """The plans of examples/, each with its name."""
+    for at, _, names in os.walk(os.path.join(HERE, 'examples')):
+        for name in sorted(names):
             if name.endswith('.toml'):
-                with open(os.path.join(HERE, folder, name), encoding='utf-8') as file:
-                    plans.append((name, file.read()))
-    plans += [(f'plan {n} at random', made(rng)) for n in range(300)]
+                with open(os.path.join(at, name), encoding='utf-8') as file:
+                    yield name, file.read()
+
+
+def main():
+    program, validator = os.path.abspath(sys.argv[1] if len(sys.argv) > 1 else PROGRAM), schema()
+    rng, found, right, refused = random.Random(5), [], 0, 0
+    plans = list(examples())
+    if validator:
+        plans += [(f'plan {n} at random', made(rng)) for n in range(300)] + [(f'wrong plan {n}', text) for n, text in enumerate(WRONG)]
     with tempfile.TemporaryDirectory() as folder:
         at = os.path.join(folder, 'plan.toml')
-        for name, text in plans + [(f'wrong plan {n}', text) for n, text in enumerate(WRONG)]:
+        for name, text in plans:
             with open(at, 'w', encoding='utf-8') as file:
                 file.write(text)
             done = subprocess.run([program, 'check', at], capture_output=True, timeout=30, check=False)
-            accepts = not list(validator.iter_errors(tomllib.loads(text)))
+            if name.endswith('.toml') and done.returncode != 0:
+                found.append(f'{name}: check refuses it')
+            accepts = not validator or not list(validator.iter_errors(tomllib.loads(text)))
             right += done.returncode == 0
-            told += done.returncode != 0 and not accepts
+            refused += done.returncode != 0 and not accepts
             if done.returncode == 0 and not accepts:
                 found.append(f'{name}: check accepts it, the schema does not\n{text}')
             if name.startswith('wrong') and (done.returncode == 0 or accepts):
                 found.append(f'{name}: check {done.returncode}, the schema {"accepts" if accepts else "refuses"}\n{text}')
-            if name.endswith('.toml') and done.returncode != 0:
-                found.append(f'{name}: check refuses it')
-    print(f'plan.schema.json: {right} right plans, {told} wrong ones that it refuses, {"as it should be" if not found else "WRONG"}')
+    print(f'plans: {right} right ones, {refused} wrong ones that the schema refuses, {"as it should be" if not found else "WRONG"}')
     for line in found:
         print(line)
     return 1 if found else 0
