@@ -21,11 +21,11 @@ CRATES = os.path.join(os.path.dirname(os.path.abspath(__file__)), '..', 'crates'
 ENOUGH = 4
 # A crate, the test that has to hold, and its twin, or how many requests it makes.
 TESTS = [
-    ('lock_tests', 'refused_serving::holds_where_memory_is_refused', 'refused_serving::all_is_done_with_memory_to_spare'),
-    ('delivery_tests', 'refused_delivering::holds_where_memory_is_refused',
+    ('book_lock_tests', 'refused_serving::holds_where_memory_is_refused', 'refused_serving::all_is_done_with_memory_to_spare'),
+    ('delivery_worker_tests', 'refused_delivering::holds_where_memory_is_refused',
      'refused_delivering::all_is_done_with_memory_to_spare'),
-    ('lock_tests', 'refused_calls::holds_where_memory_is_refused', 'refused_calls::all_is_done_with_memory_to_spare'),
-    ('rows_tests', 'dropped::each_item_is_dropped_once', 41),
+    ('book_lock_tests', 'refused_calls::holds_where_memory_is_refused', 'refused_calls::all_is_done_with_memory_to_spare'),
+    ('record_list_tests', 'dropped::each_item_is_dropped_once', 41),
 ]
 
 
