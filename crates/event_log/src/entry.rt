@@ -1,10 +1,10 @@
 //! Events with their replies.
 
-ghost use Rattle.std.specs.Prelude.{◌≡◌, option_map, position};
+ghost use Rattle.std.specs.Prelude.{◌≡◌, position};
 ghost use Rattle.std.specs.Arc.{arc_value};
 ghost use Rattle.event_log.specs.Answers.{brings};
 ghost use Rattle.event_log.specs.Counting.{is_acceptance};
-ghost use Rattle.event_log.specs.History.{deployed_by, is_arrival_of, is_numbered};
+ghost use Rattle.event_log.specs.History.{is_arrival_of, is_numbered};
 
 use dest_queue::{Outcome, SlotState};
 use hl7_head::{Cause, Moment};
@@ -151,16 +151,6 @@ impl Entry {
         match self {
             Entry::Arrival { told, .. } => told.is_numbered(number),
             _ => false,
-        }
-    }
-
-    /// The plan that it deploys, if it deploys one.
-    pub fn deployed(&self) -> Option<&Arc<Plan>>
-        ensures { option_map (λ plan. arc_value plan.now) result ≡ deployed_by self.now }
-    {
-        match self {
-            Entry::Deploy { plan } => Some(plan.plan()),
-            _ => None,
         }
     }
 }
