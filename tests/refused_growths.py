@@ -3,15 +3,17 @@
 
 Usage: tests/refused_growths.py [WORD]
 
-The scripts of the programs refuse_calls, refuse_books and refuse_worlds have calls behind 'try '. For each of
-them the built program makes the calls before it, and then that call under a small C library, tests/refuse.c, which refuses the
-Nth request for memory that the call makes. A call that was refused memory says so, has changed nothing that can be seen, and
-made again it answers as if it had never been refused; or it goes on without that memory, and answers as it does with it. Then
-the program hl7_engine answers a stream while each of its own requests is refused in turn. With a WORD, only lines that have it
-are tried. Where there is no C compiler, it says so and tries nothing. The exit status is 0 where all was so. Plain
+The scripts of the programs refuse_calls, refuse_books, refuse_rows, refuse_shared and refuse_worlds have calls behind 'try '.
+For each of them the built program makes the calls before it, and then that call under a small C library, tests/refuse.c, which
+refuses the Nth request for memory that the call makes. A call that was refused memory says so, has changed nothing that can be
+seen, and made again it answers as if it had never been refused; or it goes on without that memory, and answers as it does with
+it. A connection that is served then ends, or has its message acknowledged with NoMemory, and a delivery makes one attempt more
+at most. Then the program hl7_engine answers a stream while each of its own requests is refused in turn. With a WORD, only lines
+that have it are tried. Where there is no C compiler, it says so and tries nothing. The exit status is 0 where all was so. Plain
 Python 3, no packages.
 """
 import os
+import re
 import shutil
 import subprocess
 import sys
@@ -20,6 +22,9 @@ import tempfile
 HERE = os.path.dirname(os.path.abspath(__file__))
 CRATES = os.path.join(HERE, '..', 'crates')
 NO_MEMORY = 'out of memory'
+PROGRAMS = ('refuse_calls', 'refuse_books', 'refuse_rows', 'refuse_shared', 'refuse_worlds')
+# What a program writes behind its last answer.
+ENDINGS = {'refuse_shared': ['closed']}
 # More requests than any call makes.
 MOST = 5_000
 
@@ -39,7 +44,7 @@ def ran(name, lines, library, variable=None, number=None):
                           cwd=data if os.path.isdir(data) else folder, capture_output=True, text=True, timeout=60)
     if done.returncode != 0:
         raise Wrong(f'status {done.returncode}: {done.stderr.strip()}')
-    return done.stdout.splitlines(), 'refused' in done.stderr
+    return done.stdout.splitlines(), 'refused' in done.stderr.splitlines()
 
 
 def answers(lines, calls):
@@ -51,24 +56,34 @@ def answers(lines, calls):
     return [line[len(call) + 2:] for line, call in zip(told, calls)]
 
 
-def plain(call, library, name, before):
-    """A call that changes nothing where it is refused memory."""
-    calls = ['state', f'try {call}', 'state', call, 'state']
-    was, due, became, _, _ = answers(ran(name, before + calls, library)[0], calls)
+def plain(call, library, name, before, ending=None):
+    """A call that changes nothing where it is refused memory. Behind the calls that are compared, those of 'ending' are made."""
+    told = ENDINGS.get(name, [])
+    asked = ending or []
+    calls = ['state', f'try {call}', 'state', call, 'state', *asked]
+    was, due, became, *_ = answers(ran(name, before + calls, library)[0], calls + told)
+    end = answers(ran(name, before + [call, *asked], library)[0], asked + told) if asked + told else []
+    if told and not end[-1].startswith('audit Ok(())'):
+        raise Wrong(end[-1])
 
     def look(number):
         lines, refused = ran(name, before + calls, library, 'REFUSE', number)
-        first, answer, after, again, last = answers(lines, calls)
+        first, answer, after, again, last, *left = answers(lines, calls + told)
         if first != was:
             raise Wrong(f'it began with {first}')
         lacking = answer.startswith(NO_MEMORY)
         if lacking and refused:
-            if (after, again, last) != (was, due, became):
-                raise Wrong(f'refused, {after}; then {again}, {last}')
+            if (after, again, last, left) != (was, due, became, end):
+                raise Wrong(f'refused, {after}; then {again}, {last}, {left}')
         elif (answer, after) != (due, became):
             raise Wrong(f'{answer}, {after}')
         return refused, lacking
     return look
+
+
+def row(call, library, name, before):
+    """A row of a store: what is in each queue, too."""
+    return plain(call, library, name, before, ['queues'])
 
 
 def feed(call, library, name, before):
@@ -124,6 +139,70 @@ def chunk(call, library, name, before):
     return look
 
 
+def told_of(answer):
+    """Why a connection or a delivery ended, its numbers by name, and the bytes that were written."""
+    words, _, written = answer.partition(': ')
+    end, *numbers = words.split(', ')
+    return end, numbers, '' if written == '<>' else written
+
+
+def serving(call, library, name, before):
+    """A connection that is served at a desk of a shared book: its message is acknowledged with NoMemory and isn't booked, or
+    the connection has ended with the first of its replies."""
+    calls = ['state', f'try {call}', 'state']
+    was, due, became, closed = answers(ran(name, before + calls, library)[0], calls + ['closed'])
+    _, numbers, written = told_of(due)
+    front, _, id = written.split('<FS><CR>')[0].rpartition('MSA|')
+    id = (id + '||').split('|')[1].removesuffix('<CR>')
+    unbooked = f'End, 0 booked, 1 not booked, 0 unreadable: {front}MSA|CE|{id}|NoMemory<CR><FS><CR>'
+
+    def look(number):
+        lines, refused = ran(name, before + calls, library, 'REFUSE', number)
+        first, answer, after, left = answers(lines, calls + ['closed'])
+        end, got, wrote = told_of(answer)
+        booked = got[:1] == numbers[:1]
+        cut = end == 'NoMemory' and written.startswith(wrote) and (wrote == '' or wrote.endswith('<FS><CR>')) \
+            and after == (became if booked else was)
+        if first != was or not left.startswith('audit Ok(())'):
+            raise Wrong(f'it began with {first}; at its end {left}')
+        if not refused and (answer, after, left) != (due, became, closed):
+            raise Wrong(f'{answer}, {after}')
+        if not ((answer, after) == (due, became) or (answer, after) == (unbooked, was) or cut):
+            raise Wrong(f'{answer}, {after}')
+        return refused, answer != due
+    return look
+
+
+def without_attempts(state):
+    """What a shared book shows, without the numbers that an attempt more makes greater."""
+    return re.sub(r'(takes|settlements|held:|owed:|attempts:) \d+', r'\1', state)
+
+
+def delivery(call, library, name, before):
+    """A delivery: each message is delivered, in order, with one attempt more at most, which may have sent its block."""
+    calls = ['state', f'try {call}', 'state']
+    was, due, became = answers(ran(name, before + calls, library)[0], calls + ['closed'])[:3]
+    end, numbers, written = told_of(due)
+    blocks = [block + '<FS><CR>' for block in written.split('<FS><CR>')[:-1]]
+    count = len(blocks)
+    again = f'{end}, taken {count + 1}, delivered {count}, again 1, rejected 0'
+    if count == 0 or due != f'{end}, taken {count}, delivered {count}, again 0, rejected 0: {written}' or end != 'Drained':
+        raise Wrong(due)
+    more = [''.join(blocks[:k] + blocks[k:k + 1] + blocks[k:]) for k in range(count)]
+
+    def look(number):
+        lines, refused = ran(name, before + calls, library, 'REFUSE', number)
+        first, answer, after, left = answers(lines, calls + ['closed'])
+        told, _, wrote = answer.partition(': ')
+        if first != was or not left.startswith('audit Ok(())'):
+            raise Wrong(f'it began with {first}; at its end {left}')
+        if (answer, after) != (due, became) and not (
+                refused and told == again and wrote in (written, *more) and without_attempts(after) == without_attempts(became)):
+            raise Wrong(f'{answer}, {after}')
+        return refused, answer != due
+    return look
+
+
 def step(call, library, name, before):
     """A step of a world, which tells what all is then: as before where it was refused memory."""
     calls = ['state', f'try {call}', call]
@@ -142,7 +221,7 @@ def kind(name, call):
     """How a call is looked at."""
     if name == 'refuse_worlds':
         return {'chunk': chunk, 'steps': plain}.get(call.split()[0], step)
-    return {'feed': feed}.get(call.split()[0], plain)
+    return {'feed': feed, 'push': row, 'serve': serving, 'deliver': delivery}.get(call.split()[0], plain)
 
 
 def each_in_turn(look):
@@ -209,7 +288,7 @@ def main():
         library = os.path.join(folder, 'refuse.so')
         subprocess.run([compiler, '-shared', '-fPIC', '-O1', '-o', library, os.path.join(HERE, 'refuse.c')], check=True)
         looks = [(name, call, lambda name=name, call=call, before=before: kind(name, call)(call, library, name, before))
-                 for name in ('refuse_calls', 'refuse_books', 'refuse_worlds')
+                 for name in PROGRAMS
                  for call, before in tries(name)]
         looks.append(('hl7_engine', 'answer', lambda: answering(library)))
         for name, call, look in looks:

@@ -1,5 +1,9 @@
-//! All that a book shows of itself, as one text: two books of which it is the same differ in nothing that a caller sees.
+//! All that a book shows of itself, as one text: two books of which it is the same differ in nothing that a caller sees. And what
+//! the calls of scripts on books are written with: the words of a line, and answers.
 #![tactic(auto)]
+
+pub mod answers;
+pub mod words;
 
 use book_core::{Book, Letter};
 use dest_queue::Addressed;

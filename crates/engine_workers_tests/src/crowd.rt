@@ -21,6 +21,9 @@ const BEHIND_ID: &str = "|P|2.5.1|||AL|NE\rPID|1||77^^^H\r\x1c\r";
 /// How many bytes a control id has.
 const ID_LEN: usize = 5;
 
+/// How many bytes a message has as a block.
+pub const BLOCK: usize = BEFORE_ID.len() + ID_LEN + BEHIND_ID.len();
+
 /// What an acceptance begins with, before the control id of the message.
 const ACCEPTED: &str =
     "\x0bMSH|^~\\&|LAB|HOSP|ENG|HUB|20231114221301||ACK^A01^ACK|1|P|2.5.1\rMSA|AA|";
@@ -40,6 +43,20 @@ pub fn stream_of(alloc: Global, sender: u32) -> Result<Vec<u8>, AllocError> {
         push_message(&mut stream, sender, number)?;
     }
     Ok(stream)
+}
+
+/// The acknowledgments of all messages of a sender, over the connection with its number, by a clock
+/// that is at the first moment.
+pub fn replies_to(alloc: Global, sender: u32) -> Result<Vec<u8>, AllocError> {
+    let mut replies = Vec::new(alloc);
+    for number in 0..MESSAGES {
+        let (nth, id) = (number.saturating_add(1), number.saturating_add(100));
+        let reply = format!(in alloc;
+            "\x0bMSH|^~\\&|ENG|HUB|REG|HOSP|19700101000000+0000||ACK^A01^ACK|{sender}.{nth}|P|2.5.1|||NE|NE\rMSA|CA|M{sender}{id}\r\x1c\r"
+        )?;
+        replies.extend_from_slice(reply.as_bytes())?;
+    }
+    Ok(replies)
 }
 
 /// A door for as many connections as there are streams.
@@ -116,7 +133,7 @@ pub struct Agreeing {
 }
 
 /// The acceptance of the message of a block. None where the block is no such message, or memory is refused.
-fn acceptance(alloc: Global, block: &[u8]) -> Option<Vec<u8>> {
+pub fn acceptance(alloc: Global, block: &[u8]) -> Option<Vec<u8>> {
     let behind = block.strip_prefix(BEFORE_ID.as_bytes())?;
     let (id, rest) = behind.split_at_checked(ID_LEN)?;
     if rest != BEHIND_ID.as_bytes() {

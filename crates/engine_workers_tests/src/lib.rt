@@ -6,6 +6,8 @@ mod crowd;
 #[cfg(test)]
 mod held;
 #[cfg(test)]
+mod loopback;
+#[cfg(test)]
 mod many;
 #[cfg(test)]
 mod stage;

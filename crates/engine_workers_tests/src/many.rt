@@ -26,7 +26,8 @@ use std::test::Fail;
 use std::thread::Threads;
 use std::time;
 
-type Rows = RecordList<Addressed<Letter>>;
+/// The rows of the books.
+pub type Rows = RecordList<Addressed<Letter>>;
 
 /// A channel whose messages all go to both of two destinations.
 const PLAN: &str =
@@ -65,7 +66,7 @@ struct Shown {
 
 /// The result of a run.
 #[derive(Drop)]
-struct Ended {
+pub struct Ended {
     shown: Shown,
     closed: Closed<Rows>,
     served: Vec<ServeReport>,
@@ -84,7 +85,7 @@ fn shown_at<A: Opening, T: Ledger, U: Ledger, H: Wait>(
 }
 
 /// Takes the book out of its lock, once the workers have ended. None where a share is missing.
-fn close<A: Opening, T: Ledger, U: Ledger, H: Wait, D: Drop, L: Drop>(
+pub fn close<A: Opening, T: Ledger, U: Ledger, H: Wait, D: Drop, L: Drop>(
     rt: &H,
     alloc: Global,
     shared: Shared<A, T, U, Rows>,
@@ -219,7 +220,7 @@ fn counts_all(shown: &Shown, closed: &Closed<Rows>) -> bool {
 }
 
 /// Whether a run comes out as it is to.
-fn is_right(alloc: Global, ended: Ended) -> bool {
+pub fn is_right(alloc: Global, ended: Ended) -> bool {
     let Ended {
         shown,
         closed,

@@ -10,9 +10,7 @@
 //! - `state`: all that the book shows.
 #![tactic(auto)]
 
-mod answers;
 mod stage;
-mod words;
 
 use anyhow::Result;
 use call_window::Window;

@@ -1,10 +1,10 @@
 //! The book of a script, and calls on it.
 
-use crate::answers::{arrived, cancelled, deployed, fronts, numbers, pruned, taken};
-use crate::words::{moment, number, outcome, ticket, word};
 use anyhow::{Result, bail};
 use book_core::{Book, EVENTS_MAX, Letter};
+use book_state::answers::{arrived, cancelled, deployed, fronts, numbers, pruned, taken};
 use book_state::push_book;
+use book_state::words::{moment, number, outcome, ticket, word};
 use call_window::{Window, done};
 use dest_queue::Addressed;
 use event_log::Log;

@@ -11,7 +11,6 @@
 #![tactic(auto)]
 
 mod stage;
-mod words;
 
 use anyhow::Result;
 use call_window::Window;

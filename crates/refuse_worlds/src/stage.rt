@@ -2,10 +2,10 @@
 
 ghost use Rattle.std.specs.Prelude.{◌<◌, All, IsTrue};
 
-use crate::words::{moment, number, outcome, ticket, word};
 use anyhow::{Result, bail};
 use book_core::{EVENTS_MAX, Letter};
 use book_state::push_held;
+use book_state::words::{moment, number, outcome, ticket, word};
 use call_window::{Window, no_memory};
 use dest_queue::Addressed;
 use engine_model::{Step, World, steps_of};

@@ -1,0 +1,275 @@
+//! Two senders with fifty messages each, which all go to both of two destinations, over sockets of
+//! the loopback device.
+
+ghost use Rattle.std.specs.Prelude.{◌≡◌, ◌+◌, length};
+ghost use Rattle.event_log.specs.History.{next_place, plan_in_force};
+ghost use Rattle.event_log.specs.Counting.{counted};
+
+use crate::crowd::{BLOCK, MESSAGES, acceptance, replies_to, stream_of};
+use crate::many::{Ended, Rows, close, is_right};
+use book_core::{Book, EVENTS_MAX};
+use book_lock::{Opening, Shared};
+use conn_worker::{Still, nearest};
+use delivery_worker::TcpLink;
+use engine_workers::{Staff, TcpDoor, run_workers};
+use log::Log;
+use plan_text::{Destination, Plan};
+use std::alloc::Global;
+use std::hash::RandomState;
+use std::io::{Read, Write};
+use std::marker::Brand;
+use std::net::{Net, Shutdown, SocketAddr, TcpListener, TcpStream};
+use std::sync::ledger::{Blank, Ledger};
+use std::sync::{Arc, Wait};
+use std::test::Fail;
+use std::thread::{JoinHandle, Threads};
+use std::time::{Clock, Duration};
+use std::{io, thread};
+
+/// The most connections of a destination.
+const CONNECTIONS: u32 = 8;
+
+/// How long a read or a write of a sender or a destination may last, in seconds.
+const SECONDS: u64 = 10;
+
+/// A channel that listens where the system chooses, whose messages all go to both of the
+/// destinations at these ports, once. None where memory is refused.
+fn plan_for(alloc: Global, first: u16, second: u16) -> Option<Arc<Plan>> {
+    let text = format!(in alloc;
+        "[[destination]]\nname = \"A\"\naddress = \"127.0.0.1:{first}\"\nattempts = 1\n[[destination]]\nname = \"B\"\naddress = \"127.0.0.1:{second}\"\nattempts = 1\n[[channel]]\nname = \"ADT\"\nlisten = \"127.0.0.1:0\"\ntypes = [\"ADT\"]\nprocessing = [\"P\", \"T\"]\nversions = [\"2.5.1\"]\n[[channel.route]]\nto = \"A\"\n[[channel.route]]\nto = \"B\"\n"
+    );
+    let plan = Plan::read(alloc, text.ok()?.as_bytes()).ok()?;
+    Arc::new(alloc, plan).ok()
+}
+
+/// An empty book of a plan. None where memory is refused.
+fn empty_book(rt: &HostRuntime, plan: &Arc<Plan>) -> Option<Book<Rows>> {
+    let hasher = RandomState::new(rt).ok()?;
+    let plan = Arc::try_clone(plan).ok()?;
+    Some(Book::new(rt.alloc(), plan, EVENTS_MAX, hasher))
+}
+
+/// Bounds each read and write of a stream.
+fn bound(stream: &TcpStream) -> io::Result<()> {
+    let limit = Some(Duration::from_secs(SECONDS));
+    stream.set_read_timeout(limit)?;
+    stream.set_write_timeout(limit)
+}
+
+/// Accepts each message of a connection, and appends it to what was received. Whether there was
+/// one, and each was accepted.
+fn accept_messages(stream: &mut TcpStream, received: &mut Vec<u8>) -> io::Result<bool> {
+    bound(stream)?;
+    let mut block = [0; BLOCK];
+    let mut came = false;
+    for _ in 0..=2 * MESSAGES {
+        if stream.read_exact(&mut block).is_err() {
+            return Ok(came);
+        }
+        let Some(answer) = acceptance(*received.allocator(), &block) else {
+            return Ok(false);
+        };
+        received.extend_from_slice(&block)?;
+        stream.write_all(&answer)?;
+        came = true;
+    }
+    Ok(false)
+}
+
+/// Accepts each message of each connection, up to one that brings none, and returns what was
+/// received.
+fn accept_all(alloc: Global, listener: TcpListener) -> Vec<u8> {
+    let mut received = Vec::new(alloc);
+    for _ in 0..CONNECTIONS {
+        let Ok((mut stream, _)) = listener.accept() else {
+            break;
+        };
+        if !matches!(accept_messages(&mut stream, &mut received), Ok(true)) {
+            break;
+        }
+    }
+    received
+}
+
+/// A destination on a thread of its own.
+#[derive(Drop)]
+struct Listening {
+    address: SocketAddr,
+    worker: JoinHandle<Vec<u8>>,
+}
+
+/// Starts a destination. None where a socket or a thread is refused.
+fn listen<H: Net<Listener = TcpListener, Stream = TcpStream> + Threads>(
+    rt: &H,
+    alloc: Global,
+) -> Option<Listening> {
+    let listener = TcpListener::bind(rt, "127.0.0.1:0").ok()?;
+    let address = listener.local_addr().ok()?;
+    let worker = thread::spawn(rt, move || accept_all(alloc, listener)).ok()?;
+    Some(Listening { address, worker })
+}
+
+/// Ends a destination by a connection that brings nothing, and returns what it received.
+fn received_by<H: Net<Listener = TcpListener, Stream = TcpStream> + Threads>(
+    rt: &H,
+    destination: Listening,
+) -> Vec<u8> {
+    let Listening { address, worker } = destination;
+    let _ = TcpStream::connect(rt, address);
+    worker.join(rt)
+}
+
+/// Sends the messages of a sender, and that there are no more.
+fn send_all<H: Net<Listener = TcpListener, Stream = TcpStream>>(
+    rt: &H,
+    address: SocketAddr,
+    messages: &[u8],
+) -> io::Result<TcpStream> {
+    let mut sender = TcpStream::connect(rt, address)?;
+    bound(&sender)?;
+    sender.write_all(messages)?;
+    sender.shutdown(Shutdown::Write)?;
+    Ok(sender)
+}
+
+/// The links of both destinations. None where memory is refused.
+fn links_of<'a, H: Net<Listener = TcpListener, Stream = TcpStream> + Clock + Log>(
+    rt: &'a H,
+    alloc: Global,
+    plan: &'a Plan,
+) -> Option<Vec<TcpLink<'a, H, &'a Destination>>> {
+    let mut links = Vec::new(alloc);
+    links.push(TcpLink::new(rt, plan.destination(0)?)).ok()?;
+    links.push(TcpLink::new(rt, plan.destination(1)?)).ok()?;
+    Some(links)
+}
+
+/// Runs the workers of a book with two connections on its one channel, and closes it. None where
+/// memory or a thread is refused, or something is missing at the end.
+fn run<
+    'a,
+    A: Opening + Send + Sync,
+    T: Ledger + Send + Sync,
+    U: Ledger + Send + Sync,
+    H: Wait + Threads + Clock + Log + Sync + Net<Listener = TcpListener, Stream = TcpStream>,
+>(
+    rt: &'a H,
+    alloc: Global,
+    book: Book<Rows>,
+    arrivals: Blank,
+    takes: Blank,
+    settlements: Blank,
+    doors: Vec<TcpDoor<'a, H>>,
+    links: Vec<TcpLink<'a, H, &'a Destination>>,
+) -> Option<Ended>
+    requires counts { counted book ≡ A.counts }
+    requires first { next_place book ≡ A.first }
+    requires channels { length (plan_in_force book).channels ≡ A.channels }
+    requires arrivals { (arrivals.name ≡ A.name) × (arrivals.parts ≡ A.parts) × (A.parts ≡ 3) }
+    requires takes { (takes.name ≡ T.name) × (takes.parts ≡ T.parts) × (T.parts ≡ 3) }
+    requires settlements { (settlements.name ≡ U.name) × (settlements.parts ≡ U.parts) × (U.parts ≡ 3) }
+{
+    let opened = Shared::<A, T, U, Rows>::new(alloc, book, 2, 2, arrivals, takes, settlements);
+    let (shared, desks, stations) = opened.ok()?;
+    let staff = Staff {
+        desks,
+        doors,
+        stations,
+        links,
+    };
+    let worked = run_workers(rt, alloc, &shared, staff, 2, Still(nearest(0))).ok()?;
+    close(rt, alloc, shared, worked)
+}
+
+/// Runs the workers of a book behind a door. None where there is no book, memory or a thread is
+/// refused, or something is missing at the end.
+fn run_on<
+    'a,
+    H: Wait + Threads + Clock + Log + Sync + Net<Listener = TcpListener, Stream = TcpStream>,
+>(
+    rt: &'a H,
+    alloc: Global,
+    plan: &'a Plan,
+    book: Option<Book<Rows>>,
+    door: TcpDoor<'a, H>,
+) -> Option<Ended> {
+    let links = links_of(rt, alloc, plan)?;
+    let mut doors = Vec::new(alloc);
+    doors.push(door).ok()?;
+    run::<Brand, Brand, Brand, H>(
+        rt,
+        alloc,
+        book?,
+        Blank::new(3),
+        Blank::new(3),
+        Blank::new(3),
+        doors,
+        links,
+    )
+}
+
+/// Whether a sender was sent the replies to its messages, and nothing else.
+fn is_told(alloc: Global, sender: &mut TcpStream, number: u32) -> bool {
+    let mut told = Vec::new(alloc);
+    let (read, due) = (sender.read_to_end(&mut told), replies_to(alloc, number));
+    read.is_ok() && matches!(due, Ok(due) if told == due)
+}
+
+/// Whether bytes are the blocks of both streams, each stream's in its order.
+fn has_both(bytes: &[u8], streams: &[Vec<u8>; 2]) -> bool {
+    let (mut first, mut second) = (streams[0].as_slice(), streams[1].as_slice());
+    for block in bytes.chunks(BLOCK) {
+        if let Some(rest) = first.strip_prefix(block) {
+            first = rest;
+        } else if let Some(rest) = second.strip_prefix(block) {
+            second = rest;
+        } else {
+            return false;
+        }
+    }
+    first.is_empty() && second.is_empty()
+}
+
+/// Whether both senders are answered, and the run of the workers behind a door comes out as it has
+/// to.
+fn comes_out<
+    H: Wait + Threads + Clock + Log + Sync + Net<Listener = TcpListener, Stream = TcpStream>,
+>(
+    rt: &H,
+    alloc: Global,
+    plan: &Plan,
+    book: Option<Book<Rows>>,
+    streams: &[Vec<u8>; 2],
+) -> io::Result<bool> {
+    let Some(channel) = plan.channel(0) else {
+        return Ok(false);
+    };
+    let door = TcpDoor::bind(rt, alloc, channel, 0)?;
+    let address = door.address()?;
+    let mut first = send_all(rt, address, &streams[0])?;
+    let mut second = send_all(rt, address, &streams[1])?;
+    let Some(ended) = run_on(rt, alloc, plan, book, door) else {
+        return Ok(false);
+    };
+    let told = is_told(alloc, &mut first, 0) && is_told(alloc, &mut second, 1);
+    Ok(told && is_right(alloc, ended))
+}
+
+/// All messages of both senders are acknowledged and booked once, and received by both destinations
+/// once and in the order of each sender, and the audit finds nothing wrong.
+#[test]
+fn two_senders(rt: HostRuntime) -> Result<(), Fail> {
+    let alloc = rt.alloc();
+    let streams = [stream_of(alloc, 0)?, stream_of(alloc, 1)?];
+    let (Some(first), Some(second)) = (listen(&rt, alloc), listen(&rt, alloc)) else {
+        return Err("no destination".into());
+    };
+    let Some(plan) = plan_for(alloc, first.address.port(), second.address.port()) else {
+        return Err("no plan".into());
+    };
+    let right = comes_out(&rt, alloc, &plan, empty_book(&rt, &plan), &streams);
+    let (first, second) = (received_by(&rt, first), received_by(&rt, second));
+    assert!(rt; matches!(right, Ok(true)));
+    assert!(rt; has_both(&first, &streams) && has_both(&second, &streams));
+    Ok(())
+}

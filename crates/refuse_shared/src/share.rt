@@ -1,0 +1,139 @@
+//! The book of a script, which is shared, played on and closed.
+
+ghost use Rattle.std.specs.Prelude.{◌≡◌, ◌+◌, length};
+ghost use Rattle.event_log.specs.History.{next_place, plan_in_force};
+ghost use Rattle.event_log.specs.Counting.{counted};
+
+use crate::stage::{Rows, Stage, plan_named};
+use anyhow::{Result, bail};
+use book_core::{Book, EVENTS_MAX, Receipt};
+use book_lock::{Closed, Desk, Opening, Shared, Station, audit};
+use book_state::push_held;
+use call_window::Window;
+use log::Log;
+use std::hash::RandomState;
+use std::marker::Brand;
+use std::sync::Wait;
+use std::sync::ledger::{Blank, Ledger};
+use std::time::Clock;
+
+/// An empty book.
+fn empty_book(host: &HostRuntime) -> Result<Book<Rows>> {
+    let plan = plan_named(host, "three.toml")?;
+    let hasher = RandomState::new(host)?;
+    Ok(Book::new(host.alloc(), plan, EVENTS_MAX, hasher))
+}
+
+/// Writes a line, with the answer to its call.
+fn play_line<A: Opening, T: Ledger, U: Ledger, H: Wait + Clock + Log>(
+    host: &HostRuntime,
+    stage: &mut Stage<'_, A, T, U, H>,
+    line: &str,
+) -> Result<()> {
+    if line.is_empty() || line.starts_with('#') {
+        println!(host; "{line}")?;
+        return Ok(());
+    }
+    let call = line.strip_prefix("try ").unwrap_or(line);
+    let window = Window::new(host, line.starts_with("try "));
+    let answer = stage.answer(host, &window, call)?;
+    println!(host; "{line}: {answer}")?;
+    Ok(())
+}
+
+/// Plays all lines of standard input.
+fn play_all<A: Opening, T: Ledger, U: Ledger, H: Wait + Clock + Log>(
+    host: &HostRuntime,
+    stage: &mut Stage<'_, A, T, U, H>,
+) -> Result<()> {
+    for line in host.lines(host.alloc()) {
+        play_line(host, stage, line?.as_str())?;
+    }
+    Ok(())
+}
+
+/// Plays all lines at the first desk and the first station of a shared book, and returns the
+/// receipts.
+fn play_at<A: Opening, T: Ledger, U: Ledger, H: Wait + Clock + Log>(
+    rt: &H,
+    host: &HostRuntime,
+    shared: &Shared<A, T, U, Rows>,
+    desks: &mut [Desk<A>],
+    stations: &mut [Station<T, U>],
+) -> Result<Vec<Receipt>> {
+    let (Some(desk), Some(station)) = (desks.first_mut(), stations.first_mut()) else {
+        bail!("there is no desk or no station");
+    };
+    let mut stage = Stage::new(rt, host.alloc(), shared, desk, station);
+    play_all(host, &mut stage)?;
+    let Stage { receipts, .. } = stage;
+    Ok(receipts)
+}
+
+/// Writes what a closed book holds, and what the audit of the receipts finds.
+fn tell_closed(host: &HostRuntime, closed: &Closed<Rows>, receipts: &[Receipt]) -> Result<()> {
+    let mut told = String::new(host.alloc());
+    push_held(&mut told, closed.book())?;
+    let found = audit(closed, receipts);
+    println!(host; "closed: audit {found:?}; {told}")?;
+    Ok(())
+}
+
+/// Shares a book between a desk and a station, plays all lines on it, and closes it.
+fn play_and_close<A: Opening, T: Ledger, U: Ledger, H: Wait + Clock + Log>(
+    rt: &H,
+    host: &HostRuntime,
+    book: Book<Rows>,
+    arrivals: Blank,
+    takes: Blank,
+    settlements: Blank,
+) -> Result<()>
+    requires counts { counted book ≡ A.counts }
+    requires first { next_place book ≡ A.first }
+    requires channels { length (plan_in_force book).channels ≡ A.channels }
+    requires arrivals { (arrivals.name ≡ A.name) × (arrivals.parts ≡ A.parts) × (A.parts ≡ 2) }
+    requires takes { (takes.name ≡ T.name) × (takes.parts ≡ T.parts) × (T.parts ≡ 2) }
+    requires settlements { (settlements.name ≡ U.name) × (settlements.parts ≡ U.parts) × (U.parts ≡ 2) }
+{
+    let opened = Shared::<A, T, U, Rows>::new(
+        host.alloc(),
+        book,
+        1,
+        1,
+        arrivals,
+        takes,
+        settlements,
+    );
+    let Ok((shared, mut desks, mut stations)) = opened else {
+        bail!("the book was not shared");
+    };
+    shared.finish(rt);
+    let receipts = play_at(rt, host, &shared, &mut desks, &mut stations)?;
+    let Ok(closed) = shared.close(desks, stations) else {
+        bail!("a share is missing");
+    };
+    tell_closed(host, &closed, &receipts)
+}
+
+/// Plays all lines of standard input on a shared book.
+fn play_on<H: Wait + Clock + Log>(rt: &H, host: &HostRuntime, book: Book<Rows>) -> Result<()> {
+    play_and_close::<Brand, Brand, Brand, H>(
+        rt,
+        host,
+        book,
+        Blank::new(2),
+        Blank::new(2),
+        Blank::new(2),
+    )
+}
+
+/// Plays all lines of standard input on an empty book that is shared.
+///
+/// # Errors
+///
+/// Where there is no such book, a line is no call, standard output can't be written, or memory is
+/// refused outside of the calls' own requests.
+pub fn play_shared<H: Wait + Clock + Log>(rt: &H, host: &HostRuntime) -> Result<()> {
+    let book = empty_book(host)?;
+    play_on(rt, host, book)
+}
