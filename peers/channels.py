@@ -6,7 +6,7 @@ import tempfile
 import threading
 import time
 
-from engine import Engine, channel_counts, one_channel, plan
+from engine import Engine, channel_counts, checks_accesses, one_channel, plan
 from faults import break_listener, came, connected, speak
 from mllp import Destination, Sender, block, free_ports, message
 
@@ -136,6 +136,11 @@ def senders_that_break_off(program, folder):
     return lines
 
 
+def late(program):
+    """By how many seconds a line may be late: what was sent before is served first, and a slow program takes longer for it."""
+    return 60 if checks_accesses(program) else 12
+
+
 def a_deaf_sender(program, folder):
     """A sender that reads no acknowledgment is cut off once none could be written for 60 seconds, and the run ends."""
     lab, port = Destination(lambda text, before: b'AA'), free_ports(1)[0]
@@ -149,7 +154,7 @@ def a_deaf_sender(program, folder):
         except OSError:
             pass
         began = time.monotonic()
-        is_told = engine.heard('writing to the sender failed: no progress', 'channel=ADT', 'connection=0', limit=PATIENCE + 12)
+        is_told = engine.heard('writing to the sender failed: no progress', 'channel=ADT', 'connection=0', limit=PATIENCE + late(program))
         waited = time.monotonic() - began
         status, counts = engine.ended(20)
     lab.close()
@@ -170,7 +175,7 @@ def a_lasting_lack(program, folder):
         began = time.monotonic()
         with connected(port) as second:
             replies.append(speak(second, message(b'M1')))
-            is_told = engine.heard('no further one is taken', 'channel=ADT', limit=PATIENCE + 12)
+            is_told = engine.heard('no further one is taken', 'channel=ADT', limit=PATIENCE + late(program))
             waited, is_refused = time.monotonic() - began, refused(port)
             allow(engine.process.pid, before)
             replies += [speak(first, message(b'M2')), speak(second, message(b'M3'))]
