@@ -214,10 +214,10 @@ def wrong(program, folder):
             lines.append(f'{words}: {(status, out, err)}, not an error of status 2')
     # Words, and what the help has to tell beside their use.
     for words, told in [
-        (['--help'], [b'answer ', b'check ', b'run ', b'exit status', b'audit: NAME']),
+        (['--help'], [b'answer ', b'check ', b'run ', b'exit status', b'audit: NAME', b'Example: hl7_engine run']),
         (['-h'], [b'run ']),
-        (['answer', '--help'], [b'--now <SECS>']),
-        (['help', 'check'], [b'<PLAN>']),
+        (['answer', '--help'], [b'--now <SECS>', b'Example: hl7_engine answer']),
+        (['help', 'check'], [b'<PLAN>', b'Example: hl7_engine check']),
         (['run', '--help'], [b'--accept <N>', b'--events <N>', b'received A filtered B', b'waiting A inflight B', b'listening on']),
     ]:
         status, out, err = called(program, words)

@@ -53,7 +53,7 @@ FAULTS = [
     (changed(('[[channel]]', '[[channel]')), 'plan: NotToml', ['note: line 6, column 11: unclosed array table, expected `]]`']),
     ('a = 1\nname = "C:\\data"', 'plan: NotToml',
      ['note: line 2, column 12: invalid escape sequence',
-      'note: between double quotes a backslash begins an escape; between single quotes it is taken as it stands']),
+      'note: between double quotes a backslash begins an escape; between single quotes it is taken as it is written']),
     (b'a = 1\nname = "\xff"', 'plan: NotToml', ['note: line 2, column 9: the byte 0xFF at offset 14 is not UTF-8']),
     # UnknownKey
     (destination('atempts = 3'), 'plan: UnknownKey at destination[0].atempts',

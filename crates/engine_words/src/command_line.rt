@@ -28,7 +28,19 @@ Each fault is a line on standard error. The exit status is that of the last one:
   1  plan: NAME at PATH
   2  words that aren't taken; limit: connections
   3  file: PLAN; device: read, write, random or listen NAME; memory
-  4  audit: NAME";
+  4  audit: NAME
+
+Example: hl7_engine run plan.toml --accept 2";
+
+/// What the help of `answer` says beside its words.
+const ANSWERING: &str = "\
+Example: hl7_engine answer plan.toml --now 1700000000 < message.hl7";
+
+/// What the help of `check` says beside its words.
+const CHECKING: &str = "\
+Prints 'plan ok: C channels, D destinations', or 'plan: NAME at PATH' on standard error with exit status 1.
+
+Example: hl7_engine check plan.toml";
 
 /// What the help of `run` says beside its words.
 const RUNNING: &str = "\
@@ -166,6 +178,7 @@ fn answer_command<'a>(alloc: Global) -> Result<Command<'a>, AllocError>
         .about(
             "Acknowledges the blocks on standard input, to standard output, as connection 0 of the plan's first channel",
         )
+        .after_help(ANSWERING)
         .arg(plan)?;
     with_options(alloc, command, now_option(alloc))
 }
@@ -175,7 +188,8 @@ fn check_command<'a>(alloc: Global) -> Result<Command<'a>, AllocError>
     ensures local { IfOk result (λ c. (fields_of c).has_globals ≡ false) }
 {
     Command::new(alloc, "check")
-        .about("Reads a plan and tells its size, or its first fault and where it stands")
+        .about("Reads a plan, and prints its size or its first fault with its path")
+        .after_help(CHECKING)
         .arg(plan_word(alloc))
 }
 
@@ -185,7 +199,7 @@ fn run_command<'a>(alloc: Global) -> Result<Command<'a>, AllocError>
 {
     let command = Command::new(alloc, "run")
         .about(
-            "Listens for each channel of a plan, acknowledges what comes, and delivers it to the destinations",
+            "Listens for each channel of a plan, acknowledges what is received, and delivers it to the destinations",
         )
         .after_help(RUNNING)
         .arg(plan_word(alloc))?;

@@ -65,7 +65,7 @@ fn add_parse_error(notes: &mut Lines, text: &str, error: &Error) -> Result<(), A
     notes.add(&text)?;
     if reason == "invalid escape sequence" {
         notes.add(
-            "between double quotes a backslash begins an escape; between single quotes it is taken as it stands",
+            "between double quotes a backslash begins an escape; between single quotes it is taken as it is written",
         )?;
     }
     Ok(())

@@ -9,7 +9,7 @@ const FAULTS: [(&[u8], &str, &str); 5] = [
     (
         b"a = 1\nb = \"\\d\"",
         "NotToml",
-        "note: between double quotes a backslash begins an escape; between single quotes it is taken as it stands",
+        "note: between double quotes a backslash begins an escape; between single quotes it is taken as it is written",
     ),
     (
         b"\xff",
