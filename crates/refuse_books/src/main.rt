@@ -6,7 +6,7 @@
 //! - `arrive TEXT`: a text arrives on channel 0, judged by the plan in force.
 //! - `take D MOMENT`, `settle NUMBER D ATTEMPT OUTCOME MOMENT`, `cancel NUMBER`, `deploy PLAN` and `prune BEFORE`.
 //! - `queued D` and `find ID`: the messages of a queue, and those with a control id.
-//! - `log COUNT`: room for COUNT entries in an empty history.
+//! - `log COUNT`: room for COUNT entries in an empty history. `fold COUNT`: an empty history is folded, with room for COUNT entries.
 //! - `state`: all that the book shows.
 #![tactic(auto)]
 

@@ -12,6 +12,7 @@ use judge_core::{Judged, fits_block, judge};
 use plan_text::Plan;
 use play_script::bytes_of;
 use record_list::RecordList;
+use stat_count::Counts;
 use std::alloc::Global;
 use std::fs;
 use std::hash::RandomState;
@@ -66,6 +67,19 @@ fn entries(alloc: Global, window: &Window, count: usize) -> Result<String> {
     let told = done(alloc, made)?;
     let (entries, owed) = (log.len(), log.owed());
     Ok(format!(in alloc; "{told}, {entries} entries, {owed} owed")?)
+}
+
+/// Folds an empty history of the built-in plan, with room for a number of entries.
+fn folding(alloc: Global, window: &Window, room: usize) -> Result<String> {
+    let plan = Arc::new(alloc, Plan::built_in(alloc)?)?;
+    let mut log = Log::new(alloc, plan, EVENTS_MAX);
+    let (forgotten, remembered) = (Counts::new(), Vec::new(alloc));
+    window.begin()?;
+    let made = log.fold(room, forgotten, remembered);
+    window.end()?;
+    let told = done(alloc, made)?;
+    let (prunings, entries) = (log.prunings(), log.len());
+    Ok(format!(in alloc; "{told}, {prunings} prunings, {entries} entries")?)
 }
 
 impl Stage {
@@ -189,6 +203,7 @@ impl Stage {
             }
             "state" => self.state(),
             "log" => entries(self.alloc, window, number(words)? as usize),
+            "fold" => folding(self.alloc, window, number(words)? as usize),
             "queued" => self.queued(window, words),
             "find" => self.find(window, words),
             _ => bail!("{name} is no call"),
