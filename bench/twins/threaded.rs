@@ -17,6 +17,7 @@ use std::sync::{Arc, Condvar, Mutex};
 use std::thread;
 use std::time::{Duration, Instant};
 
+#[allow(dead_code)] // nobody reads the history here, as the engine's audit does
 mod plain;
 
 use plain::{option, serve, Answer, Book, Cause, Channel, Destination, Entry, Framer, Header, Judged, Message, Plan, State};
