@@ -1,11 +1,13 @@
-//! What `hl7_engine answer` does, as a plain Rust program without proofs: blocks on standard input (MLLP Release 1), each judged by
-//! a small plan, kept in a book in memory, and acknowledged on standard output as MSH-15 and MSH-16 request. It is written as one
-//! writes when nobody measures: owned texts, `split`, a `HashMap`. Standard library only.
+//! What `hl7_engine answer` does, as a plain Rust program without proofs: blocks on standard
+//! input (MLLP Release 1), each judged by a small plan, kept in a book in memory, and acknowledged
+//! on standard output as MSH-15 and MSH-16 request. It is written as one writes when nobody
+//! measures: `Vec`, `split`, a `HashMap`. Standard library only.
 //!
 //! Usage: plain [--now SECS] [--events N] [--filtered]
 //!
-//! The plan is that of bench/answer.py with one destination and one attempt; with `--filtered` its channel takes only messages
-//! whose PV1-2 has a value. `threaded.rs` uses the same messages and the same book.
+//! The plan is that of bench/answer.py, with one destination and one attempt; with `--filtered`
+//! its channel takes only messages whose PV1-2 has a value. `threaded.rs` uses the same messages
+//! and the same book.
 use std::collections::{HashMap, VecDeque};
 use std::env;
 use std::io::{self, Read, Write};
@@ -16,11 +18,11 @@ use std::time::{SystemTime, UNIX_EPOCH};
 pub const START_BLOCK: u8 = 0x0b;
 pub const END_BLOCK: u8 = 0x1c;
 /// The most bytes of a block's data.
-const DATA_MAX: usize = 1_048_576;
-const SEGMENTS_MAX: usize = 4_096;
-const CONTROL_ID_MAX: usize = 199;
+pub const DATA_MAX: usize = 1_048_576;
+pub const SEGMENTS_MAX: usize = 4_096;
+pub const CONTROL_ID_MAX: usize = 199;
 /// The bytes that one read requests, as many as the engine's.
-const PIECE: usize = 16_384;
+pub const PIECE: usize = 16_384;
 
 /// A listener, the messages that it takes, and where they go.
 pub struct Channel {
@@ -89,7 +91,8 @@ impl Framer {
         Framer { stage: Stage::Outside, data: Vec::new() }
     }
 
-    /// The data of the blocks that end in this piece. A broken block is dropped, and one that is too long.
+    /// The data of the blocks that end in this piece. A broken block is dropped, and one that is
+    /// too long.
     pub fn feed(&mut self, mut piece: &[u8]) -> Vec<Vec<u8>> {
         let mut blocks = Vec::new();
         while !piece.is_empty() {
@@ -102,7 +105,8 @@ impl Framer {
                     None => break,
                 },
                 Stage::Inside => {
-                    let end = piece.iter().position(|byte| *byte == START_BLOCK || *byte == END_BLOCK);
+                    let end =
+                        piece.iter().position(|byte| *byte == START_BLOCK || *byte == END_BLOCK);
                     self.keep(&piece[..end.unwrap_or(piece.len())]);
                     match end {
                         Some(at) if piece[at] == START_BLOCK => self.data.clear(),
@@ -145,12 +149,30 @@ fn is_delimiter(byte: u8) -> bool {
     byte.is_ascii_graphic() && !byte.is_ascii_alphanumeric() && !matches!(byte, b'"' | b'+' | b'.')
 }
 
-fn is_name(name: &[u8]) -> bool {
-    name[0].is_ascii_uppercase() && name[1..].iter().all(|byte| byte.is_ascii_uppercase() || byte.is_ascii_digit())
+/// Whether these can be declared as the field separator and the encoding characters.
+pub fn are_delimiters(separator: u8, characters: &[u8]) -> bool {
+    let is_another = |n: usize| {
+        let character = characters[n];
+        let is_used = character == separator || characters[..n].contains(&character);
+        is_delimiter(character) && !is_used
+    };
+    is_delimiter(separator)
+        && (4..=5).contains(&characters.len())
+        && (0..characters.len()).all(is_another)
+}
+
+/// Whether a segment may follow the header.
+fn is_body(segment: &[u8], separator: u8) -> bool {
+    let may_name = |byte: &u8| byte.is_ascii_uppercase() || byte.is_ascii_digit();
+    segment.len() >= 3
+        && segment[0].is_ascii_uppercase()
+        && segment[1..3].iter().all(may_name)
+        && segment[3..].first().into_iter().all(|next| *next == separator)
+        && !segment.starts_with(b"MSH")
 }
 
 /// Whether a raw piece is empty or the null value.
-fn is_vacant(raw: &[u8]) -> bool {
+pub fn is_vacant(raw: &[u8]) -> bool {
     raw.is_empty() || raw == b"\"\""
 }
 
@@ -160,28 +182,20 @@ impl<'a> Message<'a> {
         let segments: Vec<&[u8]> = text
             .split(|byte| *byte == b'\r')
             .enumerate()
-            .map(|(n, piece)| if n > 0 { piece.strip_prefix(b"\n").unwrap_or(piece) } else { piece })
+            .map(
+                |(n, piece)| if n > 0 { piece.strip_prefix(b"\n").unwrap_or(piece) } else { piece },
+            )
             .filter(|piece| !piece.is_empty())
             .collect();
         let header = *segments.first()?;
-        if !header.starts_with(b"MSH") || segments.len() > SEGMENTS_MAX {
-            return None;
-        }
         let separator = *header.get(3)?;
         let characters = header[4..].split(|byte| *byte == separator).next()?;
-        if characters.len() < 4 || characters.len() > 5 || !is_delimiter(separator) {
+        let is_message = header.starts_with(b"MSH")
+            && segments.len() <= SEGMENTS_MAX
+            && are_delimiters(separator, characters)
+            && segments[1..].iter().all(|segment| is_body(segment, separator));
+        if !is_message {
             return None;
-        }
-        for (n, character) in characters.iter().enumerate() {
-            if !is_delimiter(*character) || *character == separator || characters[..n].contains(character) {
-                return None;
-            }
-        }
-        for segment in &segments[1..] {
-            let is_named = segment.len() >= 3 && is_name(&segment[..3]) && !segment.starts_with(b"MSH");
-            if !is_named || segment.get(3).map_or(false, |byte| *byte != separator) {
-                return None;
-            }
         }
         Some(Message { separator, component: characters[0], repetition: characters[1], segments })
     }
@@ -194,7 +208,8 @@ impl<'a> Message<'a> {
 
     /// The message as it is sent: each segment with a carriage return behind it.
     fn print(&self) -> Vec<u8> {
-        let mut text = Vec::with_capacity(self.segments.iter().map(|segment| segment.len() + 1).sum());
+        let mut text =
+            Vec::with_capacity(self.segments.iter().map(|segment| segment.len() + 1).sum());
         for segment in &self.segments {
             text.extend_from_slice(segment);
             text.push(b'\r');
@@ -225,10 +240,12 @@ pub struct Header<'a> {
 
 impl<'a> Header<'a> {
     pub fn read(message: &Message<'a>) -> Header<'a> {
-        let fields: Vec<&[u8]> = message.segments[0].split(|byte| *byte == message.separator).collect();
+        let fields: Vec<&[u8]> =
+            message.segments[0].split(|byte| *byte == message.separator).collect();
         let field = |number: usize| fields.get(number - 1).copied().unwrap_or_default();
         let component = |number: usize, place: usize| {
-            let first = field(number).split(|byte| *byte == message.repetition).next().unwrap_or_default();
+            let first =
+                field(number).split(|byte| *byte == message.repetition).next().unwrap_or_default();
             first.split(|byte| *byte == message.component).nth(place - 1).unwrap_or_default()
         };
         Header {
@@ -257,8 +274,8 @@ impl<'a> Header<'a> {
     }
 }
 
-/// Why a message is refused: MSA-3.
-#[derive(Clone, Copy, Debug, PartialEq)]
+/// Why a message is refused.
+#[derive(Clone, Copy)]
 pub enum Cause {
     UnsupportedType,
     UnsupportedProcessing,
@@ -270,9 +287,25 @@ pub enum Cause {
 }
 
 impl Cause {
+    /// Its name, MSA-3.
+    pub fn name(self) -> &'static str {
+        match self {
+            Cause::UnsupportedType => "UnsupportedType",
+            Cause::UnsupportedProcessing => "UnsupportedProcessing",
+            Cause::UnsupportedVersion => "UnsupportedVersion",
+            Cause::MissingControlId => "MissingControlId",
+            Cause::BadControlId => "BadControlId",
+            Cause::IdReused => "IdReused",
+            Cause::Full => "Full",
+        }
+    }
+
     /// Whether it is rejected (CR, AR), and not an error (CE, AE).
-    fn is_reject(self) -> bool {
-        matches!(self, Cause::UnsupportedType | Cause::UnsupportedProcessing | Cause::UnsupportedVersion)
+    pub fn is_reject(self) -> bool {
+        matches!(
+            self,
+            Cause::UnsupportedType | Cause::UnsupportedProcessing | Cause::UnsupportedVersion
+        )
     }
 }
 
@@ -395,7 +428,8 @@ pub struct ChannelCounts {
     pub repeats: usize,
 }
 
-/// All that came, the messages, the keys by which repeats are known, and a queue for each destination.
+/// All that came, the messages, the keys by which repeats are known, and a queue for each
+/// destination.
 pub struct Book {
     pub history: Vec<Entry>,
     pub messages: Vec<Kept>,
@@ -422,6 +456,18 @@ impl Book {
         }
     }
 
+    fn answer(&self, key: &Key, judged: &Judged) -> Answer {
+        match self.keys.get(key) {
+            Some(first) if self.brings(*first, judged.raw) => Answer::Repeat(*first),
+            Some(_) => Answer::Refused(Cause::IdReused),
+            None => match &judged.verdict {
+                Verdict::Refused(cause) => Answer::Refused(*cause),
+                Verdict::Filtered => Answer::Filtered,
+                Verdict::Accepted(..) => Answer::Accepted(self.messages.len()),
+            },
+        }
+    }
+
     /// Books a message and answers it; an error where there is no room.
     pub fn arrive(&mut self, judged: &Judged) -> Result<Answer, Cause> {
         let key = Key {
@@ -430,24 +476,20 @@ impl Book {
             facility: judged.header.sending_facility.to_vec(),
             control_id: judged.header.control_id.to_vec(),
         };
-        let answer = match self.keys.get(&key) {
-            Some(first) if self.brings(*first, judged.raw) => Answer::Repeat(*first),
-            Some(_) => Answer::Refused(Cause::IdReused),
-            None => match &judged.verdict {
-                Verdict::Refused(cause) => Answer::Refused(*cause),
-                Verdict::Filtered => Answer::Filtered,
-                Verdict::Accepted(..) => Answer::Accepted(self.messages.len()),
-            },
-        };
+        let answer = self.answer(&key, judged);
         let owed = match (answer, &judged.verdict) {
-            (Answer::Accepted(_), Verdict::Accepted(to, _)) => to.iter().map(|to| 2 * self.attempts[*to] + 1).sum(),
+            (Answer::Accepted(_), Verdict::Accepted(to, _)) => {
+                to.iter().map(|to| 2 * self.attempts[*to] + 1).sum()
+            }
             _ => 0,
         };
         if self.history.len() + self.owed + 1 + owed > self.events_max {
             return Err(Cause::Full);
         }
         self.owed += owed;
-        if let (Answer::Accepted(number), Verdict::Accepted(to, payload)) = (answer, &judged.verdict) {
+        if let (Answer::Accepted(number), Verdict::Accepted(to, payload)) =
+            (answer, &judged.verdict)
+        {
             self.keep(number, to, payload, judged.header.control_id);
         }
         if let Answer::Accepted(_) | Answer::Filtered = answer {
@@ -459,8 +501,15 @@ impl Book {
     }
 
     fn keep(&mut self, number: usize, to: &[usize], payload: &Arc<Vec<u8>>, control_id: &[u8]) {
-        let slots = to.iter().map(|to| Slot { destination: *to, state: State::Waiting, attempts: 0 }).collect();
-        self.messages.push(Kept { control_id: control_id.to_vec(), payload: Arc::clone(payload), slots });
+        let slots = to
+            .iter()
+            .map(|to| Slot { destination: *to, state: State::Waiting, attempts: 0 })
+            .collect();
+        self.messages.push(Kept {
+            control_id: control_id.to_vec(),
+            payload: Arc::clone(payload),
+            slots,
+        });
         for destination in to {
             self.queues[*destination].push_back(number);
         }
@@ -486,7 +535,8 @@ impl Book {
     }
 }
 
-/// When an acknowledgment is wanted (table 0155), by a raw MSH-15 or MSH-16: on success, and on a refusal.
+/// When an acknowledgment is wanted (table 0155), by a raw MSH-15 or MSH-16: on success, and on a
+/// refusal.
 fn wanted(raw: &[u8]) -> (bool, bool) {
     match raw {
         b"" | b"\"\"" | b"NE" => (false, false),
@@ -501,7 +551,11 @@ fn codes(header: &Header, refusal: Option<Cause>) -> Vec<&'static str> {
     let (accept, application) = (wanted(header.accept_type), wanted(header.application_type));
     match refusal {
         None if header.is_original() => vec!["AA"],
-        None => [("CA", accept.0), ("AA", application.0)].iter().filter(|code| code.1).map(|code| code.0).collect(),
+        None => [("CA", accept.0), ("AA", application.0)]
+            .iter()
+            .filter(|code| code.1)
+            .map(|code| code.0)
+            .collect(),
         Some(cause) => {
             let (commit, answer) = if cause.is_reject() { ("CR", "AR") } else { ("CE", "AE") };
             if header.is_original() {
@@ -521,7 +575,8 @@ fn codes(header: &Header, refusal: Option<Cause>) -> Vec<&'static str> {
 pub fn stamp(moment: u64) -> String {
     let (days, seconds) = (moment / 86_400 + 719_468, moment % 86_400);
     let (era, day_of_era) = (days / 146_097, days % 146_097);
-    let year_of_era = (day_of_era - day_of_era / 1_460 + day_of_era / 36_524 - day_of_era / 146_096) / 365;
+    let year_of_era =
+        (day_of_era - day_of_era / 1_460 + day_of_era / 36_524 - day_of_era / 146_096) / 365;
     let day_of_year = day_of_era - (365 * year_of_era + year_of_era / 4 - year_of_era / 100);
     let month_from_march = (5 * day_of_year + 2) / 153;
     let day = day_of_year - (153 * month_from_march + 2) / 5 + 1;
@@ -532,7 +587,14 @@ pub fn stamp(moment: u64) -> String {
 }
 
 /// Appends an acknowledgment as a block.
-fn acknowledge(out: &mut Vec<u8>, header: &Header, code: &str, cause: Option<Cause>, moment: u64, control_id: &str) {
+fn acknowledge(
+    out: &mut Vec<u8>,
+    header: &Header,
+    code: &str,
+    cause: Option<Cause>,
+    moment: u64,
+    control_id: &str,
+) {
     let kind = if is_vacant(header.trigger_event) {
         b"ACK".to_vec()
     } else {
@@ -555,9 +617,8 @@ fn acknowledge(out: &mut Vec<u8>, header: &Header, code: &str, cause: Option<Cau
     if !header.is_original() {
         fields.extend([b"".as_slice(), b"", b"NE", b"NE"]);
     }
-    let name = cause.map(|cause| format!("{:?}", cause));
     let mut answer: Vec<&[u8]> = vec![code.as_bytes(), header.control_id];
-    answer.extend(name.as_ref().map(|name| name.as_bytes()));
+    answer.extend(cause.map(|cause| cause.name().as_bytes()));
     out.push(START_BLOCK);
     append_segment(out, b"MSH", header.separator, &fields);
     append_segment(out, b"MSA", header.separator, &answer);
@@ -571,6 +632,16 @@ fn append_segment(out: &mut Vec<u8>, name: &[u8], separator: u8, fields: &[&[u8]
         out.extend_from_slice(field);
     }
     out.push(b'\r');
+}
+
+/// Reads the next piece, none at the end; an interrupted read is made again.
+pub fn read_piece(reader: &mut impl Read, buffer: &mut [u8]) -> io::Result<usize> {
+    loop {
+        match reader.read(buffer) {
+            Err(error) if error.kind() == io::ErrorKind::Interrupted => {}
+            read => return read,
+        }
+    }
 }
 
 /// Serves a connection to its end: what one read brought is answered by one write.
@@ -588,12 +659,10 @@ pub fn serve(
     let mut replies = Vec::new();
     let mut made = 0;
     loop {
-        let len = match reader.read(&mut buffer) {
-            Ok(0) => return Ok(()),
-            Ok(len) => len,
-            Err(error) if error.kind() == io::ErrorKind::Interrupted => continue,
-            Err(error) => return Err(error),
-        };
+        let len = read_piece(&mut reader, &mut buffer)?;
+        if len == 0 {
+            return Ok(());
+        }
         for data in framer.feed(&buffer[..len]) {
             let raw = Arc::new(data);
             let judged = match judge(plan, channel, &raw) {
@@ -604,7 +673,7 @@ pub fn serve(
                 Ok(Answer::Refused(cause)) | Err(cause) => Some(cause),
                 Ok(_) => None,
             };
-            let moment = now.unwrap_or_else(|| SystemTime::now().duration_since(UNIX_EPOCH).map_or(0, |since| since.as_secs()));
+            let moment = now.unwrap_or_else(seconds_now);
             for code in codes(&judged.header, refusal) {
                 made += 1;
                 let id = format!("{}.{}", connection, made);
@@ -617,19 +686,24 @@ pub fn serve(
     }
 }
 
+pub fn seconds_now() -> u64 {
+    SystemTime::now().duration_since(UNIX_EPOCH).map_or(0, |since| since.as_secs())
+}
+
 /// The number behind a word of the command line.
 pub fn option(words: &[String], name: &str) -> Option<u64> {
     let at = words.iter().position(|word| word == name)?;
     words.get(at + 1)?.parse().ok()
 }
 
-#[allow(dead_code)] // threaded.rs has a main of its own
 fn main() -> ExitCode {
     let words: Vec<String> = env::args().skip(1).collect();
     let plan = Plan::small(words.iter().any(|word| word == "--filtered"));
     let mut book = Book::new(&plan, option(&words, "--events").unwrap_or(1_000_000) as usize);
     let now = option(&words, "--now");
-    match serve(&plan, 0, 0, now, io::stdin().lock(), io::stdout().lock(), |judged| book.arrive(judged)) {
+    match serve(&plan, 0, 0, now, io::stdin().lock(), io::stdout().lock(), |judged| {
+        book.arrive(judged)
+    }) {
         Ok(()) => ExitCode::SUCCESS,
         Err(error) => {
             eprintln!("plain: {}", error);

@@ -1,12 +1,15 @@
-//! What `hl7_engine run` does, as a plain threaded Rust program without proofs: it listens for each channel of a plan, serves each
-//! connection on a thread of its own, keeps what comes in one book under one `Mutex`, and delivers to each destination on a thread
-//! of its own, one message after another, each until its acknowledgment has come. Messages, judging, book and acknowledgments are
+//! What `hl7_engine run` does, as a plain threaded Rust program without proofs: it listens for each
+//! channel of a plan, serves each connection on a thread of its own, keeps what comes in one book
+//! under one `Mutex`, and delivers to each destination on a thread of its own, one message after
+//! another, each until its acknowledgment has come. Messages, judging, book and acknowledgments are
 //! those of `plain.rs`. Standard library only.
 //!
-//! Usage: threaded run PLAN --accept N [--events N]    takes N connections on each channel, and ends when all is delivered or failed
-//!        threaded receive PORT                        a destination that answers AA to each message, until it is killed
+//! Usage: threaded run PLAN --accept N [--events N]
+//!        threaded receive PORT
 //!
-//! A plan is read in the form that peers/engine.py writes: one key a line, without filters and steps.
+//! `run` takes N connections on each channel, and ends when all is delivered or failed. It reads a
+//! plan in the form that peers/engine.py writes: one key a line, without filters and steps.
+//! `receive` is a destination that answers AA to each message, until it is killed.
 use std::collections::VecDeque;
 use std::env;
 use std::fs;
@@ -20,7 +23,10 @@ use std::time::{Duration, Instant};
 #[allow(dead_code)] // nobody reads the history here, as the engine's audit does
 mod plain;
 
-use plain::{option, serve, Answer, Book, Cause, Channel, Destination, Entry, Framer, Header, Judged, Message, Plan, State};
+use plain::{
+    option, serve, Answer, Book, Cause, Channel, Destination, Entry, Framer, Header, Judged,
+    Message, Plan, State,
+};
 
 /// The longest wait for a destination, and for a sender that reads nothing.
 const TIMEOUT: Duration = Duration::from_secs(30);
@@ -31,7 +37,11 @@ const ANSWER_PIECE: usize = 4_096;
 /// The texts of a TOML value: one text, a list of texts, or a number.
 fn values(value: &str) -> Vec<String> {
     let inner = value.trim().trim_start_matches('[').trim_end_matches(']');
-    inner.split(',').map(|one| one.trim().trim_matches('"').to_string()).filter(|one| !one.is_empty()).collect()
+    inner
+        .split(',')
+        .map(|one| one.trim().trim_matches('"').to_string())
+        .filter(|one| !one.is_empty())
+        .collect()
 }
 
 fn new_channel() -> Channel {
@@ -76,7 +86,9 @@ fn read_destination_key(plan: &mut Plan, key: &str, value: &str) -> Result<(), S
         "name" => destination.name = first,
         "address" => destination.address = first,
         "attempts" => destination.attempts = number.map_err(|_| "attempts are no number")?,
-        "interval" => destination.interval = number.map_err(|_| "the interval is no number")? as u64,
+        "interval" => {
+            destination.interval = number.map_err(|_| "the interval is no number")? as u64
+        }
         _ => return Err(format!("a key that is not read: {}", key)),
     }
     Ok(())
@@ -97,7 +109,9 @@ fn read_plan(text: &str) -> Result<Plan, String> {
             }
             "[[channel.route]]" => {}
             _ => {
-                let (key, value) = line.split_once('=').ok_or_else(|| format!("a line that is not read: {}", line))?;
+                let (key, value) = line
+                    .split_once('=')
+                    .ok_or_else(|| format!("a line that is not read: {}", line))?;
                 let read = if in_destination { read_destination_key } else { read_channel_key };
                 read(&mut plan, key.trim(), value)?;
             }
@@ -140,7 +154,11 @@ enum Outcome {
 impl Shared {
     fn new(plan: Plan, events_max: usize) -> Shared {
         let destinations = plan.destinations.len();
-        let desk = Desk { book: Book::new(&plan, events_max), closed: false, due: vec![Instant::now(); destinations] };
+        let desk = Desk {
+            book: Book::new(&plan, events_max),
+            closed: false,
+            due: vec![Instant::now(); destinations],
+        };
         let changed = (0..destinations).map(|_| Condvar::new()).collect();
         Shared { plan, desk: Mutex::new(desk), changed }
     }
@@ -149,8 +167,13 @@ impl Shared {
     fn arrive(&self, judged: &Judged) -> Result<Answer, Cause> {
         let mut desk = self.desk.lock().unwrap();
         let answer = desk.book.arrive(judged)?;
-        let routes = if let Answer::Accepted(_) = answer { self.plan.channels[judged.channel].routes.as_slice() } else { &[] };
-        let woken: Vec<usize> = routes.iter().copied().filter(|to| desk.book.queues[*to].len() == 1).collect();
+        let routes = if let Answer::Accepted(_) = answer {
+            self.plan.channels[judged.channel].routes.as_slice()
+        } else {
+            &[]
+        };
+        let woken: Vec<usize> =
+            routes.iter().copied().filter(|to| desk.book.queues[*to].len() == 1).collect();
         drop(desk);
         for destination in woken {
             self.changed[destination].notify_one();
@@ -173,7 +196,9 @@ impl Shared {
             match desk.book.queues[destination].front().copied() {
                 None if desk.closed => return None,
                 None => desk = self.changed[destination].wait(desk).unwrap(),
-                Some(_) if now < due => desk = self.changed[destination].wait_timeout(desk, due - now).unwrap().0,
+                Some(_) if now < due => {
+                    desk = self.changed[destination].wait_timeout(desk, due - now).unwrap().0
+                }
                 Some(message) => return Some(desk.take(message, destination)),
             }
         }
@@ -183,7 +208,11 @@ impl Shared {
         let rules = &self.plan.destinations[destination];
         let mut desk = self.desk.lock().unwrap();
         let book = &mut desk.book;
-        let slot = book.messages[job.message].slots.iter_mut().find(|slot| slot.destination == destination).unwrap();
+        let slot = book.messages[job.message]
+            .slots
+            .iter_mut()
+            .find(|slot| slot.destination == destination)
+            .unwrap();
         let owed = 2 * (rules.attempts - slot.attempts) + 2;
         slot.state = match outcome {
             Outcome::Delivered => State::Delivered,
@@ -207,7 +236,11 @@ impl Desk {
         let slot = kept.slots.iter_mut().find(|slot| slot.destination == destination).unwrap();
         slot.state = State::InFlight;
         slot.attempts += 1;
-        let job = Job { message, control_id: kept.control_id.clone(), payload: Arc::clone(&kept.payload) };
+        let job = Job {
+            message,
+            control_id: kept.control_id.clone(),
+            payload: Arc::clone(&kept.payload),
+        };
         self.book.history.push(Entry::Take { message, destination });
         self.book.owed -= 1;
         job
@@ -305,7 +338,9 @@ fn accept(shared: &Shared, listener: TcpListener, channel: usize, count: usize) 
             let connection = channel * count + number;
             scope.spawn(move || {
                 let arrive = |judged: &Judged| shared.arrive(judged);
-                if let Err(error) = serve(&shared.plan, channel, connection, None, &stream, &stream, arrive) {
+                if let Err(error) =
+                    serve(&shared.plan, channel, connection, None, &stream, &stream, arrive)
+                {
                     eprintln!("connection {} ended: {}", connection, error);
                 }
             });
@@ -321,11 +356,20 @@ fn print_counts(shared: &Shared) {
     for (channel, counts) in shared.plan.channels.iter().zip(&book.counts) {
         println!(
             "channel {} received {} filtered {} accepted {} refused {} repeats {}",
-            channel.name, counts.received, counts.filtered, counts.accepted, counts.refused, counts.repeats
+            channel.name,
+            counts.received,
+            counts.filtered,
+            counts.accepted,
+            counts.refused,
+            counts.repeats
         );
     }
     for (place, destination) in shared.plan.destinations.iter().enumerate() {
-        let slots = book.messages.iter().flat_map(|kept| &kept.slots).filter(|slot| slot.destination == place);
+        let slots = book
+            .messages
+            .iter()
+            .flat_map(|kept| &kept.slots)
+            .filter(|slot| slot.destination == place);
         let mut counts = [0; 4];
         let mut attempts = 0;
         for slot in slots {
@@ -344,10 +388,12 @@ fn run(words: &[String]) -> Result<(), String> {
     let path = words.first().ok_or("no plan")?;
     let count = option(words, "--accept").ok_or("no --accept")? as usize;
     let text = fs::read_to_string(path).map_err(|error| format!("{}: {}", path, error))?;
-    let shared = Shared::new(read_plan(&text)?, option(words, "--events").unwrap_or(1_000_000) as usize);
+    let shared =
+        Shared::new(read_plan(&text)?, option(words, "--events").unwrap_or(1_000_000) as usize);
     let mut listeners = Vec::new();
     for channel in &shared.plan.channels {
-        let listener = TcpListener::bind(&channel.listen).map_err(|error| format!("{}: {}", channel.listen, error))?;
+        let listener = TcpListener::bind(&channel.listen)
+            .map_err(|error| format!("{}: {}", channel.listen, error))?;
         eprintln!("listening on {} for channel {}", channel.listen, channel.name);
         listeners.push(listener);
     }
@@ -377,8 +423,12 @@ fn answer(mut stream: TcpStream) -> io::Result<()> {
             return Ok(());
         }
         for data in framer.feed(&buffer[..len]) {
-            let control_id = Message::parse(&data).map(|message| Header::read(&message).control_id).unwrap_or_default();
-            replies.extend_from_slice(b"\x0bMSH|^~\\&|PEER|X|ENG|HUB|20231114221300||ACK|1|P|2.5.1\rMSA|AA|");
+            let control_id = Message::parse(&data)
+                .map(|message| Header::read(&message).control_id)
+                .unwrap_or_default();
+            replies.extend_from_slice(
+                b"\x0bMSH|^~\\&|PEER|X|ENG|HUB|20231114221300||ACK|1|P|2.5.1\rMSA|AA|",
+            );
             replies.extend_from_slice(control_id);
             replies.extend_from_slice(b"\r\x1c\r");
         }
@@ -389,7 +439,8 @@ fn answer(mut stream: TcpStream) -> io::Result<()> {
 
 fn receive(words: &[String]) -> Result<(), String> {
     let port = words.first().ok_or("no port")?;
-    let listener = TcpListener::bind(format!("127.0.0.1:{}", port)).map_err(|error| error.to_string())?;
+    let listener =
+        TcpListener::bind(format!("127.0.0.1:{}", port)).map_err(|error| error.to_string())?;
     println!("up");
     loop {
         let (stream, _) = listener.accept().map_err(|error| error.to_string())?;

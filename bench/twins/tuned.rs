@@ -1,11 +1,13 @@
-//! What `hl7_engine answer` does, written by hand for speed: what `plain.rs` does, without a request for memory a message. All
-//! texts are in one arena, pieces of them are spans, blocks are judged where they were read to, control bytes and separators are
-//! found 64 bytes at a time, keys are found by a 64-bit fingerprint and compared in the arena, and acknowledgments are written into
-//! one buffer. Standard library only.
+//! What `hl7_engine answer` does, written by hand for speed: what `plain.rs` does, without a
+//! request for memory a message. All texts are in one arena, pieces of them are spans, blocks are
+//! judged where they were read to, control bytes and separators are found 64 bytes at a time, keys
+//! are found by a 64-bit fingerprint and compared in the arena, and acknowledgments are written
+//! into one buffer. Standard library only.
 //!
 //! Usage: tuned [--now SECS] [--events N] [--filtered]
 //!
-//! The words and the plan are those of `plain.rs`, written into the code.
+//! The words and the plan are those of `plain.rs`, written into the code; what is not on the way
+//! of a usual message is `plain.rs`'s too, as the stamp and the test of unusual delimiters.
 #![allow(dead_code)] // what a delivery would need is kept, and nothing is delivered here
 use std::collections::hash_map::RandomState;
 use std::env;
@@ -15,15 +17,14 @@ use std::io::{self, Read, Write};
 use std::mem::ManuallyDrop;
 use std::os::unix::io::FromRawFd;
 use std::process::ExitCode;
-use std::time::{SystemTime, UNIX_EPOCH};
 
-const START_BLOCK: u8 = 0x0b;
-const END_BLOCK: u8 = 0x1c;
-const DATA_MAX: usize = 1_048_576;
-const SEGMENTS_MAX: usize = 4_096;
-const CONTROL_ID_MAX: usize = 199;
-/// The bytes that one read requests, as many as the engine's.
-const PIECE: usize = 16_384;
+mod plain;
+
+use plain::{
+    are_delimiters, is_vacant, option, read_piece, seconds_now, stamp, Cause, CONTROL_ID_MAX,
+    DATA_MAX, END_BLOCK, PIECE, SEGMENTS_MAX, START_BLOCK,
+};
+
 /// The bytes that are looked at together. As many follow each text that is searched.
 const LANES: usize = 64;
 /// The entries that a message of one destination and one attempt may still add.
@@ -94,15 +95,18 @@ impl Span {
     fn cut(self, text: &[u8], byte: u8) -> (Span, Span) {
         for at in self.start..self.end {
             if text[at as usize] == byte {
-                return (Span { start: self.start, end: at }, Span { start: at + 1, end: self.end });
+                return (
+                    Span { start: self.start, end: at },
+                    Span { start: at + 1, end: self.end },
+                );
             }
         }
         (self, Span { start: self.end, end: self.end })
     }
 }
 
-/// A block's data where it was read to: the bytes from its first on, with at least 64 behind it, its length, and where its
-/// carriage returns are.
+/// A block's data where it was read to: the bytes from its first on, with at least 64 behind it,
+/// its length, and where its carriage returns are.
 #[derive(Clone, Copy)]
 struct Block<'a> {
     bytes: &'a [u8],
@@ -118,7 +122,11 @@ impl<'a> Block<'a> {
             let has_feed = start > 0 && start < end && self.bytes[start as usize] == b'\n';
             let span = Span { start: start + u32::from(has_feed), end };
             start = end + 1;
-            if span.start < span.end { Some(span) } else { None }
+            if span.start < span.end {
+                Some(span)
+            } else {
+                None
+            }
         })
     }
 }
@@ -133,19 +141,9 @@ struct Head {
     is_printed: bool,
 }
 
-fn is_delimiter(byte: u8) -> bool {
-    byte.is_ascii_graphic() && !byte.is_ascii_alphanumeric() && !matches!(byte, b'"' | b'+' | b'.')
-}
-
-fn are_delimiters(separator: u8, characters: &[u8]) -> bool {
-    if separator == b'|' && characters == b"^~\\&" {
-        return true;
-    }
-    let mut fits = is_delimiter(separator) && (4..=5).contains(&characters.len());
-    for (n, character) in characters.iter().enumerate() {
-        fits = fits && is_delimiter(*character) && *character != separator && !characters[..n].contains(character);
-    }
-    fits
+/// Whether these can be declared: nearly every message declares the first.
+fn may_be_declared(separator: u8, characters: &[u8]) -> bool {
+    (separator == b'|' && characters == b"^~\\&") || are_delimiters(separator, characters)
 }
 
 fn is_name_byte(byte: u8) -> bool {
@@ -202,7 +200,7 @@ fn head_of(block: Block) -> Option<Head> {
     let separator = text[3];
     let fields = fields_of(block.bytes, header, separator);
     let characters = fields[1].of(block.bytes);
-    if !are_delimiters(separator, characters) {
+    if !may_be_declared(separator, characters) {
         return None;
     }
     let (mut count, mut end, mut is_printed) = (1, header.end, header.start == 0);
@@ -218,37 +216,13 @@ fn head_of(block: Block) -> Option<Head> {
     if count > SEGMENTS_MAX {
         return None;
     }
-    Some(Head { separator, component: characters[0], repetition: characters[1], fields, is_printed })
-}
-
-fn is_vacant(raw: &[u8]) -> bool {
-    raw.is_empty() || raw == b"\"\""
-}
-
-#[derive(Clone, Copy)]
-enum Cause {
-    UnsupportedType,
-    UnsupportedProcessing,
-    UnsupportedVersion,
-    MissingControlId,
-    BadControlId,
-    IdReused,
-    Full,
-}
-
-impl Cause {
-    /// Its name, and whether it is rejected (CR, AR), and not an error (CE, AE).
-    fn text(self) -> (&'static [u8], bool) {
-        match self {
-            Cause::UnsupportedType => (b"UnsupportedType", true),
-            Cause::UnsupportedProcessing => (b"UnsupportedProcessing", true),
-            Cause::UnsupportedVersion => (b"UnsupportedVersion", true),
-            Cause::MissingControlId => (b"MissingControlId", false),
-            Cause::BadControlId => (b"BadControlId", false),
-            Cause::IdReused => (b"IdReused", false),
-            Cause::Full => (b"Full", false),
-        }
-    }
+    Some(Head {
+        separator,
+        component: characters[0],
+        repetition: characters[1],
+        fields,
+        is_printed,
+    })
 }
 
 #[derive(Clone, Copy)]
@@ -270,7 +244,6 @@ impl<'a> Judged<'a> {
     fn field(&self, number: usize) -> &'a [u8] {
         self.head.fields[number - 1].of(self.block.bytes)
     }
-
 }
 
 /// Whether PV1-2 has a value.
@@ -287,7 +260,8 @@ fn has_class(block: Block, separator: u8) -> bool {
 /// Judges a block; none where it is no message, or an acknowledgment.
 fn judge(block: Block, filtered: bool) -> Option<Judged> {
     let head = head_of(block)?;
-    let component = |span: Span| span.cut(block.bytes, head.repetition).0.cut(block.bytes, head.component);
+    let component =
+        |span: Span| span.cut(block.bytes, head.repetition).0.cut(block.bytes, head.component);
     let (code, rest) = component(head.fields[8]);
     let event = rest.cut(block.bytes, head.component).0;
     let (processing, version) = (component(head.fields[10]).0, component(head.fields[11]).0);
@@ -356,7 +330,11 @@ fn mixed(a: u64, b: u64) -> u64 {
 
 impl Index {
     fn new() -> Index {
-        Index { slots: vec![(0, NO_ENTRY); 1_024], held: 0, seed: RandomState::new().build_hasher().finish() | 1 }
+        Index {
+            slots: vec![(0, NO_ENTRY); 1_024],
+            held: 0,
+            seed: RandomState::new().build_hasher().finish() | 1,
+        }
     }
 
     /// The fingerprint of a part of a text, behind which at least 8 bytes follow.
@@ -433,22 +411,34 @@ impl Book {
         &self.arena[entry.start..entry.start + entry.len as usize]
     }
 
-    /// Books a message and answers it; an error where there is no room.
-    fn arrive(&mut self, judged: &Judged) -> Result<Answer, Cause> {
-        let bytes = judged.block.bytes;
-        let [application, facility, control_id] = [2, 3, 9].map(|field: usize| judged.head.fields[field]);
-        let hash = self.index.fingerprint(0, bytes, application);
-        let hash = self.index.fingerprint(hash, bytes, facility);
-        let hash = self.index.fingerprint(hash, bytes, control_id);
+    /// Whether the entry is the arrival of this block.
+    fn brings(&self, entry: u32, block: Block) -> bool {
+        *self.text(&self.entries[entry as usize]) == block.bytes[..block.len]
+    }
+
+    /// The fingerprint of a key, and the entry that has the key or where it would be in the index.
+    fn first_of(&self, bytes: &[u8], key: [Span; 3]) -> (u64, Result<u32, usize>) {
+        let mut hash = 0;
+        for part in key {
+            hash = self.index.fingerprint(hash, bytes, part);
+        }
         let found = self.index.find(hash, |entry| {
             let entry = &self.entries[entry as usize];
             let text = self.text(entry);
-            entry.control_id.of(text) == control_id.of(bytes)
-                && entry.application.of(text) == application.of(bytes)
-                && entry.facility.of(text) == facility.of(bytes)
+            let parts = [entry.application, entry.facility, entry.control_id];
+            parts.iter().zip(key).all(|(kept, part)| kept.of(text) == part.of(bytes))
         });
+        (hash, found)
+    }
+
+    /// Books a message and answers it; an error where there is no room.
+    fn arrive(&mut self, judged: &Judged) -> Result<Answer, Cause> {
+        let bytes = judged.block.bytes;
+        let [application, facility, control_id] =
+            [2, 3, 9].map(|field: usize| judged.head.fields[field]);
+        let (hash, found) = self.first_of(bytes, [application, facility, control_id]);
         let answer = match (found, judged.verdict) {
-            (Ok(first), _) if *self.text(&self.entries[first as usize]) == bytes[..judged.block.len] => Answer::Repeat(first),
+            (Ok(first), _) if self.brings(first, judged.block) => Answer::Repeat(first),
             (Ok(_), _) => Answer::Refused(Cause::IdReused),
             (Err(_), Verdict::Refused(cause)) => Answer::Refused(cause),
             (Err(_), Verdict::Filtered) => Answer::Filtered,
@@ -458,7 +448,8 @@ impl Book {
         if self.entries.len() + OWED * self.rows.len() + 1 + owed > self.events_max {
             return Err(Cause::Full);
         }
-        let (start, len, entry) = (self.arena.len(), judged.block.len as u32, self.entries.len() as u32);
+        let (start, len, entry) =
+            (self.arena.len(), judged.block.len as u32, self.entries.len() as u32);
         self.arena.extend_from_slice(&bytes[..judged.block.len]);
         if let Answer::Accepted(_) = answer {
             self.keep(judged, start, entry);
@@ -497,7 +488,11 @@ impl Book {
 }
 
 /// The codes that a message is due, MSA-1, in their order.
-fn codes(accept: &[u8], application: &[u8], refusal: Option<Cause>) -> [Option<&'static [u8; 2]>; 2] {
+fn codes(
+    accept: &[u8],
+    application: &[u8],
+    refusal: Option<Cause>,
+) -> [Option<&'static [u8; 2]>; 2] {
     let wanted = |raw: &[u8]| match raw {
         b"" | b"\"\"" | b"NE" => (false, false),
         b"ER" => (false, true),
@@ -506,11 +501,18 @@ fn codes(accept: &[u8], application: &[u8], refusal: Option<Cause>) -> [Option<&
     };
     let is_original = is_vacant(accept) && is_vacant(application);
     let (accept, application) = (wanted(accept), wanted(application));
-    match refusal.map(|cause| cause.text().1) {
+    match refusal.map(Cause::is_reject) {
         None if is_original => [Some(b"AA"), None],
-        None => [if accept.0 { Some(b"CA") } else { None }, if application.0 { Some(b"AA") } else { None }],
-        Some(is_reject) if !is_original && accept.1 => [Some(if is_reject { b"CR" } else { b"CE" }), None],
-        Some(is_reject) if is_original || application.1 => [Some(if is_reject { b"AR" } else { b"AE" }), None],
+        None => [
+            if accept.0 { Some(b"CA") } else { None },
+            if application.0 { Some(b"AA") } else { None },
+        ],
+        Some(is_reject) if !is_original && accept.1 => {
+            [Some(if is_reject { b"CR" } else { b"CE" }), None]
+        }
+        Some(is_reject) if is_original || application.1 => {
+            [Some(if is_reject { b"AR" } else { b"AE" }), None]
+        }
         Some(_) => [None, None],
     }
 }
@@ -559,19 +561,7 @@ impl Replies {
             return;
         }
         self.moment = moment;
-        let (days, seconds) = (moment / 86_400 + 719_468, moment % 86_400);
-        let (era, day_of_era) = (days / 146_097, days % 146_097);
-        let year_of_era = (day_of_era - day_of_era / 1_460 + day_of_era / 36_524 - day_of_era / 146_096) / 365;
-        let day_of_year = day_of_era - (365 * year_of_era + year_of_era / 4 - year_of_era / 100);
-        let month_from_march = (5 * day_of_year + 2) / 153;
-        let day = day_of_year - (153 * month_from_march + 2) / 5 + 1;
-        let month = if month_from_march < 10 { month_from_march + 3 } else { month_from_march - 9 };
-        let year = 400 * era + year_of_era + u64::from(month <= 2);
-        let (hour, minute, second) = (seconds / 3_600, seconds / 60 % 60, seconds % 60);
-        for (n, number) in [year / 100, year % 100, month, day, hour, minute, second].iter().enumerate() {
-            self.stamp[2 * n] = b'0' + (number / 10) as u8;
-            self.stamp[2 * n + 1] = b'0' + (number % 10) as u8;
-        }
+        self.stamp.copy_from_slice(stamp(moment).as_bytes());
     }
 
     /// Appends a fixed text in which each bar is the message's separator.
@@ -587,7 +577,8 @@ impl Replies {
         }
     }
 
-    /// Appends MSH-7 to MSH-10: the stamp, `ACK` with the trigger event, and the control id of connection 0.
+    /// Appends MSH-7 to MSH-10: the stamp, `ACK` with the trigger event, and the control id of
+    /// connection 0.
     fn put_kind(&mut self, judged: &Judged) {
         let Head { separator, component, .. } = judged.head;
         self.bytes.extend_from_slice(&self.stamp);
@@ -609,7 +600,8 @@ impl Replies {
         let separator = judged.head.separator;
         let (one, two) = (judged.head.fields[first - 1], judged.head.fields[first]);
         if one.end + 1 == two.start {
-            self.bytes.extend_from_slice(Span { start: one.start, end: two.end }.of(judged.block.bytes));
+            self.bytes
+                .extend_from_slice(Span { start: one.start, end: two.end }.of(judged.block.bytes));
         } else {
             // The header ends before the second.
             self.bytes.extend_from_slice(judged.field(first));
@@ -636,7 +628,7 @@ impl Replies {
         self.bytes.extend_from_slice(judged.field(10));
         if let Some(cause) = cause {
             self.bytes.push(separator);
-            self.bytes.extend_from_slice(cause.text().0);
+            self.bytes.extend_from_slice(cause.name().as_bytes());
         }
         self.bytes.extend_from_slice(&[b'\r', END_BLOCK, b'\r']);
     }
@@ -670,7 +662,8 @@ struct Input {
     bytes: Vec<u8>,
     filled: usize,
     stage: Stage,
-    /// Where the open block's data begins, and how many bytes of it were dropped since they were too many.
+    /// Where the open block's data begins, and how many bytes of it were dropped since they were
+    /// too many.
     start: usize,
     dropped: usize,
     /// Where the carriage returns of the open block are, counted from its beginning.
@@ -679,10 +672,18 @@ struct Input {
 
 impl Input {
     fn new() -> Input {
-        Input { bytes: vec![0; 4 * PIECE + LANES], filled: 0, stage: Stage::Outside, start: 0, dropped: 0, ends: Vec::new() }
+        Input {
+            bytes: vec![0; 4 * PIECE + LANES],
+            filled: 0,
+            stage: Stage::Outside,
+            start: 0,
+            dropped: 0,
+            ends: Vec::new(),
+        }
     }
 
-    /// Moves an open block to the front, and drops it where it is too long, so that a piece has room.
+    /// Moves an open block to the front, and drops it where it is too long, so that a piece has
+    /// room.
     fn make_room(&mut self) {
         let from = if let Stage::Outside = self.stage { self.filled } else { self.start };
         if self.filled - from > DATA_MAX + 1 {
@@ -751,18 +752,21 @@ impl Input {
     }
 }
 
-fn serve(book: &mut Book, now: Option<u64>, filtered: bool, reader: &mut impl Read, writer: &mut impl Write) -> io::Result<()> {
+fn serve(
+    book: &mut Book,
+    now: Option<u64>,
+    filtered: bool,
+    reader: &mut impl Read,
+    writer: &mut impl Write,
+) -> io::Result<()> {
     let (mut input, mut replies) = (Input::new(), Replies::new());
     loop {
         input.make_room();
-        let room = &mut input.bytes[input.filled..][..PIECE];
-        let len = match reader.read(room) {
-            Ok(0) => return Ok(()),
-            Ok(len) => len,
-            Err(error) if error.kind() == io::ErrorKind::Interrupted => continue,
-            Err(error) => return Err(error),
-        };
-        replies.set_moment(now.unwrap_or_else(|| SystemTime::now().duration_since(UNIX_EPOCH).map_or(0, |since| since.as_secs())));
+        let len = read_piece(reader, &mut input.bytes[input.filled..][..PIECE])?;
+        if len == 0 {
+            return Ok(());
+        }
+        replies.set_moment(now.unwrap_or_else(seconds_now));
         input.read_on(len, |block| {
             if let Some(judged) = judge(block, filtered) {
                 let outcome = book.arrive(&judged);
@@ -774,19 +778,14 @@ fn serve(book: &mut Book, now: Option<u64>, filtered: bool, reader: &mut impl Re
     }
 }
 
-fn option(words: &[String], name: &str) -> Option<u64> {
-    let at = words.iter().position(|word| word == name)?;
-    words.get(at + 1)?.parse().ok()
-}
-
 fn main() -> ExitCode {
     let words: Vec<String> = env::args().skip(1).collect();
     let mut book = Book::new(option(&words, "--events").unwrap_or(1_000_000) as usize);
     let filtered = words.iter().any(|word| word == "--filtered");
     // SAFETY: descriptors 0 and 1 are open, and are not closed by these.
-    let (mut reader, mut writer) = unsafe { (ManuallyDrop::new(File::from_raw_fd(0)), ManuallyDrop::new(File::from_raw_fd(1))) };
-    let served = serve(&mut book, option(&words, "--now"), filtered, &mut *reader, &mut *writer);
-    match served {
+    let [mut reader, mut writer] =
+        [0, 1].map(|fd| ManuallyDrop::new(unsafe { File::from_raw_fd(fd) }));
+    match serve(&mut book, option(&words, "--now"), filtered, &mut *reader, &mut *writer) {
         Ok(()) => ExitCode::SUCCESS,
         Err(error) => {
             eprintln!("tuned: {}", error);
