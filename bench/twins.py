@@ -9,12 +9,13 @@ PROGRAM is the built program, crates/hl7_engine/out/hl7_engine where left out ('
 are built by rustc, in a folder of their own; where there is no rustc nothing is measured ('apt-get install rustc'). Instructions
 and requests for memory are counted by valgrind, where it is installed: of N and of 2N messages, the difference divided, so that
 the start of a program is left aside. They are counted until the last acknowledgment is written, when the program is ended by a
-signal, and once more to its own end, with what it gives back of its book. Times are the best of N runs, in which the programs take
-turns; `--quick` makes one run of few messages, which shows that everything works.
+signal, and once more to its own end, with what it gives back of its book. Times are the best of N runs (`--times`, by default 3), in
+which the programs take turns; `--quick` makes one run of few messages, which shows that everything works.
 
 Plain Python 3, no packages. The exit status is 0 where the programs write the same, else 1.
 """
 import argparse
+import multiprocessing
 import os
 import random
 import re
@@ -30,12 +31,10 @@ import time
 
 HERE = os.path.dirname(os.path.abspath(__file__))
 sys.path.insert(0, os.path.join(HERE, '..', 'peers'))
-import multiprocessing  # noqa: E402
-
 import run as loopback  # noqa: E402
 from answer import ONE_ATTEMPT, TOOLS, framed, shorter  # noqa: E402
 from engine import PROGRAM, Engine, checks_accesses, one_channel  # noqa: E402
-from mllp import Destination, Sender, free_ports, message  # noqa: E402
+from mllp import Destination, free_ports  # noqa: E402
 
 TWINS = ('plain', 'tuned', 'threaded')
 COLUMNS = ('engine', *TWINS)
@@ -47,12 +46,17 @@ ONCE = '--once'
 FILTERED = ONE_ATTEMPT.replace('[[channel.route]]', 'filter = { exists = "PV1-2" }\n[[channel.route]]')
 
 
-def many_channels(channels, steps):
-    """The plan of one attempt as the first of several channels, each other of which has steps."""
+def with_channels(plan, steps, ports, to='LAB'):
+    """A plan with further channels at these ports, each of which has steps; none is for the messages that are sent."""
     listed = ',\n'.join(f'  {{ set = ["PV1-{1 + n % 50}.{1 + n // 50}", "{n}"] }}' for n in range(steps))
-    return ONE_ATTEMPT + ''.join(
-        f'[[channel]]\nname = "C{c}"\nlisten = "127.0.0.1:{7000 + c}"\ntypes = ["ADT"]\nprocessing = ["P"]\nversions = ["2.5.1"]\n'
-        f'steps = [\n{listed}\n]\n[[channel.route]]\nto = "LAB"\n' for c in range(1, channels))
+    return plan + ''.join(
+        f'[[channel]]\nname = "C{c}"\nlisten = "127.0.0.1:{port}"\ntypes = ["ADT"]\nprocessing = ["P"]\nversions = ["2.5.1"]\n'
+        f'steps = [\n{listed}\n]\n[[channel.route]]\nto = "{to}"\n' for c, port in enumerate(ports))
+
+
+# The plan of a hospital, and the largest: the messages come on the one channel without steps.
+HOSPITAL = '20 channels, 15 steps in 19', with_channels(ONE_ATTEMPT, 15, range(7_000, 7_019))
+LARGEST = '64 channels, 256 steps in 63', with_channels(ONE_ATTEMPT, 256, range(7_000, 7_063))
 
 
 def built(folder):
@@ -72,14 +76,14 @@ class Table:
     """Rows with a figure for each program."""
 
     def __init__(self):
-        print(f'\n{"":<66}' + ''.join(f'{name:>12}' for name in COLUMNS), flush=True)
+        print(f'\n{"":<66}' + ''.join(f'{name:>12}' for name in COLUMNS) + '   the engine over', flush=True)
 
-    def row(self, title, figures, form=',.0f', over=()):
-        """A row; `over` are the twins that the engine's figure is divided by."""
-        cells = ''.join(f'{format(figures[name], form) if figures.get(name) is not None else "":>12}' for name in COLUMNS)
-        engine = figures.get('engine')
-        ratios = [f'{engine / figures[name]:.2f} of {name}' for name in over if engine is not None and figures.get(name)]
-        print(f'{title:<66}{cells}' + (f'   {", ".join(ratios)}' if ratios else ''), flush=True)
+    def row(self, title, figures, form=',.0f', small=None):
+        """A row, with the engine's figure over each twin's, or over the engine's own by the small plan."""
+        cells = ''.join(f'{format(figures[name], form) if name in figures else "":>12}' for name in COLUMNS)
+        others = {name: figures[name] for name in TWINS if name in figures} if small is None else {'the small plan': small}
+        ratios = ', '.join(f'{name} {figures["engine"] / other:.2f}' for name, other in others.items() if other and 'engine' in figures)
+        print(f'{title:<66}{cells}   {ratios}'.rstrip(), flush=True)
 
 
 class Programs:
@@ -324,15 +328,16 @@ def measure_work(programs, table, count):
         print('valgrind is not installed: no instructions and no requests for memory')
         return
     names = [name for name in ('engine', 'plain', 'tuned') if name != 'engine' or not programs.checked]
-    plans = (('small plan', ONE_ATTEMPT), ('20 channels of 15 steps', many_channels(20, 15)))
     for tool, told, what, _ in TOOLS:
-        for title, plan in plans:
-            of = [name for name in names if plan == ONE_ATTEMPT or name == 'engine']
-            found = {name: a_message(programs.answering(name, plan), count, tool, told, programs.folder) for name in of}
-            table.row(f'answer, {title}: {what}', found, ',.1f', ('plain', 'tuned'))
-        found = {name: a_message(programs.answering(name), count, tool, told, programs.folder, True) for name in names}
+        def taken(name, plan, messages=count, to_end=False):
+            return a_message(programs.answering(name, plan), messages, tool, told, programs.folder, to_end)
+        small = {name: taken(name, ONE_ATTEMPT) for name in names}
+        table.row(f'answer, the small plan: {what}', small, ',.1f')
         if tool == 'callgrind':
-            table.row(f'answer, small plan: {what}, with the end', found, ',.1f', ('plain', 'tuned'))
+            table.row(f'answer, the small plan: {what}, with the end', {name: taken(name, ONE_ATTEMPT, to_end=True) for name in names}, ',.1f')
+        for title, plan in (HOSPITAL, LARGEST) if 'engine' in names else ():
+            found = taken('engine', plan, count if plan == HOSPITAL[1] else count // 10)
+            table.row(f'answer, {title}: {what}', {'engine': found}, ',.1f', small['engine'])
 
 
 def measure_run_work(programs, table, count):
@@ -345,7 +350,7 @@ def measure_run_work(programs, table, count):
         for name in names:
             few, many = (loopback.counted(programs.paths[name], programs.folder, n, tool, told) for n in (count, 2 * count))
             found[name] = (many - few) / count
-        table.row(f'run, one connection, one destination: {what}', found, ',.1f', ('threaded',))
+        table.row(f'run, one connection, one destination: {what}', found, ',.1f')
 
 
 # How long it takes
@@ -380,9 +385,9 @@ def measure_time(programs, table, messages, times):
     size = os.path.getsize(source)
     for place, (title, form) in enumerate((('seconds on the clock', '.3f'), ('processor seconds', '.3f'))):
         best = {name: min(figures[place] for figures in of) for name, of in runs.items()}
-        table.row(f'answer, {messages:,} messages: {title}, best of {times}', best, form, ('plain', 'tuned'))
+        table.row(f'answer, {messages:,} messages: {title}, best of {times}', best, form)
     beside = {name: (max(figures[2] for figures in of) - size) / messages for name, of in runs.items()}
-    table.row('answer: bytes at the peak beside those received, a message', beside, ',.0f', ('plain', 'tuned'))
+    table.row('answer: bytes at the peak beside those received, a message', beside)
 
 
 class Receiver:
@@ -425,18 +430,46 @@ def sent(port, connections, messages):
     return min(begin for begin, _ in times), max(end for _, end in times)
 
 
+class Worked(threading.Thread):
+    """Looks at the processor seconds of a process until it ends."""
+
+    def __init__(self, process):
+        super().__init__(daemon=True)
+        self.process, self.seconds = process, 0.0
+        self.start()
+
+    def run(self):
+        try:
+            while self.process.returncode is None:
+                self.seconds = max(self.seconds, loopback.processor_seconds(self.process))
+                time.sleep(0.02)
+        except (OSError, IndexError):
+            return  # it has ended
+
+
 def rates(programs, name, messages):
-    """Messages a second that were acknowledged, and that were delivered to one destination."""
+    """Messages a second that were acknowledged, and that were delivered to one destination, and processor microseconds a message."""
     port, = free_ports(1)
     with Receiver(programs.paths['threaded']) as sink:
         plan = one_channel(port, [('D0', sink.port, ['attempts = 1'])])
         with Engine(programs.paths[name], plan, CONNECTIONS, programs.folder) as engine:
+            worked = Worked(engine.process)
             began, told = sent(port, CONNECTIONS, messages)
             status, counts = engine.ended(LIMIT)
             ended = time.monotonic()
     if status != 0 or counts['destination', 'D0']['delivered'] != messages:
         raise RuntimeError(f'{name}: {status} {counts} {engine.told[-5:]}')
-    return messages / (told - began), messages / (ended - began)
+    return messages / (told - began), messages / (ended - began), 1e6 * worked.seconds / messages
+
+
+def largest_rate(programs, messages):
+    """Messages a second that the engine acknowledges by the largest plan; it is ended then, since no one connects to the others."""
+    port, *ports = free_ports(64)
+    with Receiver(programs.paths['threaded']) as sink:
+        plan = with_channels(one_channel(port, [('D0', sink.port, ['attempts = 1'])]), 256, ports, 'D0')
+        with Engine(programs.paths['engine'], plan, CONNECTIONS, programs.folder):
+            began, told = sent(port, CONNECTIONS, messages)
+    return messages / (told - began)
 
 
 def measure_rates(programs, table, messages, times):
@@ -445,9 +478,14 @@ def measure_rates(programs, table, messages, times):
     for _ in range(times):
         for name, of in runs.items():
             of.append(rates(programs, name, messages))
-    for place, title in enumerate(('acknowledged', 'delivered')):
-        best = {name: max(figures[place] for figures in of) for name, of in runs.items()}
-        table.row(f'run, {CONNECTIONS} connections: {title} a second, best of {times}', best, ',.0f', ('threaded',))
+    best = {name: [pick(figures) for pick, figures in zip((max, max, min), zip(*of))] for name, of in runs.items()}
+    for place, title in enumerate(('acknowledged a second', 'delivered a second', 'processor microseconds a message')):
+        form = ',.1f' if place == 2 else ',.0f'
+        table.row(f'run, {CONNECTIONS} connections: {title}, best of {times}', {name: of[place] for name, of in best.items()}, form)
+    if programs.checked:
+        return
+    largest = max(largest_rate(programs, max(messages // 20, CONNECTIONS)) for _ in range(times))
+    table.row(f'run, {LARGEST[0]}: acknowledged a second, best of {times}', {'engine': largest}, small=best['engine'][0])
 
 
 def measure(programs, quick, times):
@@ -455,11 +493,11 @@ def measure(programs, quick, times):
     same = compare_runs(programs) and same
     if programs.checked:
         print('the program checks its accesses (it was built by ./build --unproved): its times say nothing of a proved one, and what '
-              'valgrind counts of it is left out')
+              'valgrind counts of it and its rate by the largest plan are left out')
     table = Table()
-    measure_work(programs, table, 200 if quick else 2_000)
-    measure_time(programs, table, 4_000 if quick else 200_000, times)
-    measure_rates(programs, table, 1_600 if quick else 80_000, times)
+    measure_work(programs, table, 100 if quick else 2_000)
+    measure_time(programs, table, 1_000 if quick else 200_000, times)
+    measure_rates(programs, table, 800 if quick else 80_000, times)
     if not quick:
         measure_run_work(programs, table, 1_000)
     print(f'cores: {os.cpu_count()}, load of the last minute: {os.getloadavg()[0]:.1f}')
