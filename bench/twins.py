@@ -499,11 +499,11 @@ def measure(programs, quick, times):
         print('the program checks its accesses (it was built by ./build --unproved): its times say nothing of a proved one, and what '
               'valgrind counts of it and its rate by the largest plan are left out')
     table = Table()
-    measure_work(programs, table, 100 if quick else 2_000, quick)
+    measure_work(programs, table, 100 if quick else 1_000, quick)
     measure_time(programs, table, 1_000 if quick else 200_000, times)
     measure_rates(programs, table, 800 if quick else 80_000, times)
     if not quick:
-        measure_run_work(programs, table, 1_000)
+        measure_run_work(programs, table, 500)
     print(f'cores: {os.cpu_count()}, load of the last minute: {os.getloadavg()[0]:.1f}')
     return same
 
