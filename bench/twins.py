@@ -82,7 +82,8 @@ class Table:
         """A row, with the engine's figure over each twin's, or over the engine's own by the small plan."""
         cells = ''.join(f'{format(figures[name], form) if name in figures else "":>12}' for name in COLUMNS)
         others = {name: figures[name] for name in TWINS if name in figures} if small is None else {'the small plan': small}
-        ratios = ', '.join(f'{name} {figures["engine"] / other:.2f}' for name, other in others.items() if other > 0.1 and 'engine' in figures)
+        shown = [name for name, other in others.items() if 'engine' in figures and re.search('[1-9]', format(other, form))]
+        ratios = ', '.join(f'{name} {figures["engine"] / others[name]:.2f}' for name in shown)
         print(f'{title:<66}{cells}   {ratios}'.rstrip(), flush=True)
 
 
