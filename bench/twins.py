@@ -10,7 +10,8 @@ are built by rustc, in a folder of their own; where there is no rustc nothing is
 and requests for memory are counted by valgrind, where it is installed: of N and of 2N messages, the difference divided, so that
 the start of a program is left aside. They are counted until the last acknowledgment is written, when the program is ended by a
 signal, and once more to its own end, with what it gives back of its book. Times are the best of N runs (`--times`, by default 3), in
-which the programs take turns; `--quick` makes one run of few messages, which shows that everything works.
+which the programs take turns, beside the median of the turns' ratios; `--quick` makes one run of few messages, which shows that
+everything works.
 
 Plain Python 3, no packages. The exit status is 0 where the programs write the same, else 1.
 """
@@ -23,6 +24,7 @@ import selectors
 import shutil
 import signal
 import socket
+import statistics
 import subprocess
 import sys
 import tempfile
@@ -78,13 +80,17 @@ class Table:
     def __init__(self):
         print(f'\n{"":<66}' + ''.join(f'{name:>12}' for name in COLUMNS) + '   the engine over', flush=True)
 
-    def row(self, title, figures, form=',.0f', small=None):
-        """A row, with the engine's figure over each twin's, or over the engine's own by the small plan."""
+    def row(self, title, figures, form=',.0f', small=None, turns=None):
+        """A row, with the engine's figure over each twin's, or over the engine's own by the small plan. Where the figures are the
+        best of several turns, the median of the turns' ratios is in parentheses."""
         cells = ''.join(f'{format(figures[name], form) if name in figures else "":>12}' for name in COLUMNS)
         others = {name: figures[name] for name in TWINS if name in figures} if small is None else {'the small plan': small}
         shown = [name for name, other in others.items() if 'engine' in figures and re.search('[1-9]', format(other, form))]
-        ratios = ', '.join(f'{name} {figures["engine"] / others[name]:.2f}' for name in shown)
-        print(f'{title:<66}{cells}   {ratios}'.rstrip(), flush=True)
+        ratios = {name: f'{name} {figures["engine"] / others[name]:.2f}' for name in shown}
+        for name in shown if turns else ():
+            over = [one / other for one, other in zip(turns['engine'], turns[name]) if other]
+            ratios[name] += f' ({statistics.median(over or [0]):.2f})'
+        print(f'{title:<66}{cells}   {", ".join(ratios.values())}'.rstrip(), flush=True)
 
 
 class Programs:
@@ -389,8 +395,9 @@ def measure_time(programs, table, messages, times):
             of.append(timed(programs, name, source))
     size = os.path.getsize(source)
     for place, (title, form) in enumerate((('seconds on the clock', '.3f'), ('processor seconds', '.3f'))):
-        best = {name: min(figures[place] for figures in of) for name, of in runs.items()}
-        table.row(f'answer, {messages:,} messages: {title}, best of {times}', best, form)
+        turns = {name: [figures[place] for figures in of] for name, of in runs.items()}
+        best = {name: min(of) for name, of in turns.items()}
+        table.row(f'answer, {messages:,} messages: {title}, best of {times}', best, form, turns=turns)
     beside = {name: (max(figures[2] for figures in of) - size) / messages for name, of in runs.items()}
     table.row('answer: bytes at the peak beside those received, a message', beside)
 
@@ -483,14 +490,15 @@ def measure_rates(programs, table, messages, times):
     for _ in range(times):
         for name, of in runs.items():
             of.append(rates(programs, name, messages))
-    best = {name: [pick(figures) for pick, figures in zip((max, max, min), zip(*of))] for name, of in runs.items()}
-    for place, title in enumerate(('acknowledged a second', 'delivered a second', 'processor microseconds a message')):
-        form = ',.1f' if place == 2 else ',.0f'
-        table.row(f'run, {CONNECTIONS} connections: {title}, best of {times}', {name: of[place] for name, of in best.items()}, form)
+    rows = (('acknowledged a second', max, ',.0f'), ('delivered a second', max, ',.0f'), ('processor microseconds a message', min, ',.1f'))
+    for place, (title, pick, form) in enumerate(rows):
+        turns = {name: [figures[place] for figures in of] for name, of in runs.items()}
+        best = {name: pick(of) for name, of in turns.items()}
+        table.row(f'run, {CONNECTIONS} connections: {title}, best of {times}', best, form, turns=turns)
     if programs.checked:
         return
     largest = max(largest_rate(programs, max(messages // 20, CONNECTIONS)) for _ in range(times))
-    table.row(f'run, {LARGEST[0]}: acknowledged a second, best of {times}', {'engine': largest}, small=best['engine'][0])
+    table.row(f'run, {LARGEST[0]}: acknowledged a second, best of {times}', {'engine': largest}, small=max(figures[0] for figures in runs['engine']))
 
 
 def measure(programs, quick, times):
