@@ -70,6 +70,7 @@ fn entries(alloc: Global, window: &Window, count: usize) -> Result<String> {
 }
 
 /// Folds an empty history of the built-in plan, with room for a number of entries.
+#[tactic(auto, unfolding(event_log::specs::Room::total))]
 fn folding(alloc: Global, window: &Window, room: usize) -> Result<String> {
     let plan = Arc::new(alloc, Plan::built_in(alloc)?)?;
     let mut log = Log::new(alloc, plan, EVENTS_MAX);
