@@ -30,7 +30,7 @@ ORDER = (
     ('Events and history', 'event_log.Event event_log.History event_log.Answers event_log.Deployment event_log.Room '
      'event_log.Legal event_log.Replay dest_queue.States dest_queue.Slots dest_queue.Queues row_store.Rows '
      'event_log.Counting stat_count.Statistics stat_count.Sums'),
-    ('The promise of a book', 'book_core.Headline'),
+    ('The promise of a book, and its calls', 'book_core.Headline book_core.Receiving book_core.Refusing'),
     ('What pruning leaves', 'event_log.Folding event_log.Alike'),
     ('Replies and serving', 'conn_core.Messages conn_core.Replies conn_core.Booking conn_worker.Serving conn_worker.Faults'),
     ('Delivering', 'delivery_worker.Stream delivery_worker.Answers delivery_worker.Delivering'),
@@ -50,6 +50,9 @@ CLAIMS = (
     ('Serving', 'the clauses `served`, `read_fault`, `write_fault` and `flushed` of `serve_within` and `answer_stream`: '
      '`ServesAndBooks`, `Serves`, `Books` and how faults are counted, on top of replies and of what a history is',
      ['conn_worker.Serving.ServesAndBooks', 'conn_core.Booking.Books', 'conn_worker.Faults.*']),
+    ('A call on a book', 'the clauses `does`, `memory` and `receipt` of the calls that do an event: `Does`, `MemoryIsLast` and '
+     '`IsReceipt`, on top of `answer`',
+     ['event_log.Event.Does', 'event_log.Event.MemoryIsLast', 'book_core.Receiving.*']),
     ('A message at a book', 'the clause `told` of `answer_block`: `OutcomeAtBook`, on top of `answer` and `is_full`',
      ['conn_core.Booking.OutcomeAtBook']),
     ('Delivering', 'the clause `attempts` of `deliver`: `Delivers`, on top of framing and of what a message is',
