@@ -147,7 +147,8 @@ def a_deaf_sender(program, folder):
     with Engine(program, one_channel(port, [('LAB', lab.port, [])]), 1, folder) as engine, socket.socket() as deaf:
         deaf.setsockopt(socket.SOL_SOCKET, socket.SO_RCVBUF, 4_096)
         deaf.connect(('127.0.0.1', port))
-        deaf.settimeout(1.0)
+        # A slow program may read nothing for some seconds while it handles a message.
+        deaf.settimeout(15.0 if checks_accesses(program) else 1.0)
         try:
             for n in range(5_000):
                 deaf.sendall(block(message(b'D%d' % n, sender=b'R' * 50_000)))

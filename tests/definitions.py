@@ -5,9 +5,12 @@ Plain Python 3.
 Usage: tests/definitions.py [--write]
 
 A claim is one definition or a few of crates/*/specs; what it rests on is found by the names that its text uses, and so on.
-What is left over helps proofs alone. A definition whose name a variable has elsewhere may be named too many. Without
---write the page is compared with what would be written, and the exit status is 1 where it differs, where a page of
-definitions begins with no heading, or where a page is missing from the reading order below.
+The pages of specs/ hold these definitions and no others; the pages of specs/inner/ hold what no claim rests on: helpers of
+proofs, and words that a clause of a single call uses.
+
+Without --write the page is compared with what would be written, and the exit status is 1 where it differs, where a page of
+specs/ begins with no heading, cites a page of specs/inner/, has a definition that no claim rests on or one whose name
+another page of specs/ defines too, or where a page is missing from the reading order below.
 """
 import collections
 import glob
@@ -30,17 +33,20 @@ ORDER = (
     ('Events and history', 'event_log.Event event_log.History event_log.Answers event_log.Deployment event_log.Room '
      'event_log.Legal event_log.Replay dest_queue.States dest_queue.Slots dest_queue.Queues row_store.Rows '
      'event_log.Counting stat_count.Statistics stat_count.Sums'),
-    ('The promise of a book, and its calls', 'book_core.Headline book_core.Receiving book_core.Refusing'),
+    ('The promise of a book, and its calls', 'book_core.Headline book_core.Receiving book_core.Refusing book_core.Sending'),
     ('What pruning leaves', 'event_log.Folding event_log.Alike'),
     ('Replies and serving', 'conn_core.Messages conn_core.Replies conn_core.Booking conn_worker.Serving conn_worker.Faults'),
     ('Delivering', 'delivery_worker.Stream delivery_worker.Answers delivery_worker.Delivering'),
     ('Shares and audit', 'book_lock.Shares book_lock.Rises book_lock.Auditing'),
+    ('One history for all threads', 'ghost_log.Seats book_lock.Log book_lock.Outcomes conn_worker.Arriving delivery_worker.Turns '
+     'delivery_worker.Sent'),
     ('Every order of steps', 'engine_model.Turn engine_model.Run engine_model.Steps engine_model.Promise '
      'engine_model.Converse'),
     ('The program', 'engine_words.Request engine_words.Words engine_report.Lines engine_report.Findings '
      'engine_report.Ending'),
 )
-CLAIMS = (
+# The claims of the promise, from the bytes of a sender to those of a destination.
+PROMISE = (
     ('What a message is, and what becomes of it', 'under the headline and under serving alike: `verdict` and `key_of`',
      ['judge_core.Judging.verdict', 'judge_core.Judging.key_of']),
     ('The headline', '`KeepsItsPromise`, on top of these',
@@ -59,13 +65,31 @@ CLAIMS = (
      ['delivery_worker.Delivering.Delivers']),
     ('A shared book', 'the clauses of `close` and `audit`: what adds up, which receipts are due, which fault is first',
      ['book_lock.Rises.AddsUp', 'book_lock.Auditing.receipts_due', 'book_lock.Auditing.unfolded', 'book_lock.Auditing.IsFirstFault']),
+    ('One history for all threads', 'the clause `call` of `Shared::arrive`, `take` and `settle`, and `linearizes` of `close`: '
+     '`Arrives`, `Takes`, `Calls` and `Linearizes`, on top of a call on a book',
+     ['book_lock.Log.Calls', 'book_lock.Log.Arrives', 'book_lock.Log.Takes', 'book_lock.Log.IsCalled', 'book_lock.Log.IsPruned',
+      'book_lock.Log.Linearizes']),
+    ('The slots of a closed book', 'the clause `accounted` of `close`: `IsAccountedFor`, on top of one history for all threads',
+     ['book_lock.Outcomes.IsAccountedFor']),
+    ('A connection in the one history', 'the clause `booked` of `serve`: `BooksInLog` and `ArrivesInTurn`, on top of one history for '
+     'all threads',
+     ['conn_worker.Arriving.BooksInLog']),
+    ('Delivering in that history', 'the clause `attempts` of `deliver` and `deliver_until`: `DeliversInLog`, on top of delivering '
+     'and of one history for all threads',
+     ['delivery_worker.Turns.DeliversInLog']),
+    ('Delivered is sent', 'the law `delivered_is_sent`: `SettledIsSent`, `DeliveredIsSent`, `OnlySettlers` and `NeverSettles`, on top '
+     'of the slots of a closed book and of connections and delivering in the one history',
+     ['delivery_worker.Sent.*']),
+)
+# Claims beside it: of the program, of a model of the whole engine, of pruning and of the text of a plan.
+BESIDE = (
     ('The end of a run', 'the clauses of `conclude`, `find`, `listen_faults` and `statistics_of`: `Concludes`, `IsFinding`, '
      '`failed_channels` and `lines_of_closed`, on top of a shared book',
      ['engine_report.Findings.Concludes', 'engine_report.Findings.IsFinding', 'engine_report.Findings.failed_channels',
       'engine_report.Lines.lines_of_closed']),
-    ('Every order of steps', 'the clauses of `World::run`, `World::promise` and `steps_of`: `Runs`, `KeepsItsWord` and '
+    ('Every order of steps', 'the clauses of `World::run`, `World::promise` and `steps_of`: `Runs`, `RunInvariant` and '
      '`IsRunOf`, on top of replies and of what a history is',
-     ['engine_model.Steps.Runs', 'engine_model.Promise.KeepsItsWord', 'engine_model.Converse.IsRunOf']),
+     ['engine_model.Steps.Runs', 'engine_model.Promise.RunInvariant', 'engine_model.Converse.IsRunOf']),
     ('What a pruned history still says', 'the law `folding_rules`: `prune_answer`, `pruned`, `IsAlike` and `AllReplyAlike`, on top of what a '
      'history is; event_log PruningRows has worked examples',
      ['event_log.Folding.prune_answer', 'event_log.Folding.pruned', 'event_log.Alike.*']),
@@ -102,6 +126,8 @@ class Module:
                     mutual = False
                 begins = line[0] != ' ' or (mutual and line.startswith('  ') and line[2] != ' ')
                 head = HEAD.match(line.strip()) if begins else None
+                if head and ' >>= ' in line.partition(' = ')[0]:
+                    head = None
                 if head:
                     current = head.group(2)
                     self.defs.setdefault(current, [])
@@ -169,10 +195,10 @@ def reach(modules, module, name, seen):
             reach(modules, module, first, seen)
 
 
-def claims(modules):
-    """All that the claims rest on, as pairs of module and name; and a line of each claim."""
+def claims(modules, stated=None):
+    """All that claims rest on, as pairs of module and name; and a line of each claim. Without `stated`: all of them."""
     seen, lines = set(), []
-    for title, said, roots in CLAIMS:
+    for title, said, roots in stated or PROMISE + BESIDE:
         for root in roots:
             crate, file, name = root.split('.')
             module = f'{crate}.specs.{file}'
@@ -192,44 +218,86 @@ def heading(module):
     return first[3:].rstrip('.:') if first.startswith('-- ') else ''
 
 
+def size(modules, seen):
+    """How many lines some definitions have."""
+    return sum(len(modules[module].defs[name]) for module, name in seen)
+
+
 def page_line(modules, seen, module):
     crate, _, file = module.split('.')
-    here = modules[module]
-    names = [name for name in here.defs if (module, name) in seen]
+    names = [name for name in modules[module].defs if (module, name) in seen]
     listed = ', '.join(f'`{name.strip("◌")}`' for name in names)
-    whole = 'all: ' if len(names) == len(here.defs) else ''
-    size = sum(len(here.defs[name]) for name in names)
-    return f'| [{crate} {file}](../crates/{crate}/specs/{file}.antt) | {heading(module)} | {size} | {whole}{listed} |'
+    lines = size(modules, [(module, name) for name in names])
+    return f'| [{crate} {file}](../crates/{crate}/specs/{file}.antt) | {heading(module)} | {lines} | {listed} |'
 
 
-def text_of(modules, seen, lines):
+def tables(modules, seen, pages):
+    """The tables of these pages, in reading order."""
+    for title, order in ORDER:
+        here = [module for module in (page.replace('.', '.specs.') for page in order.split()) if module in pages]
+        if here:
+            yield from (f'### {title}', '', '| Page | What it defines | Lines | Definitions |', '|---|---|---|---|')
+            yield from (page_line(modules, seen, module) for module in here)
+            yield ''
+
+
+def cited(module):
+    """The pages of inner/ that a page of specs/ cites."""
+    crate, _, file = module.split('.')
+    with open(os.path.join(CRATES, crate, 'specs', f'{file}.antt'), encoding='utf-8') as page:
+        return sorted({line.split('.{')[0].split()[-1] for line in page if line.startswith(('use ', 'pub use ')) and '.specs.inner' in line})
+
+
+def misplaced(modules, seen):
+    """What is wrong with the pages of specs/: where a page cites inner/, has no heading, or has a definition that no claim rests
+    on, and the names that two pages define."""
+    for module, page in modules.items():
+        file = module.split('.')[2]
+        if file in ('Lib', 'inner'):
+            continue
+        if not heading(module):
+            yield f'{module} begins with no heading'
+        yield from (f'{module} cites {inner}' for inner in cited(module))
+        left = [name for name in page.defs if (module, name) not in seen]
+        if left:
+            yield f'{module}: no claim rests on {", ".join(left)}, which belongs to specs/inner/'
+    where = collections.defaultdict(list)
+    for module, name in seen:
+        where[name].append(module)
+    for name, pages in sorted(where.items()):
+        if len(pages) > 1 and name not in OPERATORS.values():
+            yield f'{name} is defined by {" and by ".join(sorted(pages))}'
+
+
+def text_of(modules, seen):
     """The whole page."""
-    twice = collections.Counter(name for _, name in seen)
-    size = sum(len(modules[module].defs[name]) for module, name in seen)
+    first, promised = claims(modules, PROMISE)
+    beside = claims(modules, BESIDE)[1]
+    pages = {module for module, _ in first}
+    rest = {module for module, _ in seen} - pages
+    here = {each for each in seen if each[0] in pages}
     yield from ('# The definitions to trust', '', '<!-- written by tests/definitions.py --write -->', '',
-                f'A proof says that code agrees with definitions. These are the {len(seen)} definitions, {size} lines in all, that what '
-                '[PROVED.md](PROVED.md) claims rests on, in the order in which they are best read. Whether they say what HL7 '
-                'v2.5.1 and the pages of docs/ mean, a reader has to see; no proof can. What else is in `specs/` helps '
-                'proofs alone. The claims:', '', *lines, '')
-    for title, pages in ORDER:
-        yield from (f'## {title}', '', '| Page | What it defines | Lines | Definitions |', '|---|---|---|---|')
-        for page in pages.split():
-            yield page_line(modules, seen, page.replace('.', '.specs.'))
-        yield ''
-    both = ', '.join(f'`{name.strip("◌")}`' for name in sorted(twice) if twice[name] > 1)
-    yield from ('## Names that two pages define', '', f'A page imports the one that it means: {both}.')
+                f'A proof says that code agrees with definitions. These are the {len(seen)} definitions that what [PROVED.md](PROVED.md) '
+                'claims rests on, in the order in which they are best read. Whether they say what HL7 v2.5.1 and the pages of docs/ '
+                'mean, a reader has to see; no proof can. What is in `specs/inner/` helps proofs, or words a clause of a single call.', '',
+                f'The promise rests on the {len(pages)} pages of the first part, {size(modules, here)} lines of definitions. The second '
+                f'part has {len(rest)} pages, {size(modules, seen - here)} lines, for the claims beside it.', '',
+                '## The promise', '', *promised, '')
+    yield from tables(modules, seen, pages)
+    yield from ('## Beside the promise', '', *beside, '')
+    yield from tables(modules, seen, rest)
 
 
 def main():
     modules = modules_of()
-    seen, lines = claims(modules)
+    seen, _ = claims(modules)
     listed = [page.replace('.', '.specs.') for _, pages in ORDER for page in pages.split()]
     pages = {module for module, _ in seen}
     wrong = [f'{module} is not in the reading order' for module in sorted(pages - set(listed))]
     wrong += [f'{module} is in the reading order, but no claim rests on it' for module in listed if module not in pages]
-    wrong += [f'{module} begins with no heading' for module in listed if module in modules and not heading(module)]
+    wrong += misplaced(modules, seen)
     if not wrong:
-        text = '\n'.join(text_of(modules, seen, lines)) + '\n'
+        text = '\n'.join(text_of(modules, seen))
         if sys.argv[1:] == ['--write']:
             with open(PAGE, 'w', encoding='utf-8') as f:
                 f.write(text)

@@ -1,5 +1,5 @@
 -- Which acknowledgments a message is due: HL7 v2.5.1, 2.9.2 and 2.9.3, with table 0155 for MSH-15 and MSH-16.
-use Rattle.std.specs.Prelude.{ℕ, Bool, true, false, ◌&&◌, ◌||◌, List, [], ◌∷◌, ◌++◌, map, Option, None, Some, if◌then◌else◌, codes}
+use Rattle.std.specs.Prelude.{ℕ, Bool, true, false, ◌&&◌, ◌||◌, List, [], ◌∷◌, map, Option, None, Some, if◌then◌else◌, codes}
 use Rattle.std.specs.Str.{bytes_eq}
 use Rattle.er7_tree.specs.Pieces.{is_vacant}
 use Rattle.hl7_head.specs.declared.ack.AckCode.{AckCode}
@@ -30,13 +30,13 @@ ack_mode accept application =
 
 -- By which codes a refusal is acknowledged: C, the commit codes CR and CE; A, the application codes AR and AE; or not
 -- at all.
-pub data Refusal : Type 0 where
-  C : Refusal
-  A : Refusal
-  untold : Refusal
+pub data RefusalKind : Type 0 where
+  C : RefusalKind
+  A : RefusalKind
+  untold : RefusalKind
 
 -- What is acknowledged in enhanced mode. MSH-15, MSH-16: the codes on success, and those on a refusal.
-abbrev pub table : AckType → AckType → List AckCode × Refusal
+abbrev pub table : AckType → AckType → List AckCode × RefusalKind
 table AL AL = (CA ∷ AA ∷ [], C)
 table AL NE = (CA ∷ [], C)
 table AL ER = (CA ∷ [], C)
@@ -55,7 +55,7 @@ table SU ER = (CA ∷ [], A)
 table SU SU = (CA ∷ AA ∷ [], untold)
 
 -- the code of a refusal: the commit code, the application code or none
-abbrev pub refusal_codes : AckCode → AckCode → Refusal → List AckCode
+abbrev pub refusal_codes : AckCode → AckCode → RefusalKind → List AckCode
 refusal_codes commit application C = commit ∷ []
 refusal_codes commit application A = application ∷ []
 refusal_codes commit application untold = []
@@ -79,27 +79,3 @@ verdictum_of UnsupportedType = Reject UnsupportedType
 verdictum_of UnsupportedProcessing = Reject UnsupportedProcessing
 verdictum_of UnsupportedVersion = Reject UnsupportedVersion
 verdictum_of cause = Error cause
-
--- an acknowledgment of this type is sent on success
-abbrev pub tells_success : AckType → Bool
-tells_success AL = true
-tells_success NE = false
-tells_success ER = false
-tells_success SU = true
-
--- an acknowledgment of this type is sent on a refusal
-abbrev pub tells_refusal : AckType → Bool
-tells_refusal AL = true
-tells_refusal NE = false
-tells_refusal ER = true
-tells_refusal SU = false
-
--- success is reported by each of the two acknowledgments that is requested on success
-abbrev pub success_codes : AckType → AckType → List AckCode
-success_codes accept application =
-    (if tells_success accept then CA ∷ [] else []) ++ (if tells_success application then AA ∷ [] else [])
-
--- a refusal is reported once, by the accept acknowledgment where that is requested on a refusal
-abbrev pub refusal_told : AckType → AckType → Refusal
-refusal_told accept application =
-    if tells_refusal accept then C else (if tells_refusal application then A else untold)

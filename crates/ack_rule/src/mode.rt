@@ -1,5 +1,6 @@
 ghost use Rattle.std.specs.Prelude.{◌≡◌};
-ghost use Rattle.ack_rule.specs.Due.{ack_mode, ack_type, tells_refusal, tells_success};
+ghost use Rattle.ack_rule.specs.Due.{ack_mode, ack_type};
+ghost use Rattle.ack_rule.specs.inner.Due.{tells_refusal, tells_success};
 
 use er7_tree::is_vacant;
 use hl7_head::Header;

@@ -1,7 +1,8 @@
 ghost use Rattle.std.specs.Prelude.{◌≡◌, ◌∷◌, [], true, false};
 ghost use Rattle.std.specs.List.{flat_map};
 ghost use Rattle.std.specs.Option.{option_to_list};
-ghost use Rattle.ack_rule.specs.Due.{due, parts_of, refusal_codes, refusal_told, success_codes, table};
+ghost use Rattle.ack_rule.specs.Due.{due, parts_of, refusal_codes, table};
+ghost use Rattle.ack_rule.specs.inner.Due.{refusal_told, success_codes};
 
 use crate::mode::{AckMode, AckType};
 use crate::verdictum::Verdictum;

@@ -8,7 +8,8 @@ ghost use Rattle.event_log.specs.Counting.{counted};
 use crate::desk::booked;
 use crate::message::{ADMISSION, Rows};
 use book_core::Book;
-use book_lock::{Desk, Opening, Shared};
+use book_lock::{ArrivalLedger, Desk, LogEntry, Shared};
+use ghost_log::BlankLog;
 use plan_text::Plan;
 use std::alloc::Global;
 use std::marker::Brand;
@@ -18,7 +19,7 @@ use std::sync::{Arc, Wait};
 use std::time::Clock;
 
 /// Books and cancels messages, two entries each, until there are as many entries as are given.
-fn fill<A: Opening, T: Ledger, U: Ledger, H: Wait + Clock>(
+fn fill<A: ArrivalLedger, T: Ledger, U: Ledger, H: Wait + Clock>(
     rt: &H,
     alloc: Global,
     shared: &Shared<A, T, U, Rows>,
@@ -34,7 +35,7 @@ fn fill<A: Opening, T: Ledger, U: Ledger, H: Wait + Clock>(
 }
 
 /// Books messages, and returns the nanoseconds that all calls took.
-fn book_all<A: Opening, T: Ledger, U: Ledger, H: Wait + Clock>(
+fn book_all<A: ArrivalLedger, T: Ledger, U: Ledger, H: Wait + Clock>(
     rt: &H,
     alloc: Global,
     shared: &Shared<A, T, U, Rows>,
@@ -51,7 +52,7 @@ fn book_all<A: Opening, T: Ledger, U: Ledger, H: Wait + Clock>(
 }
 
 /// Fills a shared book with `entries` entries, and books further messages at its first desk.
-fn fill_and_book<A: Opening, T: Ledger, U: Ledger, H: Wait + Clock>(
+fn fill_and_book<A: ArrivalLedger, T: Ledger, U: Ledger, H: Wait + Clock>(
     rt: &H,
     alloc: Global,
     shared: &Shared<A, T, U, Rows>,
@@ -68,16 +69,19 @@ fn fill_and_book<A: Opening, T: Ledger, U: Ledger, H: Wait + Clock>(
 }
 
 /// Shares a book, and books messages behind the entries that fill it.
-fn time_calls<A: Opening, T: Ledger, U: Ledger, H: Wait + Clock>(
+fn time_calls<A: ArrivalLedger, T: Ledger, U: Ledger, H: Wait + Clock>(
     rt: &H,
     alloc: Global,
     book: Book<Rows>,
+    log: BlankLog<LogEntry>,
     arrivals: Blank,
     takes: Blank,
     settlements: Blank,
     entries: u32,
     calls: u32,
 ) -> Option<u64>
+    requires opening { book ≡ A.opening }
+    requires log { log.table.shared.table_id ≡ A.table }
     requires counts { counted book ≡ A.counts }
     requires first { next_place book ≡ A.first }
     requires channels { length (plan_in_force book).channels ≡ A.channels }
@@ -85,24 +89,26 @@ fn time_calls<A: Opening, T: Ledger, U: Ledger, H: Wait + Clock>(
     requires takes { (takes.name ≡ T.name) × (takes.parts ≡ T.parts) × (T.parts ≡ 1) }
     requires settlements { (settlements.name ≡ U.name) × (settlements.parts ≡ U.parts) × (U.parts ≡ 1) }
 {
-    let opened = Shared::<A, T, U, Rows>::new(alloc, book, 1, 0, arrivals, takes, settlements);
+    let opened = Shared::<A, T, U, Rows>::new(alloc, book, 1, 0, log, arrivals, takes, settlements);
     let (shared, mut desks, _stations) = opened.ok()?;
     fill_and_book(rt, alloc, &shared, &mut desks, entries, calls)
 }
 
 /// The nanoseconds that arrivals take behind the entries that fill an empty book that is shared. None where
 /// a message was not booked, or memory was refused.
-pub fn time_arrivals<H: Wait + Clock>(
+pub(crate) fn time_arrivals<H: Wait + Clock>(
     rt: &H,
     alloc: Global,
     book: Option<Book<Rows>>,
     entries: u32,
     calls: u32,
 ) -> Option<u64> {
+    let log = BlankLog::new(alloc).ok()?;
     time_calls::<Brand, Brand, Brand, H>(
         rt,
         alloc,
         book?,
+        log,
         Blank::new(2),
         Blank::new(1),
         Blank::new(1),

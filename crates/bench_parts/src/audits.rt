@@ -7,7 +7,8 @@ ghost use Rattle.event_log.specs.Counting.{counted};
 use crate::desk::booked;
 use crate::message::{RESULT, Rows, nanoseconds_since};
 use book_core::{Book, Receipt};
-use book_lock::{Closed, Desk, Opening, Shared, audit};
+use book_lock::{ArrivalLedger, Closed, Desk, LogEntry, Shared, audit};
+use ghost_log::BlankLog;
 use plan_text::Plan;
 use std::alloc::Global;
 use std::marker::Brand;
@@ -23,7 +24,7 @@ pub struct Audits {
 }
 
 /// Books messages, and appends their receipts.
-fn push_receipts<A: Opening, T: Ledger, U: Ledger, H: Wait + Clock>(
+fn push_receipts<A: ArrivalLedger, T: Ledger, U: Ledger, H: Wait + Clock>(
     rt: &H,
     alloc: Global,
     shared: &Shared<A, T, U, Rows>,
@@ -40,7 +41,7 @@ fn push_receipts<A: Opening, T: Ledger, U: Ledger, H: Wait + Clock>(
 }
 
 /// Books messages, and returns their receipts.
-fn receipts_of<A: Opening, T: Ledger, U: Ledger, H: Wait + Clock>(
+fn receipts_of<A: ArrivalLedger, T: Ledger, U: Ledger, H: Wait + Clock>(
     rt: &H,
     alloc: Global,
     shared: &Shared<A, T, U, Rows>,
@@ -54,7 +55,7 @@ fn receipts_of<A: Opening, T: Ledger, U: Ledger, H: Wait + Clock>(
 }
 
 /// Books messages at the first desk, and returns their receipts.
-fn first_receipts<A: Opening, T: Ledger, U: Ledger, H: Wait + Clock>(
+fn first_receipts<A: ArrivalLedger, T: Ledger, U: Ledger, H: Wait + Clock>(
     rt: &H,
     alloc: Global,
     shared: &Shared<A, T, U, Rows>,
@@ -75,15 +76,18 @@ fn time_audit<H: Clock>(rt: &H, closed: &Closed<Rows>, receipts: &[Receipt]) -> 
 }
 
 /// Books messages at a shared book and closes it. Returns the closed book and the receipts.
-fn booked_and_closed<A: Opening, T: Ledger, U: Ledger, H: Wait + Clock>(
+fn booked_and_closed<A: ArrivalLedger, T: Ledger, U: Ledger, H: Wait + Clock>(
     rt: &H,
     alloc: Global,
     book: Book<Rows>,
+    log: BlankLog<LogEntry>,
     arrivals: Blank,
     takes: Blank,
     settlements: Blank,
     count: u32,
 ) -> Option<(Closed<Rows>, Vec<Receipt>)>
+    requires opening { book ≡ A.opening }
+    requires log { log.table.shared.table_id ≡ A.table }
     requires counts { counted book ≡ A.counts }
     requires first { next_place book ≡ A.first }
     requires channels { length (plan_in_force book).channels ≡ A.channels }
@@ -91,7 +95,7 @@ fn booked_and_closed<A: Opening, T: Ledger, U: Ledger, H: Wait + Clock>(
     requires takes { (takes.name ≡ T.name) × (takes.parts ≡ T.parts) × (T.parts ≡ 1) }
     requires settlements { (settlements.name ≡ U.name) × (settlements.parts ≡ U.parts) × (U.parts ≡ 1) }
 {
-    let opened = Shared::<A, T, U, Rows>::new(alloc, book, 1, 0, arrivals, takes, settlements);
+    let opened = Shared::<A, T, U, Rows>::new(alloc, book, 1, 0, log, arrivals, takes, settlements);
     let (shared, mut desks, stations) = opened.ok()?;
     let receipts = first_receipts(rt, alloc, &shared, &mut desks, count);
     shared.close(desks, stations).ok().zip(receipts)
@@ -111,16 +115,18 @@ fn time_both<H: Clock>(
 
 /// How long the audits of the receipts of an empty book take that is shared and booked at. None where a message was
 /// not booked, or memory was refused.
-pub fn time_audits<H: Wait + Clock>(
+pub(crate) fn time_audits<H: Wait + Clock>(
     rt: &H,
     alloc: Global,
     book: Option<Book<Rows>>,
     count: u32,
 ) -> Option<Audits> {
+    let log = BlankLog::new(alloc).ok()?;
     let (closed, mut receipts) = booked_and_closed::<Brand, Brand, Brand, H>(
         rt,
         alloc,
         book?,
+        log,
         Blank::new(2),
         Blank::new(1),
         Blank::new(1),

@@ -99,7 +99,11 @@ fn cancellations(rt: &HostRuntime, book: &mut Book<Rows>, numbers: Range<u32>) -
 }
 
 /// Books the messages of these ids, and cancels each at once.
-pub fn book_and_cancel(rt: &HostRuntime, book: &mut Book<Rows>, ids: Range<u32>) -> Option<()> {
+pub(crate) fn book_and_cancel(
+    rt: &HostRuntime,
+    book: &mut Book<Rows>,
+    ids: Range<u32>,
+) -> Option<()> {
     for control_id in ids {
         let number = book.message_count();
         booked(rt, book, MANY, control_id)?;
@@ -109,13 +113,13 @@ pub fn book_and_cancel(rt: &HostRuntime, book: &mut Book<Rows>, ids: Range<u32>)
 }
 
 /// Books messages that are sent often and left waiting, and then `messages` that are cancelled at once.
-pub fn fill(rt: &HostRuntime, book: &mut Book<Rows>, messages: u32) -> Option<()> {
+pub(crate) fn fill(rt: &HostRuntime, book: &mut Book<Rows>, messages: u32) -> Option<()> {
     arrivals(rt, book, FEW, 0..SENT_OFTEN)?;
     book_and_cancel(rt, book, 0..messages)
 }
 
 /// Measures calls of each kind on a book that is filled with messages.
-pub fn measure(
+pub(crate) fn measure(
     rt: &HostRuntime,
     book: &mut Book<Rows>,
     messages: u32,

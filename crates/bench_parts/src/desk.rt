@@ -5,7 +5,7 @@ ghost use Rattle.judge_core.specs.Judging.{is_bookable};
 
 use crate::message::{MANY, Rows, judged, nanoseconds_since};
 use book_core::Receipt;
-use book_lock::{Desk, Opening, Shared};
+use book_lock::{ArrivalLedger, Desk, Shared};
 use judge_core::Judged;
 use plan_text::Plan;
 use std::alloc::Global;
@@ -14,7 +14,7 @@ use std::sync::{Arc, Wait};
 use std::time::{Clock, Instant};
 
 /// Books a message, and returns its receipt and the nanoseconds that the call took.
-fn timed_arrival<A: Opening, T: Ledger, U: Ledger, H: Wait + Clock>(
+fn timed_arrival<A: ArrivalLedger, T: Ledger, U: Ledger, H: Wait + Clock>(
     rt: &H,
     shared: &Shared<A, T, U, Rows>,
     desk: &mut Desk<A>,
@@ -29,7 +29,7 @@ fn timed_arrival<A: Opening, T: Ledger, U: Ledger, H: Wait + Clock>(
 }
 
 /// Books a message of this type, with bytes of its own, and returns its receipt and the nanoseconds that the call took.
-pub fn booked<A: Opening, T: Ledger, U: Ledger, H: Wait + Clock>(
+pub(crate) fn booked<A: ArrivalLedger, T: Ledger, U: Ledger, H: Wait + Clock>(
     rt: &H,
     alloc: Global,
     shared: &Shared<A, T, U, Rows>,

@@ -16,7 +16,11 @@ fn folded(rt: &HostRuntime, book: &mut Book<Rows>, before: u32) -> Option<u64> {
 
 /// Fills a book with messages that are cancelled and forgets them, but for the last ones, as often as requested.
 /// Returns the nanoseconds of the longest pruning.
-pub fn time_foldings(rt: &HostRuntime, book: &mut Book<Rows>, asked: Request) -> Option<u64> {
+pub(crate) fn time_foldings(
+    rt: &HostRuntime,
+    book: &mut Book<Rows>,
+    asked: Request,
+) -> Option<u64> {
     let mut longest = 0_u64;
     for round in 0..asked.times {
         let first = round.saturating_mul(asked.count);

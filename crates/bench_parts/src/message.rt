@@ -3,8 +3,8 @@
 ghost use Rattle.std.specs.Prelude.{IfSome, IsTrue};
 ghost use Rattle.judge_core.specs.Judging.{is_bookable};
 
-use book_core::{Book, EVENTS_MAX, Letter};
-use dest_queue::Addressed;
+use book_core::{Book, EVENTS_MAX, Outbound};
+use dest_queue::Queued;
 use judge_core::{Judged, fits_block, judge};
 use plan_text::Plan;
 use record_list::RecordList;
@@ -14,7 +14,7 @@ use std::sync::Arc;
 use std::time::{Clock, Instant};
 
 /// The rows as the program has them, in linked nodes.
-pub type Rows = RecordList<Addressed<Letter>>;
+pub type Rows = RecordList<Queued<Outbound>>;
 
 /// The type of messages that the channels take.
 pub const ADMISSION: &str = "ADT^A01^ADT_A01";
@@ -61,7 +61,7 @@ pub const MANY: u32 = 0;
 pub const FEW: u32 = 1;
 
 /// An empty book of that plan. None where memory was refused.
-pub fn empty_book(rt: &HostRuntime) -> Option<Book<Rows>> {
+pub(crate) fn empty_book(rt: &HostRuntime) -> Option<Book<Rows>> {
     let alloc = rt.alloc();
     let hasher = RandomState::new(rt).ok()?;
     let plan = Plan::read(alloc, TEXT.as_bytes()).ok()?;
@@ -78,7 +78,7 @@ fn text_of(alloc: Global, kind: &str, control_id: u32) -> Result<Vec<u8>, AllocE
 }
 
 /// A message of this type with this control id, judged as one that arrives on a channel. None where memory was refused.
-pub fn judged(
+pub(crate) fn judged(
     alloc: Global,
     plan: &Arc<Plan>,
     channel: u32,
@@ -96,7 +96,7 @@ pub fn judged(
 }
 
 /// Nanoseconds since a moment. None where the clock was not read, then or now.
-pub fn nanoseconds_since<H: Clock>(rt: &H, began: Option<Instant>) -> Option<u64> {
+pub(crate) fn nanoseconds_since<H: Clock>(rt: &H, began: Option<Instant>) -> Option<u64> {
     let took = began?.elapsed(rt).ok()?;
     let seconds = took.as_secs().saturating_mul(1_000_000_000);
     Some(seconds.saturating_add(u64::from(took.subsec_nanos())))

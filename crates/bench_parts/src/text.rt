@@ -86,7 +86,12 @@ fn once(
 /// # Errors
 ///
 /// The refusal of a text, a path or a change, or of memory.
-pub fn repeated(alloc: Global, what: Work, segments: u32, rounds: u32) -> Result<usize, Refusal> {
+pub(crate) fn repeated(
+    alloc: Global,
+    what: Work,
+    segments: u32,
+    rounds: u32,
+) -> Result<usize, Refusal> {
     let text = message_text(alloc, segments)?;
     let mut message = Message::parse(alloc, &text)?;
     let path = Path::parse("OBX-5")?;

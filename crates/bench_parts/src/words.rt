@@ -69,7 +69,7 @@ impl Request {
 }
 
 /// What the words request.
-pub fn asked(words: &[String]) -> Request {
+pub(crate) fn asked(words: &[String]) -> Request {
     let mut asked = Request {
         measure: None,
         count: 500,

@@ -13,10 +13,10 @@ use Rattle.event_log.specs.declared.entry.Told.TheVariants as told
 use Rattle.event_log.specs.History.{History, message_count, plan_in_force}
 use Rattle.event_log.specs.Answers.{arrival_answer, brings_at, is_kept, known, told_by}
 use Rattle.event_log.specs.Event.{MemoryIsLast, Event, Refusal, Reply, answer as event_answer}
-use Rattle.event_log.specs.Room.{exceeds, is_full, own}
+use Rattle.event_log.specs.Room.{is_over_limit, is_full, own}
 use Rattle.book_core.specs.declared.receipt.NotBooked.{NotBooked}
 use Rattle.book_core.specs.declared.receipt.NotBooked.TheVariants.{NoMemory, Full}
-use Rattle.book_core.specs.Sending.{IsAccepting}
+use Rattle.book_core.specs.inner.Sending.{IsAccepting}
 
 -- ---- what is told
 
@@ -78,13 +78,13 @@ told-unknown h channel raw reply is keeps =
 -- ---- its room
 
 -- there is room for it exactly where what it owes doesn't go past the bound
-full-is : (h : History) (channel : ℕ) (raw : List ℕ) → is_full h channel raw ≡ exceeds h (own h channel raw)
+full-is : (h : History) (channel : ℕ) (raw : List ℕ) → is_full h channel raw ≡ is_over_limit h (own h channel raw)
 unfolding is_full
 full-is h channel raw = refl
 
 -- there is room where the log has room for what it owes
-pub asked-full : (h : History) (channel : ℕ) (raw : List ℕ) (mine : ℕ) (has b : Bool) → mine ≡ own h channel raw → has ≡ not (exceeds h mine) → has ≡ b → is_full h channel raw ≡ not b
-asked-full h channel raw mine has b owes is tested = full-is h channel raw ∙ (ap (exceeds h) (sym owes) ∙ (twice (exceeds h mine) ∙ ap not (sym is ∙ tested)))
+pub asked-full : (h : History) (channel : ℕ) (raw : List ℕ) (mine : ℕ) (has b : Bool) → mine ≡ own h channel raw → has ≡ not (is_over_limit h mine) → has ≡ b → is_full h channel raw ≡ not b
+asked-full h channel raw mine has b owes is tested = full-is h channel raw ∙ (ap (is_over_limit h) (sym owes) ∙ (twice (is_over_limit h mine) ∙ ap not (sym is ∙ tested)))
   where
     twice : (b : Bool) → b ≡ not (not b)
     twice true = refl

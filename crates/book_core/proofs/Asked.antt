@@ -9,21 +9,21 @@ use Rattle.std.proofs.lemmas.List.FromFn.{length-range_with_len}
 use Rattle.row_store.specs.declared.Row.{Row}
 use Rattle.row_store.specs.Rows.{item_at}
 use Rattle.dest_queue.specs.declared.SlotState.{SlotState}
-use Rattle.dest_queue.specs.declared.slots.Addressed.{Addressed}
-use Rattle.dest_queue.specs.Queues.{front_state}
+use Rattle.dest_queue.specs.declared.slots.Queued.{Queued}
+use Rattle.dest_queue.specs.inner.Queues.{front_state}
 use Rattle.dest_queue.specs.States.{is_live}
 use Rattle.event_log.specs.declared.refusal.PruneRefusal.TheVariants.{TooMany}
 use Rattle.event_log.specs.Folding.{is_live_message, prune_answer}
 use Rattle.event_log.specs.History.{History, is_queued, message_at, message_count, queue, remaining, slot}
-use Rattle.event_log.specs.Legal.{IsSound}
+use Rattle.event_log.specs.inner.Legal.{IsSound}
 use Rattle.event_log.proofs.FoldedAlike.{range-split}
 use Rattle.event_log.proofs.Forgetting.{in-turn}
 use Rattle.event_log.proofs.OneMore.{lt-tells}
 use Rattle.event_log.proofs.Reading.{queue-outside}
-use Rattle.book_core.specs.declared.letter.Letter.{Letter}
+use Rattle.book_core.specs.declared.letter.Outbound.{Outbound}
 use Rattle.book_core.specs.declared.questions.Front.{Front}
-use Rattle.book_core.specs.Parts.{RowsAgree}
-use Rattle.book_core.specs.Questions.{came_as, first_live, front_at, queued_as, settled_before, standing}
+use Rattle.book_core.specs.inner.Parts.{RowsAgree}
+use Rattle.book_core.specs.inner.Questions.{came_as, first_live, front_at, queued_as, settled_before, standing}
 use Rattle.book_core.proofs.FirstLive.{settled-below}
 use Rattle.book_core.proofs.PrunedRows.{filter-whole, length-numbers}
 use Rattle.book_core.proofs.Rows.{kept-front_state, row-of}
@@ -84,7 +84,7 @@ queued-some h d n = by (slot h n d)
     by None = refl
     by (Some s) = live s (is_live s)
 
-module _ (h : History) (rows : List (Row (Addressed Letter))) (agree : RowsAgree h rows) (d : ℕ) (within : d < 32) where
+module _ (h : History) (rows : List (Row (Queued Outbound))) (agree : RowsAgree h rows) (d : ℕ) (within : d < 32) where
   fronted : (o : Option ℕ) → option_map {U = Front} (λ (p : ℕ × SlotState). standing p.0 p.1) (option_and_then {U = ℕ × SlotState} (λ n. option_map {U = ℕ × SlotState} (λ state. (n, state)) (slot h n d)) o)
       ≡ option_and_then (λ n. option_map (standing n) (slot h n d)) o
   fronted None = refl
@@ -164,20 +164,20 @@ module _ (h : History) (b : ℕ) (few : b ≤ settled h) where
 
 -- ---- what is remembered
 
-module _ (h : History) (rows : List (Row (Addressed Letter))) (agree : RowsAgree h rows) (n : ℕ) where
-  came-kept : option_map came_as (option_map {U = Letter} (λ (a : Addressed Letter). a.content) (item_at n rows)) ≡ message_at h n
+module _ (h : History) (rows : List (Row (Queued Outbound))) (agree : RowsAgree h rows) (n : ℕ) where
+  came-kept : option_map came_as (option_map {U = Outbound} (λ (a : Queued Outbound). a.content) (item_at n rows)) ≡ message_at h n
   came-kept = elim (row-of h rows agree n) [
-    | inl w ↦ ap (λ (o : Option (Addressed Letter)). option_map came_as (option_map {U = Letter} (λ (a : Addressed Letter). a.content) o)) w.3
+    | inl w ↦ ap (λ (o : Option (Queued Outbound)). option_map came_as (option_map {U = Outbound} (λ (a : Queued Outbound). a.content) o)) w.3
         ∙ (sym w.2.came ∙ ap (message_at h) w.1)
-    | inr w ↦ ap (λ (o : Option (Addressed Letter)). option_map came_as (option_map {U = Letter} (λ (a : Addressed Letter). a.content) o)) w.0
+    | inr w ↦ ap (λ (o : Option (Queued Outbound)). option_map came_as (option_map {U = Outbound} (λ (a : Queued Outbound). a.content) o)) w.0
         ∙ sym w.1
   ]
 
-  pub came-row : (a : Addressed Letter) → item_at n rows ≡ Some a → Some (came_as a.content) ≡ message_at h n
-  came-row a is = sym (ap (λ (o : Option (Addressed Letter)). option_map came_as (option_map {U = Letter} (λ (a : Addressed Letter). a.content) o)) is) ∙ came-kept
+  pub came-row : (a : Queued Outbound) → item_at n rows ≡ Some a → Some (came_as a.content) ≡ message_at h n
+  came-row a is = sym (ap (λ (o : Option (Queued Outbound)). option_map came_as (option_map {U = Outbound} (λ (a : Queued Outbound). a.content) o)) is) ∙ came-kept
 
   pub came-none : item_at n rows ≡ None → None ≡ message_at h n
-  came-none is = sym (ap (λ (o : Option (Addressed Letter)). option_map came_as (option_map {U = Letter} (λ (a : Addressed Letter). a.content) o)) is) ∙ came-kept
+  came-none is = sym (ap (λ (o : Option (Queued Outbound)). option_map came_as (option_map {U = Outbound} (λ (a : Queued Outbound). a.content) o)) is) ∙ came-kept
 
 -- where each number past one that passes does too, those that pass are the last ones
 last-range : (p : ℕ → Bool) (a k : ℕ) → ((n m : ℕ) → n ≤ m → m < a + k → p n ≡ true → p m ≡ true)
@@ -204,7 +204,7 @@ last-range p a (suc k) turn = by (p a) refl (λ fewer. last-range p (a + 1) k fe
         (rest (λ n m less below passes. turn n m less (omega arith) passes)))
 
 -- the messages that are not forgotten are the last ones
-pub remaining-last : (h : History) (rows : List (Row (Addressed Letter))) (first : ℕ) → IsSound h → RowsAgree h rows → first + length rows ≡ message_count h
+pub remaining-last : (h : History) (rows : List (Row (Queued Outbound))) (first : ℕ) → IsSound h → RowsAgree h rows → first + length rows ≡ message_count h
     → remaining h ≡ range_with_len first (message_count h - first)
 remaining-last h rows first sound agree counted =
     let own : 0 + message_count h ≡ message_count h = omega arith in

@@ -9,15 +9,17 @@ use Rattle.std.proofs.lemmas.List.Sums.{count_by-le-length, sum_by-cons}
 use Rattle.plan_text.specs.Entries.{PlanEntry}
 use Rattle.stat_count.specs.declared.ChannelCounts.{ChannelCounts}
 use Rattle.stat_count.specs.declared.DestinationCounts.{DestinationCounts}
-use Rattle.stat_count.specs.Statistics.{Statistics, channel_at, destination_at, empty, no_arrivals, no_slots, on_destination, slots_of}
+use Rattle.stat_count.specs.Statistics.{Statistics, channel_at, destination_at, no_arrivals, no_slots}
+use Rattle.stat_count.specs.inner.Statistics.{empty, on_destination, slots_of}
 use Rattle.event_log.specs.declared.entry.Told.{Told}
 use Rattle.event_log.specs.declared.entry.Told.TheVariants as told
 use Rattle.event_log.specs.declared.entry.Entry.{Entry}
 use Rattle.event_log.specs.declared.entry.Entry.TheVariants.{Arrival, Take, Settle, Cancel, Deploy}
-use Rattle.event_log.specs.History.{History, next_place, opened_by}
-use Rattle.event_log.specs.Legal.{IsGoodOpening}
+use Rattle.event_log.specs.History.{History, next_place}
+use Rattle.event_log.specs.inner.History.{snapshot_after}
+use Rattle.event_log.specs.inner.Legal.{IsGoodOpening}
 use Rattle.event_log.specs.Counting.{channel_before, channel_counts, counted, destination_counts, is_accepted, is_filtered, is_refused, is_repeat, is_take_at, is_told, told_count}
-use Rattle.book_core.specs.Counting.{AreCounted}
+use Rattle.book_core.specs.inner.Counting.{AreCounted}
 use Rattle.book_core.proofs.Slots.{all-at, slots-places}
 
 -- a list of which each place holds what a function gives there
@@ -53,14 +55,14 @@ pub counts-equal : (a b : DestinationCounts) → a.waiting ≡ b.waiting → a.i
 counts-equal a b waiting inflight delivered failed attempts = λ i. record { waiting = waiting i; inflight = inflight i; delivered = delivered i; failed = failed i; attempts = attempts i }
 
 -- nothing is counted at first
-pub counted-opened : (plan : PlanEntry) (events_max : ℕ) → AreCounted (opened_by plan events_max) empty
+pub counted-opened : (plan : PlanEntry) (events_max : ℕ) → AreCounted (snapshot_after plan events_max) empty
 counted-opened plan events_max = record {
   all_channels = refl;
   all_destinations = refl;
-  channel = λ c below. channels-equal (channel_at c empty) (channel_counts (opened_by plan events_max) c) (omega arith) (omega arith) (omega arith) (omega arith) (omega arith);
+  channel = λ c below. channels-equal (channel_at c empty) (channel_counts (snapshot_after plan events_max) c) (omega arith) (omega arith) (omega arith) (omega arith) (omega arith);
   destination = λ d below.
       let none : destination_at d empty ≡ no_slots = get_or-replicate 32 d no_slots no_slots below in
-      counts-equal (destination_at d empty) (destination_counts (opened_by plan events_max) d) (ap (λ c. c.waiting) none) (ap (λ c. c.inflight) none) (omega arith) (omega arith) (omega arith);
+      counts-equal (destination_at d empty) (destination_counts (snapshot_after plan events_max) d) (ap (λ c. c.waiting) none) (ap (λ c. c.inflight) none) (omega arith) (omega arith) (omega arith);
 }
 
 -- the counters of one destination changed

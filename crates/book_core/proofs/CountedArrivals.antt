@@ -9,17 +9,18 @@ use Rattle.judge_core.specs.Delivering.{destinations_of}
 use Rattle.judge_core.specs.Judging.{verdict as decided, deliveries_of}
 use Rattle.dest_queue.specs.declared.SlotState.TheVariants.{Waiting}
 use Rattle.stat_count.specs.declared.ChannelCounts.{ChannelCounts}
-use Rattle.stat_count.specs.Statistics.{Statistics, channel_at, waits_one}
+use Rattle.stat_count.specs.Statistics.{Statistics, channel_at}
+use Rattle.stat_count.specs.inner.Statistics.{waits_one}
 use Rattle.event_log.specs.declared.entry.Told.{Told}
 use Rattle.event_log.specs.declared.entry.Told.TheVariants as told
 use Rattle.event_log.specs.declared.entry.Entry.TheVariants.{Arrival}
 use Rattle.event_log.specs.History.{History, Accepted, accepted, accepted_under, deliveries, followed_by, message_count, names, plan_in_force, slot, state}
-use Rattle.event_log.specs.Legal.{IsSound}
+use Rattle.event_log.specs.inner.Legal.{IsSound}
 use Rattle.event_log.specs.Room.{slots_added}
 use Rattle.event_log.proofs.Following.{message-newest, message-older, message_count-longer, message_count-same, slot-same}
 use Rattle.event_log.proofs.Steps.{ArrivalStep}
 use Rattle.event_log.specs.Counting.{channel_before, channel_counts, destination_counts, is_accepted, is_filtered, is_refused, is_repeat, is_told, told_count}
-use Rattle.book_core.specs.Counting.{AreCounted, CountsArrival, told_one}
+use Rattle.book_core.specs.inner.Counting.{AreCounted, CountsArrival, told_one}
 use Rattle.book_core.proofs.Counted.{channels-equal}
 use Rattle.book_core.proofs.CountedCancels.{not-equal}
 use Rattle.book_core.proofs.CountedSteps.{attempts-kept, count-kept}

@@ -8,14 +8,15 @@ use Rattle.dest_queue.specs.declared.FailCause.TheVariants.{Cancelled}
 use Rattle.dest_queue.specs.declared.SlotState.{SlotState}
 use Rattle.dest_queue.specs.declared.SlotState.TheVariants.{Waiting, InFlight, Delivered, Failed}
 use Rattle.dest_queue.specs.States.{is_waiting}
-use Rattle.stat_count.specs.Statistics.{Statistics, channel_at, destination_at, cancelled_one}
+use Rattle.stat_count.specs.Statistics.{Statistics, channel_at, destination_at}
+use Rattle.stat_count.specs.inner.Statistics.{cancelled_one}
 use Rattle.event_log.specs.declared.entry.Entry.TheVariants.{Cancel}
 use Rattle.event_log.specs.History.{History, deliveries, followed_by, names, slot, state}
 use Rattle.event_log.proofs.Following.{message_count-same, slot-same}
 use Rattle.event_log.proofs.Reading.{slot-state}
 use Rattle.event_log.proofs.Steps.{CancelStep}
 use Rattle.event_log.specs.Counting.{destination_counts}
-use Rattle.book_core.specs.Counting.{AreCounted, CountsCancel}
+use Rattle.book_core.specs.inner.Counting.{AreCounted, CountsCancel}
 use Rattle.book_core.proofs.CountedSteps.{attempts-kept, channels-kept}
 use Rattle.book_core.proofs.Moves.{moved, moves-nowhere, moves-off}
 

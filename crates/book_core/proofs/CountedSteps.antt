@@ -6,19 +6,20 @@ use Rattle.std.proofs.lemmas.Bool.Decides.{eqb_tells}
 use Rattle.dest_queue.specs.declared.Outcome.{Outcome}
 use Rattle.dest_queue.specs.declared.SlotState.{SlotState}
 use Rattle.dest_queue.specs.declared.SlotState.TheVariants.{Waiting, InFlight}
-use Rattle.stat_count.specs.Statistics.{Statistics, destination_at, on_destination, taken_one}
+use Rattle.stat_count.specs.Statistics.{Statistics, destination_at}
+use Rattle.stat_count.specs.inner.Statistics.{on_destination, taken_one}
 use Rattle.event_log.specs.declared.entry.Ticket.{Ticket}
 use Rattle.event_log.specs.declared.entry.Told.{Told}
 use Rattle.event_log.specs.declared.entry.Entry.{Entry}
 use Rattle.event_log.specs.declared.entry.Entry.TheVariants.{Take, Settle}
 use Rattle.event_log.specs.History.{History, accepted, deliveries, followed_by, is_for, message_count, names, next_place, slot, state}
-use Rattle.event_log.specs.Legal.{IsGoodOpening}
+use Rattle.event_log.specs.inner.Legal.{IsGoodOpening}
 use Rattle.event_log.proofs.Following.{message_count-same, slot-same}
 use Rattle.event_log.proofs.Reading.{slot-inside, slot-state}
 use Rattle.event_log.proofs.Steps.{SettleStep, TakeStep}
 use Rattle.event_log.proofs.Touching.{is_for-other, is_for-own}
 use Rattle.event_log.specs.Counting.{channel_before, channel_counts, destination_before, destination_counts, is_accepted, is_filtered, is_refused, is_repeat, is_take_at, is_told, told_count}
-use Rattle.book_core.specs.Counting.{AreCounted, settled_one}
+use Rattle.book_core.specs.inner.Counting.{AreCounted, settled_one}
 use Rattle.book_core.proofs.Counted.{attempts-places, channels-equal, counted-at}
 use Rattle.book_core.proofs.Moves.{Moves, moved, moves-back, moves-nowhere, moves-out}
 use Rattle.book_core.proofs.Slots.{count-push}

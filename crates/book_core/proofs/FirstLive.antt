@@ -10,7 +10,7 @@ use Rattle.event_log.specs.declared.refusal.PruneRefusal.TheVariants.{NoSuchMess
 use Rattle.event_log.specs.Folding.{is_live_message, prune_answer}
 use Rattle.event_log.specs.History.{History, is_queued, message_count, numbers, queue}
 use Rattle.event_log.proofs.FoldedAlike.{range-split}
-use Rattle.book_core.specs.Pruning.{lesser}
+use Rattle.book_core.specs.inner.Pruning.{lesser}
 
 -- what is found in a range is not below it
 found-from : (p : ℕ → Bool) (a k n : ℕ) → find p (range_with_len a k) ≡ Some n → a ≤ n

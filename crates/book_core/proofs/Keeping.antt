@@ -2,18 +2,21 @@
 use Rattle.std.proofs.Common.{◌≡◌, ℕ, ◌+◌, ◌-◌, ◌<◌, ◌≤◌, List, [], ◌∷◌, Ok, refl, sym, ◌∙◌, ap, arith, length, length-append}
 use Rattle.plan_text.specs.Entries.{PlanEntry, IsPlan}
 use Rattle.row_store.specs.declared.Row.{Row}
-use Rattle.row_store.specs.Rows.{changed_at}
+use Rattle.row_store.specs.inner.Rows.{changed_at}
 use Rattle.dest_queue.specs.declared.SlotState.{SlotState}
 use Rattle.dest_queue.specs.declared.SlotState.TheVariants.{InFlight}
 use Rattle.dest_queue.specs.declared.Outcome.{Outcome}
-use Rattle.dest_queue.specs.declared.slots.Addressed.{Addressed}
-use Rattle.dest_queue.specs.Queues.{settle, slot_of}
-use Rattle.dest_queue.specs.States.{is_live, settle_answer as slot_answer}
-use Rattle.dup_index.specs.Known.{Known}
-use Rattle.stat_count.specs.Statistics.{Statistics, destination_at, empty, on_destination}
+use Rattle.dest_queue.specs.declared.slots.Queued.{Queued}
+use Rattle.dest_queue.specs.Queues.{slot_of}
+use Rattle.dest_queue.specs.inner.Queues.{settle}
+use Rattle.dest_queue.specs.States.{is_live, slot_answer}
+use Rattle.dup_index.specs.inner.Known.{Known}
+use Rattle.stat_count.specs.Statistics.{Statistics, destination_at}
+use Rattle.stat_count.specs.inner.Statistics.{empty, on_destination}
 use Rattle.event_log.specs.declared.entry.Ticket.{Ticket}
 use Rattle.event_log.specs.declared.entry.Entry.TheVariants.{Settle}
-use Rattle.event_log.specs.History.{History, followed_by, opened_by, plan_in_force}
+use Rattle.event_log.specs.History.{History, followed_by, plan_in_force}
+use Rattle.event_log.specs.inner.History.{snapshot_after}
 use Rattle.event_log.specs.Answers.{attempts_max, interval, settle_answer}
 use Rattle.event_log.specs.Room.{owed, slot_owed}
 use Rattle.event_log.proofs.Beginning.{opened-sound}
@@ -21,16 +24,16 @@ use Rattle.event_log.proofs.Reading.{opened-in_flight, slot-state}
 use Rattle.event_log.proofs.Settling.{settle-step}
 use Rattle.event_log.proofs.Steps.{SettleStep}
 use Rattle.event_log.proofs.Totals.{in_flight-owed}
-use Rattle.book_core.specs.declared.letter.Letter.{Letter}
-use Rattle.book_core.specs.Counting.{settled_one}
-use Rattle.book_core.specs.Parts.{IsKept}
+use Rattle.book_core.specs.declared.letter.Outbound.{Outbound}
+use Rattle.book_core.specs.inner.Counting.{settled_one}
+use Rattle.book_core.specs.inner.Parts.{IsKept}
 use Rattle.book_core.proofs.Counted.{counted-opened}
 use Rattle.book_core.proofs.CountedSteps.{counted-settle, settle-flies, settle-inside}
 use Rattle.book_core.proofs.RowSteps.{rows-settled}
 use Rattle.book_core.proofs.Rows.{kept-slot}
 
 -- a new book
-pub kept-opened : (plan : PlanEntry) (events_max room : ℕ) → IsPlan plan → events_max ≤ 1000000 → IsKept (opened_by plan events_max) [] [] empty 0 room
+pub kept-opened : (plan : PlanEntry) (events_max room : ℕ) → IsPlan plan → events_max ≤ 1000000 → IsKept (snapshot_after plan events_max) [] [] empty 0 room
 kept-opened plan events_max room good few = record {
   sound = opened-sound plan events_max good;
   rows_agree = record { each_once = refl; as_told = tt };
@@ -42,7 +45,7 @@ kept-opened plan events_max room good few = record {
 }
 
 -- a book whose room grew
-pub kept-more : (h : History) (rows : List (Row (Addressed Letter))) (index : List Known) (tally : Statistics) (flights room more : ℕ) → IsKept h rows index tally flights room → room ≤ more → IsKept h rows index tally flights more
+pub kept-more : (h : History) (rows : List (Row (Queued Outbound))) (index : List Known) (tally : Statistics) (flights room more : ℕ) → IsKept h rows index tally flights room → room ≤ more → IsKept h rows index tally flights more
 kept-more h rows index tally flights room more kept grows = record {
   sound = kept.sound;
   rows_agree = kept.rows_agree;
@@ -53,7 +56,7 @@ kept-more h rows index tally flights room more kept grows = record {
   bound = kept.bound;
 }
 
-module _ (h : History) (rows : List (Row (Addressed Letter))) (index : List Known) (tally : Statistics) (flights room : ℕ) (kept : IsKept h rows index tally flights room) where
+module _ (h : History) (rows : List (Row (Queued Outbound))) (index : List Known) (tally : Statistics) (flights room : ℕ) (kept : IsKept h rows index tally flights room) where
   -- attempts under way are few
   pub few-flights : flights ≤ 1000000
   few-flights = omega (arith, kept.flights_are, in_flight-owed h, kept.sound.room, kept.bound)

@@ -7,10 +7,11 @@ use Rattle.mllp_frame.specs.Framing.{IsBlockData}
 use Rattle.judge_core.specs.declared.judged.Verdict.{Verdict}
 use Rattle.judge_core.specs.Judging.{key_of, verdict as decided}
 use Rattle.row_store.specs.declared.Row.{Row}
-use Rattle.dest_queue.specs.declared.slots.Addressed.{Addressed}
-use Rattle.dup_index.specs.Known.{Known, place_of}
+use Rattle.dest_queue.specs.declared.slots.Queued.{Queued}
+use Rattle.dup_index.specs.inner.Known.{Known, place_of}
 use Rattle.dup_index.proofs.Seen.{place_of-added}
-use Rattle.stat_count.specs.Statistics.{Statistics, channel_at, destination_at, slots_of}
+use Rattle.stat_count.specs.Statistics.{Statistics, channel_at, destination_at}
+use Rattle.stat_count.specs.inner.Statistics.{slots_of}
 use Rattle.event_log.specs.declared.entry.Told.{Told}
 use Rattle.event_log.specs.declared.entry.Entry.TheVariants.{Arrival}
 use Rattle.event_log.specs.History.{History, control_id_of, followed_by, message_count, next_place, plan_in_force}
@@ -18,11 +19,11 @@ use Rattle.event_log.specs.Answers.{arrival_answer, is_kept, known}
 use Rattle.event_log.specs.Room.{is_full, owed, own, slots_added}
 use Rattle.event_log.proofs.Arriving.{arrival-step}
 use Rattle.event_log.proofs.Steps.{ArrivalStep}
-use Rattle.book_core.specs.declared.letter.Letter.{Letter}
-use Rattle.book_core.specs.Counting.{CountsArrival}
-use Rattle.book_core.specs.Parts.{IsKept, KeysAgree}
-use Rattle.book_core.specs.declared.arrival.Gain.{Gain}
-use Rattle.book_core.specs.Sending.{AddsGain, HasRoomFor, IsGain}
+use Rattle.book_core.specs.declared.letter.Outbound.{Outbound}
+use Rattle.book_core.specs.inner.Counting.{CountsArrival}
+use Rattle.book_core.specs.inner.Parts.{IsKept, KeysAgree}
+use Rattle.book_core.specs.declared.arrival.Addition.{Addition}
+use Rattle.book_core.specs.inner.Sending.{AddsGain, HasRoomFor, IsAddition}
 use Rattle.book_core.proofs.Counted.{received-places, repeats-places, slots_of-places}
 use Rattle.book_core.proofs.CountedArrivals.{counted-arrival}
 use Rattle.book_core.proofs.RowsAdded.{next-row, rows-arrived}
@@ -42,7 +43,7 @@ place-either (Some place) = refl
 
 -- ---- the book
 
-module _ (h : History) (rows : List (Row (Addressed Letter))) (index : List Known) (tally : Statistics) (flights room : ℕ) (kept : IsKept h rows index tally flights room) where
+module _ (h : History) (rows : List (Row (Queued Outbound))) (index : List Known) (tally : Statistics) (flights room : ℕ) (kept : IsKept h rows index tally flights room) where
   -- places are few
   pub few-places : next_place h ≤ 1001000000
   few-places = omega (arith, kept.sound.room, kept.bound, kept.sound.opening.places_few, kept.sound.opening.prunings_few)
@@ -77,7 +78,7 @@ module _ (h : History) (rows : List (Row (Addressed Letter))) (index : List Know
     arrived-within mine mine_is = omega (arith, mine_is, arrived.owed, arrived.sound.room, length-append h.entries (Arrival conn channel raw reply ∷ []))
 
     -- an accepted message gets a number above those of all rows
-    pub arrived-next : (id : List ℕ) (v : Verdict) (g : Gain) → IsGain reply id v g → HasRoomFor g rows
+    pub arrived-next : (id : List ℕ) (v : Verdict) (g : Addition) → IsAddition reply id v g → HasRoomFor g rows
     arrived-next id v g is = gain-next reply id v g (message_count h) rows is arrived.numbered (next-row h rows kept.rows_agree)
 
     -- no key is added: it is known as before
@@ -108,8 +109,8 @@ module _ (h : History) (rows : List (Row (Addressed Letter))) (index : List Know
     keys-arrived looked false place new kept-is key here added same = subst (KeysAgree (followed_by h (Arrival conn channel raw reply))) (sym (same refl)) (keys-same (sym kept-is))
 
     -- the book is kept
-    pub kept-arrived : (g : Gain) (rows' : List (Row (Addressed Letter))) (index' : List Known) (tally' : Statistics) (room' : ℕ) → channel < 64
-        → IsGain reply (control_id_of raw) (decided (plan_in_force h) channel raw) g → AddsGain channel raw g rows rows'
+    pub kept-arrived : (g : Addition) (rows' : List (Row (Queued Outbound))) (index' : List Known) (tally' : Statistics) (room' : ℕ) → channel < 64
+        → IsAddition reply (control_id_of raw) (decided (plan_in_force h) channel raw) g → AddsGain channel raw g rows rows'
         → KeysAgree (followed_by h (Arrival conn channel raw reply)) index'
         → CountsArrival channel reply (slots_added (plan_in_force h) channel raw reply) tally tally'
         → flights ≤ room' → IsKept (followed_by h (Arrival conn channel raw reply)) rows' index' tally' flights room'

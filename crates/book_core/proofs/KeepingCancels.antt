@@ -7,11 +7,12 @@ use Rattle.std.proofs.lemmas.Bool.Decides.{nat_tests}
 use Rattle.std.proofs.lemmas.Nat.Bits.{bit_at-lt, same_from_bits_below}
 use Rattle.plan_text.specs.Entries.{PlanEntry}
 use Rattle.row_store.specs.declared.Row.{Row}
-use Rattle.row_store.specs.Rows.{changed_at, item_at}
-use Rattle.dest_queue.specs.declared.slots.Addressed.{Addressed}
-use Rattle.dest_queue.specs.Queues.{cancel, waits_in}
+use Rattle.row_store.specs.Rows.{item_at}
+use Rattle.row_store.specs.inner.Rows.{changed_at}
+use Rattle.dest_queue.specs.declared.slots.Queued.{Queued}
+use Rattle.dest_queue.specs.inner.Queues.{cancel, waits_in}
 use Rattle.dest_queue.specs.Slots.{state_at}
-use Rattle.dup_index.specs.Known.{Known}
+use Rattle.dup_index.specs.inner.Known.{Known}
 use Rattle.stat_count.specs.Statistics.{Statistics, destination_at}
 use Rattle.event_log.specs.declared.entry.Entry.TheVariants.{Cancel}
 use Rattle.event_log.specs.declared.refusal.CancelRefusal.{CancelRefusal}
@@ -23,10 +24,10 @@ use Rattle.event_log.proofs.Cancelling.{cancel-step}
 use Rattle.event_log.proofs.Following.{funext}
 use Rattle.event_log.proofs.Masks.{mask_where-below, mask_where-bits}
 use Rattle.event_log.proofs.Steps.{CancelStep, waiting_owed}
-use Rattle.book_core.specs.declared.letter.Letter.{Letter}
-use Rattle.book_core.specs.Counting.{CountsCancel}
-use Rattle.book_core.specs.Parts.{IsKept}
-use Rattle.book_core.specs.Sending.{owed_waiting}
+use Rattle.book_core.specs.declared.letter.Outbound.{Outbound}
+use Rattle.book_core.specs.inner.Counting.{CountsCancel}
+use Rattle.book_core.specs.inner.Parts.{IsKept}
+use Rattle.book_core.specs.inner.Sending.{owed_waiting}
 use Rattle.book_core.proofs.CountedCancels.{cancel-waits, counted-cancel}
 use Rattle.book_core.proofs.Rows.{among-kept, found-among, kept-slot, kept-waits, row-of}
 use Rattle.book_core.proofs.RowsCancelled.{rows-cancelled}
@@ -60,13 +61,13 @@ same-bit (suc zero) (suc zero) m n e = refl
 same-bit (suc (suc a)) b m n e = absurd (omega arith)
 same-bit a (suc (suc b)) m n e = absurd (omega arith)
 
-module _ (h : History) (rows : List (Row (Addressed Letter))) (index : List Known) (tally : Statistics) (flights room : ℕ) (kept : IsKept h rows index tally flights room) (number : ℕ) where
+module _ (h : History) (rows : List (Row (Queued Outbound))) (index : List Known) (tally : Statistics) (flights room : ℕ) (kept : IsKept h rows index tally flights room) (number : ℕ) where
   -- a number that has no row is no message's
   pub asked-none : item_at number rows ≡ None → cancel_answer h number ≡ Err NoSuchMessage
   asked-none none = elim (row-of h rows kept.rows_agree number)
       [ inl w ↦ let found = w.3 in absurd cc | inr w ↦ answer-gone h number w.1 ]
 
-  module _ (message : Addressed Letter) (found : item_at number rows ≡ Some message) where
+  module _ (message : Queued Outbound) (found : item_at number rows ≡ Some message) where
     -- a number that has a row is a message's
     asked-exists : is_some (message_at h number) ≡ true
     asked-exists = among-kept (λ n. is_some (message_at h n)) (numbers h) number (sym (ap (list_any (λ m. m == number)) kept.rows_agree.each_once) ∙ found-among number message rows found)

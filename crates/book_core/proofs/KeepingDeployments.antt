@@ -6,8 +6,8 @@ use Rattle.std.specs.Option.{option_map_or}
 use Rattle.std.proofs.lemmas.Bool.Decides.{nat_tests}
 use Rattle.plan_text.specs.Entries.{PlanEntry}
 use Rattle.row_store.specs.declared.Row.{Row}
-use Rattle.dest_queue.specs.declared.slots.Addressed.{Addressed}
-use Rattle.dup_index.specs.Known.{Known}
+use Rattle.dest_queue.specs.declared.slots.Queued.{Queued}
+use Rattle.dup_index.specs.inner.Known.{Known}
 use Rattle.stat_count.specs.Statistics.{Statistics}
 use Rattle.event_log.specs.declared.entry.Entry.TheVariants.{Deploy}
 use Rattle.event_log.specs.History.{History, deliveries, followed_by, names, plan_in_force, slot}
@@ -19,10 +19,10 @@ use Rattle.event_log.specs.Room.{owed}
 use Rattle.event_log.proofs.Deploying.{allowed-parts, deploy-step}
 use Rattle.event_log.proofs.Following.{message_count-same, slot-same}
 use Rattle.event_log.proofs.Steps.{DeployStep}
-use Rattle.book_core.specs.declared.letter.Letter.{Letter}
+use Rattle.book_core.specs.declared.letter.Outbound.{Outbound}
 use Rattle.event_log.specs.Counting.{destination_counts}
-use Rattle.book_core.specs.Counting.{AreCounted}
-use Rattle.book_core.specs.Parts.{IsKept}
+use Rattle.book_core.specs.inner.Counting.{AreCounted}
+use Rattle.book_core.specs.inner.Parts.{IsKept}
 use Rattle.book_core.proofs.CountedSteps.{attempts-kept, channels-kept}
 use Rattle.book_core.proofs.Moves.{moved-nowhere, moves-nowhere}
 use Rattle.book_core.proofs.RowsAdded.{rows-kept}
@@ -117,7 +117,7 @@ none-left p d past = let none : 32 - d ≡ 0 = omega arith in ap (λ k. find p (
 
 -- ---- the book
 
-module _ (h : History) (rows : List (Row (Addressed Letter))) (index : List Known) (tally : Statistics) (flights room : ℕ) (kept : IsKept h rows index tally flights room)
+module _ (h : History) (rows : List (Row (Queued Outbound))) (index : List Known) (tally : Statistics) (flights room : ℕ) (kept : IsKept h rows index tally flights room)
     (plan : PlanEntry) (may : Deployable h plan) where
   deployed : DeployStep h plan
   deployed = deploy-step h kept.sound plan may

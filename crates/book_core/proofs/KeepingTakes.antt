@@ -7,26 +7,28 @@ use Rattle.plan_text.specs.Entries.{IsDestination, PlanEntry, IsPlan}
 use Rattle.judge_core.specs.declared.delivery.Delivery.{Delivery}
 use Rattle.judge_core.proofs.Routing.{All-slice_get}
 use Rattle.row_store.specs.declared.Row.{Row}
-use Rattle.row_store.specs.Rows.{changed_at, item_at}
+use Rattle.row_store.specs.Rows.{item_at}
+use Rattle.row_store.specs.inner.Rows.{changed_at}
 use Rattle.dest_queue.specs.declared.SlotState.{SlotState}
 use Rattle.dest_queue.specs.declared.SlotState.TheVariants.{Waiting, InFlight, Delivered, Failed}
-use Rattle.dest_queue.specs.declared.slots.Addressed.{Addressed}
-use Rattle.dest_queue.specs.Queues.{front_state, put}
+use Rattle.dest_queue.specs.declared.slots.Queued.{Queued}
+use Rattle.dest_queue.specs.inner.Queues.{front_state, put}
 use Rattle.dest_queue.specs.States.{is_live}
-use Rattle.dup_index.specs.Known.{Known}
-use Rattle.stat_count.specs.Statistics.{Statistics, destination_at, on_destination, taken_one}
+use Rattle.dup_index.specs.inner.Known.{Known}
+use Rattle.stat_count.specs.Statistics.{Statistics, destination_at}
+use Rattle.stat_count.specs.inner.Statistics.{on_destination, taken_one}
 use Rattle.event_log.specs.declared.entry.Ticket.{Ticket}
 use Rattle.event_log.specs.declared.entry.Entry.TheVariants.{Take}
 use Rattle.event_log.specs.declared.refusal.TakeRefusal.TheVariants.{Idle}
 use Rattle.event_log.specs.History.{History, control_id, deliveries, followed_by, names, plan_in_force, queue, slot}
 use Rattle.event_log.specs.Answers.{attempts_max, front_answer, take_answer}
 use Rattle.event_log.specs.Room.{owed}
-use Rattle.event_log.specs.Legal.{IsWithin}
+use Rattle.event_log.specs.inner.Legal.{IsWithin}
 use Rattle.event_log.proofs.Reading.{queue-outside, slot-inside, slot-state}
 use Rattle.event_log.proofs.Steps.{TakeStep}
 use Rattle.event_log.proofs.Taking.{take-step}
-use Rattle.book_core.specs.declared.letter.Letter.{Letter}
-use Rattle.book_core.specs.Parts.{IsKept}
+use Rattle.book_core.specs.declared.letter.Outbound.{Outbound}
+use Rattle.book_core.specs.inner.Parts.{IsKept}
 use Rattle.book_core.proofs.CountedSteps.{counted-take, take-waits}
 use Rattle.book_core.proofs.RowSteps.{rows-settled}
 use Rattle.book_core.proofs.Rows.{kept-front_state, row-of}
@@ -56,7 +58,7 @@ few-attempts plan d good =
     elim (slice_get plan.destinations d) as (λ o. slice_get plan.destinations d ≡ o → option_map_or (λ x. x.attempts) o 0 ≤ 100)
     [ None ↦ λ e. omega arith | Some x ↦ λ e. (All-slice_get IsDestination plan.destinations d x e good.each_destination).attempts ] refl
 
-module _ (h : History) (rows : List (Row (Addressed Letter))) (index : List Known) (tally : Statistics) (flights room : ℕ) (kept : IsKept h rows index tally flights room) where
+module _ (h : History) (rows : List (Row (Queued Outbound))) (index : List Known) (tally : Statistics) (flights room : ℕ) (kept : IsKept h rows index tally flights room) where
   -- an empty queue, or none that is linked
   pub front-none : (d now : ℕ) → d < 32 → front_state d rows ≡ None → take_answer h d now ≡ Err Idle
   front-none d now within none =
@@ -87,10 +89,10 @@ module _ (h : History) (rows : List (Row (Addressed Letter))) (index : List Know
       ap (λ o. option_map_or (λ n. front_answer d now n (slot h n d)) o (Err Idle)) is.0 ∙ ap (front_answer d now number) is.1
 
   -- what is sent of a message
-  pub kept-letter : (n : ℕ) (message : Addressed Letter) → item_at n rows ≡ Some message → (message.content.control_id ≡ control_id h n) × (message.content.deliveries ≡ deliveries h n)
+  pub kept-letter : (n : ℕ) (message : Queued Outbound) → item_at n rows ≡ Some message → (message.content.control_id ≡ control_id h n) × (message.content.deliveries ≡ deliveries h n)
   kept-letter n message found = elim (row-of h rows kept.rows_agree n) [
-    | inl w ↦ let is : w.0.item ≡ message = same_Some {A = Addressed Letter} w.0.item message (sym w.3 ∙ found) in
-        (ap (λ (m : Addressed Letter). m.content.control_id) (sym is) ∙ (w.2.control_id ∙ ap (control_id h) w.1), ap (λ (m : Addressed Letter). m.content.deliveries) (sym is) ∙ (w.2.deliveries ∙ ap (deliveries h) w.1))
+    | inl w ↦ let is : w.0.item ≡ message = same_Some {A = Queued Outbound} w.0.item message (sym w.3 ∙ found) in
+        (ap (λ (m : Queued Outbound). m.content.control_id) (sym is) ∙ (w.2.control_id ∙ ap (control_id h) w.1), ap (λ (m : Queued Outbound). m.content.deliveries) (sym is) ∙ (w.2.deliveries ∙ ap (deliveries h) w.1))
     | inr w ↦ let none = w.0 in absurd cc
   ]
 

@@ -6,11 +6,11 @@ use Rattle.stat_count.specs.Statistics.{Statistics, destination_at, no_arrivals,
 use Rattle.event_log.specs.Counting.{channel_counts, destination_counts, is_delivered, is_failed, slot_count}
 use Rattle.event_log.specs.Folding.{folded, forgotten, forgotten_at, prune_answer, pruned}
 use Rattle.event_log.specs.History.{History, Remembered}
-use Rattle.event_log.specs.Legal.{IsSound}
+use Rattle.event_log.specs.inner.Legal.{IsSound}
 use Rattle.event_log.specs.Room.{is_in_flight}
 use Rattle.event_log.proofs.FoldedAlike.{destination-same, slots-split}
-use Rattle.book_core.specs.Counting.{AreCounted}
-use Rattle.book_core.specs.Pruning.{LeavesOut, remembered_count, unremembered}
+use Rattle.book_core.specs.inner.Counting.{AreCounted}
+use Rattle.book_core.specs.inner.Pruning.{LeavesOut, remembered_count, unremembered}
 use Rattle.book_core.proofs.Counted.{counts-equal, listed, tally-equal}
 
 -- so far it is left out at the destinations below one

@@ -5,11 +5,12 @@ use Rattle.dest_queue.specs.declared.SlotState.{SlotState}
 use Rattle.dest_queue.specs.declared.SlotState.TheVariants.{Waiting, InFlight, Delivered, Failed}
 use Rattle.dest_queue.specs.States.{is_waiting}
 use Rattle.stat_count.specs.declared.DestinationCounts.{DestinationCounts}
-use Rattle.stat_count.specs.Statistics.{cancelled_one, destination_at, taken_one, waits_one}
+use Rattle.stat_count.specs.Statistics.{destination_at}
+use Rattle.stat_count.specs.inner.Statistics.{cancelled_one, taken_one, waits_one}
 use Rattle.event_log.specs.History.{History, message_count, slot}
 use Rattle.event_log.specs.Room.{is_in_flight}
 use Rattle.event_log.specs.Counting.{destination_before, destination_counts, is_delivered, is_failed, slot_count}
-use Rattle.book_core.specs.Counting.{settled_one}
+use Rattle.book_core.specs.inner.Counting.{settled_one}
 use Rattle.book_core.proofs.Counted.{counts-equal}
 use Rattle.book_core.proofs.Slots.{one, slot_count-changed, slot_count-grown, slot_count-same}
 

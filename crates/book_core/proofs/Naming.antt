@@ -10,8 +10,8 @@ use Rattle.std.proofs.lemmas.Bool.Decides.{eqb_tells}
 use Rattle.judge_core.specs.declared.delivery.Delivery.{Delivery}
 use Rattle.judge_core.specs.Delivering.{destinations_of}
 use Rattle.dest_queue.specs.declared.SlotState.TheVariants.{Waiting}
-use Rattle.dest_queue.specs.Slots.{new_slot}
-use Rattle.dest_queue.specs.SlotsBy.{slots_by}
+use Rattle.dest_queue.specs.inner.Slots.{new_slot}
+use Rattle.dest_queue.specs.inner.SlotsBy.{slots_by}
 use Rattle.event_log.specs.History.{names}
 
 module _ (deliveries : List Delivery) (i : ℕ) (x : Delivery) (inside : i < length deliveries) (is : x ≡ get_or deliveries i x) where

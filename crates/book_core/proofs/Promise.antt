@@ -9,20 +9,20 @@ use Rattle.judge_core.specs.declared.delivery.Delivery.{Delivery}
 use Rattle.judge_core.specs.Delivering.{destinations_of}
 use Rattle.row_store.specs.declared.Row.{Row}
 use Rattle.dest_queue.specs.declared.SlotState.{SlotState}
-use Rattle.dest_queue.specs.declared.slots.Addressed.{Addressed}
+use Rattle.dest_queue.specs.declared.slots.Queued.{Queued}
 use Rattle.dest_queue.specs.declared.slots.Slot.{Slot}
-use Rattle.dest_queue.specs.SlotsBy.{slots_by}
-use Rattle.dup_index.specs.Known.{Known}
+use Rattle.dest_queue.specs.inner.SlotsBy.{slots_by}
+use Rattle.dup_index.specs.inner.Known.{Known}
 use Rattle.stat_count.specs.declared.ChannelCounts.{ChannelCounts}
 use Rattle.stat_count.specs.Statistics.{Statistics}
 use Rattle.event_log.specs.History.{History, deliveries, names, slot, state}
 use Rattle.event_log.proofs.Reading.{queue-rises}
 use Rattle.event_log.proofs.Replaying.{accepted-is, filtered-is, message-arrived, repeat-is}
 use Rattle.event_log.proofs.Rerun.{replay-same}
-use Rattle.book_core.specs.declared.letter.Letter.{Letter}
+use Rattle.book_core.specs.declared.letter.Outbound.{Outbound}
 use Rattle.event_log.specs.Counting.{channel_counts}
 use Rattle.book_core.specs.Headline.{KeepsItsPromise}
-use Rattle.book_core.specs.Parts.{IsAsTold, IsKept}
+use Rattle.book_core.specs.inner.Parts.{IsAsTold, IsKept}
 use Rattle.book_core.proofs.Counted.{counted-is, received-sum}
 use Rattle.book_core.proofs.Rows.{kept-queue, kept-slot}
 
@@ -49,9 +49,9 @@ slots-apart state (x ∷ ds) once =
         All-cons (λ (b : Slot). x.destination ≢ b.destination) (record { destination = y.destination; state = state y.destination }) (slots_by state (destinations_of ds))
         (All-head (λ y. x.destination ≢ y.destination) y ds all) (elsewhere ds (All-tail (λ y. x.destination ≢ y.destination) y ds all))
 
-module _ (h : History) (rows : List (Row (Addressed Letter))) (index : List Known) (tally : Statistics) (flights room : ℕ) (kept : IsKept h rows index tally flights room) where
+module _ (h : History) (rows : List (Row (Queued Outbound))) (index : List Known) (tally : Statistics) (flights room : ℕ) (kept : IsKept h rows index tally flights room) where
   -- no row has two slots for a destination
-  rows-once : (rows : List (Row (Addressed Letter))) → AllByRecursion (IsAsTold h) rows → AllByRecursion (λ row. AllPairs (λ (a b : Slot). a.destination ≢ b.destination) row.item.slots) rows
+  rows-once : (rows : List (Row (Queued Outbound))) → AllByRecursion (IsAsTold h) rows → AllByRecursion (λ row. AllPairs (λ (a b : Slot). a.destination ≢ b.destination) row.item.slots) rows
   rows-once [] told = tt
   rows-once (row ∷ rows) told = (
     subst (AllPairs (λ (a b : Slot). a.destination ≢ b.destination)) (sym told.0.slots) (slots-apart (state h row.number) (deliveries h row.number) (kept.sound.deliveries row.number).once),

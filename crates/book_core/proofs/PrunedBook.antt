@@ -8,18 +8,19 @@ use Rattle.std.proofs.lemmas.Option.{same_Some}
 use Rattle.judge_core.specs.declared.delivery.Delivery.{Delivery}
 use Rattle.judge_core.specs.Delivering.{destinations_of}
 use Rattle.row_store.specs.declared.Row.{Row}
-use Rattle.row_store.specs.Rows.{numbers as numbers_of}
+use Rattle.row_store.specs.Rows.{row_numbers as numbers_of}
 use Rattle.dest_queue.specs.declared.SlotState.{SlotState}
 use Rattle.dest_queue.specs.declared.SlotState.TheVariants.{Waiting, InFlight, Delivered, Failed}
-use Rattle.dest_queue.specs.declared.slots.Addressed.{Addressed}
-use Rattle.dest_queue.specs.SlotsBy.{slots_by}
+use Rattle.dest_queue.specs.declared.slots.Queued.{Queued}
+use Rattle.dest_queue.specs.inner.SlotsBy.{slots_by}
 use Rattle.dest_queue.specs.States.{is_live}
-use Rattle.dup_index.specs.Known.{Known, place_of}
+use Rattle.dup_index.specs.inner.Known.{Known, place_of}
 use Rattle.stat_count.specs.Statistics.{Statistics}
 use Rattle.event_log.specs.Folding.{arrival_place, prune_answer, pruned}
 use Rattle.event_log.specs.History.{History, control_id_of, deliveries, message_at, message_count, names, numbers, slot, state}
-use Rattle.event_log.specs.Legal.{IsSound}
-use Rattle.event_log.specs.Room.{in_flight, is_in_flight, message_total, total}
+use Rattle.event_log.specs.inner.Legal.{IsSound}
+use Rattle.event_log.specs.Room.{is_in_flight, message_total, total}
+use Rattle.event_log.specs.inner.Room.{in_flight}
 use Rattle.event_log.proofs.Beginning.{begun-sound}
 use Rattle.event_log.proofs.FoldedAlike.{message-gone, message-kept, pruned-alike, quiet, same-count, slot-gone, slot-kept}
 use Rattle.event_log.proofs.FoldedCounts.{folded-counts}
@@ -27,9 +28,9 @@ use Rattle.event_log.proofs.FoldedGood.{folded-good}
 use Rattle.event_log.proofs.ForgottenPlaces.{known-pruned}
 use Rattle.event_log.proofs.OneMore.{lt-tells}
 use Rattle.event_log.proofs.Totals.{sum-alike}
-use Rattle.book_core.specs.declared.letter.Letter.{Letter}
-use Rattle.book_core.specs.Counting.{AreCounted}
-use Rattle.book_core.specs.Parts.{IsAsTold, IsKept, KeysAgree, RowsAgree}
+use Rattle.book_core.specs.declared.letter.Outbound.{Outbound}
+use Rattle.book_core.specs.inner.Counting.{AreCounted}
+use Rattle.book_core.specs.inner.Parts.{IsAsTold, IsKept, KeysAgree, RowsAgree}
 use Rattle.book_core.proofs.ThreeSums.{were-taken}
 
 -- slots in states that agree wherever deliveries go
@@ -67,7 +68,7 @@ filter-twice p q r both (n ∷ ns) = by (p n) (q n) (r n) (both n) refl (filter-
 
 module _ (h : History) (sound : IsSound h) (bound : ℕ) (may : prune_answer h bound ≡ None) where
   -- the row of a message that stays is as it was told
-  told-kept : (row : Row (Addressed Letter)) → bound ≤ row.number → IsAsTold h row → IsAsTold (pruned bound h) row
+  told-kept : (row : Row (Queued Outbound)) → bound ≤ row.number → IsAsTold h row → IsAsTold (pruned bound h) row
   told-kept row from told =
       let n = row.number in
       let message = message-kept h sound bound may n from in
@@ -93,7 +94,7 @@ module _ (h : History) (sound : IsSound h) (bound : ℕ) (may : prune_answer h b
             (sym (ap (λ b. cond b (Some (state h n d)) None) named) ∙ (sym both ∙ ap (λ b. cond b (Some (state (pruned bound h) n d)) None) still))
       ]
 
-  rows-told : (rows : List (Row (Addressed Letter))) → AllByRecursion (IsAsTold h) rows
+  rows-told : (rows : List (Row (Queued Outbound))) → AllByRecursion (IsAsTold h) rows
       → AllByRecursion (IsAsTold (pruned bound h)) (filter (λ row. not (nat_lt row.number bound)) rows)
   rows-told [] all = tt
   rows-told (row ∷ rows) all = elim (lt-tells row.number bound) [
@@ -116,7 +117,7 @@ module _ (h : History) (sound : IsSound h) (bound : ℕ) (may : prune_answer h b
       all false = refl
 
   -- the rows of the messages that aren't forgotten
-  pub rows-pruned : (rows : List (Row (Addressed Letter))) → RowsAgree h rows
+  pub rows-pruned : (rows : List (Row (Queued Outbound))) → RowsAgree h rows
       → RowsAgree (pruned bound h) (filter (λ row. not (nat_lt row.number bound)) rows)
   rows-pruned rows agree = record {
     each_once =
@@ -173,7 +174,7 @@ module _ (h : History) (sound : IsSound h) (bound : ℕ) (may : prune_answer h b
       (λ n low below. sum-alike (λ d. flies (slot h n d)) (λ d. flies (slot (pruned bound h) n d)) 0 32 (λ d least inside. flies-same n d))
 
 -- a book of which messages are forgotten is kept
-pub kept-pruned : (h : History) (rows : List (Row (Addressed Letter))) (index : List Known) (tally : Statistics) (flights room : ℕ)
+pub kept-pruned : (h : History) (rows : List (Row (Queued Outbound))) (index : List Known) (tally : Statistics) (flights room : ℕ)
     → IsKept h rows index tally flights room
     → (bound : ℕ) → prune_answer h bound ≡ None → (index' : List Known) (room' : ℕ)
     → ((key : List ℕ)

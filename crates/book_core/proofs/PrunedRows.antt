@@ -7,14 +7,15 @@ use Rattle.std.proofs.lemmas.List.Elements.{All-from_recursion, recursion_from_A
 use Rattle.std.proofs.lemmas.List.FromFn.{length-range_with_len}
 use Rattle.std.proofs.lemmas.List.Sums.{count_by-le-length, length-filter}
 use Rattle.row_store.specs.declared.Row.{Row}
-use Rattle.row_store.specs.Rows.{numbers as numbers_of, removed}
-use Rattle.dest_queue.specs.declared.slots.Addressed.{Addressed}
+use Rattle.row_store.specs.Rows.{row_numbers as numbers_of}
+use Rattle.row_store.specs.inner.Rows.{removed}
+use Rattle.dest_queue.specs.declared.slots.Queued.{Queued}
 use Rattle.event_log.specs.History.{History, message_at, message_count}
-use Rattle.event_log.specs.Legal.{IsSound}
+use Rattle.event_log.specs.inner.Legal.{IsSound}
 use Rattle.event_log.proofs.Forgetting.{in-turn}
 use Rattle.event_log.proofs.OneMore.{lt-tells}
-use Rattle.book_core.specs.declared.letter.Letter.{Letter}
-use Rattle.book_core.specs.Parts.{RowsAgree}
+use Rattle.book_core.specs.declared.letter.Outbound.{Outbound}
+use Rattle.book_core.specs.inner.Parts.{RowsAgree}
 
 -- ---- rows dropped number by number
 
@@ -106,7 +107,7 @@ from-numbers : {T : Type 0} (low : ℕ) (rows : List (Row T)) → AllByRecursion
 from-numbers low [] all = tt
 from-numbers low (row ∷ rows) all = (all.0, from-numbers low rows all.1)
 
-module _ (h : History) (rows : List (Row (Addressed Letter))) (agree : RowsAgree h rows) where
+module _ (h : History) (rows : List (Row (Queued Outbound))) (agree : RowsAgree h rows) where
   -- there are as many rows as messages that aren't forgotten
   pub rows-few : length rows ≤ message_count h
   rows-few =
@@ -123,7 +124,7 @@ module _ (h : History) (rows : List (Row (Addressed Letter))) (agree : RowsAgree
   -- and none is below the first of them
   pub rows-last : IsSound h → All (λ row. message_count h - length rows ≤ row.number) rows
   rows-last sound =
-      All-from_recursion (λ (row : Row (Addressed Letter)). message_count h - length rows ≤ row.number) rows
+      All-from_recursion (λ (row : Row (Queued Outbound)). message_count h - length rows ≤ row.number) rows
       (from-numbers (message_count h - length rows) rows numbered)
     where
       turn : (n m : ℕ) → n ≤ m → m < 0 + message_count h → is_some (message_at h n) ≡ true → is_some (message_at h m) ≡ true

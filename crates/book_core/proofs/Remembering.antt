@@ -12,9 +12,9 @@ use Rattle.judge_core.specs.Delivering.{destinations_of}
 use Rattle.row_store.specs.declared.Row.{Row}
 use Rattle.row_store.specs.Rows.{item_at}
 use Rattle.dest_queue.specs.declared.SlotState.{SlotState}
-use Rattle.dest_queue.specs.declared.slots.Addressed.{Addressed}
+use Rattle.dest_queue.specs.declared.slots.Queued.{Queued}
 use Rattle.dest_queue.specs.declared.slots.Slot.{Slot}
-use Rattle.dest_queue.specs.SlotsBy.{slots_by}
+use Rattle.dest_queue.specs.inner.SlotsBy.{slots_by}
 use Rattle.event_log.specs.declared.entry.Entry.{Entry}
 use Rattle.event_log.specs.declared.entry.Entry.TheVariants.{Arrival, Take, Settle, Cancel, Deploy}
 use Rattle.event_log.specs.declared.entry.Told.{Told}
@@ -23,9 +23,9 @@ use Rattle.event_log.specs.Answers.{is_kept}
 use Rattle.event_log.specs.Folding.{recalled, recalled_from, told_slots}
 use Rattle.event_log.specs.History.{History, Remembered, deliveries, entry_at, number_told, state}
 use Rattle.event_log.proofs.OneMore.{range-push}
-use Rattle.book_core.specs.declared.letter.Letter.{Letter}
-use Rattle.book_core.specs.Parts.{RowsAgree}
-use Rattle.book_core.specs.Pruning.{since}
+use Rattle.book_core.specs.declared.letter.Outbound.{Outbound}
+use Rattle.book_core.specs.inner.Parts.{RowsAgree}
+use Rattle.book_core.specs.inner.Pruning.{since}
 use Rattle.book_core.proofs.Rows.{row-of}
 
 -- ---- one arrival
@@ -35,12 +35,12 @@ slots-told : (f : ℕ → SlotState) (ds : List Delivery)
 slots-told f [] = refl
 slots-told f (x ∷ ds) = ap (λ (slots : List Slot). record { destination = x.destination; state = f x.destination } ∷ slots) (slots-told f ds)
 
-module _ (h : History) (rows : List (Row (Addressed Letter))) (agree : RowsAgree h rows) where
-  row-says : (n : ℕ) (item : Addressed Letter) → item_at n rows ≡ Some item → (item.content.deliveries ≡ deliveries h n)
+module _ (h : History) (rows : List (Row (Queued Outbound))) (agree : RowsAgree h rows) where
+  row-says : (n : ℕ) (item : Queued Outbound) → item_at n rows ≡ Some item → (item.content.deliveries ≡ deliveries h n)
       × (item.slots ≡ told_slots h (told.Accepted n))
   row-says n item is = elim (row-of h rows agree n) [
     | inl w ↦
-        let same : item ≡ w.0.item = same_Some {A = Addressed Letter} item w.0.item (sym is ∙ w.3) in (
+        let same : item ≡ w.0.item = same_Some {A = Queued Outbound} item w.0.item (sym is ∙ w.3) in (
           ap (λ i. i.content.deliveries) same ∙ (w.2.deliveries ∙ ap (deliveries h) w.1),
           ap (λ i. i.slots) same ∙ (w.2.slots ∙ (slots-told (state h w.0.number) (deliveries h w.0.number)
               ∙ ap (λ k. told_slots h (told.Accepted k)) w.1)),
@@ -55,7 +55,7 @@ module _ (h : History) (rows : List (Row (Addressed Letter))) (agree : RowsAgree
   ]
 
   -- an arrival whose message has a row is as the row says
-  pub recalled-row : (place channel : ℕ) (raw : List ℕ) (reply : Told) (item : Addressed Letter)
+  pub recalled-row : (place channel : ℕ) (raw : List ℕ) (reply : Told) (item : Queued Outbound)
       → option_and_then (λ n. item_at n rows) (number_told reply) ≡ Some item
       → record { place = place; channel = channel; raw = raw; told = reply; deliveries = item.content.deliveries; slots = item.slots }
       ≡ recalled h place channel raw reply

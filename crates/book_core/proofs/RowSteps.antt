@@ -5,22 +5,24 @@ use Rattle.std.specs.Int.{bit_at}
 use Rattle.std.proofs.lemmas.Bool.Decides.{eqb_tells}
 use Rattle.judge_core.specs.Delivering.{destinations_of}
 use Rattle.row_store.specs.declared.Row.{Row}
-use Rattle.row_store.specs.Rows.{changed_at, stands_in, without}
+use Rattle.row_store.specs.Rows.{is_in_queue}
+use Rattle.row_store.specs.inner.Rows.{changed_at, without}
 use Rattle.row_store.proofs.Bits.{bit_at-without_same, bit_at-without_other}
 use Rattle.dest_queue.specs.declared.SlotState.{SlotState}
-use Rattle.dest_queue.specs.declared.slots.Addressed.{Addressed}
-use Rattle.dest_queue.specs.Queues.{settle}
-use Rattle.dest_queue.specs.SlotsBy.{slots_by}
+use Rattle.dest_queue.specs.declared.slots.Queued.{Queued}
+use Rattle.dest_queue.specs.inner.Queues.{settle}
+use Rattle.dest_queue.specs.inner.SlotsBy.{slots_by}
 use Rattle.dest_queue.specs.States.{is_live}
 use Rattle.dest_queue.proofs.SlotLaws.{with_state-slots_by}
-use Rattle.event_log.specs.History.{History, accepted, control_id_of, deliveries, is_queued, message_at, named, names, state}
+use Rattle.event_log.specs.History.{History, accepted, control_id_of, deliveries, is_queued, message_at, names, state}
+use Rattle.event_log.specs.inner.History.{named}
 use Rattle.event_log.proofs.Following.{deliveries-same, funext, message-same, remaining-same}
-use Rattle.book_core.specs.declared.letter.Letter.{Letter}
-use Rattle.book_core.specs.Parts.{IsAsTold, RowsAgree}
+use Rattle.book_core.specs.declared.letter.Outbound.{Outbound}
+use Rattle.book_core.specs.inner.Parts.{IsAsTold, RowsAgree}
 use Rattle.book_core.proofs.Rows.{rows-changed}
 
 -- a row whose message and states are as before is as it was told
-pub same-row : (h g : History) (row : Row (Addressed Letter)) → message_at g row.number ≡ message_at h row.number → ((d : ℕ) → state g row.number d ≡ state h row.number d) → IsAsTold h row → IsAsTold g row
+pub same-row : (h g : History) (row : Row (Queued Outbound)) → message_at g row.number ≡ message_at h row.number → ((d : ℕ) → state g row.number d ≡ state h row.number d) → IsAsTold h row → IsAsTold g row
 same-row h g row message states told =
     let goes : deliveries g row.number ≡ deliveries h row.number = ap (λ m. option_map_or (λ m. m.deliveries) m []) message in record {
       slots = told.slots ∙ (ap (λ states. slots_by states (named h row.number)) (funext _ _ (λ d. sym (states d))) ∙ ap (λ ds. slots_by (state g row.number) (destinations_of ds)) (sym goes));
@@ -36,7 +38,7 @@ module _ (h g : History) (opening : g.opening ≡ h.opening) (n d : ℕ) (after 
   goes : (m : ℕ) → deliveries g m ≡ deliveries h m
   goes m = deliveries-same h g opening messages m
 
-  elsewhere : (row : Row (Addressed Letter)) → row.number ≢ n → IsAsTold h row → IsAsTold g row
+  elsewhere : (row : Row (Queued Outbound)) → row.number ≢ n → IsAsTold h row → IsAsTold g row
   elsewhere row differs told = same-row h g row (message-same h g opening messages row.number)
       (λ e. states row.number e ∙ elim (eqb_tells n row.number) [ inl w ↦ absurd (differs (sym w.1)) | inr w ↦ rw w.0 refl ]) told
 
@@ -51,7 +53,7 @@ module _ (h g : History) (opening : g.opening ≡ h.opening) (n d : ℕ) (after 
   states-now e = elim (eqb_tells e d) [ inl w ↦ rw w.0 (sym state-here ∙ ap (state g n) (sym w.1)) | inr w ↦ rw w.0 (sym (state-there e w.1)) ]
 
   -- the row is as settled: live states keep it in the queue, others take it out
-  here : names d (deliveries h n) ≡ true → is_live (state h n d) ≡ true → (row : Row (Addressed Letter)) → row.number ≡ n → IsAsTold h row → IsAsTold g (settle d after row)
+  here : names d (deliveries h n) ≡ true → is_live (state h n d) ≡ true → (row : Row (Queued Outbound)) → row.number ≡ n → IsAsTold h row → IsAsTold g (settle d after row)
   here named-it lived row same told = record {
     slots = rw told.slots (with_state-slots_by (state h row.number) (named h row.number) d after
         ∙ rw same (ap (λ states. slots_by states (named h n)) (funext _ _ states-now) ∙ ap (λ ds. slots_by (state g n) (destinations_of ds)) (sym (goes n))));
@@ -61,7 +63,7 @@ module _ (h g : History) (opening : g.opening ≡ h.opening) (n d : ℕ) (after 
     came = message-same h g opening messages row.number ∙ told.came;
   }
     where
-      was : (e : ℕ) → e < 32 → stands_in e row ≡ is_queued h e n
+      was : (e : ℕ) → e < 32 → is_in_queue e row ≡ is_queued h e n
       was e within = told.queues e within ∙ ap (is_queued h e) same
 
       queued : (e : ℕ) → is_queued g e n ≡ option_map_or is_live (cond (names e (deliveries h n)) (Some (state g n e)) None) false
@@ -76,7 +78,7 @@ module _ (h g : History) (opening : g.opening ≡ h.opening) (n d : ℕ) (after 
       queue-before : is_queued h d n ≡ true
       queue-before = rw (named-it, lived) refl
 
-      queue-now : (e : ℕ) → e < 32 → stands_in e (settle d after row) ≡ is_queued g e n
+      queue-now : (e : ℕ) → e < 32 → is_in_queue e (settle d after row) ≡ is_queued g e n
       queue-now e within = elim (is_live after) as (λ b. is_live after ≡ b → (bit_at (cond b row.mask (without d row.mask)) e == 1) ≡ is_queued g e n) [
         | true ↦ λ live. was e within ∙ elim (eqb_tells e d) [
           | inl w ↦ rw w.1 (queue-before ∙ sym (queue-here ∙ live))
@@ -89,6 +91,6 @@ module _ (h g : History) (opening : g.opening ≡ h.opening) (n d : ℕ) (after 
       ] refl
 
   -- the rows follow
-  pub rows-settled : names d (deliveries h n) ≡ true → is_live (state h n d) ≡ true → (rows : List (Row (Addressed Letter))) → RowsAgree h rows → RowsAgree g (changed_at n (settle d after) rows)
+  pub rows-settled : names d (deliveries h n) ≡ true → is_live (state h n d) ≡ true → (rows : List (Row (Queued Outbound))) → RowsAgree h rows → RowsAgree g (changed_at n (settle d after) rows)
   rows-settled named-it lived rows agree =
       rows-changed h g n (settle d after) (λ row. refl) elsewhere (here named-it lived) rows (remaining-same h g opening messages) agree

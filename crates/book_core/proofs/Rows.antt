@@ -8,21 +8,24 @@ use Rattle.std.proofs.lemmas.Bool.Decides.{nat_tests}
 use Rattle.judge_core.specs.declared.delivery.Delivery.{Delivery}
 use Rattle.judge_core.specs.Delivering.{destinations_of}
 use Rattle.row_store.specs.declared.Row.{Row}
-use Rattle.row_store.specs.Rows.{changed_at, front_of, is_row, item_at, numbers as numbers_of, queue_of, stands_in}
+use Rattle.row_store.specs.Rows.{is_row, item_at, row_numbers as numbers_of, queue_of, is_in_queue}
+use Rattle.row_store.specs.inner.Rows.{changed_at, front_of}
 use Rattle.row_store.proofs.Places.{numbers-changed_at}
 use Rattle.row_store.proofs.QueueLaws.{front_of-queue_of}
 use Rattle.dest_queue.specs.declared.SlotState.{SlotState}
-use Rattle.dest_queue.specs.declared.slots.Addressed.{Addressed}
-use Rattle.dest_queue.specs.Queues.{front_state, slot_of, waits_in}
+use Rattle.dest_queue.specs.declared.slots.Queued.{Queued}
+use Rattle.dest_queue.specs.Queues.{slot_of}
+use Rattle.dest_queue.specs.inner.Queues.{front_state, waits_in}
 use Rattle.dest_queue.specs.States.{is_live, is_waiting}
 use Rattle.dest_queue.specs.Slots.{state_at}
-use Rattle.dest_queue.specs.SlotsBy.{is_among}
+use Rattle.dest_queue.specs.inner.SlotsBy.{is_among}
 use Rattle.dest_queue.proofs.SlotLaws.{state_at-slots_by, waits_at-slots_by}
-use Rattle.event_log.specs.History.{History, deliveries, is_queued, message_at, message_count, named, names, numbers, queue, remaining, slot, state}
+use Rattle.event_log.specs.History.{History, deliveries, is_queued, message_at, message_count, names, numbers, queue, remaining, slot, state}
+use Rattle.event_log.specs.inner.History.{named}
 use Rattle.event_log.specs.Answers.{waits}
 use Rattle.event_log.proofs.Reading.{message-exists}
-use Rattle.book_core.specs.declared.letter.Letter.{Letter}
-use Rattle.book_core.specs.Parts.{IsAsTold, RowsAgree}
+use Rattle.book_core.specs.declared.letter.Outbound.{Outbound}
+use Rattle.book_core.specs.inner.Parts.{IsAsTold, RowsAgree}
 
 same_number : (a b : ℕ) → (a == b) ≡ true → a ≡ b
 same_number a b e = grind (arith, nat_tests)
@@ -104,9 +107,9 @@ queued-there h d n queued = elim (message_at h n) as (λ o. message_at h n ≡ o
 ] refl
 
 -- a queue by the numbers of its rows
-pub queue_of-numbers : {T : Type 0} (d : ℕ) (p : ℕ → Bool) (rows : List (Row T)) → AllByRecursion (λ row. stands_in d row ≡ p row.number) rows → queue_of d rows ≡ filter p (numbers_of rows)
+pub queue_of-numbers : {T : Type 0} (d : ℕ) (p : ℕ → Bool) (rows : List (Row T)) → AllByRecursion (λ row. is_in_queue d row ≡ p row.number) rows → queue_of d rows ≡ filter p (numbers_of rows)
 queue_of-numbers d p [] all = refl
-queue_of-numbers {T} d p (row ∷ rows) all = rw all.0 (elim (p row.number) as (λ b. map (λ (r : Row T). r.number) (cond b (row ∷ filter (stands_in d) rows) (filter (stands_in d) rows)) ≡ cond b (row.number ∷ filter p (map (λ r. r.number) rows)) (filter p (map (λ r. r.number) rows)))
+queue_of-numbers {T} d p (row ∷ rows) all = rw all.0 (elim (p row.number) as (λ b. map (λ (r : Row T). r.number) (cond b (row ∷ filter (is_in_queue d) rows) (filter (is_in_queue d) rows)) ≡ cond b (row.number ∷ filter p (map (λ r. r.number) rows)) (filter p (map (λ r. r.number) rows)))
     [ true ↦ ap (λ xs. row.number ∷ xs) (queue_of-numbers d p rows all.1) | false ↦ queue_of-numbers d p rows all.1 ])
 
 -- the destinations that deliveries name
@@ -114,7 +117,7 @@ pub among-named : (d : ℕ) (ds : List Delivery) → is_among d (destinations_of
 among-named d [] = refl
 among-named d (x ∷ ds) = ap (λ b. (x.destination == d) || b) (among-named d ds)
 
-module _ (h : History) (rows : List (Row (Addressed Letter))) (agree : RowsAgree h rows) where
+module _ (h : History) (rows : List (Row (Queued Outbound))) (agree : RowsAgree h rows) where
   -- a number without a row is that of no message, or of one that is gone
   no-row : (n : ℕ) → list_any (λ m. m == n) (numbers_of rows) ≡ false → message_at h n ≡ None
   no-row n none = elim (message_at h n) as (λ o. message_at h n ≡ o → o ≡ None) [
@@ -130,7 +133,7 @@ module _ (h : History) (rows : List (Row (Addressed Letter))) (agree : RowsAgree
   row-of n = elim (found-or-not (IsAsTold h) n rows agree.as_told) [ inl w ↦ inl w | inr w ↦ inr (w.0, no-row n w.1) ]
 
   -- the slots of a row are those of its message
-  slot-in : (d : ℕ) (row : Row (Addressed Letter)) → IsAsTold h row → state_at d row.item.slots ≡ slot h row.number d
+  slot-in : (d : ℕ) (row : Row (Queued Outbound)) → IsAsTold h row → state_at d row.item.slots ≡ slot h row.number d
   slot-in d row told = rw told.slots (state_at-slots_by (state h row.number) (named h row.number) d ∙ ap (λ b. cond b (Some (state h row.number d)) None) (among-named d (deliveries h row.number)))
 
   -- each slot is kept as the history has it
@@ -158,7 +161,7 @@ module _ (h : History) (rows : List (Row (Addressed Letter))) (agree : RowsAgree
   -- each queue is linked as the history has it
   pub kept-queue : (d : ℕ) → d < 32 → queue_of d rows ≡ queue h d
   kept-queue d within =
-      queue_of-numbers d (is_queued h d) rows (all-weaker (IsAsTold h) (λ row. stands_in d row ≡ is_queued h d row.number) (λ row told. told.queues d within) rows agree.as_told)
+      queue_of-numbers d (is_queued h d) rows (all-weaker (IsAsTold h) (λ row. is_in_queue d row ≡ is_queued h d row.number) (λ row told. told.queues d within) rows agree.as_told)
       ∙ (ap (filter (is_queued h d)) agree.each_once ∙ filter-within (is_queued h d) (λ n. is_some (message_at h n)) (queued-there h d) (numbers h))
 
   pub kept-front : (d : ℕ) → d < 32 → front_of d rows ≡ slice_get (queue h d) 0
@@ -170,9 +173,9 @@ module _ (h : History) (rows : List (Row (Addressed Letter))) (agree : RowsAgree
       [ None ↦ refl | Some n ↦ ap (λ o. option_map {U = ℕ × SlotState} (λ state. (n, state)) o) (kept-slot n d) ])
 
 -- the rows that follow a change of one of them
-module _ (h g : History) (n : ℕ) (change : Row (Addressed Letter) → Row (Addressed Letter)) (same : (row : Row (Addressed Letter)) → (change row).number ≡ row.number)
-    (others : (row : Row (Addressed Letter)) → row.number ≢ n → IsAsTold h row → IsAsTold g row) (changed : (row : Row (Addressed Letter)) → row.number ≡ n → IsAsTold h row → IsAsTold g (change row)) where
-  all-changed : (rows : List (Row (Addressed Letter))) → AllByRecursion (IsAsTold h) rows → AllByRecursion (IsAsTold g) (changed_at n change rows)
+module _ (h g : History) (n : ℕ) (change : Row (Queued Outbound) → Row (Queued Outbound)) (same : (row : Row (Queued Outbound)) → (change row).number ≡ row.number)
+    (others : (row : Row (Queued Outbound)) → row.number ≢ n → IsAsTold h row → IsAsTold g row) (changed : (row : Row (Queued Outbound)) → row.number ≡ n → IsAsTold h row → IsAsTold g (change row)) where
+  all-changed : (rows : List (Row (Queued Outbound))) → AllByRecursion (IsAsTold h) rows → AllByRecursion (IsAsTold g) (changed_at n change rows)
   all-changed [] all = tt
   all-changed (row ∷ rows) all = (
     elim (row.number == n) as (λ b. (row.number == n) ≡ b → IsAsTold g (cond b (change row) row)) [
@@ -182,7 +185,7 @@ module _ (h g : History) (n : ℕ) (change : Row (Addressed Letter) → Row (Add
     all-changed rows all.1,
   )
 
-  pub rows-changed : (rows : List (Row (Addressed Letter))) → remaining g ≡ remaining h → RowsAgree h rows → RowsAgree g (changed_at n change rows)
+  pub rows-changed : (rows : List (Row (Queued Outbound))) → remaining g ≡ remaining h → RowsAgree h rows → RowsAgree g (changed_at n change rows)
   rows-changed rows counted agree = record {
     each_once = numbers-changed_at n change same rows ∙ (agree.each_once ∙ sym counted);
     as_told = all-changed rows agree.as_told;

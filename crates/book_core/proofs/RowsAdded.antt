@@ -9,23 +9,23 @@ use Rattle.judge_core.specs.Delivering.{destinations_of}
 use Rattle.judge_core.specs.declared.delivery.Delivery.{Delivery}
 use Rattle.judge_core.specs.Judging.{deliveries_of, verdict as decided}
 use Rattle.row_store.specs.declared.Row.{Row}
-use Rattle.row_store.specs.Rows.{numbers as numbers_of}
+use Rattle.row_store.specs.Rows.{row_numbers as numbers_of}
 use Rattle.dest_queue.specs.declared.SlotState.TheVariants.{Waiting}
-use Rattle.dest_queue.specs.declared.slots.Addressed.{Addressed}
-use Rattle.dest_queue.specs.SlotsBy.{slots_by}
+use Rattle.dest_queue.specs.declared.slots.Queued.{Queued}
+use Rattle.dest_queue.specs.inner.SlotsBy.{slots_by}
 use Rattle.dest_queue.specs.States.{is_live}
 use Rattle.event_log.specs.declared.entry.Told.{Told}
 use Rattle.event_log.specs.declared.entry.Told.TheVariants as told
 use Rattle.event_log.specs.declared.entry.Entry.TheVariants.{Arrival}
 use Rattle.event_log.specs.History.{History, Accepted, accepted, accepted_under, control_id_of, followed_by, message_at, message_count, names, plan_in_force, state}
-use Rattle.event_log.specs.Legal.{IsSound}
+use Rattle.event_log.specs.inner.Legal.{IsSound}
 use Rattle.event_log.proofs.Following.{funext, message-newest, message-older, message-same, remaining-longer, remaining-same}
 use Rattle.event_log.proofs.Steps.{ArrivalStep}
-use Rattle.book_core.specs.declared.letter.Letter.{Letter}
-use Rattle.book_core.specs.Parts.{IsAsTold, RowsAgree}
-use Rattle.book_core.specs.declared.arrival.Gain.{Gain}
-use Rattle.book_core.specs.declared.arrival.Gain.TheVariants as gain
-use Rattle.book_core.specs.Sending.{AddsGain, AddsRow, IsGain}
+use Rattle.book_core.specs.declared.letter.Outbound.{Outbound}
+use Rattle.book_core.specs.inner.Parts.{IsAsTold, RowsAgree}
+use Rattle.book_core.specs.declared.arrival.Addition.{Addition}
+use Rattle.book_core.specs.declared.arrival.Addition.TheVariants as gain
+use Rattle.book_core.specs.inner.Sending.{AddsGain, AddsRow, IsAddition}
 use Rattle.book_core.proofs.Rows.{all-weaker}
 use Rattle.book_core.proofs.RowSteps.{same-row}
 
@@ -46,13 +46,13 @@ filter-below p a (suc k) b fits =
     elim (p a) as (λ t. AllByRecursion (λ n. n < b) (cond t (a ∷ filter p (range_with_len (a + 1) k)) (filter p (range_with_len (a + 1) k)))) [ true ↦ (omega arith, rest) | false ↦ rest ]
 
 -- the numbers of the rows are those of messages that came
-pub numbers-below : (h : History) (rows : List (Row (Addressed Letter))) → RowsAgree h rows → AllByRecursion (λ row. row.number < message_count h) rows
+pub numbers-below : (h : History) (rows : List (Row (Queued Outbound))) → RowsAgree h rows → AllByRecursion (λ row. row.number < message_count h) rows
 numbers-below h rows agree =
     numbers-each (λ n. n < message_count h) rows
     (subst (AllByRecursion (λ n. n < message_count h)) (sym agree.each_once) (filter-below (λ n. is_some (message_at h n)) 0 (message_count h) (message_count h) (omega arith)))
 
 -- so a further message has the next number
-pub next-row : (h : History) (rows : List (Row (Addressed Letter))) → RowsAgree h rows → All (λ row. row.number < message_count h) rows
+pub next-row : (h : History) (rows : List (Row (Queued Outbound))) → RowsAgree h rows → All (λ row. row.number < message_count h) rows
 next-row h rows agree = All-from_recursion (λ row. row.number < message_count h) rows (numbers-below h rows agree)
 
 all-both : {A : Type 0} (P Q R : A → Type 0) → ((x : A) → P x → Q x → R x) → (xs : List A) → AllByRecursion P xs → AllByRecursion Q xs → AllByRecursion R xs
@@ -73,7 +73,7 @@ queued-first true = refl
 queued-first false = refl
 
 -- the rows of a history with no message more
-pub rows-kept : (h g : History) → g.opening ≡ h.opening → accepted g ≡ accepted h → ((n d : ℕ) → state g n d ≡ state h n d) → (rows : List (Row (Addressed Letter))) → RowsAgree h rows → RowsAgree g rows
+pub rows-kept : (h g : History) → g.opening ≡ h.opening → accepted g ≡ accepted h → ((n d : ℕ) → state g n d ≡ state h n d) → (rows : List (Row (Queued Outbound))) → RowsAgree h rows → RowsAgree g rows
 rows-kept h g opening messages states rows agree = record {
   each_once = agree.each_once ∙ sym (remaining-same h g opening messages);
   as_told = all-weaker (IsAsTold h) (IsAsTold g) (λ row told. same-row h g row (message-same h g opening messages row.number) (states row.number) told) rows agree.as_told;
@@ -98,7 +98,7 @@ module _ (h g : History) (opening : g.opening ≡ h.opening) (message : Accepted
     came = new-message;
   }
 
-  pub rows-added : (old new : List (Row (Addressed Letter))) → RowsAgree h old → AddsRow (message_count h) message.channel message.raw (control_id_of message.raw) message.deliveries old new → RowsAgree g new
+  pub rows-added : (old new : List (Row (Queued Outbound))) → RowsAgree h old → AddsRow (message_count h) message.channel message.raw (control_id_of message.raw) message.deliveries old new → RowsAgree g new
   rows-added old new agree adds = rw adds.added (record {
     each_once = numbers-push old _ ∙ (ap (λ ns. ns ++ message_count h ∷ []) agree.each_once ∙ sym (remaining-longer h g opening message messages));
     as_told = all-push (IsAsTold g) old _
@@ -109,7 +109,7 @@ module _ (h g : History) (opening : g.opening ≡ h.opening) (message : Accepted
   })
 
 -- the rows of a message that is accepted
-rows-accepted : (h : History) (conn channel number : ℕ) (raw : List ℕ) → IsSound h → ArrivalStep h conn channel raw (told.Accepted number) → (n : ℕ) (id : List ℕ) (deliveries : List Delivery) (old new : List (Row (Addressed Letter)))
+rows-accepted : (h : History) (conn channel number : ℕ) (raw : List ℕ) → IsSound h → ArrivalStep h conn channel raw (told.Accepted number) → (n : ℕ) (id : List ℕ) (deliveries : List Delivery) (old new : List (Row (Queued Outbound)))
     → n ≡ number → id ≡ control_id_of raw → deliveries ≡ deliveries_of (decided (plan_in_force h) channel raw)
     → RowsAgree h old → AddsRow n channel raw id deliveries old new → RowsAgree (followed_by h (Arrival conn channel raw (told.Accepted number))) new
 rows-accepted h conn channel number raw sound step n id deliveries old new number-is id-is goes agree adds =
@@ -117,13 +117,13 @@ rows-accepted h conn channel number raw sound step n id deliveries old new numbe
     (rw (number-is, id-is, goes, step.numbered) at adds)
 
 -- the rows of a message that isn't
-rows-unchanged : (h : History) (conn channel : ℕ) (raw : List ℕ) (reply : Told) (old new : List (Row (Addressed Letter))) → accepted (followed_by h (Arrival conn channel raw reply)) ≡ accepted h
+rows-unchanged : (h : History) (conn channel : ℕ) (raw : List ℕ) (reply : Told) (old new : List (Row (Queued Outbound))) → accepted (followed_by h (Arrival conn channel raw reply)) ≡ accepted h
     → ((n d : ℕ) → state (followed_by h (Arrival conn channel raw reply)) n d ≡ state h n d) → RowsAgree h old → new ≡ old → RowsAgree (followed_by h (Arrival conn channel raw reply)) new
 rows-unchanged h conn channel raw reply old new messages states agree same = rw same (rows-kept h (followed_by h (Arrival conn channel raw reply)) refl messages states old agree)
 
 -- the rows follow an arrival
-pub rows-arrived : (h : History) (conn channel : ℕ) (raw : List ℕ) (reply : Told) (g : Gain) → IsSound h → ArrivalStep h conn channel raw reply → (old new : List (Row (Addressed Letter))) → RowsAgree h old
-    → IsGain reply (control_id_of raw) (decided (plan_in_force h) channel raw) g → AddsGain channel raw g old new → RowsAgree (followed_by h (Arrival conn channel raw reply)) new
+pub rows-arrived : (h : History) (conn channel : ℕ) (raw : List ℕ) (reply : Told) (g : Addition) → IsSound h → ArrivalStep h conn channel raw reply → (old new : List (Row (Queued Outbound))) → RowsAgree h old
+    → IsAddition reply (control_id_of raw) (decided (plan_in_force h) channel raw) g → AddsGain channel raw g old new → RowsAgree (followed_by h (Arrival conn channel raw reply)) new
 rows-arrived h conn channel raw (told.Accepted number) (gain.Message n c ds) sound step old new agree is adds =
     rows-accepted h conn channel number raw sound step n c.now ds.now old new is.0 is.1 is.2 agree adds
 rows-arrived h conn channel raw (told.Accepted number) gain.Key sound step old new agree is adds = absurd is

@@ -5,21 +5,23 @@ use Rattle.std.specs.Int.{bit_at}
 use Rattle.std.proofs.lemmas.Bool.Decides.{eqb_tells}
 use Rattle.judge_core.specs.Delivering.{destinations_of}
 use Rattle.row_store.specs.declared.Row.{Row}
-use Rattle.row_store.specs.Rows.{changed_at, stands_in}
+use Rattle.row_store.specs.Rows.{is_in_queue}
+use Rattle.row_store.specs.inner.Rows.{changed_at}
 use Rattle.dest_queue.specs.declared.SlotState.{SlotState}
 use Rattle.dest_queue.specs.declared.SlotState.TheVariants.{Waiting, InFlight, Delivered, Failed}
 use Rattle.dest_queue.specs.declared.FailCause.TheVariants.{Cancelled}
-use Rattle.dest_queue.specs.declared.slots.Addressed.{Addressed}
-use Rattle.dest_queue.specs.Queues.{cancel}
-use Rattle.dest_queue.specs.Slots.{waits_at}
-use Rattle.dest_queue.specs.SlotsBy.{is_among, slots_by}
+use Rattle.dest_queue.specs.declared.slots.Queued.{Queued}
+use Rattle.dest_queue.specs.inner.Queues.{cancel}
+use Rattle.dest_queue.specs.inner.Slots.{waits_at}
+use Rattle.dest_queue.specs.inner.SlotsBy.{is_among, slots_by}
 use Rattle.dest_queue.specs.States.{is_live, is_waiting}
 use Rattle.dest_queue.proofs.SlotLaws.{cancelled-slots_by, left-waiting_at, waits_at-slots_by}
-use Rattle.event_log.specs.History.{History, accepted, control_id_of, deliveries, is_queued, named, names, state}
+use Rattle.event_log.specs.History.{History, accepted, control_id_of, deliveries, is_queued, names, state}
+use Rattle.event_log.specs.inner.History.{named}
 use Rattle.event_log.specs.Answers.{waits}
 use Rattle.event_log.proofs.Following.{deliveries-same, message-same, remaining-same}
-use Rattle.book_core.specs.declared.letter.Letter.{Letter}
-use Rattle.book_core.specs.Parts.{IsAsTold, RowsAgree}
+use Rattle.book_core.specs.declared.letter.Outbound.{Outbound}
+use Rattle.book_core.specs.inner.Parts.{IsAsTold, RowsAgree}
 use Rattle.book_core.proofs.Rows.{among-named, rows-changed}
 use Rattle.book_core.proofs.RowSteps.{same-row}
 
@@ -52,7 +54,7 @@ module _ (h g : History) (opening : g.opening ≡ h.opening) (n mask : ℕ) (mes
   goes : (m : ℕ) → deliveries g m ≡ deliveries h m
   goes m = deliveries-same h g opening messages m
 
-  elsewhere : (row : Row (Addressed Letter)) → row.number ≢ n → IsAsTold h row → IsAsTold g row
+  elsewhere : (row : Row (Queued Outbound)) → row.number ≢ n → IsAsTold h row → IsAsTold g row
   elsewhere row differs told = same-row h g row (message-same h g opening messages row.number)
       (λ e. states row.number e ∙ elim (eqb_tells n row.number) [ inl w ↦ absurd (differs (sym w.1)) | inr w ↦ rw w.0 refl ]) told
 
@@ -60,7 +62,7 @@ module _ (h g : History) (opening : g.opening ≡ h.opening) (n mask : ℕ) (mes
   state-now e = states n e ∙ (elim (eqb_tells n n) [ inl w ↦ rw w.0 refl | inr w ↦ absurd (w.1 refl) ]
       ∙ ap (λ b. cond b (Failed Cancelled) (state h n e)) (bits e ∙ waits-is (names e (deliveries h n)) (state h n e)))
 
-  here : (row : Row (Addressed Letter)) → row.number ≡ n → IsAsTold h row → IsAsTold g (cancel row)
+  here : (row : Row (Queued Outbound)) → row.number ≡ n → IsAsTold h row → IsAsTold g (cancel row)
   here row same told = record {
     slots = rw told.slots (cancelled-slots_by (state h row.number) (named h row.number)
         ∙ rw same (slots_by-same _ _ (named h n) (λ e among. sym (state-now e ∙ ap (λ b. cond (b && is_waiting (state h n e)) (Failed Cancelled) (state h n e)) (sym (among-named e (deliveries h n)) ∙ among)))
@@ -71,7 +73,7 @@ module _ (h g : History) (opening : g.opening ≡ h.opening) (n mask : ℕ) (mes
     came = message-same h g opening messages row.number ∙ told.came;
   }
     where
-      was : (e : ℕ) → e < 32 → stands_in e row ≡ is_queued h e n
+      was : (e : ℕ) → e < 32 → is_in_queue e row ≡ is_queued h e n
       was e within = told.queues e within ∙ ap (is_queued h e) same
 
       waited : (e : ℕ) → waits_at e row.item.slots ≡ (names e (deliveries h n) && is_waiting (state h n e))
@@ -83,6 +85,6 @@ module _ (h g : History) (opening : g.opening ≡ h.opening) (n mask : ℕ) (mes
           ∙ (ap (λ s. option_map_or is_live (cond (names e (deliveries h n)) (Some s) None) false) (state-now e) ∙ sym (left-is (names e (deliveries h n)) (state h n e)))
 
   -- the rows follow
-  pub rows-cancelled : (rows : List (Row (Addressed Letter))) → RowsAgree h rows → RowsAgree g (changed_at n cancel rows)
+  pub rows-cancelled : (rows : List (Row (Queued Outbound))) → RowsAgree h rows → RowsAgree g (changed_at n cancel rows)
   rows-cancelled rows agree =
       rows-changed h g n cancel (λ row. refl) elsewhere here rows (remaining-same h g opening messages) agree

@@ -7,7 +7,7 @@ use Rattle.dest_queue.specs.declared.Outcome.TheVariants as outcomes
 use Rattle.dest_queue.specs.declared.SettleRefusal.{SettleRefusal}
 use Rattle.dest_queue.specs.declared.SlotState.{SlotState}
 use Rattle.dest_queue.specs.declared.SlotState.TheVariants.{Waiting, InFlight, Delivered, Failed}
-use Rattle.dest_queue.specs.States.{is_live, settle_answer, state_after}
+use Rattle.dest_queue.specs.States.{is_live, slot_answer, state_after}
 
 -- a slot that is not live, where there is one
 pub not-live : (o : Option SlotState) → option_map_or is_live o false ≡ false → IfSome o (λ state. is_live state ≡ false)
@@ -35,7 +35,7 @@ flown-due false s refusal attempts due most within is = absurd cc
 
 -- a retry is due after the interval at the latest
 pub settled-due : (o : Option SlotState) (outcome : Outcome) (attempt now max interval most attempts due : ℕ) → now + interval ≤ most
-    → settle_answer o outcome attempt now max interval ≡ Ok (Waiting attempts due) → due ≤ most
+    → slot_answer o outcome attempt now max interval ≡ Ok (Waiting attempts due) → due ≤ most
 settled-due None outcome attempt now max interval most attempts due within is = absurd cc
 settled-due (Some (InFlight a)) outcome attempt now max interval most attempts due within is =
     flown-due (a == attempt) (state_after outcome attempt now max interval) _ attempts due most (after-due outcome attempt now max interval most within) is

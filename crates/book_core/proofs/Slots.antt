@@ -9,10 +9,12 @@ use Rattle.std.proofs.lemmas.List.Sums.{length-filter, sum_by-cons, sum_by_push}
 use Rattle.dest_queue.specs.declared.SlotState.{SlotState}
 use Rattle.dest_queue.specs.declared.SlotState.TheVariants.{Waiting, InFlight, Delivered, Failed}
 use Rattle.dest_queue.specs.States.{is_live, is_waiting}
-use Rattle.stat_count.specs.Statistics.{no_slots, slots_of}
+use Rattle.stat_count.specs.Statistics.{no_slots}
+use Rattle.stat_count.specs.inner.Statistics.{slots_of}
 use Rattle.event_log.specs.declared.entry.Entry.{Entry}
-use Rattle.event_log.specs.History.{History, begun, followed_by, forgotten_messages, message_count, next_place, numbers, queue, slot}
-use Rattle.event_log.specs.Legal.{IsGoodOpening}
+use Rattle.event_log.specs.History.{History, begun, followed_by, message_count, next_place, numbers, queue, slot}
+use Rattle.event_log.specs.inner.History.{forgotten_messages}
+use Rattle.event_log.specs.inner.Legal.{IsGoodOpening}
 use Rattle.event_log.specs.Room.{is_in_flight}
 use Rattle.event_log.proofs.Forgetting.{gone-few}
 use Rattle.event_log.proofs.Totals.{messages-places, sum-alike, sum-changed, sum-more}

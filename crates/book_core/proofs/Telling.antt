@@ -2,13 +2,13 @@
 use Rattle.std.proofs.Common.{◌≡◌, ℕ, Bool, true, false, List, Option, None, Some, refl, sym, ◌∙◌, ap}
 use Rattle.std.specs.Prelude.{if◌then◌else◌}
 use Rattle.std.specs.Option.{option_map_or}
-use Rattle.dup_index.specs.Known.{Known, place_of}
+use Rattle.dup_index.specs.inner.Known.{Known, place_of}
 use Rattle.hl7_head.specs.declared.ack.Cause.TheVariants.{IdReused}
 use Rattle.judge_core.specs.Judging.{is_bookable, key_of, verdict}
 use Rattle.event_log.specs.declared.entry.Told.TheVariants.{Refused, Repeat}
 use Rattle.event_log.specs.History.{History, message_count, plan_in_force}
 use Rattle.event_log.specs.Answers.{arrival_answer, brings_at, known, told_again, told_by}
-use Rattle.book_core.specs.Parts.{KeysAgree}
+use Rattle.book_core.specs.inner.Parts.{KeysAgree}
 
 -- what the index finds of a key is the place at which the history has it
 pub found-known : (h : History) (index : List Known) (key looked : List ℕ) (found place : Option ℕ) → KeysAgree h index → looked ≡ key → found ≡ place_of looked index → found ≡ place → known h key ≡ place

@@ -11,7 +11,8 @@ use Rattle.dest_queue.specs.declared.SlotState.{SlotState}
 use Rattle.dest_queue.specs.declared.SlotState.TheVariants.{Waiting, InFlight, Delivered, Failed}
 use Rattle.stat_count.specs.declared.ChannelCounts.{ChannelCounts}
 use Rattle.stat_count.specs.declared.DestinationCounts.{DestinationCounts}
-use Rattle.stat_count.specs.Statistics.{Statistics, cancelled_one, channel_at, destination_at, no_arrivals, no_slots, on_channel, on_destination, taken_one, waits_one}
+use Rattle.stat_count.specs.Statistics.{Statistics, channel_at, destination_at, no_arrivals, no_slots}
+use Rattle.stat_count.specs.inner.Statistics.{cancelled_one, on_channel, on_destination, taken_one, waits_one}
 use Rattle.stat_count.specs.Sums.{arrivals, settlements, takes}
 use Rattle.stat_count.proofs.SumLaws.{arrivals-more, settlements-more, takes-more}
 use Rattle.event_log.specs.declared.entry.Ticket.{Ticket}
@@ -19,9 +20,10 @@ use Rattle.event_log.specs.declared.entry.Told.{Told}
 use Rattle.event_log.specs.declared.entry.Told.TheVariants as told
 use Rattle.event_log.specs.declared.entry.Entry.{Entry}
 use Rattle.event_log.specs.declared.entry.Entry.TheVariants.{Arrival, Take, Settle, Cancel, Deploy}
-use Rattle.event_log.specs.History.{History, continued, followed_by, next_place, plan_in_force}
+use Rattle.event_log.specs.History.{History, of_snapshot, followed_by, next_place, plan_in_force}
 use Rattle.event_log.specs.Answers.{cancel_answer, settle_answer, take_answer}
-use Rattle.event_log.specs.Legal.{IsSound, MayFollow}
+use Rattle.event_log.specs.Legal.{MayFollow}
+use Rattle.event_log.specs.inner.Legal.{IsSound}
 use Rattle.event_log.specs.Room.{is_in_flight, slots_added}
 use Rattle.event_log.proofs.Arriving.{arrival-step}
 use Rattle.event_log.proofs.Cancelling.{cancel-step}
@@ -34,7 +36,7 @@ use Rattle.event_log.proofs.Replaying.{take-more}
 use Rattle.event_log.proofs.Settling.{settle-step}
 use Rattle.event_log.proofs.Taking.{take-step}
 use Rattle.event_log.specs.Counting.{channel_counts, counted, destination_counts}
-use Rattle.book_core.specs.Counting.{SumsRise, settled_one, told_one}
+use Rattle.book_core.specs.inner.Counting.{SumsRise, settled_one, told_one}
 use Rattle.book_core.proofs.Counted.{attempts-places, channel-places, counted-are, counted-is, listed}
 use Rattle.book_core.proofs.CountedArrivals.{arrived-counts, channel-kept, channel-told}
 use Rattle.book_core.proofs.CountedCancels.{cancelled-counts}
@@ -114,19 +116,19 @@ taken-after h (Cancel number mask) sound may were d below = subst AreTaken (sym 
 taken-after h (Deploy plan) sound may were d below = subst AreTaken (sym (deployed-counts h plan (deploy-step h sound plan (deployable h plan may)) d)) (were d below)
 
 -- and holds of each sound history, as far as it was booked
-taken-before : (h : History) → IsSound h → (k d : ℕ) → d < 32 → AreTaken (destination_counts (continued h.opening (take k h.entries)) d)
+taken-before : (h : History) → IsSound h → (k d : ℕ) → d < 32 → AreTaken (destination_counts (of_snapshot h.opening (take k h.entries)) d)
 taken-before h sound zero d below = sound.opening.were_taken d below
-taken-before h sound (suc k) d below = elim (slice_get h.entries k) as (λ o. slice_get h.entries k ≡ o → AreTaken (destination_counts (continued h.opening (take (suc k) h.entries)) d)) [
-  | None ↦ λ none. subst (λ es. AreTaken (destination_counts (continued h.opening es) d)) (sym (take-past h.entries k none)) (taken-before h sound k d below)
+taken-before h sound (suc k) d below = elim (slice_get h.entries k) as (λ o. slice_get h.entries k ≡ o → AreTaken (destination_counts (of_snapshot h.opening (take (suc k) h.entries)) d)) [
+  | None ↦ λ none. subst (λ es. AreTaken (destination_counts (of_snapshot h.opening es) d)) (sym (take-past h.entries k none)) (taken-before h sound k d below)
   | Some e ↦ λ got.
-      subst (λ es. AreTaken (destination_counts (continued h.opening es) d)) (sym (take-more h.entries k e got))
-      (taken-after (continued h.opening (take k h.entries)) e (sound-before h sound.opening sound.legal k) (follows-since h sound.legal k e got) (taken-before h sound k) d below)
+      subst (λ es. AreTaken (destination_counts (of_snapshot h.opening es) d)) (sym (take-more h.entries k e got))
+      (taken-after (of_snapshot h.opening (take k h.entries)) e (sound-before h sound.opening sound.legal k) (follows-since h sound.legal k e got) (taken-before h sound k) d below)
 ] refl
 
 -- to its end
 pub were-taken : (h : History) → IsSound h → (d : ℕ) → d < 32 → AreTaken (destination_counts h d)
 were-taken h sound d below =
-    subst (λ es. AreTaken (destination_counts (continued h.opening es) d)) (take-whole h.entries) (taken-before h sound (length h.entries) d below)
+    subst (λ es. AreTaken (destination_counts (of_snapshot h.opening es) d)) (take-whole h.entries) (taken-before h sound (length h.entries) d below)
 
 -- ---- the sums
 

@@ -11,7 +11,7 @@ use Rattle.dest_queue.specs.States.{is_waiting}
 use Rattle.event_log.specs.Answers.{attempts_max, mask_where}
 use Rattle.event_log.specs.Room.{slot_owed}
 use Rattle.event_log.proofs.Masks.{mask_below, mask_below-more, mask_where-zero, range-push}
-use Rattle.book_core.specs.Sending.{owed_waiting}
+use Rattle.book_core.specs.inner.Sending.{owed_waiting}
 
 -- whether the slot at d waits
 abbrev pub waits_by : (ℕ → Option SlotState) → ℕ → Bool

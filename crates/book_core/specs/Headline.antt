@@ -3,8 +3,8 @@ use Rattle.std.specs.Prelude.{◌≡◌, ◌≢◌, ◌<◌, ◌≤◌, ◌+◌,
 use Rattle.std.specs.List.Sorted.{IsStrictlyIncreasing}
 use Rattle.judge_core.specs.Judging.{verdict as decided, deliveries_of}
 use Rattle.row_store.specs.declared.Row.{Row}
-use Rattle.row_store.specs.Rows.{numbers as numbers_of, queue_of}
-use Rattle.dest_queue.specs.declared.slots.Addressed.{Addressed}
+use Rattle.row_store.specs.Rows.{row_numbers as numbers_of, queue_of}
+use Rattle.dest_queue.specs.declared.slots.Queued.{Queued}
 use Rattle.dest_queue.specs.Queues.{slot_of}
 use Rattle.stat_count.specs.Statistics.{Statistics}
 use Rattle.event_log.specs.declared.entry.Entry.TheVariants.{Arrival}
@@ -14,11 +14,11 @@ use Rattle.event_log.specs.Answers.{is_first}
 use Rattle.event_log.specs.Legal.{HasArrival, IsLegal, IsRemembered}
 use Rattle.event_log.specs.Replay.{replay}
 use Rattle.event_log.specs.Room.{owed}
-use Rattle.book_core.specs.declared.letter.Letter.{Letter}
+use Rattle.book_core.specs.declared.letter.Outbound.{Outbound}
 use Rattle.event_log.specs.Counting.{counted}
 
 -- what a book promises whenever it is free: these are its history, the rows that it keeps, and its statistics
-pub record KeepsItsPromise (h : History) (rows : List (Row (Addressed Letter))) (tally : Statistics) : Type 0 where
+pub record KeepsItsPromise (h : History) (rows : List (Row (Queued Outbound))) (tally : Statistics) : Type 0 where
   -- the sequential engine, run over the same events, gives this very history: each acknowledgment, each message taken,
   -- each state settled and each cancellation as it was replied
   pub replayed : replay h ≡ h

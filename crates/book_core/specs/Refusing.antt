@@ -1,14 +1,7 @@
 -- Why an arrival is not booked.
-use Rattle.std.specs.Prelude.{ℕ}
 use Rattle.book_core.specs.declared.receipt.NotBooked.{NotBooked}
 use Rattle.book_core.specs.declared.receipt.NotBooked.TheVariants.{NoMemory, Full, PlanChanged}
 use Rattle.event_log.specs.Event.{ArriveRefusal, full, no_memory, plan_changed}
-
--- the number of the refusal
-abbrev pub not_booked_code : NotBooked → ℕ
-not_booked_code NoMemory = 1
-not_booked_code Full = 2
-not_booked_code PlanChanged = 3
 
 -- the refusal as one of an arrival
 abbrev pub arrive_refusal : NotBooked → ArriveRefusal

@@ -3,21 +3,21 @@
 ghost use Rattle.std.specs.Prelude.{◌≡◌, ◌≢◌, ◌<◌, ◌≤◌, ◌==◌, ℕ, true, false, [], ◌∷◌, ◌++◌, IfOk, OnOk, OnErr, IsTrue, Some, None, All, AllPairs};
 ghost use Rattle.std.specs.Int.{bit_at};
 ghost use Rattle.std.specs.Option.{option_map_or};
-ghost use Rattle.dup_index.specs.Known.{place_of};
+ghost use Rattle.dup_index.specs.inner.Known.{place_of};
 ghost use Rattle.judge_core.specs.Delivering.{destinations_of};
 ghost use Rattle.judge_core.specs.Judging.{is_bookable, verdict};
 ghost use Rattle.dest_queue.specs.declared.SlotState.{SlotState};
-ghost use Rattle.dest_queue.specs.SlotsBy.{slots_by};
+ghost use Rattle.dest_queue.specs.inner.SlotsBy.{slots_by};
 ghost use Rattle.event_log.specs.History.{control_id_of, names, plan_in_force};
 ghost use Rattle.event_log.specs.Answers.{arrival_answer};
-ghost use Rattle.event_log.specs.Room.{own_owed};
-ghost use Rattle.book_core.specs.Parts.{KeysAgree};
-ghost use Rattle.book_core.specs.Sending.{AddsGain, AddsRow, HasRoomFor, IsAccepting, IsGain, goes_to, has_key};
+ghost use Rattle.event_log.specs.Room.{committed_by_new};
+ghost use Rattle.book_core.specs.inner.Parts.{KeysAgree};
+ghost use Rattle.book_core.specs.inner.Sending.{AddsGain, AddsRow, HasRoomFor, IsAccepting, IsAddition, goes_to, has_key};
 
-use crate::letter::Letter;
-use dest_queue::{Addressed, Slots};
+use crate::letter::Outbound;
+use dest_queue::{Queued, Slots};
 use dup_index::{Key, Keys};
-use event_log::{Log, Told, own_owed, told_first};
+use event_log::{Log, Told, committed_by_new, told_first};
 use hl7_head::Cause;
 use judge_core::{Deliveries, Delivery, Judged, Text, TextPiece, Verdict};
 use row_store::RowStore;
@@ -39,7 +39,7 @@ pub fn told(log: &Log, keys: &Keys, judged: &Judged) -> Told
 
 /// What an arrival adds to a book beside its entry.
 #[derive(Clone, Copy)]
-pub enum Gain<'a> {
+pub enum Addition<'a> {
     /// The row and the key of a message that is accepted.
     Message {
         number: u32,
@@ -54,24 +54,24 @@ pub enum Gain<'a> {
 
 /// What an arrival with this answer adds.
 #[tactic(auto, using(crate::proofs::Gains::id_known, crate::proofs::Gains::id_missing))]
-pub fn gain_of(told: Told, judged: &Judged) -> Gain<'_>
+pub fn gain_of(told: Told, judged: &Judged) -> Addition<'_>
     requires { IsAccepting told (verdict judged.now.plan judged.now.channel judged.now.raw) }
-    ensures { IsGain told (control_id_of judged.now.raw) (verdict judged.now.plan judged.now.channel judged.now.raw) result }
+    ensures { IsAddition told (control_id_of judged.now.raw) (verdict judged.now.plan judged.now.channel judged.now.raw) result }
 {
     match (told, judged.verdict(), judged.control_id()) {
         (Told::Accepted(number), Verdict::Accept(deliveries), Some(control_id)) => {
-            Gain::Message {
+            Addition::Message {
                 number,
                 control_id,
                 deliveries,
             }
         }
-        (Told::Filtered, _, _) => Gain::Key,
-        _ => Gain::Nothing,
+        (Told::Filtered, _, _) => Addition::Key,
+        _ => Addition::Nothing,
     }
 }
 
-impl<'a> Gain<'a> {
+impl<'a> Addition<'a> {
     /// Where the message goes; nowhere unless it is accepted.
     pub fn deliveries(self) -> &'a [Delivery]
         ensures value { result.now ≡ goes_to self.entry }
@@ -79,17 +79,17 @@ impl<'a> Gain<'a> {
         ensures once { AllPairs (λ x y. x.destination ≢ y.destination) result.now }
     {
         match self {
-            Gain::Message { deliveries, .. } => deliveries.as_slice(),
-            Gain::Key | Gain::Nothing => &[],
+            Addition::Message { deliveries, .. } => deliveries.as_slice(),
+            Addition::Key | Addition::Nothing => &[],
         }
     }
 }
 
 /// The entries that the slots owe that are added.
-pub fn own_of(log: &Log, gain: Gain<'_>) -> u32
-    ensures { result ≡ own_owed (plan_in_force log.now.history) (destinations_of (goes_to gain.entry)) }
+pub fn owed_by(log: &Log, gain: Addition<'_>) -> u32
+    ensures { result ≡ committed_by_new (plan_in_force log.now.history) (destinations_of (goes_to gain.entry)) }
 {
-    own_owed(log.plan(), gain.deliveries())
+    committed_by_new(log.plan(), gain.deliveries())
 }
 
 /// The destinations of deliveries as a mask.
@@ -124,18 +124,18 @@ fn first_item(
     raw: &Text,
     control_id: &TextPiece,
     deliveries: &Deliveries,
-) -> Result<Addressed<Letter>, AllocError>
+) -> Result<Queued<Outbound>, AllocError>
     ensures content { IfOk result (λ item. item.content
         ≡ record { place = place; channel = channel; raw = raw.now; control_id = control_id.now; deliveries = deliveries.now }) }
     ensures slots { IfOk result (λ item. item.slots ≡ slots_by (λ _. SlotState.Waiting 0 0) (destinations_of deliveries.now)) }
 {
-    let content = Letter::share(place, channel, raw, control_id, deliveries)?;
+    let content = Outbound::share(place, channel, raw, control_id, deliveries)?;
     let slots = first_slots(alloc, deliveries.as_slice())?;
-    Ok(Addressed { content, slots })
+    Ok(Queued { content, slots })
 }
 
 /// Adds the row of a message, which waits wherever it goes.
-fn add_row<S: RowStore<Addressed<Letter>>>(
+fn add_row<S: RowStore<Queued<Outbound>>>(
     alloc: Global,
     rows: &mut S,
     number: u32,
@@ -158,13 +158,13 @@ fn add_row<S: RowStore<Addressed<Letter>>>(
 }
 
 /// A copy of a key, with room for it among the keys.
-fn key_to_add(alloc: Global, keys: &mut Keys, key: &[u8]) -> Result<Key, AllocError>
+fn key_to_add(alloc: Global, keys: &mut Keys, key: &Key) -> Result<Key, AllocError>
     ensures known { keys.new.known ≡ keys.old.known }
     ensures copy { IfOk result (λ copy. copy ≡ key.now) }
     ensures room { OnOk result (0 < keys.new.room) }
 {
     keys.reserve(1)?;
-    Key::new().with(alloc, key)
+    key.copy(alloc)
 }
 
 /// Adds the row and the key that an arrival on a channel with these bytes adds, both with the index of its entry.
@@ -172,12 +172,12 @@ fn key_to_add(alloc: Global, keys: &mut Keys, key: &[u8]) -> Result<Key, AllocEr
 /// # Errors
 ///
 /// Where memory is refused; rows and keys are as they were.
-pub fn add_gain<S: RowStore<Addressed<Letter>>>(
+pub fn add_gain<S: RowStore<Queued<Outbound>>>(
     alloc: Global,
     rows: &mut S,
     keys: &mut Keys,
-    gain: Gain<'_>,
-    key: &[u8],
+    gain: Addition<'_>,
+    key: &Key,
     place: usize,
     channel: u32,
     raw: &Text,
@@ -191,7 +191,7 @@ pub fn add_gain<S: RowStore<Addressed<Letter>>>(
     ensures known { OnErr result (keys.new.known ≡ keys.old.known) }
 {
     match gain {
-        Gain::Message {
+        Addition::Message {
             number,
             control_id,
             deliveries,
@@ -202,11 +202,11 @@ pub fn add_gain<S: RowStore<Addressed<Letter>>>(
             )?;
             keys.add(key, place);
         }
-        Gain::Key => {
+        Addition::Key => {
             let key = key_to_add(alloc, keys, key)?;
             keys.add(key, place);
         }
-        Gain::Nothing => {}
+        Addition::Nothing => {}
     }
     Ok(())
 }

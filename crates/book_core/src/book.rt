@@ -7,28 +7,31 @@ ghost use Rattle.std.specs.Arc.{arc_value};
 ghost use Rattle.judge_core.specs.Delivering.{destinations_of};
 ghost use Rattle.judge_core.specs.Judging.{is_bookable, verdict};
 ghost use Rattle.dest_queue.specs.States.{is_live};
-ghost use Rattle.event_log.specs.History.{control_id, control_id_of, deliveries, entry_at, followed_by, message_at, message_count, names, next_place, opened_by, payload, plan_in_force, queue, remaining, slot};
+ghost use Rattle.event_log.specs.History.{control_id, control_id_of, deliveries, entry_at, followed_by, message_at, message_count, names, next_place, payload, plan_in_force, queue, remaining, slot};
+ghost use Rattle.event_log.specs.inner.History.{snapshot_after};
 ghost use Rattle.event_log.specs.Answers.{arrival_answer, cancel_answer, take_answer};
 ghost use Rattle.event_log.specs.Deployment.{deploy_answer, deployments, first_lost, is_lost};
 ghost use Rattle.event_log.specs.Event.{MemoryIsLast, Does, arrive, cancel, deploy, result_map, settle, take};
 ghost use Rattle.event_log.specs.Folding.{is_live_message, prune_answer, pruned};
-ghost use Rattle.event_log.specs.Legal.{IsSound, MayFollow};
-ghost use Rattle.event_log.specs.Room.{is_full, owed, own_owed};
+ghost use Rattle.event_log.specs.Legal.{MayFollow};
+ghost use Rattle.event_log.specs.inner.Legal.{IsSound};
+ghost use Rattle.event_log.specs.Room.{is_full, owed, committed_by_new};
 ghost use Rattle.event_log.specs.Counting.{counted};
 ghost use Rattle.book_core.specs.Headline.{KeepsItsPromise};
-ghost use Rattle.book_core.specs.Questions.{CameBy, came_as, first_live, front_at, has_control_id, is_tight, live_at, queued_as, settled_before};
+ghost use Rattle.book_core.specs.inner.Questions.{CameBy, came_as, first_live, front_at, has_control_id, is_tight, live_at, queued_as, settled_before};
 ghost use Rattle.book_core.specs.Receiving.{IsReceipt, arrival_reply};
-ghost use Rattle.book_core.specs.Sending.{IsGain, awaits_ack, goes_to, owed_waiting};
+ghost use Rattle.book_core.specs.Sending.{awaits_ack};
+ghost use Rattle.book_core.specs.inner.Sending.{IsAddition, goes_to, owed_waiting};
 
-use crate::arrival::{Gain, add_gain, gain_of, own_of, told};
+use crate::arrival::{Addition, add_gain, gain_of, owed_by, told};
 use crate::dispatch::{awaits_ack, owed_waiting, payload};
 use crate::event_counts::{count_arrival, count_cancelled, count_settled};
-use crate::letter::{Job, Letter};
+use crate::letter::{Job, Outbound};
 use crate::pruning::{first_kept, forget_rows, prune_refusal, recall_since, unremembered};
 use crate::questions::{Front, first_queued, is_tight};
 use crate::receipt::{NotBooked, Receipt};
 use dest_queue::{
-    Addressed, Outcome, SettleRefusal, SlotState, begin_attempt, cancel_waiting, front_state,
+    Outcome, Queued, SettleRefusal, SlotState, begin_attempt, cancel_waiting, front_state,
     settle_slot, slot_of,
 };
 use dup_index::Keys;
@@ -50,7 +53,7 @@ use std::sync::Arc;
 /// All that was booked, and what is kept beside it so that the next answer is found without reading it again: a row for
 /// each accepted message, the keys by which repeats are known, the statistics, and how many attempts are under way.
 #[derive(Drop)]
-pub struct Book<S: RowStore<Addressed<Letter>>> {
+pub struct Book<S: RowStore<Queued<Outbound>>> {
     alloc: Global,
     log: Log,
     rows: S,
@@ -59,10 +62,10 @@ pub struct Book<S: RowStore<Addressed<Letter>>> {
     flights: u32,
 }
 
-impl<S: RowStore<Addressed<Letter>>> Model for Book<S> {
+impl<S: RowStore<Queued<Outbound>>> Model for Book<S> {
     ghost use Rattle.event_log.specs.History.{History};
-    ghost use Rattle.event_log.specs.Coding.{history_code};
-    ghost use Rattle.book_core.specs.Parts.{IsKept};
+    ghost use Rattle.event_log.specs.inner.Coding.{history_code};
+    ghost use Rattle.book_core.specs.inner.Parts.{IsKept};
 
     ghost Value = { History };
 
@@ -73,12 +76,12 @@ impl<S: RowStore<Addressed<Letter>>> Model for Book<S> {
     ghost invariant = { λ b. IsKept b.log.history (S.rows b.rows) b.keys.known b.counts b.flights b.log.room };
 }
 
-impl<S: RowStore<Addressed<Letter>>> Book<S> {
+impl<S: RowStore<Queued<Outbound>>> Book<S> {
     /// An empty book that may hold `events_max` entries. Its keys are hashed by `hasher`.
     pub fn new(alloc: Global, plan: Arc<Plan>, events_max: u32, hasher: RandomState) -> Book<S>
         requires some { 1 ≤ events_max }
         requires few { events_max ≤ EVENTS_MAX }
-        ensures { result ≡ opened_by (arc_value plan) events_max }
+        ensures { result ≡ snapshot_after (arc_value plan) events_max }
     {
         plan.rules();
         Book {
@@ -243,7 +246,7 @@ impl<S: RowStore<Addressed<Letter>>> Book<S> {
     }
 
     /// What is kept of message `number`, if it is remembered.
-    pub fn message(&self, number: u32) -> Option<&Letter>
+    pub fn message(&self, number: u32) -> Option<&Outbound>
         ensures came { option_map came_as (option_copied result) ≡ message_at self.now number }
         ensures control_id { IfSome result (λ letter. letter.now.control_id ≡ control_id self.now number) }
     {
@@ -412,7 +415,7 @@ impl<S: RowStore<Addressed<Letter>>> Book<S> {
     {
         let told = told(&self.log, &self.keys, judged);
         let gain = gain_of(told, judged);
-        let own = own_of(&self.log, gain);
+        let own = owed_by(&self.log, gain);
         if !self.log.room(own) {
             return Err(NotBooked::Full);
         }
@@ -426,14 +429,14 @@ impl<S: RowStore<Addressed<Letter>>> Book<S> {
         conn: u32,
         judged: &Judged,
         told: Told,
-        gain: Gain<'_>,
+        gain: Addition<'_>,
         own: u32,
     ) -> Result<Receipt, AllocError>
         requires same_plan { judged.now.plan ≡ plan_in_force self.old }
         requires room { is_full self.old judged.now.channel judged.now.raw ≡ false }
         requires told { arrival_answer self.old judged.now.channel judged.now.raw ≡ Some told }
-        requires gain { IsGain told (control_id_of judged.now.raw) (verdict judged.now.plan judged.now.channel judged.now.raw) gain }
-        requires own { own ≡ own_owed (plan_in_force self.old) (destinations_of (goes_to gain)) }
+        requires gain { IsAddition told (control_id_of judged.now.raw) (verdict judged.now.plan judged.now.channel judged.now.raw) gain }
+        requires own { own ≡ committed_by_new (plan_in_force self.old) (destinations_of (goes_to gain)) }
         ensures entry { IfOk result (λ receipt. receipt.entry ≡ next_place self.old) }
         ensures conn { IfOk result (λ receipt. receipt.conn ≡ conn) }
         ensures channel { IfOk result (λ receipt. receipt.channel ≡ judged.now.channel) }
@@ -453,7 +456,7 @@ impl<S: RowStore<Addressed<Letter>>> Book<S> {
             &mut self.rows,
             &mut self.keys,
             gain,
-            judged.key(),
+            judged.kept_key(),
             place,
             channel,
             &raw,

@@ -3,7 +3,8 @@
 ghost use Rattle.std.specs.Prelude.{◌≡◌, ◌==◌, find, option_copied};
 ghost use Rattle.std.specs.Option.{option_map};
 ghost use Rattle.dest_queue.specs.Slots.{state_at};
-ghost use Rattle.book_core.specs.Sending.{awaits_ack, owed_waiting};
+ghost use Rattle.book_core.specs.Sending.{awaits_ack};
+ghost use Rattle.book_core.specs.inner.Sending.{owed_waiting};
 
 use dest_queue::Slots;
 use event_log::{attempts_max, slot_owed};

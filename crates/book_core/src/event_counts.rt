@@ -2,10 +2,11 @@
 
 ghost use Rattle.std.specs.Prelude.{◌≡◌, ◌≢◌, ◌*◌, ◌<◌, ◌≤◌, ◌==◌, ℕ, true, All, AllPairs, length};
 ghost use Rattle.std.specs.Int.{bit_at};
-ghost use Rattle.stat_count.specs.Statistics.{channel_at, destination_at, on_destination, slots_of};
+ghost use Rattle.stat_count.specs.Statistics.{channel_at, destination_at};
+ghost use Rattle.stat_count.specs.inner.Statistics.{on_destination, slots_of};
 ghost use Rattle.judge_core.specs.Delivering.{destinations_of};
 ghost use Rattle.event_log.specs.Room.{is_in_flight};
-ghost use Rattle.book_core.specs.Counting.{CountsArrival, CountsCancel, settled_one};
+ghost use Rattle.book_core.specs.inner.Counting.{CountsArrival, CountsCancel, settled_one};
 
 use dest_queue::SlotState;
 use event_log::{PLACES_MAX, Told};

@@ -10,9 +10,10 @@ ghost use Rattle.event_log.specs.declared.entry.Ticket.{Ticket};
 ghost use Rattle.event_log.specs.declared.entry.Told.{Told};
 ghost use Rattle.event_log.specs.History.{History, followed_by, plan_in_force};
 ghost use Rattle.event_log.specs.Answers.{cancel_answer, settle_answer, take_answer};
-ghost use Rattle.event_log.specs.Legal.{IsSound, MayFollow};
+ghost use Rattle.event_log.specs.Legal.{MayFollow};
+ghost use Rattle.event_log.specs.inner.Legal.{IsSound};
 ghost use Rattle.event_log.specs.Counting.{counted};
-ghost use Rattle.book_core.specs.Counting.{SumsRise};
+ghost use Rattle.book_core.specs.inner.Counting.{SumsRise};
 
 /// The laws of the three sums of the statistics: an arrival adds one to the arrivals, a take one to the attempts begun, a
 /// settlement one to the attempts settled, and a cancellation and a deployment add to none.

@@ -9,7 +9,7 @@ use std::alloc::AllocError;
 
 /// What a book keeps of an accepted message: the bytes received, its control id, and the text for each destination.
 #[derive(Drop)]
-pub struct Letter {
+pub struct Outbound {
     /// The index of its arrival in the history.
     pub place: usize,
     /// The channel on which it arrived, by its index in the plan.
@@ -22,7 +22,7 @@ pub struct Letter {
     pub deliveries: Deliveries,
 }
 
-impl Letter {
+impl Outbound {
     /// A letter that shares what is sent with its arrival.
     pub(crate) fn share(
         place: usize,
@@ -30,10 +30,10 @@ impl Letter {
         raw: &Text,
         control_id: &TextPiece,
         deliveries: &Deliveries,
-    ) -> Result<Letter, AllocError>
+    ) -> Result<Outbound, AllocError>
         ensures { IfOk result (λ letter. letter ≡ record { place = place; channel = channel; raw = raw.now; control_id = control_id.now; deliveries = deliveries.now }) }
     {
-        Ok(Letter {
+        Ok(Outbound {
             place,
             channel,
             raw: raw.share()?,

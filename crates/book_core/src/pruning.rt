@@ -3,17 +3,17 @@
 ghost use Rattle.std.specs.Prelude.{◌≡◌, ◌≤◌, ◌<◌, ◌+◌, [], ◌∷◌, ◌++◌, not, nat_lt, option_and_then, option_copied, All, IfOk, OnOk, filter, length, map};
 ghost use Rattle.std.specs.List.{filter_map, range_with_len};
 ghost use Rattle.row_store.specs.Rows.{item_at};
-ghost use Rattle.stat_count.specs.Statistics.{on_destination};
+ghost use Rattle.stat_count.specs.inner.Statistics.{on_destination};
 ghost use Rattle.event_log.specs.Answers.{is_kept};
-ghost use Rattle.event_log.specs.Folding.{arrivals, prune_answer, recalled, recalled_from};
+ghost use Rattle.event_log.specs.Folding.{known_arrivals, prune_answer, recalled, recalled_from};
 ghost use Rattle.event_log.specs.History.{History, entry_at, message_count, number_told};
-ghost use Rattle.event_log.specs.Legal.{IsSound};
-ghost use Rattle.book_core.specs.Parts.{RowsAgree};
-ghost use Rattle.book_core.specs.Pruning.{LeavesOut, left_out, lesser, since};
+ghost use Rattle.event_log.specs.inner.Legal.{IsSound};
+ghost use Rattle.book_core.specs.inner.Parts.{RowsAgree};
+ghost use Rattle.book_core.specs.inner.Pruning.{LeavesOut, left_out, lesser, since};
 
-use crate::letter::Letter;
+use crate::letter::Outbound;
 use crate::questions::first_queued;
-use dest_queue::{Addressed, SlotState, Slots};
+use dest_queue::{Queued, SlotState, Slots};
 use event_log::{Entry, Log, PRUNINGS_MAX, PruneRefusal, Remembered, Told};
 use judge_core::Text;
 use row_store::RowStore;
@@ -32,7 +32,7 @@ pub fn lesser(a: Option<u32>, b: Option<u32>) -> Option<u32>
 }
 
 /// Why the messages below `before` aren't forgotten, before memory is requested.
-pub fn prune_refusal<S: RowStore<Addressed<Letter>>>(
+pub fn prune_refusal<S: RowStore<Queued<Outbound>>>(
     log: &Log,
     rows: &mut S,
     before: u32,
@@ -52,7 +52,7 @@ pub fn prune_refusal<S: RowStore<Addressed<Letter>>>(
 }
 
 /// The number of the first message that isn't forgotten, or of the next one where all are.
-pub fn first_kept<S: RowStore<Addressed<Letter>>>(log: &Log, rows: &S) -> u32
+pub fn first_kept<S: RowStore<Queued<Outbound>>>(log: &Log, rows: &S) -> u32
     requires sound { IsSound log.now.history }
     requires agree { RowsAgree log.now.history (S.rows rows.now) }
     ensures count { result + length (S.rows rows.now) ≡ message_count log.now.history }
@@ -62,7 +62,7 @@ pub fn first_kept<S: RowStore<Addressed<Letter>>>(log: &Log, rows: &S) -> u32
 }
 
 /// Drops the rows of the messages below `before`, where none is below `first`.
-pub fn forget_rows<S: RowStore<Addressed<Letter>>>(rows: &mut S, first: u32, before: u32)
+pub fn forget_rows<S: RowStore<Queued<Outbound>>>(rows: &mut S, first: u32, before: u32)
     requires { All (λ row. first ≤ row.number) (S.rows rows.old) }
     ensures { S.rows rows.new ≡ filter (λ row. not (nat_lt row.number before)) (S.rows rows.old) }
 {
@@ -79,7 +79,7 @@ fn is_kept(told: Told) -> bool
 }
 
 /// What is kept of the message that was accepted with this reply, if it is such a reply and the message isn't forgotten.
-fn message_told<S: RowStore<Addressed<Letter>>>(rows: &S, told: Told) -> Option<&Addressed<Letter>>
+fn message_told<S: RowStore<Queued<Outbound>>>(rows: &S, told: Told) -> Option<&Queued<Outbound>>
     ensures { option_copied result ≡ option_and_then (λ number. item_at number (S.rows rows.now)) (number_told told) }
 {
     match told {
@@ -89,7 +89,7 @@ fn message_told<S: RowStore<Addressed<Letter>>>(rows: &S, told: Told) -> Option<
 }
 
 /// An arrival as it is remembered from now on, with the deliveries and the slots of its message.
-fn recall<S: RowStore<Addressed<Letter>>>(
+fn recall<S: RowStore<Queued<Outbound>>>(
     alloc: Global,
     rows: &S,
     place: usize,
@@ -109,7 +109,7 @@ fn recall<S: RowStore<Addressed<Letter>>>(
 }
 
 /// What is remembered from now on of the entry at an index: an arrival answered `Accepted` or `Filtered`.
-fn recall_at<S: RowStore<Addressed<Letter>>>(
+fn recall_at<S: RowStore<Queued<Outbound>>>(
     alloc: Global,
     log: &Log,
     rows: &S,
@@ -132,7 +132,7 @@ fn recall_at<S: RowStore<Addressed<Letter>>>(
 }
 
 /// The arrivals remembered so far whose index is `floor` or a later one, as they are remembered from now on.
-fn recall_remembered<S: RowStore<Addressed<Letter>>>(
+fn recall_remembered<S: RowStore<Queued<Outbound>>>(
     alloc: Global,
     log: &Log,
     rows: &S,
@@ -160,7 +160,7 @@ fn recall_remembered<S: RowStore<Addressed<Letter>>>(
 }
 
 /// Adds what is remembered from now on of the entries with the index `floor` or a later one.
-fn recall_entries<S: RowStore<Addressed<Letter>>>(
+fn recall_entries<S: RowStore<Queued<Outbound>>>(
     alloc: Global,
     log: &Log,
     rows: &S,
@@ -187,14 +187,14 @@ fn recall_entries<S: RowStore<Addressed<Letter>>>(
 /// # Errors
 ///
 /// Where memory is refused.
-pub fn recall_since<S: RowStore<Addressed<Letter>>>(
+pub fn recall_since<S: RowStore<Queued<Outbound>>>(
     alloc: Global,
     log: &Log,
     rows: &S,
     floor: usize,
 ) -> Result<Vec<Remembered>, AllocError>
     requires { RowsAgree log.now.history (S.rows rows.now) }
-    ensures { IfOk result (λ kept. kept.items ≡ since floor (arrivals log.now.history)) }
+    ensures { IfOk result (λ kept. kept.items ≡ since floor (known_arrivals log.now.history)) }
 {
     let mut kept = recall_remembered(alloc, log, rows, floor)?;
     recall_entries(alloc, log, rows, floor, &mut kept)?;

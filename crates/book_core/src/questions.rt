@@ -3,12 +3,12 @@
 ghost use Rattle.std.specs.Prelude.{◌≡◌, ◌≤◌, ◌+◌, ◌*◌, ◌&&◌, not, nat_lt};
 ghost use Rattle.row_store.specs.declared.Row.{Row};
 ghost use Rattle.event_log.specs.History.{History};
-ghost use Rattle.book_core.specs.Parts.{RowsAgree};
-ghost use Rattle.book_core.specs.Questions.{first_live};
+ghost use Rattle.book_core.specs.inner.Parts.{RowsAgree};
+ghost use Rattle.book_core.specs.inner.Questions.{first_live};
 
-use crate::letter::Letter;
+use crate::letter::Outbound;
 use crate::pruning::lesser;
-use dest_queue::{Addressed, SlotState};
+use dest_queue::{Queued, SlotState};
 use row_store::{QUEUES, RowStore};
 
 /// A message in the queue of a destination, with its state there.
@@ -21,7 +21,7 @@ pub struct Front {
 }
 
 /// The first message that is still to be delivered. It is the least at the front of a queue, so no row is searched.
-pub fn first_queued<S: RowStore<Addressed<Letter>>>(rows: &mut S) -> Option<u32>
+pub fn first_queued<S: RowStore<Queued<Outbound>>>(rows: &mut S) -> Option<u32>
     ensures first { (h : History) → RowsAgree h (S.rows rows.old) → result ≡ first_live h }
     ensures unchanged { S.rows rows.new ≡ S.rows rows.old }
 {

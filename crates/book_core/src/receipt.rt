@@ -1,7 +1,7 @@
 //! The receipt of a booked arrival.
 
 ghost use Rattle.std.specs.Prelude.{◌≡◌};
-ghost use Rattle.book_core.specs.Refusing.{not_booked_code};
+ghost use Rattle.book_core.specs.inner.Refusing.{not_booked_code};
 
 use event_log::Told;
 use judge_core::Text;

@@ -9,12 +9,13 @@ use Rattle.event_log.specs.declared.entry.Entry.{Entry}
 use Rattle.event_log.specs.History.{History, deployed_by, followed_by, next_place, plan_in_force}
 use Rattle.event_log.specs.Alike.{Aside, IsAlike, forgotten_by}
 use Rattle.event_log.specs.Folding.{prune_answer, pruned}
-use Rattle.event_log.specs.Legal.{IsSound}
+use Rattle.event_log.specs.inner.Legal.{IsSound}
 use Rattle.event_log.proofs.FoldedAlike.{pruned-alike}
 use Rattle.event_log.proofs.Following.{plan-kept}
 use Rattle.event_log.specs.Counting.{channel_counts, counted, destination_counts}
-use Rattle.book_core.specs.Counting.{SumsRise}
-use Rattle.book_lock.specs.Rises.{Held, IsCounted, IsOpened, arrived, settled, taken, with_book}
+use Rattle.book_core.specs.inner.Counting.{SumsRise}
+use Rattle.book_lock.specs.Rises.{SharedBook, arrived, settled, taken}
+use Rattle.book_lock.specs.inner.Rises.{IsCounted, IsOpened, with_book}
 use Rattle.book_lock.proofs.Naming.{split_by}
 
 pub arrived-is : (h : History) → arrived h ≡ arrivals (counted h)
@@ -46,7 +47,7 @@ pub counted_destinations : (h : History) → length (counted h).destinations ≡
 counted_destinations h = length-map-range_with_len (destination_counts h) 0 32
 
 -- the ledgers follow an entry
-counted_more : (h : Held) (e : Entry) (m t s x y z : ℕ) → IsCounted h m t s → SumsRise x y z (counted h.book) (counted (followed_by h.book e)) → IsCounted (with_book h (followed_by h.book e)) (m + x) (t + y) (s + z)
+counted_more : (h : SharedBook) (e : Entry) (m t s x y z : ℕ) → IsCounted h m t s → SumsRise x y z (counted h.book) (counted (followed_by h.book e)) → IsCounted (with_book h (followed_by h.book e)) (m + x) (t + y) (s + z)
 counted_more h e m t s x y z known rise = record {
   arrivals_are = sum_more (arrived h.book) (arrived (followed_by h.book e)) (arrivals h.opening) m x (arrivals (counted h.book)) (arrivals (counted (followed_by h.book e))) (arrived-is h.book) (arrived-is (followed_by h.book e)) known.arrivals_are rise.arrivals;
   takes_are = sum_more (taken h.book) (taken (followed_by h.book e)) (takes h.opening) t y (takes (counted h.book)) (takes (counted (followed_by h.book e))) (taken-is h.book) (taken-is (followed_by h.book e)) known.takes_are rise.takes;
@@ -59,13 +60,13 @@ pub few_entries : (h : History) → IsSound h → h.opening.events_max ≤ 10000
 few_entries h sound few = omega (arith, sound.room, few)
 
 -- one more can be counted
-pub arrivals_fit : (h : Held) (m t s : ℕ) → IsCounted h m t s → arrivals (counted h.book) ≤ 128128000000 → m + 1 < 2 ^ 64
+pub arrivals_fit : (h : SharedBook) (m t s : ℕ) → IsCounted h m t s → arrivals (counted h.book) ≤ 128128000000 → m + 1 < 2 ^ 64
 arrivals_fit h m t s known few = sum_fits (arrived h.book) (arrivals h.opening) m (arrivals (counted h.book)) 128128000000 (arrived-is h.book) known.arrivals_are few (omega arith)
 
-pub takes_fit : (h : Held) (m t s : ℕ) → IsCounted h m t s → takes (counted h.book) ≤ 32032000000 → t + 1 < 2 ^ 64
+pub takes_fit : (h : SharedBook) (m t s : ℕ) → IsCounted h m t s → takes (counted h.book) ≤ 32032000000 → t + 1 < 2 ^ 64
 takes_fit h m t s known few = sum_fits (taken h.book) (takes h.opening) t (takes (counted h.book)) 32032000000 (taken-is h.book) known.takes_are few (omega arith)
 
-pub settlements_fit : (h : Held) (m t s : ℕ) → IsCounted h m t s → settlements (counted h.book) ≤ 32032000000 → s + 1 < 2 ^ 64
+pub settlements_fit : (h : SharedBook) (m t s : ℕ) → IsCounted h m t s → settlements (counted h.book) ≤ 32032000000 → s + 1 < 2 ^ 64
 settlements_fit h m t s known few = sum_fits (settled h.book) (settlements h.opening) s (settlements (counted h.book)) 32032000000 (settled-is h.book) known.settlements_are few (omega arith)
 
 -- a channel of the one plan is one of the other, where they don't differ
@@ -77,11 +78,11 @@ known_channel p q channel same known =
     ]
 
 -- an entry that deploys no plan leaves as many channels
-pub still : (h : Held) (e : Entry) → deployed_by e ≡ None → length (plan_in_force (followed_by h.book e)).channels ≡ length (plan_in_force h.book).channels
+pub still : (h : SharedBook) (e : Entry) → deployed_by e ≡ None → length (plan_in_force (followed_by h.book e)).channels ≡ length (plan_in_force h.book).channels
 still h e none = ap (λ (p : PlanEntry). length p.channels) (plan-kept h.book e none)
 
 -- the book behind the lock after one more entry
-pub next : (h : Held) (e : Entry) (new : History) (counts : Statistics) (first channels m t s x y z m' t' s' : ℕ) → new ≡ followed_by h.book e
+pub next : (h : SharedBook) (e : Entry) (new : History) (counts : Statistics) (first channels m t s x y z m' t' s' : ℕ) → new ≡ followed_by h.book e
     → length (plan_in_force (followed_by h.book e)).channels ≡ length (plan_in_force h.book).channels
     → IsOpened h counts first channels → IsCounted h m t s → SumsRise x y z (counted h.book) (counted (followed_by h.book e))
     → m' ≡ m + x → t' ≡ t + y → s' ≡ s + z
@@ -141,7 +142,7 @@ same_since : (h k : History) (first : ℕ) → next_place k ≡ next_place h →
 same_since h k first same since = omega (arith, same, since)
 
 -- the book behind the lock after a pruning
-pub folded : (h : Held) (bound : ℕ) (new : History) (counts : Statistics) (first channels m t s : ℕ) → new ≡ pruned bound h.book → IsSound h.book → prune_answer h.book bound ≡ None
+pub folded : (h : SharedBook) (bound : ℕ) (new : History) (counts : Statistics) (first channels m t s : ℕ) → new ≡ pruned bound h.book → IsSound h.book → prune_answer h.book bound ≡ None
     → IsOpened h counts first channels → IsCounted h m t s → IsOpened (with_book h new) counts first channels × IsCounted (with_book h new) m t s
 folded h bound new counts first channels m t s is sound may opened known =
     let k : History = pruned bound h.book in
@@ -165,7 +166,7 @@ folded h bound new counts first channels m t s is sound may opened known =
     )
 
 -- the book behind the lock after a question, which leaves it as it was
-pub unchanged : (h : Held) (new : History) (counts : Statistics) (first channels m t s : ℕ) → new ≡ h.book
+pub unchanged : (h : SharedBook) (new : History) (counts : Statistics) (first channels m t s : ℕ) → new ≡ h.book
     → IsOpened h counts first channels → IsCounted h m t s → IsOpened (with_book h new) counts first channels × IsCounted (with_book h new) m t s
 unchanged h new counts first channels m t s same opened known = (
   subst (λ (b : History). IsOpened (with_book h b) counts first channels) (sym same) record {
@@ -184,7 +185,7 @@ unchanged h new counts first channels m t s same opened known = (
 )
 
 -- and after a connection was admitted
-pub admitting : (h : Held) (n : ℕ) (counts : Statistics) (first channels m t s : ℕ) → IsOpened h counts first channels → IsCounted h m t s
+pub admitting : (h : SharedBook) (n : ℕ) (counts : Statistics) (first channels m t s : ℕ) → IsOpened h counts first channels → IsCounted h m t s
     → IsOpened (record h { admitted = n }) counts first channels × IsCounted (record h { admitted = n }) m t s
 admitting h n counts first channels m t s opened known = (
   record {

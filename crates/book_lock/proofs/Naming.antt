@@ -14,7 +14,7 @@ use Rattle.event_log.specs.declared.entry.Entry.TheVariants.{Arrival, Take, Sett
 use Rattle.event_log.specs.History.{entry_at, next_place}
 use Rattle.book_core.specs.declared.receipt.Receipt.{Receipt}
 use Rattle.book_lock.specs.Auditing.{receipt_at, receipt_due, receipts_due, naming, IsRightAt, IsFault, IsFirstFault, IsUnfolded, is_folded, unfolded}
-use Rattle.book_lock.specs.Rises.{Held}
+use Rattle.book_lock.specs.Rises.{SharedBook}
 use Rattle.book_lock.specs.declared.receipt_audit.AuditFault.{AuditFault}
 use Rattle.book_lock.specs.declared.receipt_audit.AuditFault.TheVariants.{Missing, Doubled, Differs}
 use Rattle.book_lock.proofs.Permuting.{permutation_from_alike, alike_from_permutation}
@@ -68,7 +68,7 @@ due_names : (o : Option Entry) (p : ℕ) (r : Receipt) → option_and_then (rece
 due_names None p r is = cc
 due_names (Some e) p r is = receipt_names p e r is
 
-owned : (h : Held) → Owns (receipt_due h)
+owned : (h : SharedBook) → Owns (receipt_due h)
 owned h q r is = due_names (entry_at h.book q) q r is
 
 pub split_by : (m p : ℕ) (t : Bool) → ltb p m ≡ t → (m ≤ p) ⊎ (p < m)
@@ -76,21 +76,21 @@ split_by m p true e = inr (grind (arith, nat_tests))
 split_by m p false e = inl (grind (arith, nat_tests))
 
 -- nothing is due before the book was shared
-pub due_before : (h : Held) (p : ℕ) → p < h.first → naming p (receipts_due h) ≡ []
+pub due_before : (h : SharedBook) (p : ℕ) → p < h.first → naming p (receipts_due h) ≡ []
 due_before h p before = given_before (receipt_due h) (owned h) p h.first (next_place h.book - h.first) before
 
 -- nothing is due past the history
-pub due_past : (h : Held) (p : ℕ) → h.first ≤ next_place h.book → next_place h.book ≤ p → naming p (receipts_due h) ≡ []
+pub due_past : (h : SharedBook) (p : ℕ) → h.first ≤ next_place h.book → next_place h.book ≤ p → naming p (receipts_due h) ≡ []
 due_past h p within past = given_past (receipt_due h) (owned h) p h.first (next_place h.book - h.first) (omega arith)
 
-none_past : (h : Held) (p : ℕ) → next_place h.book ≤ p → receipt_due h p ≡ None
+none_past : (h : SharedBook) (p : ℕ) → next_place h.book ≤ p → receipt_due h p ≡ None
 none_past h p past =
     let since : nat_lt p h.book.opening.places ≡ false = grind (arith, nat_tests) in
     ap (λ b. option_and_then (receipt_at p) (cond b None (slice_get h.book.entries (p - h.book.opening.places)))) since
     ∙ ap (λ o. option_and_then (receipt_at p) o) (slice_get_past h.book.entries (p - h.book.opening.places) (omega arith))
 
 -- what is due at a place since the book was shared
-pub due_here : (h : Held) (p : ℕ) → h.first ≤ next_place h.book → h.first ≤ p → naming p (receipts_due h) ≡ option_to_list (receipt_due h p)
+pub due_here : (h : SharedBook) (p : ℕ) → h.first ≤ next_place h.book → h.first ≤ p → naming p (receipts_due h) ≡ option_to_list (receipt_due h p)
 due_here h p within after =
     elim (split_by (next_place h.book) p (ltb p (next_place h.book)) refl) [
       | inl past ↦ due_past h p within past ∙ sym (ap option_to_list (none_past h p past))
@@ -102,7 +102,7 @@ option_short None = omega arith
 option_short (Some x) = omega arith
 
 -- no place has two receipts that are due
-pub due_once : (h : Held) → h.first ≤ next_place h.book → (p : ℕ) → length (naming p (receipts_due h)) ≤ 1
+pub due_once : (h : SharedBook) → h.first ≤ next_place h.book → (p : ℕ) → length (naming p (receipts_due h)) ≤ 1
 due_once h within p =
     elim (split_by h.first p (ltb p h.first) refl) [
       | inl after ↦ rw (due_here h p within after) (option_short (receipt_due h p))
@@ -124,14 +124,14 @@ not_true true is = absurd (false≢true is)
 not_true false is = refl
 
 -- a folded place is below those that are held, and not below the first
-folded_is : (h : Held) (p : ℕ) → is_folded h p ≡ true → (h.first ≤ p) × (p < h.book.opening.places) × (nat_lt p h.book.opening.places ≡ true)
+folded_is : (h : SharedBook) (p : ℕ) → is_folded h p ≡ true → (h.first ≤ p) × (p < h.book.opening.places) × (nat_lt p h.book.opening.places ≡ true)
 folded_is h p is =
     let tests = both (not (nat_lt p h.first)) (nat_lt p h.book.opening.places) is in
     let after = not_true (nat_lt p h.first) tests.0 in
     let below = tests.1 in (grind (arith, nat_tests), grind (arith, nat_tests), below)
 
 -- nothing is due at a folded place
-pub due_folded : (h : Held) (p : ℕ) → is_folded h p ≡ true → naming p (receipts_due h) ≡ []
+pub due_folded : (h : SharedBook) (p : ℕ) → is_folded h p ≡ true → naming p (receipts_due h) ≡ []
 due_folded h p is =
     let at = folded_is h p is in
     let after : h.first ≤ p = at.0 in
@@ -140,7 +140,7 @@ due_folded h p is =
     ∙ ap (λ b. option_to_list (option_and_then (receipt_at p) (cond b None (slice_get h.book.entries (p - h.book.opening.places))))) at.2
 
 -- a place past the history is not folded
-pub open_past : (h : Held) (p : ℕ) → next_place h.book ≤ p → is_folded h p ≡ false
+pub open_past : (h : SharedBook) (p : ℕ) → next_place h.book ≤ p → is_folded h p ≡ false
 open_past h p past =
     let test : nat_lt p h.book.opening.places ≡ false = grind (arith, nat_tests) in
     ap (λ b. not (nat_lt p h.first) && b) test ∙ not_either (not (nat_lt p h.first))
@@ -168,14 +168,14 @@ naming_folded f (r ∷ rs) p folded = by (f r.entry) refl (naming_folded f rs p 
         rw (is, other) rest
 
 -- the receipts are a permutation of those that are due, folded places aside, exactly where they are right at each place
-permuted : (h : Held) (receipts : List Receipt) → ((p : ℕ) → IsRightAt h receipts p) → IsPermutation (unfolded h receipts) (receipts_due h)
+permuted : (h : SharedBook) (receipts : List Receipt) → ((p : ℕ) → IsRightAt h receipts p) → IsPermutation (unfolded h receipts) (receipts_due h)
 permuted h receipts right = permutation_from_alike (λ r. r.entry) (receipts_due h) (unfolded h receipts) (λ p. by p (is_folded h p) refl)
   where
     by : (p : ℕ) (b : Bool) → is_folded h p ≡ b → naming p (unfolded h receipts) ≡ naming p (receipts_due h)
     by p true folded = naming_folded (is_folded h) receipts p folded ∙ sym (due_folded h p folded)
     by p false stays = naming_open (is_folded h) receipts p stays ∙ right p stays
 
-named_alike : (h : Held) (receipts : List Receipt) → h.first ≤ next_place h.book → IsPermutation (unfolded h receipts) (receipts_due h) → (p : ℕ) → IsRightAt h receipts p
+named_alike : (h : SharedBook) (receipts : List Receipt) → h.first ≤ next_place h.book → IsPermutation (unfolded h receipts) (receipts_due h) → (p : ℕ) → IsRightAt h receipts p
 named_alike h receipts within all p stays =
     sym (naming_open (is_folded h) receipts p stays) ∙ alike_from_permutation (λ r. r.entry) (unfolded h receipts) (receipts_due h) (due_once h within) all p
 
@@ -200,11 +200,11 @@ option_one None x h = cc
 option_one (Some y) x h = cc
 
 -- a receipt is not due where none is
-pub not_due : (h : Held) (r : Receipt) → naming r.entry (receipts_due h) ≡ [] → IsTrue false ↔ (r ∷ [] ≡ naming r.entry (receipts_due h))
+pub not_due : (h : SharedBook) (r : Receipt) → naming r.entry (receipts_due h) ≡ [] → IsTrue false ↔ (r ∷ [] ≡ naming r.entry (receipts_due h))
 not_due h r none = (λ f. absurd (false≢true f), λ same. let e : r ∷ [] ≡ [] = same ∙ none in cc)
 
 -- a receipt is due at its place exactly where it is that of the entry there
-pub due_if : (h : Held) (r : Receipt) (e : Entry) (t : Bool) → h.first ≤ next_place h.book → h.first ≤ r.entry → entry_at h.book r.entry ≡ Some e
+pub due_if : (h : SharedBook) (r : Receipt) (e : Entry) (t : Bool) → h.first ≤ next_place h.book → h.first ≤ r.entry → entry_at h.book r.entry ≡ Some e
     → IsTrue t ↔ (receipt_at r.entry e ≡ Some r) → IsTrue t ↔ (r ∷ [] ≡ naming r.entry (receipts_due h))
 due_if h r e t within after at says =
     let here : naming r.entry (receipts_due h) ≡ option_to_list (receipt_at r.entry e) =
@@ -214,7 +214,7 @@ due_if h r e t within after at says =
     )
 
 -- none is due where there is no entry
-pub due_none : (h : Held) (p : ℕ) → h.first ≤ next_place h.book → h.first ≤ p → entry_at h.book p ≡ None → naming p (receipts_due h) ≡ []
+pub due_none : (h : SharedBook) (p : ℕ) → h.first ≤ next_place h.book → h.first ≤ p → entry_at h.book p ≡ None → naming p (receipts_due h) ≡ []
 due_none h p within after at = due_here h p within after ∙ ap (λ o. option_to_list (option_and_then (receipt_at p) o)) at
 
 some_due : (o : Option Receipt) (t : Bool) → is_some o ≡ t → IsTrue t ↔ (option_to_list o ≢ [])
@@ -222,17 +222,17 @@ some_due None t is = (λ yes. absurd (false≢true (is ∙ yes)), λ some. absur
 some_due (Some r) t is = (λ yes none. cc, λ some. sym is)
 
 -- one is due exactly where the entry is an arrival
-pub due_if_arrival : (h : Held) (p : ℕ) (e : Entry) (t : Bool) → h.first ≤ next_place h.book → h.first ≤ p → entry_at h.book p ≡ Some e
+pub due_if_arrival : (h : SharedBook) (p : ℕ) (e : Entry) (t : Bool) → h.first ≤ next_place h.book → h.first ≤ p → entry_at h.book p ≡ Some e
     → is_some (receipt_at p e) ≡ t → IsTrue t ↔ (naming p (receipts_due h) ≢ [])
 due_if_arrival h p e t within after at is =
     let here : naming p (receipts_due h) ≡ option_to_list (receipt_at p e) = due_here h p within after ∙ ap (λ o. option_to_list (option_and_then (receipt_at p) o)) at in
     let says = some_due (receipt_at p e) t is in (λ yes none. says.0 yes (sym here ∙ none), λ some. says.1 (λ none. some (here ∙ none)))
 
-pub none_due : (h : Held) (p : ℕ) → naming p (receipts_due h) ≡ [] → IsTrue false ↔ (naming p (receipts_due h) ≢ [])
+pub none_due : (h : SharedBook) (p : ℕ) → naming p (receipts_due h) ≡ [] → IsTrue false ↔ (naming p (receipts_due h) ≢ [])
 none_due h p none = (λ f. absurd (false≢true f), λ some. absurd (some none))
 
 -- where no receipt names a place past the history, all places are right
-pub all_right : (h : Held) (receipts : List Receipt) → h.first ≤ next_place h.book → ((p : ℕ) → p < next_place h.book → IsRightAt h receipts p) → All (λ r. r.entry < next_place h.book) receipts → (p : ℕ) → IsRightAt h receipts p
+pub all_right : (h : SharedBook) (receipts : List Receipt) → h.first ≤ next_place h.book → ((p : ℕ) → p < next_place h.book → IsRightAt h receipts p) → All (λ r. r.entry < next_place h.book) receipts → (p : ℕ) → IsRightAt h receipts p
 all_right h receipts within below none p =
     elim (split_by (next_place h.book) p (ltb p (next_place h.book)) refl) [
       | inl past ↦ λ stays. naming_none (next_place h.book) p receipts none past ∙ sym (due_past h p within past)
@@ -240,7 +240,7 @@ all_right h receipts within below none p =
     ]
 
 -- all places before the least that is named past the history are right
-pub right_before : (h : Held) (receipts : List Receipt) (place : ℕ) → h.first ≤ next_place h.book → ((p : ℕ) → p < next_place h.book → IsRightAt h receipts p) → All (λ r. next_place h.book ≤ r.entry → place ≤ r.entry) receipts → (p : ℕ) → p < place → IsRightAt h receipts p
+pub right_before : (h : SharedBook) (receipts : List Receipt) (place : ℕ) → h.first ≤ next_place h.book → ((p : ℕ) → p < next_place h.book → IsRightAt h receipts p) → All (λ r. next_place h.book ≤ r.entry → place ≤ r.entry) receipts → (p : ℕ) → p < place → IsRightAt h receipts p
 right_before h receipts place within below least p before =
     elim (split_by (next_place h.book) p (ltb p (next_place h.book)) refl) [
       | inl past ↦ λ stays. naming_between (next_place h.book) place p receipts least past before ∙ sym (due_past h p within past)
@@ -248,16 +248,16 @@ right_before h receipts place within below least p before =
     ]
 
 -- a receipt that names a place past the history is not due
-pub stray : (h : Held) (receipts : List Receipt) (place : ℕ) → h.first ≤ next_place h.book → next_place h.book ≤ place → 0 < length (naming place receipts) → naming place receipts ≢ naming place (receipts_due h)
+pub stray : (h : SharedBook) (receipts : List Receipt) (place : ℕ) → h.first ≤ next_place h.book → next_place h.book ≤ place → 0 < length (naming place receipts) → naming place receipts ≢ naming place (receipts_due h)
 stray h receipts place within past some same = omega (arith, ap length (same ∙ due_past h place within past))
 
-fault_differs : (h : Held) (receipts : List Receipt) (f : AuditFault) → h.first ≤ next_place h.book → IsFault h receipts f → IsUnfolded h f → IsPermutation (unfolded h receipts) (receipts_due h) → ⊥
+fault_differs : (h : SharedBook) (receipts : List Receipt) (f : AuditFault) → h.first ≤ next_place h.book → IsFault h receipts f → IsUnfolded h f → IsPermutation (unfolded h receipts) (receipts_due h) → ⊥
 fault_differs h receipts (Missing p) within fault stays all = fault.1 (sym (named_alike h receipts within all p stays) ∙ fault.0)
 fault_differs h receipts (Doubled p) within fault stays all = omega (arith, fault, due_once h within p, ap length (named_alike h receipts within all p stays))
 fault_differs h receipts (Differs p) within fault stays all = fault.1 (named_alike h receipts within all p stays)
 
 -- the answer is Ok exactly where the receipts are those that are due, in any order, folded places aside
-pub audit_ok : (h : Held) (receipts : List Receipt) (r : Result Unit AuditFault) → h.first ≤ next_place h.book
+pub audit_ok : (h : SharedBook) (receipts : List Receipt) (r : Result Unit AuditFault) → h.first ≤ next_place h.book
     → OnOk r ((p : ℕ) → IsRightAt h receipts p)
     → IfErr r (IsFirstFault h receipts)
     → IsOk r ↔ IsPermutation (unfolded h receipts) (receipts_due h)

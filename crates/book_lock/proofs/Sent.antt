@@ -8,13 +8,16 @@ use denote.Struct.Declared.{shape}
 use denote.Param.Send.{IsSend, IsSync, sendable, view_send, recorded_send, recorded_sync, struct_send, struct_sync, AllSend}
 use Rattle.book_core.specs.contracts.book.Book as Book
 use Rattle.book_core.specs.contracts.book.Book.TheInside as Inside
-use Rattle.book_core.specs.declared.letter.Letter as Letter
-use Rattle.dest_queue.specs.declared.slots.Addressed as Addressed
+use Rattle.book_core.specs.declared.letter.Outbound as Outbound
+use Rattle.dest_queue.specs.declared.slots.Queued as Queued
 use Rattle.row_store.specs.declared.RowStore as RowStore
 use Rattle.book_lock.specs.contracts.locked.Locked as Locked
 use Rattle.book_lock.specs.contracts.locked.Locked.TheInside as Behind
-use Rattle.book_lock.specs.declared.locked.Opening as Opening
+use Rattle.book_lock.specs.declared.locked.ArrivalLedger as ArrivalLedger
 use Rattle.book_lock.specs.contracts.shared.Shared as Shared
+use Rattle.book_lock.specs.contracts.log_entry.LogEntry as LogEntry
+use Rattle.ghost_log.specs.declared.rule.Naming as Naming
+use Rattle.ghost_log.proofs.Sent as ghost_log
 use Rattle.std.proofs.sync.Mutex.TheSendSync as mutex
 use Rattle.std.specs.declared.sync.ledger.Ledger as Ledger
 use Rattle.std.proofs.sync.ledger.Share.TheSendSync as share
@@ -70,7 +73,7 @@ entry_send = search (sendable, crosses, deployed_send) depth 90 fits 30000
 pub log_send : IsSend Log.the_row
 log_send = search (sendable, crosses, plan_send, plan_sync, entry_send) depth 90 fits 30000
 
-pub book_send : (S : RattleType) (g : RowStore.Ghosts S.Denot (Addressed.Addressed Letter.Letter)) → IsSend S → IsSend (Book.the_row S g)
+pub book_send : (S : RattleType) (g : RowStore.Ghosts S.Denot (Queued.Queued Outbound.Outbound)) → IsSend S → IsSend (Book.the_row S g)
 book_send S g s =
     view_send (Inside.the_row S g) _ _ _ _
     (recorded_send (Inside.the_field S g).row _ _ (Inside.the_type S g).to_one
@@ -79,13 +82,13 @@ book_send S g s =
       (log_send, (s, (search (sendable, crosses) depth 60 fits 30000, (search (sendable, crosses) depth 60 fits 30000, (search (sendable, crosses) depth 20, tt))))),
     )))
 
-module _ (A T U S : RattleType) (o : Opening.Ghosts A.Denot) (a : Ledger.Ghosts A.Denot) (t : Ledger.Ghosts T.Denot)
-    (u : Ledger.Ghosts U.Denot) (g : RowStore.Ghosts S.Denot (Addressed.Addressed Letter.Letter)) where
-  pub locked_send : IsSend S → IsSend (Locked.the_row A T U S o a t u g)
+module _ (A T U S : RattleType) (o : ArrivalLedger.Ghosts A.Denot) (a : Ledger.Ghosts A.Denot) (n : Naming.Ghosts A.Denot) (t : Ledger.Ghosts T.Denot)
+    (u : Ledger.Ghosts U.Denot) (g : RowStore.Ghosts S.Denot (Queued.Queued Outbound.Outbound)) where
+  pub locked_send : IsSend S → IsSend (Locked.the_row A T U S o a n t u g)
   locked_send s =
-      view_send (Behind.the_row A T U S o a t u g) _ _ _ _
-      (recorded_send (Behind.the_field A T U S o a t u g).row _ _ (Behind.the_type A T U S o a t u g).to_one
-      (struct_send (shape (Behind.the_type A T U S o a t u g)) (
+      view_send (Behind.the_row A T U S o a n t u g) _ _ _ _
+      (recorded_send (Behind.the_field A T U S o a n t u g).row _ _ (Behind.the_type A T U S o a n t u g).to_one
+      (struct_send (shape (Behind.the_type A T U S o a n t u g)) (
         book_send S g s,
         (
           search (sendable, crosses) depth 60 fits 30000,
@@ -105,7 +108,13 @@ module _ (A T U S : RattleType) (o : Opening.Ghosts A.Denot) (a : Ledger.Ghosts 
                         share.the_send T t,
                         (
                           share.the_send U u,
-                          (search (sendable, crosses) depth 20, tt),
+                          (
+                            ghost_log.log_send A LogEntry.the_row n,
+                            (
+                              ghost_log.seat_send A LogEntry.the_row n,
+                              (search (sendable, crosses) depth 20, tt),
+                            ),
+                          ),
                         ),
                       ),
                     ),
@@ -117,10 +126,10 @@ module _ (A T U S : RattleType) (o : Opening.Ghosts A.Denot) (a : Ledger.Ghosts 
         ),
       )))
 
-  pub shared_sync : IsSend S → IsSync (Shared.the_row A T U S o a t u g)
+  pub shared_sync : IsSend S → IsSync (Shared.the_row A T U S o a n t u g)
   shared_sync s =
-      recorded_sync (Shared.the_field A T U S o a t u g).row _ _ (Shared.the_type A T U S o a t u g).to_one
-      (struct_sync (shape (Shared.the_type A T U S o a t u g)) (
+      recorded_sync (Shared.the_field A T U S o a n t u g).row _ _ (Shared.the_type A T U S o a n t u g).to_one
+      (struct_sync (shape (Shared.the_type A T U S o a n t u g)) (
         mutex.the_sync _ (locked_send s),
         (search (sendable, crosses) depth 60 fits 30000, (search (sendable, crosses) depth 20, tt)),
       ))

@@ -5,11 +5,12 @@ use Rattle.event_log.specs.declared.refusal.PruneRefusal.{PruneRefusal}
 use Rattle.event_log.specs.declared.refusal.PruneRefusal.TheVariants.{NoMemory, TooMany}
 use Rattle.event_log.specs.Folding.{prune_answer, pruned}
 use Rattle.event_log.proofs.OneMore.{lt-tells}
-use Rattle.book_core.specs.Questions.{is_tight, settled_before}
-use Rattle.book_lock.specs.Rises.{Held, with_book}
-use Rattle.book_lock.specs.Tidies.{IsSettledRefusal, IsTidying, left_by, tidying_of}
+use Rattle.book_core.specs.inner.Questions.{is_tight, settled_before}
+use Rattle.book_lock.specs.Rises.{SharedBook}
+use Rattle.book_lock.specs.inner.Rises.{with_book}
+use Rattle.book_lock.specs.inner.Tidies.{IsSettledRefusal, IsTidying, left_by, tidying_of}
 
-module _ (h : Held) (b : ℕ) (answered : prune_answer h.book b ≡ cond (nat_lt h.book.opening.prunings 1000) None (Some TooMany)) where
+module _ (h : SharedBook) (b : ℕ) (answered : prune_answer h.book b ≡ cond (nat_lt h.book.opening.prunings 1000) None (Some TooMany)) where
   few : nat_lt h.book.opening.prunings 1000 ≡ true → prune_answer h.book b ≡ None
   few under = answered ∙ ap (λ t. cond t None (Some TooMany)) under
 
@@ -36,7 +37,7 @@ module _ (h : Held) (b : ℕ) (answered : prune_answer h.book b ≡ cond (nat_lt
   ]
 
 -- what comes of it
-pub tidied : (keep k : ℕ) (h : Held) (answer : Result ℕ PruneRefusal) → (k ≡ keep) ⊎ (k ≡ 0) → is_tight h.book ≡ true
+pub tidied : (keep k : ℕ) (h : SharedBook) (answer : Result ℕ PruneRefusal) → (k ≡ keep) ⊎ (k ≡ 0) → is_tight h.book ≡ true
     → IfOk answer (λ b. b ≡ settled_before k h.book) → IfErr answer (IsSettledRefusal h) → IsTidying keep h (tidying_of answer)
 tidied keep k h (Ok b) which tight before refused = (
   tight,
@@ -47,7 +48,7 @@ tidied keep k h (Ok b) which tight before refused = (
 )
 tidied keep k h (Err e) which tight before refused = (tight, refused)
 
-pub left : (h new : Held) (answer : Result ℕ PruneRefusal) → IfOk answer (λ b. new ≡ with_book h (pruned b h.book)) → OnErr answer (new ≡ h)
+pub left : (h new : SharedBook) (answer : Result ℕ PruneRefusal) → IfOk answer (λ b. new ≡ with_book h (pruned b h.book)) → OnErr answer (new ≡ h)
     → new ≡ left_by h (tidying_of answer)
 left h new (Ok b) folded err = folded
 left h new (Err e) folded err = err

@@ -7,13 +7,7 @@ use Rattle.event_log.specs.History.{entry_at, next_place}
 use Rattle.book_core.specs.declared.receipt.Receipt.{Receipt}
 use Rattle.book_lock.specs.declared.receipt_audit.AuditFault.{AuditFault}
 use Rattle.book_lock.specs.declared.receipt_audit.AuditFault.TheVariants.{Missing, Doubled, Differs}
-use Rattle.book_lock.specs.Rises.{Held}
-
--- the numbers of the faults
-abbrev pub fault_code : AuditFault → ℕ
-fault_code (Missing place) = 1
-fault_code (Doubled place) = 2
-fault_code (Differs place) = 3
+use Rattle.book_lock.specs.Rises.{SharedBook}
 
 -- the receipt of an entry at this index, if it is an arrival
 abbrev pub receipt_at : ℕ → Entry → Option Receipt
@@ -24,19 +18,19 @@ receipt_at place (Cancel number mask) = None
 receipt_at place (Deploy plan) = None
 
 -- the receipt that is due at an index of the history: that of its arrival
-abbrev pub receipt_due : Held → ℕ → Option Receipt
+abbrev pub receipt_due : SharedBook → ℕ → Option Receipt
 receipt_due h place = option_and_then (receipt_at place) (entry_at h.book place)
 
 -- the receipts of the arrivals since the book was shared, in order; that of a folded one is not due
-abbrev pub receipts_due : Held → List Receipt
+abbrev pub receipts_due : SharedBook → List Receipt
 receipts_due h = filter_map (receipt_due h) (range_with_len h.first (next_place h.book - h.first))
 
 -- whether an index was folded since the book was shared
-abbrev pub is_folded : Held → ℕ → Bool
+abbrev pub is_folded : SharedBook → ℕ → Bool
 is_folded h place = not (nat_lt place h.first) && nat_lt place h.book.opening.places
 
 -- the receipts without those that name a folded index
-abbrev pub unfolded : Held → List Receipt → List Receipt
+abbrev pub unfolded : SharedBook → List Receipt → List Receipt
 unfolded h receipts = filter (λ r. not (is_folded h r.entry)) receipts
 
 -- the receipts that name an index
@@ -44,25 +38,25 @@ abbrev pub naming : ℕ → List Receipt → List Receipt
 naming place receipts = filter (λ r. r.entry == place) receipts
 
 -- the index of a fault
-abbrev pub place_of : AuditFault → ℕ
-place_of (Missing place) = place
-place_of (Doubled place) = place
-place_of (Differs place) = place
+abbrev pub fault_place : AuditFault → ℕ
+fault_place (Missing place) = place
+fault_place (Doubled place) = place
+fault_place (Differs place) = place
 
 -- the receipts that name an index are those that are due there, if it isn't folded
-abbrev pub IsRightAt : Held → List Receipt → ℕ → Type 0
+abbrev pub IsRightAt : SharedBook → List Receipt → ℕ → Type 0
 IsRightAt h receipts place = is_folded h place ≡ false → naming place receipts ≡ naming place (receipts_due h)
 
 -- a fault is at an index that isn't folded
-abbrev pub IsUnfolded : Held → AuditFault → Type 0
-IsUnfolded h fault = is_folded h (place_of fault) ≡ false
+abbrev pub IsUnfolded : SharedBook → AuditFault → Type 0
+IsUnfolded h fault = is_folded h (fault_place fault) ≡ false
 
 -- what is wrong with the receipts that name the fault's index
-abbrev pub IsFault : Held → List Receipt → AuditFault → Type 0
+abbrev pub IsFault : SharedBook → List Receipt → AuditFault → Type 0
 IsFault h receipts (Missing place) = (naming place receipts ≡ []) × (naming place (receipts_due h) ≢ [])
 IsFault h receipts (Doubled place) = 1 < length (naming place receipts)
 IsFault h receipts (Differs place) = (length (naming place receipts) ≡ 1) × (naming place receipts ≢ naming place (receipts_due h))
 
 -- it is the first: at each index before it that isn't folded, the receipts are those that are due
-abbrev pub IsFirstFault : Held → List Receipt → AuditFault → Type 0
-IsFirstFault h receipts fault = (IsFault h receipts fault × IsUnfolded h fault) × ((p : ℕ) → p < place_of fault → IsRightAt h receipts p)
+abbrev pub IsFirstFault : SharedBook → List Receipt → AuditFault → Type 0
+IsFirstFault h receipts fault = (IsFault h receipts fault × IsUnfolded h fault) × ((p : ℕ) → p < fault_place fault → IsRightAt h receipts p)

@@ -1,8 +1,6 @@
+pub mod Log
+pub mod Outcomes
 pub mod Shares
 pub mod Rises
-pub mod Coding
-pub mod Closing
 pub mod Auditing
-pub mod Windows
-pub mod Showing
-pub mod Tidies
+pub mod inner

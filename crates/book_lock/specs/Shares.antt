@@ -1,18 +1,29 @@
--- What contracts see of a station.
-use Rattle.std.specs.Prelude.{ℕ, ◌+◌}
+-- What contracts see of a desk and of a station.
+use Rattle.std.specs.Prelude.{ℕ, List, sum_by}
+use Rattle.book_lock.specs.Log.{SeatView}
 
 -- the takes and the settlements that were made at a station
 pub record Made : Type 0 where
   pub takes : ℕ
   pub settlements : ℕ
 
-abbrev pub no_calls : Made
-no_calls = record { takes = 0; settlements = 0 }
+-- a desk: how many arrivals were booked at it, and its seat
+pub record DeskView : Type 0 where
+  pub made : ℕ
+  pub seat : SeatView
 
--- one more take
-abbrev pub with_take : Made → Made
-with_take m = record m { takes = m.takes + 1 }
+-- a station: how many takes and settlements were made at it, and its seat
+pub record StationView : Type 0 where
+  pub counts : Made
+  pub seat : SeatView
 
--- one more settlement
-abbrev pub with_settlement : Made → Made
-with_settlement m = record m { settlements = m.settlements + 1 }
+-- the arrivals that were booked at these desks
+abbrev pub arrivals_of : List DeskView → ℕ
+arrivals_of desks = sum_by (λ d. d.made) desks
+
+-- the takes and the settlements that were made at these stations
+abbrev pub takes_of : List StationView → ℕ
+takes_of stations = sum_by (λ s. s.counts.takes) stations
+
+abbrev pub settlements_of : List StationView → ℕ
+settlements_of stations = sum_by (λ s. s.counts.settlements) stations

@@ -1,54 +1,76 @@
-//! The shares of the arrivals, of the takes and of the settlements.
+//! The shares of the arrivals, of the takes and of the settlements, and the seats of those who make them.
 
-ghost use Rattle.std.specs.Prelude.{◌≡◌, ◌+◌, ◌<◌, ◌≤◌, ◌^◌, All, length, sum, sum_by, vec_len, IfOk, OnOk};
-ghost use Rattle.book_lock.specs.Shares.{Made, no_calls, with_settlement, with_take};
+ghost use Rattle.std.specs.Prelude.{◌≡◌, ◌+◌, ◌++◌, ◌<◌, ◌≤◌, ◌^◌, All, length, map, vec_len, IfOk, OnOk};
+ghost use Rattle.ghost_log.specs.Seats.{Agrees};
+ghost use Rattle.ghost_log.specs.inner.Seats.{entries_by};
+ghost use Rattle.book_lock.specs.inner.Log.{new_seats};
+ghost use Rattle.book_lock.specs.Shares.{DeskView, StationView, arrivals_of, settlements_of, takes_of};
+ghost use Rattle.book_lock.specs.inner.Shares.{no_calls, with_settlement, with_take};
 
+use crate::locked::ArrivalLedger;
+use crate::log_entry::LogEntry;
+use ghost_log::{Entries, GhostLog, Seat};
 use std::alloc::{AllocError, Global};
 use std::marker::Model;
 use std::sync::ledger;
 use std::sync::ledger::{Ledger, Share};
 
-/// A worker's share of the arrivals: contracts see how many were booked at it since the book was shared.
+/// A worker's share of the arrivals, and its seat: contracts see how many arrivals were booked at it since the book was
+/// shared, and what the seat has seen of the log.
 #[derive(Drop)]
-pub struct Desk<A: Ledger> {
+pub struct Desk<A: ArrivalLedger> {
     made: u64,
     share: Share<A>,
+    seat: Seat<A, LogEntry>,
 }
 
-impl<A: Ledger> Model for Desk<A> {
-    ghost use Rattle.std.specs.Prelude.{◌≡◌, ℕ};
+impl<A: ArrivalLedger> Model for Desk<A> {
+    ghost use Rattle.std.specs.Prelude.{◌≡◌};
+    ghost use Rattle.book_lock.specs.Shares.{DeskView};
+    ghost use Rattle.book_lock.specs.inner.Coding.{desk_code};
 
-    ghost Value = { ℕ };
+    ghost Value = { DeskView };
 
-    ghost view = { λ d. d.made };
+    ghost coded = { desk_code };
+
+    ghost view = { λ d.
+        record { made = d.made; seat = record { number = d.seat.0; seen = d.seat.1 } } };
 
     ghost invariant = { λ d. (d.share.parts ≡ 1) × (d.share.amount ≡ d.made) };
 }
 
-/// A worker's shares of the takes and of the settlements.
+/// A worker's shares of the takes and of the settlements, and its seat: contracts see how many of each were made at it, and
+/// what the seat has seen of the log.
 #[derive(Drop)]
-pub struct Station<T: Ledger, U: Ledger> {
+pub struct Station<A: ArrivalLedger, T: Ledger, U: Ledger> {
     taken: u64,
     settled: u64,
     takes: Share<T>,
     settlements: Share<U>,
+    seat: Seat<A, LogEntry>,
 }
 
-impl<T: Ledger, U: Ledger> Model for Station<T, U> {
-    ghost use Rattle.std.specs.Prelude.{◌≡◌, ℕ};
-    ghost use Rattle.book_lock.specs.Shares.{Made};
+impl<A: ArrivalLedger, T: Ledger, U: Ledger> Model for Station<A, T, U> {
+    ghost use Rattle.std.specs.Prelude.{◌≡◌};
+    ghost use Rattle.book_lock.specs.Shares.{StationView};
+    ghost use Rattle.book_lock.specs.inner.Coding.{station_code};
 
-    ghost Value = { Made };
+    ghost Value = { StationView };
 
-    ghost view = { λ s. record { takes = s.taken; settlements = s.settled } };
+    ghost coded = { station_code };
+
+    ghost view = { λ s. record {
+      counts = record { takes = s.taken; settlements = s.settled };
+      seat = record { number = s.seat.0; seen = s.seat.1 };
+    } };
 
     ghost invariant = { λ s. (s.takes.parts ≡ 1) × (s.takes.amount ≡ s.taken) × (s.settlements.parts ≡ 1) × (s.settlements.amount ≡ s.settled) };
 }
 
-impl<A: Ledger> Desk<A> {
+impl<A: ArrivalLedger> Desk<A> {
     /// How many arrivals were booked at this desk.
     pub fn made(&self) -> u64
-        ensures { result ≡ self.now }
+        ensures { result ≡ self.now.made }
     {
         self.made
     }
@@ -56,7 +78,7 @@ impl<A: Ledger> Desk<A> {
     /// The ledger's book has at least what this desk made.
     pub fn audit(&mut self, book: &mut ledger::Book<A>)
         ensures same { (self.new ≡ self.old) × (book.new.total ≡ book.old.total) }
-        ensures bound { self.old ≤ book.old.total }
+        ensures bound { self.old.made ≤ book.old.total }
     {
         book.audit(&mut self.share);
     }
@@ -64,26 +86,46 @@ impl<A: Ledger> Desk<A> {
     /// Counts an arrival, here and in the ledger's book.
     pub fn count(&mut self, book: &mut ledger::Book<A>)
         requires { book.old.total + 1 < 2 ^ 64 }
-        ensures desk { self.new ≡ self.old + 1 }
+        ensures desk { self.new ≡ record self.old { made = self.old.made + 1 } }
         ensures total { book.new.total ≡ book.old.total + 1 }
     {
         book.audit(&mut self.share);
         book.add(&mut self.share, 1);
         self.made += 1;
     }
+
+    /// Shows the whole log to the desk's seat.
+    pub fn observe(&mut self, log: &mut GhostLog<A, LogEntry>)
+        ensures log { log.new ≡ log.old }
+        ensures made { self.new.made ≡ self.old.made }
+        ensures seat { self.new.seat ≡ record self.old.seat { seen = log.old.0 } }
+        ensures agreed { Agrees self.old.seat.number self.old.seat.seen log.old.0 }
+    {
+        log.observe(&mut self.seat);
+    }
+
+    /// Adds entries to the log for the desk's seat, which has then seen all of it.
+    pub fn push<X, N: Entries<LogEntry>>(&mut self, log: &mut GhostLog<A, LogEntry>, about: &X)
+        ensures log { log.new
+            ≡ (log.old.0 ++ entries_by self.old.seat.number N.entries, log.old.1) }
+        ensures made { self.new.made ≡ self.old.made }
+        ensures seat { self.new.seat ≡ record self.old.seat { seen = log.new.0 } }
+    {
+        log.push::<X, N>(&mut self.seat, about);
+    }
 }
 
-impl<T: Ledger, U: Ledger> Station<T, U> {
+impl<A: ArrivalLedger, T: Ledger, U: Ledger> Station<A, T, U> {
     /// How many takes were made at this station.
     pub fn taken(&self) -> u64
-        ensures { result ≡ self.now.takes }
+        ensures { result ≡ self.now.counts.takes }
     {
         self.taken
     }
 
     /// How many settlements were made at this station.
     pub fn settled(&self) -> u64
-        ensures { result ≡ self.now.settlements }
+        ensures { result ≡ self.now.counts.settlements }
     {
         self.settled
     }
@@ -91,7 +133,7 @@ impl<T: Ledger, U: Ledger> Station<T, U> {
     /// Counts a take, here and in the ledger's book.
     pub fn count_take(&mut self, book: &mut ledger::Book<T>)
         requires { book.old.total + 1 < 2 ^ 64 }
-        ensures station { self.new ≡ with_take self.old }
+        ensures station { self.new ≡ record self.old { counts = with_take self.old.counts } }
         ensures total { book.new.total ≡ book.old.total + 1 }
     {
         book.audit(&mut self.takes);
@@ -102,25 +144,45 @@ impl<T: Ledger, U: Ledger> Station<T, U> {
     /// Counts a settlement, here and in the ledger's book.
     pub fn count_settlement(&mut self, book: &mut ledger::Book<U>)
         requires { book.old.total + 1 < 2 ^ 64 }
-        ensures station { self.new ≡ with_settlement self.old }
+        ensures station { self.new ≡ record self.old { counts = with_settlement self.old.counts } }
         ensures total { book.new.total ≡ book.old.total + 1 }
     {
         book.audit(&mut self.settlements);
         book.add(&mut self.settlements, 1);
         self.settled += 1;
     }
+
+    /// Shows the whole log to the station's seat.
+    pub fn observe(&mut self, log: &mut GhostLog<A, LogEntry>)
+        ensures log { log.new ≡ log.old }
+        ensures counts { self.new.counts ≡ self.old.counts }
+        ensures seat { self.new.seat ≡ record self.old.seat { seen = log.old.0 } }
+        ensures agreed { Agrees self.old.seat.number self.old.seat.seen log.old.0 }
+    {
+        log.observe(&mut self.seat);
+    }
+
+    /// Adds entries to the log for the station's seat, which has then seen all of it.
+    pub fn push<X, N: Entries<LogEntry>>(&mut self, log: &mut GhostLog<A, LogEntry>, about: &X)
+        ensures log { log.new
+            ≡ (log.old.0 ++ entries_by self.old.seat.number N.entries, log.old.1) }
+        ensures counts { self.new.counts ≡ self.old.counts }
+        ensures seat { self.new.seat ≡ record self.old.seat { seen = log.new.0 } }
+    {
+        log.push::<X, N>(&mut self.seat, about);
+    }
 }
 
 /// The arrivals that were booked at these desks.
-pub fn made_by<A: Ledger>(desks: &[Desk<A>]) -> u128
-    ensures { result ≡ sum desks.now }
+pub fn made_by<A: ArrivalLedger>(desks: &[Desk<A>]) -> u128
+    ensures { result ≡ arrivals_of desks.now }
 {
     desks.iter().map(|desk| u128::from(desk.made())).sum()
 }
 
 /// The takes that were made at these stations.
-pub fn taken_at<T: Ledger, U: Ledger>(stations: &[Station<T, U>]) -> u128
-    ensures { result ≡ sum_by (λ (s : Made). s.takes) stations.now }
+pub fn taken_at<A: ArrivalLedger, T: Ledger, U: Ledger>(stations: &[Station<A, T, U>]) -> u128
+    ensures { result ≡ takes_of stations.now }
 {
     stations
         .iter()
@@ -129,8 +191,8 @@ pub fn taken_at<T: Ledger, U: Ledger>(stations: &[Station<T, U>]) -> u128
 }
 
 /// The settlements that were made at these stations.
-pub fn settled_at<T: Ledger, U: Ledger>(stations: &[Station<T, U>]) -> u128
-    ensures { result ≡ sum_by (λ (s : Made). s.settlements) stations.now }
+pub fn settled_at<A: ArrivalLedger, T: Ledger, U: Ledger>(stations: &[Station<A, T, U>]) -> u128
+    ensures { result ≡ settlements_of stations.now }
 {
     stations
         .iter()
@@ -138,46 +200,58 @@ pub fn settled_at<T: Ledger, U: Ledger>(stations: &[Station<T, U>]) -> u128
         .sum()
 }
 
-/// Cuts the shares of `count` desks off a share that has a part for each, and one more.
+/// Cuts the shares of `count` desks off a share that has a part for each, and one more, and issues their seats.
 ///
 /// # Errors
 ///
 /// Where memory is refused.
-pub fn open_desks<A: Ledger>(
+pub fn open_desks<A: ArrivalLedger>(
     alloc: Global,
+    log: &mut GhostLog<A, LogEntry>,
     left: &mut Share<A>,
     count: usize,
 ) -> Result<Vec<Desk<A>>, AllocError>
-    requires { (left.old.parts ≡ count + 1) × (left.old.amount ≡ 0) }
+    requires share { (left.old.parts ≡ count + 1) × (left.old.amount ≡ 0) }
+    requires log { log.old.1 < 2 ^ 63 }
     ensures left { OnOk result ((left.new.parts ≡ 1) × (left.new.amount ≡ 0)) }
-    ensures desks { IfOk result (λ d. (vec_len d ≡ count) × All (λ made. made ≡ 0) d.items) }
+    ensures log { OnOk result (log.new ≡ (log.old.0, log.old.1 + count)) }
+    ensures few { OnOk result (count < 2 ^ 63) }
+    ensures desks { IfOk result (λ d. (vec_len d ≡ count) × All (λ d. d.made ≡ 0) d.items) }
+    ensures seats { IfOk result (λ d. map (λ d. d.seat) d.items ≡ new_seats log.old.1 count) }
 {
     let mut desks = Vec::with_capacity(alloc, count)?;
     for _ in 0..count {
         desks.push_reserved(Desk {
             made: 0,
             share: left.split_off(1, 0),
+            seat: log.issue(),
         });
     }
     Ok(desks)
 }
 
-/// Cuts the shares of `count` stations off two shares that each have a part for each, and one more.
+/// Cuts the shares of `count` stations off two shares that each have a part for each, and one more, and issues their seats.
 ///
 /// # Errors
 ///
 /// Where memory is refused.
-pub fn open_stations<T: Ledger, U: Ledger>(
+pub fn open_stations<A: ArrivalLedger, T: Ledger, U: Ledger>(
     alloc: Global,
+    log: &mut GhostLog<A, LogEntry>,
     left_takes: &mut Share<T>,
     left_settlements: &mut Share<U>,
     count: usize,
-) -> Result<Vec<Station<T, U>>, AllocError>
+) -> Result<Vec<Station<A, T, U>>, AllocError>
     requires takes { (left_takes.old.parts ≡ count + 1) × (left_takes.old.amount ≡ 0) }
     requires settlements { (left_settlements.old.parts ≡ count + 1) × (left_settlements.old.amount ≡ 0) }
+    requires log { log.old.1 < 2 ^ 63 }
     ensures left_takes { OnOk result ((left_takes.new.parts ≡ 1) × (left_takes.new.amount ≡ 0)) }
     ensures left_settlements { OnOk result ((left_settlements.new.parts ≡ 1) × (left_settlements.new.amount ≡ 0)) }
-    ensures stations { IfOk result (λ s. (vec_len s ≡ count) × All (λ made. made ≡ no_calls) s.items) }
+    ensures log { OnOk result (log.new ≡ (log.old.0, log.old.1 + count)) }
+    ensures few { OnOk result (count < 2 ^ 63) }
+    ensures stations { IfOk result (λ s.
+        (vec_len s ≡ count) × All (λ s. s.counts ≡ no_calls) s.items) }
+    ensures seats { IfOk result (λ s. map (λ s. s.seat) s.items ≡ new_seats log.old.1 count) }
 {
     let mut stations = Vec::with_capacity(alloc, count)?;
     for _ in 0..count {
@@ -186,13 +260,14 @@ pub fn open_stations<T: Ledger, U: Ledger>(
             settled: 0,
             takes: left_takes.split_off(1, 0),
             settlements: left_settlements.split_off(1, 0),
+            seat: log.issue(),
         });
     }
     Ok(stations)
 }
 
 /// Puts the parts of all desks to `whole` for a moment: where that is every part, the desks made all that the book has.
-pub fn audit_desks<A: Ledger>(
+pub fn audit_desks<A: ArrivalLedger>(
     book: &mut ledger::Book<A>,
     whole: &mut Share<A>,
     desks: &mut [Desk<A>],
@@ -201,13 +276,14 @@ pub fn audit_desks<A: Ledger>(
     ensures desks { desks.new ≡ desks.old }
     ensures book { book.new.total ≡ book.old.total }
     ensures share { (whole.new.parts ≡ whole.old.parts) × (whole.new.amount ≡ whole.old.amount) }
-    ensures all { whole.old.parts + length desks.old ≡ A.parts → whole.old.amount + sum desks.old ≡ book.old.total }
+    ensures all { whole.old.parts + length desks.old ≡ A.parts →
+        whole.old.amount + arrivals_of desks.old ≡ book.old.total }
 {
     let Some((first, rest)) = desks.split_first_mut() else {
         book.audit(whole);
         return;
     };
-    let Desk { made, share } = first;
+    let Desk { made, share, .. } = first;
     share.give(whole, 1, *made);
     audit_desks(book, whole, rest);
     whole.give(share, 1, *made);
@@ -215,12 +291,12 @@ pub fn audit_desks<A: Ledger>(
 
 /// Puts the parts of all stations to `whole_takes` and `whole_settlements` for a moment, as [`audit_desks`] does with
 /// those of desks.
-pub fn audit_stations<T: Ledger, U: Ledger>(
+pub fn audit_stations<A: ArrivalLedger, T: Ledger, U: Ledger>(
     takes: &mut ledger::Book<T>,
     settlements: &mut ledger::Book<U>,
     whole_takes: &mut Share<T>,
     whole_settlements: &mut Share<U>,
-    stations: &mut [Station<T, U>],
+    stations: &mut [Station<A, T, U>],
 )
     requires { (0 < whole_takes.old.parts) × (0 < whole_settlements.old.parts) }
     ensures stations { stations.new ≡ stations.old }
@@ -229,9 +305,9 @@ pub fn audit_stations<T: Ledger, U: Ledger>(
     ensures settlements_share { (whole_settlements.new.parts ≡ whole_settlements.old.parts)
         × (whole_settlements.new.amount ≡ whole_settlements.old.amount) }
     ensures all_takes { whole_takes.old.parts + length stations.old ≡ T.parts →
-        whole_takes.old.amount + sum_by (λ (s : Made). s.takes) stations.old ≡ takes.old.total }
+        whole_takes.old.amount + takes_of stations.old ≡ takes.old.total }
     ensures all_settlements { whole_settlements.old.parts + length stations.old ≡ U.parts →
-        whole_settlements.old.amount + sum_by (λ (s : Made). s.settlements) stations.old ≡ settlements.old.total }
+        whole_settlements.old.amount + settlements_of stations.old ≡ settlements.old.total }
 {
     let Some((first, rest)) = stations.split_first_mut() else {
         takes.audit(whole_takes);
@@ -243,10 +319,38 @@ pub fn audit_stations<T: Ledger, U: Ledger>(
         settled,
         takes: take_share,
         settlements: settlement_share,
+        ..
     } = first;
     take_share.give(whole_takes, 1, *taken);
     settlement_share.give(whole_settlements, 1, *settled);
     audit_stations(takes, settlements, whole_takes, whole_settlements, rest);
     whole_takes.give(take_share, 1, *taken);
     whole_settlements.give(settlement_share, 1, *settled);
+}
+
+/// Compares the seats of all desks with the log: each has seen a prefix of it, with all entries of its number.
+pub fn audit_desk_seats<A: ArrivalLedger>(log: &mut GhostLog<A, LogEntry>, desks: &mut [Desk<A>])
+    ensures same { (log.new ≡ log.old) × (desks.new ≡ desks.old) }
+    ensures agreed { All (λ d. Agrees d.seat.number d.seat.seen log.old.0) desks.old }
+{
+    let Some((first, rest)) = desks.split_first_mut() else {
+        return;
+    };
+    log.audit(&mut first.seat);
+    audit_desk_seats(log, rest);
+}
+
+/// Compares the seats of all stations with the log, as [`audit_desk_seats`] does with those of desks.
+pub fn audit_station_seats<A: ArrivalLedger, T: Ledger, U: Ledger>(
+    log: &mut GhostLog<A, LogEntry>,
+    stations: &mut [Station<A, T, U>],
+)
+    ensures same { (log.new ≡ log.old) × (stations.new ≡ stations.old) }
+    ensures agreed { All (λ s. Agrees s.seat.number s.seat.seen log.old.0) stations.old }
+{
+    let Some((first, rest)) = stations.split_first_mut() else {
+        return;
+    };
+    log.audit(&mut first.seat);
+    audit_station_seats(log, rest);
 }

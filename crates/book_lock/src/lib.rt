@@ -1,8 +1,10 @@
-//! The book under one lock, the shares of its callers, and the audit of their receipts.
+//! The book under one lock, the log of all that is done to it, the shares of its callers, and the audit of their
+//! receipts.
 #![tactic(auto)]
 
 mod desks;
 mod locked;
+mod log_entry;
 mod message;
 mod receipt_audit;
 mod shared;
@@ -12,7 +14,8 @@ mod tidying;
 mod windows;
 
 pub use desks::{Desk, Station};
-pub use locked::{Closed, Locked, Opening, add_up};
+pub use locked::{ArrivalLedger, Closed, Locked, add_up};
+pub use log_entry::LogEntry;
 pub use message::{Found, Message};
 pub use receipt_audit::{AuditFault, audit, rising};
 pub use shared::{NotClosed, Opened, Shared};

@@ -1,6 +1,6 @@
 //! The value behind the lock.
 
-ghost use Rattle.std.specs.Prelude.{◌≡◌, ◌≢◌, ◌+◌, ◌-◌, ◌<◌, ◌≤◌, ◌⊎◌, ◌↔◌, ℕ, Ok, Err, IfOk, IfErr, IfSome, OnOk, OnErr, OnSome, IsErrOf, IsNone, IsTrue, None, Some, false, if◌then◌else◌, nat_lt, length, slice_get};
+ghost use Rattle.std.specs.Prelude.{◌≡◌, ◌≢◌, ◌+◌, ◌-◌, ◌^◌, ◌<◌, ◌≤◌, ◌⊎◌, ◌↔◌, ℕ, [], Ok, Err, IfOk, IfErr, IfSome, OnOk, OnErr, OnSome, IsErrOf, IsNone, IsTrue, None, Some, false, if◌then◌else◌, nat_lt, length, slice_get};
 ghost use Rattle.std.specs.Arc.{arc_value};
 ghost use Rattle.judge_core.specs.Judging.{is_bookable};
 ghost use Rattle.stat_count.specs.Sums.{arrivals};
@@ -9,23 +9,31 @@ ghost use Rattle.event_log.specs.Event.{MemoryIsLast, Does, arrive, cancel, depl
 ghost use Rattle.event_log.specs.Folding.{is_live_message, prune_answer, pruned};
 ghost use Rattle.event_log.specs.Counting.{counted};
 ghost use Rattle.book_core.specs.Headline.{KeepsItsPromise};
-ghost use Rattle.book_core.specs.Questions.{first_live, front_at, settled_before};
+ghost use Rattle.book_core.specs.inner.Questions.{first_live, front_at, settled_before};
 ghost use Rattle.book_core.specs.Receiving.{IsReceipt, arrival_reply};
 ghost use Rattle.book_core.specs.Sending.{awaits_ack};
-ghost use Rattle.book_lock.specs.Rises.{AddsUp, arrivals_rise, settlements_rise, takes_rise, with_book};
-ghost use Rattle.book_lock.specs.Shares.{with_settlement, with_take};
-ghost use Rattle.book_lock.specs.Showing.{IsGauge, IsStatus};
-ghost use Rattle.book_lock.specs.Tidies.{IsSettledRefusal, IsTidying, left_by};
+ghost use Rattle.book_lock.specs.Rises.{AddsUp, arrivals_rise, settlements_rise, takes_rise};
+ghost use Rattle.book_lock.specs.inner.Rises.{with_book};
+ghost use Rattle.book_lock.specs.Log.{Arrives, Calls, Linearizes, Takes, IsCalled, IsPruned};
+ghost use Rattle.book_lock.specs.Outcomes.{IsAccountedFor};
+ghost use Rattle.book_lock.specs.inner.Shares.{seats_of, with_settlement, with_take};
+ghost use Rattle.book_lock.specs.inner.Showing.{IsGauge, IsStatus};
+ghost use Rattle.book_lock.specs.inner.Tidies.{IsSettledRefusal, IsTidying, left_by};
 
-use crate::desks::{Desk, Station, audit_desks, audit_stations, made_by, settled_at, taken_at};
+use crate::desks::{
+    Desk, Station, audit_desk_seats, audit_desks, audit_station_seats, audit_stations, made_by,
+    settled_at, taken_at,
+};
+use crate::log_entry::LogEntry;
 use crate::status::{Gauge, Status};
 use crate::sums::{arrivals, settlements, takes};
 use crate::tidying::{Tidied, Tidying};
 use book_core::{
-    Book, CancelRefusal, DeployRefusal, Entry, Front, Job, Letter, NotBooked, PruneRefusal,
+    Book, CancelRefusal, DeployRefusal, Entry, Front, Job, NotBooked, Outbound, PruneRefusal,
     Receipt, TakeRefusal, Ticket, three_sums,
 };
-use dest_queue::{Addressed, Outcome, SettleRefusal, SlotState};
+use dest_queue::{Outcome, Queued, SettleRefusal, SlotState};
+use ghost_log::{GhostLog, Naming, Seat};
 use hl7_head::Moment;
 use judge_core::Judged;
 use plan_text::Plan;
@@ -35,10 +43,17 @@ use std::marker::{Brand, Model};
 use std::sync::ledger::{Ledger, Share};
 use std::sync::{Arc, ledger};
 
-/// The ledger of a shared book's arrivals, with what the book had when it was shared.
-pub trait Opening: Ledger {
+/// A settlement: its outcome, the ticket, the moment, and the slot's new state.
+type Settled = (Outcome, Ticket, Moment, SlotState);
+
+/// The ledger of a shared book's arrivals and the log of all that is done to it, with what the book had when it was shared.
+pub trait ArrivalLedger: Ledger + Naming {
     ghost use Rattle.std.specs.Prelude.{ℕ};
     ghost use Rattle.stat_count.specs.Statistics.{Statistics};
+    ghost use Rattle.event_log.specs.History.{History};
+
+    /// Its history.
+    ghost opening: { History };
 
     /// Its statistics.
     ghost counts: { Statistics };
@@ -50,8 +65,12 @@ pub trait Opening: Ledger {
     ghost channels: { ℕ };
 }
 
-impl Opening for Brand {
-    ghost use Rattle.stat_count.specs.Statistics.{empty};
+impl ArrivalLedger for Brand {
+    ghost use Rattle.std.specs.Prelude.{[]};
+    ghost use Rattle.stat_count.specs.inner.Statistics.{empty};
+    ghost use Rattle.event_log.specs.inner.History.{snapshot_after};
+
+    ghost opening = { snapshot_after (record { destinations = []; channels = [] }) 0 };
 
     ghost counts = { empty };
 
@@ -60,9 +79,10 @@ impl Opening for Brand {
     ghost channels = { 0 };
 }
 
-/// The book, with the ledgers of its arrivals, takes and settlements since it was shared.
+/// The book, with the log of all that was done to it since it was shared, and the ledgers of its arrivals, takes and
+/// settlements since then. What is done to it for no desk or station is logged by the seat that is kept here.
 #[derive(Drop)]
-pub struct Locked<A: Opening, T: Ledger, U: Ledger, S: RowStore<Addressed<Letter>>> {
+pub struct Locked<A: ArrivalLedger, T: Ledger, U: Ledger, S: RowStore<Queued<Outbound>>> {
     book: Book<S>,
     opening: Counts,
     first: usize,
@@ -73,15 +93,21 @@ pub struct Locked<A: Opening, T: Ledger, U: Ledger, S: RowStore<Addressed<Letter
     left_arrivals: Share<A>,
     left_takes: Share<T>,
     left_settlements: Share<U>,
+    log: GhostLog<A, LogEntry>,
+    seat: Seat<A, LogEntry>,
     rung: u32,
 }
 
-impl<A: Opening, T: Ledger, U: Ledger, S: RowStore<Addressed<Letter>>> Model
+impl<A: ArrivalLedger, T: Ledger, U: Ledger, S: RowStore<Queued<Outbound>>> Model
     for Locked<A, T, U, S> {
-    ghost use Rattle.book_lock.specs.Rises.{Held, IsCounted, IsLeft, IsOpened};
-    ghost use Rattle.book_lock.specs.Coding.{held_code};
+    ghost use Rattle.std.specs.Prelude.{◌≡◌, ◌+◌};
+    ghost use Rattle.book_lock.specs.Log.{IsBookOf};
+    ghost use Rattle.book_lock.specs.Rises.{SharedBook};
+    ghost use Rattle.book_lock.specs.inner.Rises.{IsCounted, IsLeft, IsOpened};
+    ghost use Rattle.book_lock.specs.inner.Sound.{IsSoundBook};
+    ghost use Rattle.book_lock.specs.inner.Coding.{held_code};
 
-    ghost Value = { Held };
+    ghost Value = { SharedBook };
 
     ghost coded = { held_code };
 
@@ -92,25 +118,28 @@ impl<A: Opening, T: Ledger, U: Ledger, S: RowStore<Addressed<Letter>>> Model
         × IsCounted (record { book = l.book; opening = l.opening; first = l.first; admitted = l.admitted }) l.arrivals.total l.takes.total l.settlements.total
         × IsLeft l.left_arrivals.parts l.left_arrivals.amount
         × IsLeft l.left_takes.parts l.left_takes.amount
-        × IsLeft l.left_settlements.parts l.left_settlements.amount };
+        × IsLeft l.left_settlements.parts l.left_settlements.amount
+        × IsBookOf A.opening l.log.0 l.book
+        × (l.log.1 + 1 ≡ A.parts + T.parts)
+        × IsSoundBook A.opening };
 }
 
 /// A book out of its lock.
 #[derive(Drop)]
-pub struct Closed<S: RowStore<Addressed<Letter>>> {
+pub struct Closed<S: RowStore<Queued<Outbound>>> {
     book: Book<S>,
     opening: Counts,
     first: usize,
     admitted: u32,
 }
 
-impl<S: RowStore<Addressed<Letter>>> Model for Closed<S> {
+impl<S: RowStore<Queued<Outbound>>> Model for Closed<S> {
     ghost use Rattle.std.specs.Prelude.{◌≤◌};
     ghost use Rattle.event_log.specs.History.{next_place};
-    ghost use Rattle.book_lock.specs.Rises.{Held};
-    ghost use Rattle.book_lock.specs.Coding.{held_code};
+    ghost use Rattle.book_lock.specs.Rises.{SharedBook};
+    ghost use Rattle.book_lock.specs.inner.Coding.{held_code};
 
-    ghost Value = { Held };
+    ghost Value = { SharedBook };
 
     ghost coded = { held_code };
 
@@ -119,7 +148,7 @@ impl<S: RowStore<Addressed<Letter>>> Model for Closed<S> {
     ghost invariant = { λ c. c.first ≤ next_place c.book };
 }
 
-impl<S: RowStore<Addressed<Letter>>> Closed<S> {
+impl<S: RowStore<Queued<Outbound>>> Closed<S> {
     /// The book.
     pub fn book(&self) -> &Book<S>
         ensures { result.now ≡ self.now.book }
@@ -157,10 +186,12 @@ impl<S: RowStore<Addressed<Letter>>> Closed<S> {
     }
 }
 
-impl<A: Opening, T: Ledger, U: Ledger, S: RowStore<Addressed<Letter>>> Locked<A, T, U, S> {
-    /// Begins to count for a book. Each ledger is new, and each share left over has one part.
+impl<A: ArrivalLedger, T: Ledger, U: Ledger, S: RowStore<Queued<Outbound>>> Locked<A, T, U, S> {
+    /// Begins to log and to count for a book. The log is empty, and its last seat is the one kept here. Each ledger is new,
+    /// and each share left over has one part.
     pub fn new(
         book: Book<S>,
+        mut log: GhostLog<A, LogEntry>,
         arrivals: ledger::Book<A>,
         takes: ledger::Book<T>,
         settlements: ledger::Book<U>,
@@ -168,6 +199,8 @@ impl<A: Opening, T: Ledger, U: Ledger, S: RowStore<Addressed<Letter>>> Locked<A,
         left_takes: Share<T>,
         left_settlements: Share<U>,
     ) -> Locked<A, T, U, S>
+        requires opening { book ≡ A.opening }
+        requires log { (log.0 ≡ []) × (log.1 + 2 ≡ A.parts + T.parts) × (log.1 + 1 < 2 ^ 64) }
         requires counts { counted book ≡ A.counts }
         requires first { next_place book ≡ A.first }
         requires channels { length (plan_in_force book).channels ≡ A.channels }
@@ -177,8 +210,10 @@ impl<A: Opening, T: Ledger, U: Ledger, S: RowStore<Addressed<Letter>>> Locked<A,
         requires left_settlements { (left_settlements.parts ≡ 1) × (left_settlements.amount ≡ 0) }
         ensures { result ≡ record { book = book; opening = counted book; first = next_place book; admitted = 0 } }
     {
+        book.rules();
         let opening = *book.counts();
         let first = book.len();
+        let seat = log.issue();
         Locked {
             book,
             opening,
@@ -190,6 +225,8 @@ impl<A: Opening, T: Ledger, U: Ledger, S: RowStore<Addressed<Letter>>> Locked<A,
             left_arrivals,
             left_takes,
             left_settlements,
+            log,
+            seat,
             rung: 0,
         }
     }
@@ -219,7 +256,7 @@ impl<A: Opening, T: Ledger, U: Ledger, S: RowStore<Addressed<Letter>>> Locked<A,
     /// The statistics. They show at least as many arrivals as the desk made since the book was shared.
     pub fn counts(&mut self, desk: &mut Desk<A>) -> Counts
         ensures counts { result ≡ counted self.old.book }
-        ensures shown { arrivals A.counts + desk.old ≤ arrivals result }
+        ensures shown { arrivals A.counts + desk.old.made ≤ arrivals result }
         ensures same { (self.new ≡ self.old) × (desk.new ≡ desk.old) }
     {
         desk.audit(&mut self.arrivals);
@@ -249,14 +286,20 @@ impl<A: Opening, T: Ledger, U: Ledger, S: RowStore<Addressed<Letter>>> Locked<A,
             ↔ judged.now.plan ≢ plan_in_force self.old.book }
         ensures same_plan { IsErrOf result NotBooked.Full
             → judged.now.plan ≡ plan_in_force self.old.book }
-        ensures counted { OnOk result (desk.new ≡ desk.old + 1) }
-        ensures err { OnErr result (desk.new ≡ desk.old) }
+        ensures call { Arrives A.opening conn judged.now desk.old.seat desk.new.seat result }
+        ensures counted { OnOk result (desk.new.made ≡ desk.old.made + 1) }
+        ensures err { OnErr result (desk.new.made ≡ desk.old.made) }
     {
         three_sums();
         self.book.rules();
         let _channel = judged.channel();
-        let receipt = self.book.arrive(conn, judged)?;
+        desk.observe(&mut self.log);
+        let receipt = match self.book.arrive(conn, judged) {
+            Ok(receipt) => receipt,
+            Err(refusal) => return Err(refusal),
+        };
         desk.count(&mut self.arrivals);
+        desk.push::<Receipt, Brand>(&mut self.log, &receipt);
         Ok(receipt)
     }
 
@@ -267,7 +310,7 @@ impl<A: Opening, T: Ledger, U: Ledger, S: RowStore<Addressed<Letter>>> Locked<A,
     /// The book's, in its order. A refusal leaves the book and the station as they were.
     pub fn take(
         &mut self,
-        station: &mut Station<T, U>,
+        station: &mut Station<A, T, U>,
         d: u32,
         now: Moment,
     ) -> Result<Job, TakeRefusal>
@@ -277,13 +320,16 @@ impl<A: Opening, T: Ledger, U: Ledger, S: RowStore<Addressed<Letter>>> Locked<A,
         ensures control_id { IfOk result (λ job. job.control_id ≡ control_id self.old.book job.ticket.number) }
         ensures payload { IfOk result (λ job. job.payload ≡ payload self.old.book job.ticket.number d) }
         ensures ack { IfOk result (λ job. job.ack ≡ awaits_ack (plan_in_force self.old.book) d) }
-        ensures counted { OnOk result (station.new ≡ with_take station.old) }
-        ensures err { OnErr result (station.new ≡ station.old) }
+        ensures call { Takes A.opening d now station.old.seat station.new.seat result }
+        ensures counted { OnOk result (station.new.counts ≡ with_take station.old.counts) }
+        ensures err { OnErr result (station.new.counts ≡ station.old.counts) }
     {
         three_sums();
         self.book.rules();
+        station.observe(&mut self.log);
         let job = self.book.take(d, now)?;
         station.count_take(&mut self.takes);
+        station.push::<(Ticket, Moment), Brand>(&mut self.log, &(job.ticket, now));
         Ok(job)
     }
 
@@ -294,20 +340,24 @@ impl<A: Opening, T: Ledger, U: Ledger, S: RowStore<Addressed<Letter>>> Locked<A,
     /// The book's, in its order. A refusal leaves the book and the station as they were.
     pub fn settle(
         &mut self,
-        station: &mut Station<T, U>,
+        station: &mut Station<A, T, U>,
         ticket: &Ticket,
         outcome: Outcome,
         now: Moment,
     ) -> Result<SlotState, SettleRefusal>
         ensures does { Does (settle ticket.now outcome now) self.old.book self.new.book result }
         ensures book { self.new ≡ with_book self.old self.new.book }
-        ensures counted { OnOk result (station.new ≡ with_settlement station.old) }
-        ensures err { OnErr result (station.new ≡ station.old) }
+        ensures call { Calls A.opening (settle ticket.now outcome now)
+            station.old.seat station.new.seat result }
+        ensures counted { OnOk result (station.new.counts ≡ with_settlement station.old.counts) }
+        ensures err { OnErr result (station.new.counts ≡ station.old.counts) }
     {
         three_sums();
         self.book.rules();
+        station.observe(&mut self.log);
         let state = self.book.settle(ticket, outcome, now)?;
         station.count_settlement(&mut self.settlements);
+        station.push::<Settled, Brand>(&mut self.log, &(outcome, *ticket, now, state));
         Ok(state)
     }
 
@@ -320,10 +370,14 @@ impl<A: Opening, T: Ledger, U: Ledger, S: RowStore<Addressed<Letter>>> Locked<A,
         ensures does { Does (cancel number) self.old.book self.new.book result }
         ensures memory { MemoryIsLast (cancel number) self.old.book result }
         ensures book { self.new ≡ with_book self.old self.new.book }
+        ensures call { IsCalled A.opening (cancel number) result }
     {
         three_sums();
         self.book.rules();
+        self.log.observe(&mut self.seat);
         let mask = self.book.cancel(number)?;
+        self.log
+            .push::<(u32, u32), Brand>(&mut self.seat, &(number, mask));
         Ok(mask)
     }
 
@@ -336,11 +390,15 @@ impl<A: Opening, T: Ledger, U: Ledger, S: RowStore<Addressed<Letter>>> Locked<A,
         ensures does { Does (deploy (arc_value plan)) self.old.book self.new.book result }
         ensures memory { MemoryIsLast (deploy (arc_value plan)) self.old.book result }
         ensures book { self.new ≡ with_book self.old self.new.book }
+        ensures call { IsCalled A.opening (deploy (arc_value plan)) result }
         ensures channels { OnOk result (length (arc_value plan).channels ≡ A.channels) }
     {
         three_sums();
         self.book.rules();
+        self.log.observe(&mut self.seat);
         self.book.deploy(plan)?;
+        self.log
+            .push::<Arc<Plan>, Brand>(&mut self.seat, self.book.plan());
         Ok(())
     }
 
@@ -355,10 +413,12 @@ impl<A: Opening, T: Ledger, U: Ledger, S: RowStore<Addressed<Letter>>> Locked<A,
         ensures refused { IfErr result (λ e.
             (prune_answer self.old.book before ≡ Some e)
             ⊎ (prune_answer self.old.book before ≡ None) × (e ≡ PruneRefusal.NoMemory)) }
+        ensures call { IsPruned A.opening before result }
         ensures err { OnErr result (self.new ≡ self.old) }
     {
         self.book.rules();
         self.book.prune(before)?;
+        self.log.push::<u32, Brand>(&mut self.seat, &before);
         Ok(())
     }
 
@@ -438,8 +498,10 @@ impl<A: Opening, T: Ledger, U: Ledger, S: RowStore<Addressed<Letter>>> Locked<A,
             ↔ judged.now.plan ≢ plan_in_force (left_by self.old result.tidying).book }
         ensures same_plan { IsErrOf result.receipt NotBooked.Full
             → judged.now.plan ≡ plan_in_force (left_by self.old result.tidying).book }
-        ensures counted { OnOk result.receipt (desk.new ≡ desk.old + 1) }
-        ensures err { OnErr result.receipt (desk.new ≡ desk.old) }
+        ensures call { Arrives A.opening conn judged.now
+            desk.old.seat desk.new.seat result.receipt }
+        ensures counted { OnOk result.receipt (desk.new.made ≡ desk.old.made + 1) }
+        ensures err { OnErr result.receipt (desk.new.made ≡ desk.old.made) }
     {
         let tidying = self.tidy(keep);
         let receipt = self.arrive(desk, conn, judged);
@@ -525,23 +587,23 @@ impl<A: Opening, T: Ledger, U: Ledger, S: RowStore<Addressed<Letter>>> Locked<A,
     }
 
     /// Notes a change at the destinations of a mask, and answers those at which none was noted.
-    pub fn ring(&mut self, mask: u32) -> u32
+    pub fn mark_changed(&mut self, mask: u32) -> u32
         ensures { self.new ≡ self.old }
     {
-        let rung = self.rung;
-        self.rung = rung | mask;
-        mask & !rung
+        let changed = self.rung;
+        self.rung = changed | mask;
+        mask & !changed
     }
 
     /// Whether a change was noted at destination `d` since the last call of this.
-    pub fn hear(&mut self, d: u32) -> bool
+    pub fn take_change(&mut self, d: u32) -> bool
         requires { d < 32 }
         ensures { self.new ≡ self.old }
     {
-        let rung = self.rung;
+        let changed = self.rung;
         let here = 1 << d;
-        self.rung = rung & !here;
-        rung & here != 0
+        self.rung = changed & !here;
+        changed & here != 0
     }
 
     /// The arrivals since the book was shared, by its statistics.
@@ -565,12 +627,24 @@ impl<A: Opening, T: Ledger, U: Ledger, S: RowStore<Addressed<Letter>>> Locked<A,
         settlements(self.book.counts()) - settlements(&self.opening)
     }
 
-    /// Whether the shares of these desks and stations add up. Where all their parts are here, they do.
-    pub fn reckon(&mut self, desks: &mut [Desk<A>], stations: &mut [Station<T, U>]) -> bool
+    /// Whether the shares of these desks and stations add up. Where all their parts are here, they do. The log is one history
+    /// of all that these and others did, and accounts for the slots of the book.
+    pub fn shares_add_up(
+        &mut self,
+        desks: &mut [Desk<A>],
+        stations: &mut [Station<A, T, U>],
+    ) -> bool
         ensures same { (self.new ≡ self.old) × (desks.new ≡ desks.old) × (stations.new ≡ stations.old) }
         ensures adds_up { IsTrue result ↔ AddsUp self.old desks.old stations.old }
         ensures whole { (length desks.old + 1 ≡ A.parts) × (length stations.old + 1 ≡ T.parts) × (length stations.old + 1 ≡ U.parts) → IsTrue result }
+        ensures one_history { Linearizes A.opening (A.parts + T.parts - 1)
+            (seats_of desks.old stations.old) self.old.book }
+        ensures accounted { IsAccountedFor A.opening (A.parts + T.parts - 1)
+            (seats_of desks.old stations.old) self.old.book }
     {
+        audit_desk_seats(&mut self.log, desks);
+        audit_station_seats(&mut self.log, stations);
+        self.log.audit_numbers();
         audit_desks(&mut self.arrivals, &mut self.left_arrivals, desks);
         audit_stations(
             &mut self.takes,
@@ -604,10 +678,10 @@ impl<A: Opening, T: Ledger, U: Ledger, S: RowStore<Addressed<Letter>>> Locked<A,
 }
 
 /// Whether the shares of these desks and stations add up to what rose in the statistics since the book was shared.
-pub fn add_up<A: Opening, T: Ledger, U: Ledger, S: RowStore<Addressed<Letter>>>(
+pub fn add_up<A: ArrivalLedger, T: Ledger, U: Ledger, S: RowStore<Queued<Outbound>>>(
     locked: &Locked<A, T, U, S>,
     desks: &[Desk<A>],
-    stations: &[Station<T, U>],
+    stations: &[Station<A, T, U>],
 ) -> bool
     ensures { IsTrue result ↔ AddsUp locked.now desks.now stations.now }
 {

@@ -3,12 +3,13 @@
 ghost use Rattle.std.specs.Prelude.{◌≡◌, ◌<◌, ◌≤◌, ◌↔◌, All, IsOk, IsTrue, IfErr, IfNone, IfSome, OnOk, length, map};
 ghost use Rattle.std.specs.List.Sorted.{IsPermutation, IsStrictlyIncreasing};
 ghost use Rattle.event_log.specs.History.{next_place};
-ghost use Rattle.book_lock.specs.Auditing.{IsFirstFault, IsRightAt, fault_code, naming, receipts_due, unfolded};
+ghost use Rattle.book_lock.specs.Auditing.{IsFirstFault, IsRightAt, naming, receipts_due, unfolded};
+ghost use Rattle.book_lock.specs.inner.Auditing.{fault_code};
 
 use crate::locked::Closed;
-use crate::windows::{Named, WINDOW, check_windows};
-use book_core::{Letter, Receipt};
-use dest_queue::Addressed;
+use crate::windows::{ReceiptMatch, WINDOW, check_windows};
+use book_core::{Outbound, Receipt};
+use dest_queue::Queued;
 use row_store::RowStore;
 use thiserror::Error;
 
@@ -45,7 +46,7 @@ impl AuditFault {
 /// # Errors
 ///
 /// The fault at the least index that is wrong.
-pub fn audit<S: RowStore<Addressed<Letter>>>(
+pub fn audit<S: RowStore<Queued<Outbound>>>(
     closed: &Closed<S>,
     receipts: &[Receipt],
 ) -> Result<(), AuditFault>
@@ -69,20 +70,20 @@ pub fn rising(receipts: &[Receipt]) -> bool
 }
 
 /// The first index at which the receipts are not those that are due.
-fn first_fault<S: RowStore<Addressed<Letter>>>(
+fn first_fault<S: RowStore<Queued<Outbound>>>(
     closed: &Closed<S>,
     receipts: &[Receipt],
 ) -> Result<(), AuditFault>
     ensures right { OnOk result ((p : _) → IsRightAt closed.now receipts.now p) }
     ensures fault { IfErr result (IsFirstFault closed.now receipts.now) }
 {
-    let mut table = [Named::Never; WINDOW];
+    let mut table = [ReceiptMatch::Never; WINDOW];
     check_windows(closed, receipts, &mut table)?;
     check_rest(closed, receipts)
 }
 
 /// Whether no receipt names an index past the history, where all indices of the history are right.
-fn check_rest<S: RowStore<Addressed<Letter>>>(
+fn check_rest<S: RowStore<Queued<Outbound>>>(
     closed: &Closed<S>,
     receipts: &[Receipt],
 ) -> Result<(), AuditFault>

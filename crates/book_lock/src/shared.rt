@@ -1,25 +1,31 @@
 //! The book that threads share, and its end.
 
-ghost use Rattle.std.specs.Prelude.{◌≡◌, ◌+◌, ◌<◌, ◌≤◌, ◌↔◌, ◌⊎◌, ℕ, Some, All, length, vec_len, slice_get, IfOk, IfErr, IfSome, IsOk, OnOk, OnErr, IsTrue};
+ghost use Rattle.std.specs.Prelude.{◌≡◌, ◌+◌, ◌-◌, ◌<◌, ◌≤◌, ◌↔◌, ◌⊎◌, ℕ, Some, All, length, map, vec_len, slice_get, IfOk, IfErr, IfSome, IsOk, OnOk, OnErr, IsTrue};
 ghost use Rattle.std.specs.Arc.{arc_value};
 ghost use Rattle.judge_core.specs.Judging.{is_bookable};
 ghost use Rattle.stat_count.specs.Sums.{arrivals};
 ghost use Rattle.event_log.specs.History.{next_place, plan_in_force, slot};
 ghost use Rattle.event_log.specs.Counting.{counted};
-ghost use Rattle.book_lock.specs.Closing.{HandsBack};
+ghost use Rattle.event_log.specs.Event.{cancel, deploy, settle};
+ghost use Rattle.book_lock.specs.inner.Closing.{HandsBack};
 ghost use Rattle.book_lock.specs.Rises.{AddsUp};
-ghost use Rattle.book_lock.specs.Shares.{no_calls, with_settlement, with_take};
+ghost use Rattle.book_lock.specs.Log.{Arrives, Calls, Linearizes, Takes, IsCalled, IsPruned};
+ghost use Rattle.book_lock.specs.Outcomes.{IsAccountedFor};
+ghost use Rattle.book_lock.specs.inner.Log.{new_seats};
+ghost use Rattle.book_lock.specs.inner.Shares.{no_calls, seats_of, with_settlement, with_take};
 
 use crate::desks::{Desk, Station, open_desks, open_stations};
-use crate::locked::{Closed, Locked, Opening};
+use crate::locked::{ArrivalLedger, Closed, Locked};
+use crate::log_entry::LogEntry;
 use crate::message::{Found, Message};
 use crate::status::{Gauge, Status};
 use crate::tidying::Tidied;
 use book_core::{
-    Book, CancelRefusal, DeployRefusal, Front, Job, Letter, NotBooked, PruneRefusal, Receipt,
+    Book, CancelRefusal, DeployRefusal, Front, Job, NotBooked, Outbound, PruneRefusal, Receipt,
     TakeRefusal, Ticket, Told,
 };
-use dest_queue::{Addressed, Outcome, SettleRefusal, SlotState};
+use dest_queue::{Outcome, Queued, SettleRefusal, SlotState};
+use ghost_log::{BlankLog, GhostLog};
 use hl7_head::Moment;
 use judge_core::{Delivery, Judged, Verdict};
 use plan_text::Plan;
@@ -36,23 +42,23 @@ const NAP: u64 = 250;
 
 /// The book under one lock. Each call takes the lock for a moment, and none waits for anything else but `bell`.
 #[derive(Drop)]
-pub struct Shared<A: Opening, T: Ledger, U: Ledger, S: RowStore<Addressed<Letter>>> {
+pub struct Shared<A: ArrivalLedger, T: Ledger, U: Ledger, S: RowStore<Queued<Outbound>>> {
     locked: Mutex<Locked<A, T, U, S>>,
     bells: Vec<Condvar>,
     finished: AtomicBool,
 }
 
 /// A shared book, the desks of its arrivals, and the stations of its takes and settlements.
-pub type Opened<A, T, U, S> = (Shared<A, T, U, S>, Vec<Desk<A>>, Vec<Station<T, U>>);
+pub type Opened<A, T, U, S> = (Shared<A, T, U, S>, Vec<Desk<A>>, Vec<Station<A, T, U>>);
 
 /// Why a shared book was not closed.
 #[derive(Drop)]
-pub enum NotClosed<A: Opening, T: Ledger, U: Ledger, S: RowStore<Addressed<Letter>>> {
+pub enum NotClosed<A: ArrivalLedger, T: Ledger, U: Ledger, S: RowStore<Queued<Outbound>>> {
     /// The shares handed in don't add up to what rose in the statistics. All that was handed in is returned.
     SharesMissing {
         shared: Shared<A, T, U, S>,
         desks: Vec<Desk<A>>,
-        stations: Vec<Station<T, U>>,
+        stations: Vec<Station<A, T, U>>,
     },
 }
 
@@ -82,13 +88,13 @@ fn not_kept(number: u32, count: u32) -> Found {
 }
 
 /// The end of the `most` numbers from `from` on, or of the numbers of all messages where that is less.
-fn end_of<S: RowStore<Addressed<Letter>>>(book: &Book<S>, from: u32, most: u32) -> u32 {
+fn end_of<S: RowStore<Queued<Outbound>>>(book: &Book<S>, from: u32, most: u32) -> u32 {
     book.message_count().min(from.saturating_add(most))
 }
 
 /// The states of a message, by destination.
 #[tactic(auto, using(crate::proofs::Filling::filled_more, crate::proofs::Filling::none_filled))]
-fn states_of<S: RowStore<Addressed<Letter>>>(
+fn states_of<S: RowStore<Queued<Outbound>>>(
     book: &Book<S>,
     number: u32,
 ) -> [Option<SlotState>; QUEUES as usize]
@@ -121,8 +127,9 @@ fn hang_bells(alloc: Global) -> Result<Vec<Condvar>, AllocError> {
     Ok(bells)
 }
 
-impl<A: Opening, T: Ledger, U: Ledger, S: RowStore<Addressed<Letter>>> Shared<A, T, U, S> {
-    /// Shares the book among that many desks and stations. Each ledger's blank has one part more than there are shares.
+impl<A: ArrivalLedger, T: Ledger, U: Ledger, S: RowStore<Queued<Outbound>>> Shared<A, T, U, S> {
+    /// Shares the book among that many desks and stations. The log's blank has no entries, and each ledger's blank has one
+    /// part more than there are shares.
     ///
     /// # Errors
     ///
@@ -132,35 +139,49 @@ impl<A: Opening, T: Ledger, U: Ledger, S: RowStore<Addressed<Letter>>> Shared<A,
         book: Book<S>,
         desks: usize,
         stations: usize,
+        log: BlankLog<LogEntry>,
         arrivals: Blank,
         takes: Blank,
         settlements: Blank,
     ) -> Result<Opened<A, T, U, S>, Book<S>>
+        requires opening { book ≡ A.opening }
+        requires log { log.table.shared.table_id ≡ A.table }
         requires counts { counted book ≡ A.counts }
         requires first { next_place book ≡ A.first }
         requires channels { length (plan_in_force book).channels ≡ A.channels }
         requires arrivals { (arrivals.name ≡ A.name) × (arrivals.parts ≡ A.parts) × (A.parts ≡ desks + 1) }
         requires takes { (takes.name ≡ T.name) × (takes.parts ≡ T.parts) × (T.parts ≡ stations + 1) }
         requires settlements { (settlements.name ≡ U.name) × (settlements.parts ≡ U.parts) × (U.parts ≡ stations + 1) }
-        ensures desks { IfOk result (λ r. (vec_len r.1 ≡ desks) × All (λ made. made ≡ 0) r.1.items) }
-        ensures stations { IfOk result (λ r. (vec_len r.2 ≡ stations) × All (λ made. made ≡ no_calls) r.2.items) }
+        ensures desks { IfOk result (λ r. (vec_len r.1 ≡ desks) × All (λ d. d.made ≡ 0) r.1.items) }
+        ensures stations { IfOk result (λ r.
+            (vec_len r.2 ≡ stations) × All (λ s. s.counts ≡ no_calls) r.2.items) }
+        ensures seats { IfOk result (λ r.
+            (map (λ d. d.seat) r.1.items ≡ new_seats 0 desks)
+            × (map (λ s. s.seat) r.2.items ≡ new_seats desks stations)) }
         ensures back { IfErr result (λ b. b ≡ book) }
     {
+        let mut log = GhostLog::open(log);
         let (arrivals, mut left_arrivals) = arrivals.open::<A>();
         let (takes, mut left_takes) = takes.open::<T>();
         let (settlements, mut left_settlements) = settlements.open::<U>();
         let Ok(bells) = hang_bells(alloc) else {
             return Err(book);
         };
-        let Ok(desks) = open_desks(alloc, &mut left_arrivals, desks) else {
+        let Ok(desks) = open_desks(alloc, &mut log, &mut left_arrivals, desks) else {
             return Err(book);
         };
-        let Ok(stations) = open_stations(alloc, &mut left_takes, &mut left_settlements, stations)
-        else {
+        let Ok(stations) = open_stations(
+            alloc,
+            &mut log,
+            &mut left_takes,
+            &mut left_settlements,
+            stations,
+        ) else {
             return Err(book);
         };
         let locked = Locked::new(
             book,
+            log,
             arrivals,
             takes,
             settlements,
@@ -192,7 +213,7 @@ impl<A: Opening, T: Ledger, U: Ledger, S: RowStore<Addressed<Letter>>> Shared<A,
     ///
     /// # Errors
     ///
-    /// The book's. A refusal leaves the desk as it was.
+    /// The book's. A refusal leaves the desk's count as it was, and its seat has seen the moment of it.
     pub fn arrive<H: Wait>(
         &self,
         rt: &H,
@@ -204,14 +225,15 @@ impl<A: Opening, T: Ledger, U: Ledger, S: RowStore<Addressed<Letter>>> Shared<A,
         ensures conn { IfOk result (λ receipt. receipt.conn ≡ conn) }
         ensures channel { IfOk result (λ receipt. receipt.channel ≡ judged.now.channel) }
         ensures raw { IfOk result (λ receipt. receipt.raw ≡ judged.now.raw) }
-        ensures counted { OnOk result (desk.new ≡ desk.old + 1) }
-        ensures refused { OnErr result (desk.new ≡ desk.old) }
+        ensures call { Arrives A.opening conn judged.now desk.old.seat desk.new.seat result }
+        ensures counted { OnOk result (desk.new.made ≡ desk.old.made + 1) }
+        ensures refused { OnErr result (desk.new.made ≡ desk.old.made) }
     {
         let mut locked = self.locked.lock(rt);
         let receipt = locked.arrive(desk, conn, judged)?;
-        let rung = locked.ring(waits_at(receipt.told, judged.verdict()));
+        let changed = locked.mark_changed(waits_at(receipt.told, judged.verdict()));
         drop(locked);
-        self.wake(rung);
+        self.wake(changed);
         Ok(receipt)
     }
 
@@ -219,17 +241,18 @@ impl<A: Opening, T: Ledger, U: Ledger, S: RowStore<Addressed<Letter>>> Shared<A,
     ///
     /// # Errors
     ///
-    /// The book's. A refusal leaves the station as it was.
+    /// The book's. A refusal leaves the station's counts as they were, and its seat has seen the moment of it.
     pub fn take<H: Wait>(
         &self,
         rt: &H,
-        station: &mut Station<T, U>,
+        station: &mut Station<A, T, U>,
         d: u32,
         now: Moment,
     ) -> Result<Job, TakeRefusal>
         ensures destination { IfOk result (λ job. job.ticket.destination ≡ d) }
-        ensures counted { OnOk result (station.new ≡ with_take station.old) }
-        ensures refused { OnErr result (station.new ≡ station.old) }
+        ensures call { Takes A.opening d now station.old.seat station.new.seat result }
+        ensures counted { OnOk result (station.new.counts ≡ with_take station.old.counts) }
+        ensures refused { OnErr result (station.new.counts ≡ station.old.counts) }
     {
         self.locked.lock(rt).take(station, d, now)
     }
@@ -238,18 +261,20 @@ impl<A: Opening, T: Ledger, U: Ledger, S: RowStore<Addressed<Letter>>> Shared<A,
     ///
     /// # Errors
     ///
-    /// The book's. A refusal leaves the station as it was.
+    /// The book's. A refusal leaves the station's counts as they were, and its seat has seen the moment of it.
     pub fn settle<H: Wait>(
         &self,
         rt: &H,
-        station: &mut Station<T, U>,
+        station: &mut Station<A, T, U>,
         ticket: &Ticket,
         outcome: Outcome,
         now: Moment,
     ) -> Result<SlotState, SettleRefusal>
         ensures delivered { IfOk result (λ state. (state ≡ SlotState.Delivered) ↔ (outcome ≡ Outcome.Delivered)) }
-        ensures counted { OnOk result (station.new ≡ with_settlement station.old) }
-        ensures refused { OnErr result (station.new ≡ station.old) }
+        ensures call { Calls A.opening (settle ticket.now outcome now)
+            station.old.seat station.new.seat result }
+        ensures counted { OnOk result (station.new.counts ≡ with_settlement station.old.counts) }
+        ensures refused { OnErr result (station.new.counts ≡ station.old.counts) }
     {
         self.locked.lock(rt).settle(station, ticket, outcome, now)
     }
@@ -261,12 +286,13 @@ impl<A: Opening, T: Ledger, U: Ledger, S: RowStore<Addressed<Letter>>> Shared<A,
     /// The book's.
     pub fn cancel<H: Wait>(&self, rt: &H, number: u32) -> Result<u32, CancelRefusal>
         ensures somewhere { IfOk result (λ mask. 0 < mask) }
+        ensures call { IsCalled A.opening (cancel number) result }
     {
         let mut locked = self.locked.lock(rt);
         let mask = locked.cancel(number)?;
-        let rung = locked.ring(mask);
+        let changed = locked.mark_changed(mask);
         drop(locked);
-        self.wake(rung);
+        self.wake(changed);
         Ok(mask)
     }
 
@@ -278,6 +304,7 @@ impl<A: Opening, T: Ledger, U: Ledger, S: RowStore<Addressed<Letter>>> Shared<A,
     /// The book's. A refusal drops the plan.
     pub fn deploy<H: Wait>(&self, rt: &H, plan: Arc<Plan>) -> Result<(), DeployRefusal>
         ensures channels { OnOk result (length (arc_value plan).channels ≡ A.channels) }
+        ensures call { IsCalled A.opening (deploy (arc_value plan)) result }
     {
         self.locked.lock(rt).deploy(plan)
     }
@@ -288,7 +315,9 @@ impl<A: Opening, T: Ledger, U: Ledger, S: RowStore<Addressed<Letter>>> Shared<A,
     /// # Errors
     ///
     /// The book's.
-    pub fn prune<H: Wait>(&self, rt: &H, before: u32) -> Result<(), PruneRefusal> {
+    pub fn prune<H: Wait>(&self, rt: &H, before: u32) -> Result<(), PruneRefusal>
+        ensures call { IsPruned A.opening before result }
+    {
         self.locked.lock(rt).prune(before)
     }
 
@@ -311,7 +340,7 @@ impl<A: Opening, T: Ledger, U: Ledger, S: RowStore<Addressed<Letter>>> Shared<A,
     ///
     /// # Errors
     ///
-    /// The receipt's are the book's. A refusal leaves the desk as it was.
+    /// The receipt's are the book's. A refusal leaves the desk's count as it was, and its seat has seen the moment of it.
     pub fn arrive_tidy<H: Wait>(
         &self,
         rt: &H,
@@ -324,14 +353,16 @@ impl<A: Opening, T: Ledger, U: Ledger, S: RowStore<Addressed<Letter>>> Shared<A,
         ensures conn { IfOk result.receipt (λ receipt. receipt.conn ≡ conn) }
         ensures channel { IfOk result.receipt (λ receipt. receipt.channel ≡ judged.now.channel) }
         ensures raw { IfOk result.receipt (λ receipt. receipt.raw ≡ judged.now.raw) }
-        ensures counted { OnOk result.receipt (desk.new ≡ desk.old + 1) }
-        ensures refused { OnErr result.receipt (desk.new ≡ desk.old) }
+        ensures call { Arrives A.opening conn judged.now
+            desk.old.seat desk.new.seat result.receipt }
+        ensures counted { OnOk result.receipt (desk.new.made ≡ desk.old.made + 1) }
+        ensures refused { OnErr result.receipt (desk.new.made ≡ desk.old.made) }
     {
         let mut locked = self.locked.lock(rt);
         let tidied = locked.arrive_tidy(desk, conn, judged, keep);
-        let rung = locked.ring(waits_where(&tidied, judged.verdict()));
+        let changed = locked.mark_changed(waits_where(&tidied, judged.verdict()));
         drop(locked);
-        self.wake(rung);
+        self.wake(changed);
         tidied
     }
 
@@ -436,7 +467,7 @@ impl<A: Opening, T: Ledger, U: Ledger, S: RowStore<Addressed<Letter>>> Shared<A,
 
     /// The statistics, with at least the arrivals that the desk made.
     pub fn counts<H: Wait>(&self, rt: &H, desk: &mut Desk<A>) -> Counts
-        ensures shown { arrivals A.counts + desk.old ≤ arrivals result }
+        ensures shown { arrivals A.counts + desk.old.made ≤ arrivals result }
         ensures same { desk.new ≡ desk.old }
     {
         self.locked.lock(rt).counts(desk)
@@ -448,16 +479,16 @@ impl<A: Opening, T: Ledger, U: Ledger, S: RowStore<Addressed<Letter>>> Shared<A,
             return;
         };
         let mut locked = self.locked.lock(rt);
-        if d < QUEUES && !locked.hear(d) {
+        if d < QUEUES && !locked.take_change(d) {
             let (mut woken, _) = bell.wait_timeout(rt, locked, Duration::from_millis(NAP));
-            let _heard = woken.hear(d);
+            let _heard = woken.take_change(d);
         }
     }
 
     /// Notes that no arrival will follow, and wakes all.
     pub fn finish<H: Wait>(&self, rt: &H) {
         self.finished.store(true, Ordering::SeqCst);
-        let _rung = self.locked.lock(rt).ring(u32::MAX);
+        let _rung = self.locked.lock(rt).mark_changed(u32::MAX);
         self.wake(u32::MAX);
     }
 
@@ -478,7 +509,8 @@ impl<A: Opening, T: Ledger, U: Ledger, S: RowStore<Addressed<Letter>>> Shared<A,
     }
 
     /// Takes the book out of the lock, where the shares handed in add up to what rose in its statistics. Where all desks
-    /// and stations are handed in, they do.
+    /// and stations are handed in, they do. The log accounts for what the book then says of each message: it is delivered
+    /// where a seat settled it so, and an attempt that was taken and not settled is in flight.
     ///
     /// # Errors
     ///
@@ -487,11 +519,17 @@ impl<A: Opening, T: Ledger, U: Ledger, S: RowStore<Addressed<Letter>>> Shared<A,
     pub fn close(
         self,
         mut desks: Vec<Desk<A>>,
-        mut stations: Vec<Station<T, U>>,
+        mut stations: Vec<Station<A, T, U>>,
     ) -> Result<Closed<S>, NotClosed<A, T, U, S>>
         ensures adds_up { IfOk result (λ closed. AddsUp closed desks.items stations.items) }
         ensures opening { IfOk result (λ closed. (closed.opening ≡ A.counts) × (closed.first ≡ A.first)) }
         ensures whole { (vec_len desks + 1 ≡ A.parts) × (vec_len stations + 1 ≡ T.parts) × (vec_len stations + 1 ≡ U.parts) → IsOk result }
+        ensures one_history { IfOk result (λ closed.
+            Linearizes A.opening (A.parts + T.parts - 1)
+            (seats_of desks.items stations.items) closed.book) }
+        ensures accounted { IfOk result (λ closed.
+            IsAccountedFor A.opening (A.parts + T.parts - 1)
+            (seats_of desks.items stations.items) closed.book) }
         ensures back { IfErr result (HandsBack self desks.items stations.items) }
     {
         let Shared {
@@ -500,7 +538,7 @@ impl<A: Opening, T: Ledger, U: Ledger, S: RowStore<Addressed<Letter>>> Shared<A,
             finished,
         } = self;
         let mut locked = locked.into_inner();
-        if locked.reckon(&mut desks, &mut stations) {
+        if locked.shares_add_up(&mut desks, &mut stations) {
             return Ok(locked.close());
         }
         Err(NotClosed::SharesMissing {

@@ -1,7 +1,7 @@
 //! What an arrival does about a tight book.
 
 ghost use Rattle.std.specs.Prelude.{◌≡◌};
-ghost use Rattle.book_lock.specs.Tidies.{tidying_of};
+ghost use Rattle.book_lock.specs.inner.Tidies.{tidying_of};
 
 use book_core::{NotBooked, PruneRefusal, Receipt};
 

@@ -3,13 +3,13 @@
 
 ghost use Rattle.std.specs.Prelude.{◌≡◌, ◌≢◌, ◌+◌, ◌<◌, ◌≤◌, ◌↔◌, [], ◌∷◌, if◌then◌else◌, Some, is_some, IsTrue, IfErr, OnOk, All, length, slice_index_or};
 ghost use Rattle.event_log.specs.History.{next_place};
-ghost use Rattle.book_lock.specs.Auditing.{IsFault, IsFirstFault, IsRightAt, IsUnfolded, is_folded, naming, place_of, receipt_at, receipts_due};
-ghost use Rattle.book_lock.specs.Windows.{Tells, fault_at, named_again};
+ghost use Rattle.book_lock.specs.Auditing.{IsFault, IsFirstFault, IsRightAt, IsUnfolded, is_folded, naming, fault_place, receipt_at, receipts_due};
+ghost use Rattle.book_lock.specs.inner.Windows.{Tells, fault_at, named_again};
 
 use crate::locked::Closed;
 use crate::receipt_audit::AuditFault;
-use book_core::{Entry, Letter, Receipt};
-use dest_queue::Addressed;
+use book_core::{Entry, Outbound, Receipt};
+use dest_queue::Queued;
 use row_store::RowStore;
 
 /// How many indices the audit looks at in one pass over the receipts.
@@ -17,7 +17,7 @@ pub const WINDOW: usize = 65_536;
 
 /// How the receipts that name an index agree with the one that is due there.
 #[derive(Clone, Copy)]
-pub enum Named {
+pub enum ReceiptMatch {
     /// None names it.
     Never,
     /// One names it, which is the one that is due.
@@ -28,15 +28,15 @@ pub enum Named {
     Often,
 }
 
-impl Named {
+impl ReceiptMatch {
     /// How the index is named with one more receipt that names it, which is due there or not.
-    fn named_again(self, is_due: bool) -> Named
+    fn named_again(self, is_due: bool) -> ReceiptMatch
         ensures { result ≡ named_again self is_due }
     {
         match (self, is_due) {
-            (Named::Never, true) => Named::Right,
-            (Named::Never, false) => Named::Wrong,
-            _ => Named::Often,
+            (ReceiptMatch::Never, true) => ReceiptMatch::Right,
+            (ReceiptMatch::Never, false) => ReceiptMatch::Wrong,
+            _ => ReceiptMatch::Often,
         }
     }
 }
@@ -46,10 +46,10 @@ impl Named {
 /// # Errors
 ///
 /// The fault at the least index of the history that is wrong.
-pub fn check_windows<S: RowStore<Addressed<Letter>>>(
+pub fn check_windows<S: RowStore<Queued<Outbound>>>(
     closed: &Closed<S>,
     receipts: &[Receipt],
-    table: &mut [Named],
+    table: &mut [ReceiptMatch],
 ) -> Result<(), AuditFault>
     requires { 0 < length table.old }
     ensures right { OnOk result ((p : _) → p < next_place closed.now.book → IsRightAt closed.now receipts.now p) }
@@ -70,16 +70,16 @@ pub fn check_windows<S: RowStore<Addressed<Letter>>>(
 /// # Errors
 ///
 /// The fault at the least of these indices that is wrong.
-fn check_window<S: RowStore<Addressed<Letter>>>(
+fn check_window<S: RowStore<Queued<Outbound>>>(
     closed: &Closed<S>,
     receipts: &[Receipt],
     from: usize,
-    table: &mut [Named],
+    table: &mut [ReceiptMatch],
 ) -> Result<(), AuditFault>
     requires within { from + length table.old ≤ next_place closed.now.book }
     ensures right { OnOk result ((p : _) → from ≤ p → p < from + length table.old → IsRightAt closed.now receipts.now p) }
     ensures fault { IfErr result (λ fault. IsFault closed.now receipts.now fault × IsUnfolded closed.now fault) }
-    ensures before { IfErr result (λ fault. (p : _) → from ≤ p → p < place_of fault → IsRightAt closed.now receipts.now p) }
+    ensures before { IfErr result (λ fault. (p : _) → from ≤ p → p < fault_place fault → IsRightAt closed.now receipts.now p) }
 {
     tell(closed, receipts, from, table);
     let _end = closed.book().len();
@@ -95,38 +95,42 @@ fn check_window<S: RowStore<Addressed<Letter>>>(
 
 /// How an index is named. One that was folded since the book was shared is left aside: nothing is due there, and
 /// none is taken to name it.
-fn named_at<S: RowStore<Addressed<Letter>>>(closed: &Closed<S>, place: usize, named: Named) -> Named
-    ensures { result ≡ (if is_folded closed.now place then Named.Never else named) }
+fn named_at<S: RowStore<Queued<Outbound>>>(
+    closed: &Closed<S>,
+    place: usize,
+    named: ReceiptMatch,
+) -> ReceiptMatch
+    ensures { result ≡ (if is_folded closed.now place then ReceiptMatch.Never else named) }
 {
     if closed.first() <= place && place < closed.book().first_place() {
-        return Named::Never;
+        return ReceiptMatch::Never;
     }
     named
 }
 
 /// What is wrong at an index, by how it is named, and by whether a receipt is due there.
-fn fault_at(place: usize, named: Named, is_due: bool) -> Option<AuditFault>
+fn fault_at(place: usize, named: ReceiptMatch, is_due: bool) -> Option<AuditFault>
     ensures { result ≡ fault_at place named is_due }
 {
     match named {
-        Named::Never if is_due => Some(AuditFault::Missing(place)),
-        Named::Never | Named::Right => None,
-        Named::Wrong => Some(AuditFault::Differs(place)),
-        Named::Often => Some(AuditFault::Doubled(place)),
+        ReceiptMatch::Never if is_due => Some(AuditFault::Missing(place)),
+        ReceiptMatch::Never | ReceiptMatch::Right => None,
+        ReceiptMatch::Wrong => Some(AuditFault::Differs(place)),
+        ReceiptMatch::Often => Some(AuditFault::Doubled(place)),
     }
 }
 
 /// Fills the table with how the receipts name the indices from `from` on.
-fn tell<S: RowStore<Addressed<Letter>>>(
+fn tell<S: RowStore<Queued<Outbound>>>(
     closed: &Closed<S>,
     receipts: &[Receipt],
     from: usize,
-    table: &mut [Named],
+    table: &mut [ReceiptMatch],
 )
     ensures size { length table.new ≡ length table.old }
     ensures told { Tells closed.now receipts.now from table.new }
 {
-    table.fill(Named::Never);
+    table.fill(ReceiptMatch::Never);
     for receipt in receipts {
         let place = receipt.entry;
         if from <= place && place - from < table.len() {
@@ -137,7 +141,7 @@ fn tell<S: RowStore<Addressed<Letter>>>(
 }
 
 /// Whether a receipt is the one that is due at the index that it names.
-fn is_due<S: RowStore<Addressed<Letter>>>(closed: &Closed<S>, receipt: &Receipt) -> bool
+fn is_due<S: RowStore<Queued<Outbound>>>(closed: &Closed<S>, receipt: &Receipt) -> bool
     ensures { IsTrue result ↔ (receipt.now ∷ [] ≡ naming receipt.now.entry (receipts_due closed.now)) }
 {
     let place = receipt.entry;
@@ -151,7 +155,7 @@ fn is_due<S: RowStore<Addressed<Letter>>>(closed: &Closed<S>, receipt: &Receipt)
 }
 
 /// Whether a receipt is due at an index.
-fn is_due_at<S: RowStore<Addressed<Letter>>>(closed: &Closed<S>, place: usize) -> bool
+fn is_due_at<S: RowStore<Queued<Outbound>>>(closed: &Closed<S>, place: usize) -> bool
     ensures { IsTrue result ↔ (naming place (receipts_due closed.now) ≢ []) }
 {
     if place < closed.first() {

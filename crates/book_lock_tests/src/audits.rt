@@ -5,10 +5,13 @@ ghost use Rattle.event_log.specs.History.{next_place, plan_in_force};
 ghost use Rattle.event_log.specs.Counting.{counted};
 
 use crate::stage::{M1, M2, Rows, bring, waiting};
-use book_core::{Book, EVENTS_MAX, Letter, Receipt, Told};
-use book_lock::{AuditFault, Closed, Desk, NotClosed, Opening, Shared, Station, audit, rising};
+use book_core::{Book, EVENTS_MAX, Outbound, Receipt, Told};
+use book_lock::{
+    ArrivalLedger, AuditFault, Closed, Desk, LogEntry, NotClosed, Shared, Station, audit, rising,
+};
 use conn_worker::nearest;
-use dest_queue::Addressed;
+use dest_queue::Queued;
+use ghost_log::BlankLog;
 use judge_core::Text;
 use log::Log;
 use row_store::RowStore;
@@ -170,7 +173,7 @@ const AUDITS: [Audit; 10] = [
 
 /// A day's end: how many desks and stations were returned where the first close was refused, and the book.
 #[derive(Drop)]
-struct Day<S: RowStore<Addressed<Letter>>> {
+struct Day<S: RowStore<Queued<Outbound>>> {
     back: Option<(usize, usize)>,
     closed: Closed<S>,
 }
@@ -189,10 +192,10 @@ fn keep_back<X: Drop>(
 }
 
 /// The desks and stations that are handed in, or those that are kept.
-type Shares<A, T, U> = (Vec<Desk<A>>, Vec<Station<T, U>>);
+type Shares<A, T, U> = (Vec<Desk<A>>, Vec<Station<A, T, U>>);
 
 /// Puts the kept shares to those that are handed in.
-fn add<A: Opening, T: Ledger, U: Ledger>(
+fn add<A: ArrivalLedger, T: Ledger, U: Ledger>(
     handed: &mut Shares<A, T, U>,
     kept: &mut Shares<A, T, U>,
 ) -> Result<(), Fail> {
@@ -202,7 +205,7 @@ fn add<A: Opening, T: Ledger, U: Ledger>(
 }
 
 /// Closes a book at last, with the shares that were kept.
-fn close_at_last<A: Opening, T: Ledger, U: Ledger, S: RowStore<Addressed<Letter>> + Drop>(
+fn close_at_last<A: ArrivalLedger, T: Ledger, U: Ledger, S: RowStore<Queued<Outbound>> + Drop>(
     missing: NotClosed<A, T, U, S>,
     kept: &mut Shares<A, T, U>,
 ) -> Result<Day<S>, Fail> {
@@ -221,7 +224,7 @@ fn close_at_last<A: Opening, T: Ledger, U: Ledger, S: RowStore<Addressed<Letter>
 }
 
 /// Closes a book with the shares that are handed in, and with the others too where that was refused.
-fn close_twice<A: Opening, T: Ledger, U: Ledger, S: RowStore<Addressed<Letter>> + Drop>(
+fn close_twice<A: ArrivalLedger, T: Ledger, U: Ledger, S: RowStore<Queued<Outbound>> + Drop>(
     shared: Shared<A, T, U, S>,
     handed: Shares<A, T, U>,
     kept: &mut Shares<A, T, U>,
@@ -233,7 +236,7 @@ fn close_twice<A: Opening, T: Ledger, U: Ledger, S: RowStore<Addressed<Letter>> 
 }
 
 /// Keeps back the shares that are not given.
-fn keep<A: Opening, T: Ledger, U: Ledger>(
+fn keep<A: ArrivalLedger, T: Ledger, U: Ledger>(
     given: &Given,
     handed: &mut Shares<A, T, U>,
     kept: &mut Shares<A, T, U>,
@@ -244,7 +247,7 @@ fn keep<A: Opening, T: Ledger, U: Ledger>(
 }
 
 /// Whether a message is booked by connection 5.
-fn books<A: Opening, T: Ledger, U: Ledger, S: RowStore<Addressed<Letter>>, H: Wait + Log>(
+fn books<A: ArrivalLedger, T: Ledger, U: Ledger, S: RowStore<Queued<Outbound>>, H: Wait + Log>(
     rt: &H,
     alloc: Global,
     shared: &Shared<A, T, U, S>,
@@ -255,7 +258,7 @@ fn books<A: Opening, T: Ledger, U: Ledger, S: RowStore<Addressed<Letter>>, H: Wa
 }
 
 /// Books a message at the first desk, takes it at the first station, and books another. Whether all of that was done.
-fn work<A: Opening, T: Ledger, U: Ledger, S: RowStore<Addressed<Letter>>, H: Wait + Log>(
+fn work<A: ArrivalLedger, T: Ledger, U: Ledger, S: RowStore<Queued<Outbound>>, H: Wait + Log>(
     rt: &H,
     alloc: Global,
     shared: &Shared<A, T, U, S>,
@@ -270,7 +273,13 @@ fn work<A: Opening, T: Ledger, U: Ledger, S: RowStore<Addressed<Letter>>, H: Wai
 }
 
 /// Works at one of two desks and at a station, and keeps back the shares that are not given.
-fn work_and_keep<A: Opening, T: Ledger, U: Ledger, S: RowStore<Addressed<Letter>>, H: Wait + Log>(
+fn work_and_keep<
+    A: ArrivalLedger,
+    T: Ledger,
+    U: Ledger,
+    S: RowStore<Queued<Outbound>>,
+    H: Wait + Log,
+>(
     rt: &H,
     alloc: Global,
     shared: &Shared<A, T, U, S>,
@@ -286,7 +295,13 @@ fn work_and_keep<A: Opening, T: Ledger, U: Ledger, S: RowStore<Addressed<Letter>
 
 /// Works at the first desk and the station, and closes the book, a second time with all shares where the first close was
 /// refused.
-fn end_with<A: Opening, T: Ledger, U: Ledger, S: RowStore<Addressed<Letter>> + Drop, H: Wait + Log>(
+fn end_with<
+    A: ArrivalLedger,
+    T: Ledger,
+    U: Ledger,
+    S: RowStore<Queued<Outbound>> + Drop,
+    H: Wait + Log,
+>(
     rt: &H,
     alloc: Global,
     shared: Shared<A, T, U, S>,
@@ -299,15 +314,24 @@ fn end_with<A: Opening, T: Ledger, U: Ledger, S: RowStore<Addressed<Letter>> + D
 }
 
 /// Shares a book between two desks and a station, works at one desk and the station, and closes it.
-fn end_day<A: Opening, T: Ledger, U: Ledger, S: RowStore<Addressed<Letter>> + Drop, H: Wait + Log>(
+fn end_day<
+    A: ArrivalLedger,
+    T: Ledger,
+    U: Ledger,
+    S: RowStore<Queued<Outbound>> + Drop,
+    H: Wait + Log,
+>(
     rt: &H,
     alloc: Global,
     book: Book<S>,
+    log: BlankLog<LogEntry>,
     arrivals: Blank,
     takes: Blank,
     settlements: Blank,
     given: &Given,
 ) -> Result<Day<S>, Fail>
+    requires opening { book ≡ A.opening }
+    requires log { log.table.shared.table_id ≡ A.table }
     requires counts { counted book ≡ A.counts }
     requires first { next_place book ≡ A.first }
     requires channels { length (plan_in_force book).channels ≡ A.channels }
@@ -315,7 +339,7 @@ fn end_day<A: Opening, T: Ledger, U: Ledger, S: RowStore<Addressed<Letter>> + Dr
     requires takes { (takes.name ≡ T.name) × (takes.parts ≡ T.parts) × (T.parts ≡ 2) }
     requires settlements { (settlements.name ≡ U.name) × (settlements.parts ≡ U.parts) × (U.parts ≡ 2) }
 {
-    let opened = Shared::<A, T, U, S>::new(alloc, book, 2, 1, arrivals, takes, settlements);
+    let opened = Shared::<A, T, U, S>::new(alloc, book, 2, 1, log, arrivals, takes, settlements);
     match opened {
         Ok((shared, desks, stations)) => end_with(rt, alloc, shared, (desks, stations), given),
         Err(_) => Err("memory".into()),
@@ -339,7 +363,7 @@ fn receipts(alloc: Global, slips: &[Slip]) -> Result<Vec<Receipt>, Fail> {
 }
 
 /// The first audit that comes out otherwise than it is to.
-fn unmet<S: RowStore<Addressed<Letter>>>(
+fn unmet<S: RowStore<Queued<Outbound>>>(
     alloc: Global,
     closed: &Closed<S>,
 ) -> Result<Option<usize>, Fail> {
@@ -354,16 +378,18 @@ fn unmet<S: RowStore<Addressed<Letter>>>(
 }
 
 /// A day at a book, of which these shares are handed in.
-fn day_at<S: RowStore<Addressed<Letter>> + Drop, H: Wait + Log>(
+fn day_at<S: RowStore<Queued<Outbound>> + Drop, H: Wait + Log>(
     rt: &H,
     alloc: Global,
     book: Book<S>,
     given: &Given,
 ) -> Result<Day<S>, Fail> {
+    let log = BlankLog::new(alloc)?;
     end_day::<Brand, Brand, Brand, S, H>(
         rt,
         alloc,
         book,
+        log,
         Blank::new(3),
         Blank::new(2),
         Blank::new(2),
@@ -372,7 +398,7 @@ fn day_at<S: RowStore<Addressed<Letter>> + Drop, H: Wait + Log>(
 }
 
 /// Whether as many shares were returned as are due, and each audit has the expected result.
-fn is_right<S: RowStore<Addressed<Letter>>>(
+fn is_right<S: RowStore<Queued<Outbound>>>(
     alloc: Global,
     given: &Given,
     day: &Day<S>,
@@ -381,7 +407,7 @@ fn is_right<S: RowStore<Addressed<Letter>>>(
 }
 
 /// Whether a day at a book, of which these shares are handed in, comes out as it is to.
-fn comes_out<S: RowStore<Addressed<Letter>> + Drop, H: Wait + Log>(
+fn comes_out<S: RowStore<Queued<Outbound>> + Drop, H: Wait + Log>(
     rt: &H,
     alloc: Global,
     book: Book<S>,

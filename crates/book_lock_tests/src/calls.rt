@@ -1,10 +1,10 @@
 //! Calls of a shared book answer as the book's do.
 
 use crate::stage::{Done, M1, M2, Rows, Task, UPDATE, comes_out, waiting};
-use book_core::{Book, CancelRefusal, EVENTS_MAX, Letter, TakeRefusal, Ticket};
-use book_lock::{Desk, Opening, Shared, Station};
+use book_core::{Book, CancelRefusal, EVENTS_MAX, Outbound, TakeRefusal, Ticket};
+use book_lock::{ArrivalLedger, Desk, Shared, Station};
 use conn_worker::nearest;
-use dest_queue::{Addressed, FailCause, Outcome, SettleRefusal, SlotState};
+use dest_queue::{FailCause, Outcome, Queued, SettleRefusal, SlotState};
 use log::Log;
 use plan_text::Plan;
 use row_store::RowStore;
@@ -176,10 +176,10 @@ const CASES: [Case; 3] = [
 ];
 
 /// Whether a take returns a job with this control id and this text.
-fn sends<A: Opening, T: Ledger, U: Ledger, S: RowStore<Addressed<Letter>>, H: Wait + Log>(
+fn sends<A: ArrivalLedger, T: Ledger, U: Ledger, S: RowStore<Queued<Outbound>>, H: Wait + Log>(
     rt: &H,
     shared: &Shared<A, T, U, S>,
-    station: &mut Station<T, U>,
+    station: &mut Station<A, T, U>,
     d: u32,
     now: u64,
     control_id: &str,
@@ -194,10 +194,10 @@ fn sends<A: Opening, T: Ledger, U: Ledger, S: RowStore<Addressed<Letter>>, H: Wa
 }
 
 /// Whether a take returns this ticket, or is refused so.
-fn takes<A: Opening, T: Ledger, U: Ledger, S: RowStore<Addressed<Letter>>, H: Wait + Log>(
+fn takes<A: ArrivalLedger, T: Ledger, U: Ledger, S: RowStore<Queued<Outbound>>, H: Wait + Log>(
     rt: &H,
     shared: &Shared<A, T, U, S>,
-    station: &mut Station<T, U>,
+    station: &mut Station<A, T, U>,
     d: u32,
     now: u64,
     due: Result<Ticket, TakeRefusal>,
@@ -209,10 +209,10 @@ fn takes<A: Opening, T: Ledger, U: Ledger, S: RowStore<Addressed<Letter>>, H: Wa
 }
 
 /// Whether a call is answered as is due.
-fn is_met<A: Opening, T: Ledger, U: Ledger, S: RowStore<Addressed<Letter>>, H: Wait + Log>(
+fn is_met<A: ArrivalLedger, T: Ledger, U: Ledger, S: RowStore<Queued<Outbound>>, H: Wait + Log>(
     rt: &H,
     shared: &Shared<A, T, U, S>,
-    station: &mut Station<T, U>,
+    station: &mut Station<A, T, U>,
     call: Call,
 ) -> bool {
     match call {
@@ -228,10 +228,16 @@ fn is_met<A: Opening, T: Ledger, U: Ledger, S: RowStore<Addressed<Letter>>, H: W
 }
 
 /// The first of these calls that is answered otherwise than is due; those behind it aren't made.
-fn first_unmet<A: Opening, T: Ledger, U: Ledger, S: RowStore<Addressed<Letter>>, H: Wait + Log>(
+fn first_unmet<
+    A: ArrivalLedger,
+    T: Ledger,
+    U: Ledger,
+    S: RowStore<Queued<Outbound>>,
+    H: Wait + Log,
+>(
     rt: &H,
     shared: &Shared<A, T, U, S>,
-    station: &mut Station<T, U>,
+    station: &mut Station<A, T, U>,
     calls: &[Call],
 ) -> Option<usize> {
     for (place, call) in calls.iter().enumerate() {
@@ -254,13 +260,13 @@ struct Answers {
 impl Task for Case {
     type Answer = Answers;
 
-    fn work<A: Opening, T: Ledger, U: Ledger, S: RowStore<Addressed<Letter>>, H: Wait + Log>(
+    fn work<A: ArrivalLedger, T: Ledger, U: Ledger, S: RowStore<Queued<Outbound>>, H: Wait + Log>(
         &self,
         rt: &H,
         _: Global,
         shared: &Shared<A, T, U, S>,
         desks: &mut [Desk<A>],
-        stations: &mut [Station<T, U>],
+        stations: &mut [Station<A, T, U>],
     ) -> Option<Answers> {
         let (desk, station) = (desks.first_mut()?, stations.first_mut()?);
         Some(Answers {
@@ -272,7 +278,7 @@ impl Task for Case {
 
     /// Whether each call was answered as is due, the slots are as they are to be, the statistics shown before the close are
     /// those of the closed book, and the plan shown is its plan.
-    fn is_right<S: RowStore<Addressed<Letter>>>(&self, done: &Done<Answers, S>) -> bool {
+    fn is_right<S: RowStore<Queued<Outbound>>>(&self, done: &Done<Answers, S>) -> bool {
         let (answers, book, slots) = (&done.answer, done.closed.book(), self.slots);
         answers.unmet.is_none()
             && answers.shown == *book.counts()

@@ -1,9 +1,9 @@
 //! Plans and prunings that a shared book refuses, and messages that come after a deployment.
 
 use crate::stage::{Done, M1, M2, Rows, Task, bring, comes_out, plan_of, waiting};
-use book_core::{Book, DeployRefusal, EVENTS_MAX, Letter, PruneRefusal, Told};
-use book_lock::{Desk, Opening, Shared, Station};
-use dest_queue::Addressed;
+use book_core::{Book, DeployRefusal, EVENTS_MAX, Outbound, PruneRefusal, Told};
+use book_lock::{ArrivalLedger, Desk, Shared, Station};
+use dest_queue::Queued;
 use hl7_head::Cause;
 use log::Log;
 use plan_text::Plan;
@@ -164,7 +164,7 @@ const CASES: [Case; 4] = [
 ];
 
 /// Whether a deployment of a plan is answered as is due.
-fn deploys<A: Opening, T: Ledger, U: Ledger, S: RowStore<Addressed<Letter>>, H: Wait + Log>(
+fn deploys<A: ArrivalLedger, T: Ledger, U: Ledger, S: RowStore<Queued<Outbound>>, H: Wait + Log>(
     rt: &H,
     alloc: Global,
     shared: &Shared<A, T, U, S>,
@@ -178,13 +178,13 @@ fn deploys<A: Opening, T: Ledger, U: Ledger, S: RowStore<Addressed<Letter>>, H: 
 }
 
 /// Whether as many deployments of a plan as this are made.
-fn deploys_all<A: Opening, T: Ledger, U: Ledger, S: RowStore<Addressed<Letter>>, H: Wait + Log>(
-    rt: &H,
-    alloc: Global,
-    shared: &Shared<A, T, U, S>,
-    count: u32,
-    said: Said,
-) -> bool {
+fn deploys_all<
+    A: ArrivalLedger,
+    T: Ledger,
+    U: Ledger,
+    S: RowStore<Queued<Outbound>>,
+    H: Wait + Log,
+>(rt: &H, alloc: Global, shared: &Shared<A, T, U, S>, count: u32, said: Said) -> bool {
     for _ in 0..count {
         if !deploys(rt, alloc, shared, said, Ok(())) {
             return false;
@@ -194,7 +194,7 @@ fn deploys_all<A: Opening, T: Ledger, U: Ledger, S: RowStore<Addressed<Letter>>,
 }
 
 /// Whether as many prunings as this are made.
-fn prunes_all<A: Opening, T: Ledger, U: Ledger, S: RowStore<Addressed<Letter>>, H: Wait + Log>(
+fn prunes_all<A: ArrivalLedger, T: Ledger, U: Ledger, S: RowStore<Queued<Outbound>>, H: Wait + Log>(
     rt: &H,
     shared: &Shared<A, T, U, S>,
     count: u32,
@@ -209,7 +209,7 @@ fn prunes_all<A: Opening, T: Ledger, U: Ledger, S: RowStore<Addressed<Letter>>, 
 }
 
 /// Whether a call is answered as is due.
-fn is_met<A: Opening, T: Ledger, U: Ledger, S: RowStore<Addressed<Letter>>, H: Wait + Log>(
+fn is_met<A: ArrivalLedger, T: Ledger, U: Ledger, S: RowStore<Queued<Outbound>>, H: Wait + Log>(
     rt: &H,
     alloc: Global,
     shared: &Shared<A, T, U, S>,
@@ -229,7 +229,13 @@ fn is_met<A: Opening, T: Ledger, U: Ledger, S: RowStore<Addressed<Letter>>, H: W
 }
 
 /// The first of these calls that is answered otherwise than is due; those behind it aren't made.
-fn first_unmet<A: Opening, T: Ledger, U: Ledger, S: RowStore<Addressed<Letter>>, H: Wait + Log>(
+fn first_unmet<
+    A: ArrivalLedger,
+    T: Ledger,
+    U: Ledger,
+    S: RowStore<Queued<Outbound>>,
+    H: Wait + Log,
+>(
     rt: &H,
     alloc: Global,
     shared: &Shared<A, T, U, S>,
@@ -256,13 +262,13 @@ struct Answers {
 impl Task for Case {
     type Answer = Answers;
 
-    fn work<A: Opening, T: Ledger, U: Ledger, S: RowStore<Addressed<Letter>>, H: Wait + Log>(
+    fn work<A: ArrivalLedger, T: Ledger, U: Ledger, S: RowStore<Queued<Outbound>>, H: Wait + Log>(
         &self,
         rt: &H,
         alloc: Global,
         shared: &Shared<A, T, U, S>,
         desks: &mut [Desk<A>],
-        _: &mut [Station<T, U>],
+        _: &mut [Station<A, T, U>],
     ) -> Option<Answers> {
         let desk = desks.first_mut()?;
         Some(Answers {
@@ -273,7 +279,7 @@ impl Task for Case {
     }
 
     /// Whether each call was answered as is due, and the plan in force and the number of entries are as they should be.
-    fn is_right<S: RowStore<Addressed<Letter>>>(&self, done: &Done<Answers, S>) -> bool {
+    fn is_right<S: RowStore<Queued<Outbound>>>(&self, done: &Done<Answers, S>) -> bool {
         let (answers, book) = (&done.answer, done.closed.book());
         answers.unmet.is_none()
             && answers.plan.same(&answers.due)

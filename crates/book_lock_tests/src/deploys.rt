@@ -1,9 +1,9 @@
 //! Plans that are deployed in a shared book.
 
 use crate::stage::{Done, M1, Rows, Task, comes_out, plan, plan_of, waiting};
-use book_core::{Book, DeployRefusal, EVENTS_MAX, Letter};
-use book_lock::{Desk, Opening, Shared, Station};
-use dest_queue::Addressed;
+use book_core::{Book, DeployRefusal, EVENTS_MAX, Outbound};
+use book_lock::{ArrivalLedger, Desk, Shared, Station};
+use dest_queue::Queued;
 use log::Log;
 use plan_text::Plan;
 use row_store::RowStore;
@@ -33,13 +33,13 @@ struct Deployments {
 impl Task for Deployments {
     type Answer = Answers;
 
-    fn work<A: Opening, T: Ledger, U: Ledger, S: RowStore<Addressed<Letter>>, H: Wait + Log>(
+    fn work<A: ArrivalLedger, T: Ledger, U: Ledger, S: RowStore<Queued<Outbound>>, H: Wait + Log>(
         &self,
         rt: &H,
         alloc: Global,
         shared: &Shared<A, T, U, S>,
         _: &mut [Desk<A>],
-        _: &mut [Station<T, U>],
+        _: &mut [Station<A, T, U>],
     ) -> Option<Answers> {
         let (four, slower) = (plan(alloc, true)?, Arc::try_clone(&self.slower).ok()?);
         Some(Answers {
@@ -50,7 +50,7 @@ impl Task for Deployments {
     }
 
     /// Whether the first plan was refused for a destination in use, and the slower one is in force and in the history.
-    fn is_right<S: RowStore<Addressed<Letter>>>(&self, done: &Done<Answers, S>) -> bool {
+    fn is_right<S: RowStore<Queued<Outbound>>>(&self, done: &Done<Answers, S>) -> bool {
         let (answers, book) = (&done.answer, done.closed.book());
         answers.first == Some(DeployRefusal::DestinationInUse(0))
             && answers.second.is_none()

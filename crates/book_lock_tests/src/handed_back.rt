@@ -5,9 +5,10 @@ ghost use Rattle.event_log.specs.History.{next_place, plan_in_force};
 ghost use Rattle.event_log.specs.Counting.{counted};
 
 use crate::stage::{M1, Rows, bring, waiting};
-use book_core::{Book, EVENTS_MAX, Letter};
-use book_lock::{NotClosed, Opening, Shared};
-use dest_queue::Addressed;
+use book_core::{Book, EVENTS_MAX, Outbound};
+use book_lock::{ArrivalLedger, LogEntry, NotClosed, Shared};
+use dest_queue::Queued;
+use ghost_log::BlankLog;
 use log::Log;
 use row_store::RowStore;
 use std::alloc::Global;
@@ -19,20 +20,23 @@ use std::test::Fail;
 /// Books a message, notes that none will follow where that is asked for, and closes the book without its desk. Whether the
 /// shared book that comes back has the note; None where the close is not refused.
 fn noted_after_close<
-    A: Opening,
+    A: ArrivalLedger,
     T: Ledger,
     U: Ledger,
-    S: RowStore<Addressed<Letter>> + Drop,
+    S: RowStore<Queued<Outbound>> + Drop,
     H: Wait + Log,
 >(
     rt: &H,
     alloc: Global,
     book: Book<S>,
+    log: BlankLog<LogEntry>,
     arrivals: Blank,
     takes: Blank,
     settlements: Blank,
     finish: bool,
 ) -> Option<bool>
+    requires opening { book ≡ A.opening }
+    requires log { log.table.shared.table_id ≡ A.table }
     requires counts { counted book ≡ A.counts }
     requires first { next_place book ≡ A.first }
     requires channels { length (plan_in_force book).channels ≡ A.channels }
@@ -40,7 +44,7 @@ fn noted_after_close<
     requires takes { (takes.name ≡ T.name) × (takes.parts ≡ T.parts) × (T.parts ≡ 1) }
     requires settlements { (settlements.name ≡ U.name) × (settlements.parts ≡ U.parts) × (U.parts ≡ 1) }
 {
-    let opened = Shared::<A, T, U, S>::new(alloc, book, 1, 0, arrivals, takes, settlements);
+    let opened = Shared::<A, T, U, S>::new(alloc, book, 1, 0, log, arrivals, takes, settlements);
     let (shared, mut desks, stations) = opened.ok()?;
     bring(rt, alloc, &shared, desks.first_mut()?, 0, M1)?;
     if finish {
@@ -53,16 +57,18 @@ fn noted_after_close<
 }
 
 /// The same with brands of their own.
-fn noted<S: RowStore<Addressed<Letter>> + Drop, H: Wait + Log>(
+fn noted<S: RowStore<Queued<Outbound>> + Drop, H: Wait + Log>(
     rt: &H,
     alloc: Global,
     book: Book<S>,
     finish: bool,
 ) -> Option<bool> {
+    let log = BlankLog::new(alloc).ok()?;
     noted_after_close::<Brand, Brand, Brand, S, H>(
         rt,
         alloc,
         book,
+        log,
         Blank::new(2),
         Blank::new(1),
         Blank::new(1),

@@ -4,11 +4,11 @@ ghost use Rattle.std.specs.Prelude.{◌≡◌, IfSome, IsTrue};
 ghost use Rattle.judge_core.specs.Judging.{is_bookable};
 
 use crate::stage::{Done, M1, M2, Rows, Task, comes_out, judged, plan, waiting};
-use book_core::{Book, Letter, NotBooked};
-use book_lock::{Desk, Opening, Shared, Station};
-use conn_core::{Booked, Line, Replies, book_and_reply};
+use book_core::{Book, NotBooked, Outbound};
+use book_lock::{ArrivalLedger, Desk, Shared, Station};
+use conn_core::{Booked, ConnectionId, Replies, book_and_reply};
 use conn_worker::{AtDesk, nearest};
-use dest_queue::Addressed;
+use dest_queue::Queued;
 use judge_core::Judged;
 use log::Log;
 use row_store::RowStore;
@@ -53,7 +53,7 @@ struct Answers {
 }
 
 /// Books a message received over connection 0, and appends its replies, the first of that connection.
-fn answer<A: Opening, T: Ledger, U: Ledger, S: RowStore<Addressed<Letter>>, H: Wait + Log>(
+fn answer<A: ArrivalLedger, T: Ledger, U: Ledger, S: RowStore<Queued<Outbound>>, H: Wait + Log>(
     rt: &H,
     alloc: Global,
     shared: &Shared<A, T, U, S>,
@@ -64,7 +64,7 @@ fn answer<A: Opening, T: Ledger, U: Ledger, S: RowStore<Addressed<Letter>>, H: W
     requires bookable { IsTrue (is_bookable judged.now.raw) }
     requires none { replies.old.made ≡ 0 }
 {
-    let line = Line {
+    let line = ConnectionId {
         alloc,
         conn: 0,
         channel: 0,
@@ -79,7 +79,13 @@ fn answer<A: Opening, T: Ledger, U: Ledger, S: RowStore<Addressed<Letter>>, H: W
 }
 
 /// Brings a message to a desk of a shared book, twice.
-fn bring_twice<A: Opening, T: Ledger, U: Ledger, S: RowStore<Addressed<Letter>>, H: Wait + Log>(
+fn bring_twice<
+    A: ArrivalLedger,
+    T: Ledger,
+    U: Ledger,
+    S: RowStore<Queued<Outbound>>,
+    H: Wait + Log,
+>(
     rt: &H,
     alloc: Global,
     shared: &Shared<A, T, U, S>,
@@ -114,13 +120,13 @@ fn judged_in(alloc: Global, case: &Case) -> Option<Judged>
 impl Task for Case {
     type Answer = Answers;
 
-    fn work<A: Opening, T: Ledger, U: Ledger, S: RowStore<Addressed<Letter>>, H: Wait + Log>(
+    fn work<A: ArrivalLedger, T: Ledger, U: Ledger, S: RowStore<Queued<Outbound>>, H: Wait + Log>(
         &self,
         rt: &H,
         alloc: Global,
         shared: &Shared<A, T, U, S>,
         desks: &mut [Desk<A>],
-        _: &mut [Station<T, U>],
+        _: &mut [Station<A, T, U>],
     ) -> Option<Answers> {
         let desk = desks.first_mut()?;
         let judged = judged_in(alloc, self)?;
@@ -128,7 +134,7 @@ impl Task for Case {
     }
 
     /// Whether a message was refused as is due, and nothing else was changed.
-    fn is_right<S: RowStore<Addressed<Letter>>>(&self, done: &Done<Answers, S>) -> bool {
+    fn is_right<S: RowStore<Queued<Outbound>>>(&self, done: &Done<Answers, S>) -> bool {
         let (answers, book) = (&done.answer, done.closed.book());
         answers.bare == Some(self.refusal)
             && answers.answered == Some(self.refusal)

@@ -6,12 +6,12 @@ ghost use Rattle.judge_core.specs.Judging.{is_bookable};
 
 use crate::stage::{Done, M1, Rows, Task, Undone, empty_book, judged, plan_of, share};
 use book_core::{
-    Book, CancelRefusal, DeployRefusal, EVENTS_MAX, Letter, NotBooked, PruneRefusal, Receipt,
+    Book, CancelRefusal, DeployRefusal, EVENTS_MAX, NotBooked, Outbound, PruneRefusal, Receipt,
     TakeRefusal, Ticket,
 };
-use book_lock::{Closed, Desk, Opening, Shared, Station, audit};
+use book_lock::{ArrivalLedger, Closed, Desk, Shared, Station, audit};
 use conn_worker::nearest;
-use dest_queue::{Addressed, Outcome, SlotState};
+use dest_queue::{Outcome, Queued, SlotState};
 use judge_core::Judged;
 use log::Log;
 use plan_text::Plan;
@@ -100,7 +100,7 @@ fn prepared_parts(alloc: Global, plan_in_force: &Arc<Plan>) -> Option<Parts> {
 }
 
 /// A book, and what calls of it are made with. None where memory was refused for them.
-fn prepare<S: RowStore<Addressed<Letter>> + Drop>(rt: &HostRuntime) -> Option<(Book<S>, Parts)> {
+fn prepare<S: RowStore<Queued<Outbound>> + Drop>(rt: &HostRuntime) -> Option<(Book<S>, Parts)> {
     let plan = plan_of(rt.alloc(), PLAN)?;
     let parts = prepared_parts(rt.alloc(), &plan)?;
     Some((empty_book(rt, plan, EVENTS_MAX)?, parts))
@@ -121,7 +121,7 @@ fn first_attempt(destination: u32) -> Ticket {
 }
 
 /// Books the message, and keeps its receipt.
-fn arrive<A: Opening, T: Ledger, U: Ledger, S: RowStore<Addressed<Letter>>, H: Wait + Log>(
+fn arrive<A: ArrivalLedger, T: Ledger, U: Ledger, S: RowStore<Queued<Outbound>>, H: Wait + Log>(
     rt: &H,
     shared: &Shared<A, T, U, S>,
     desk: &mut Desk<A>,
@@ -141,10 +141,10 @@ fn arrive<A: Opening, T: Ledger, U: Ledger, S: RowStore<Addressed<Letter>>, H: W
 }
 
 /// Takes the front of queue `d` at the moment 0.
-fn take<A: Opening, T: Ledger, U: Ledger, S: RowStore<Addressed<Letter>>, H: Wait + Log>(
+fn take<A: ArrivalLedger, T: Ledger, U: Ledger, S: RowStore<Queued<Outbound>>, H: Wait + Log>(
     rt: &H,
     shared: &Shared<A, T, U, S>,
-    station: &mut Station<T, U>,
+    station: &mut Station<A, T, U>,
     d: u32,
 ) -> Answer {
     match shared.take(rt, station, d, nearest(0)) {
@@ -155,7 +155,7 @@ fn take<A: Opening, T: Ledger, U: Ledger, S: RowStore<Addressed<Letter>>, H: Wai
 }
 
 /// Cancels message 0.
-fn cancel<A: Opening, T: Ledger, U: Ledger, S: RowStore<Addressed<Letter>>, H: Wait + Log>(
+fn cancel<A: ArrivalLedger, T: Ledger, U: Ledger, S: RowStore<Queued<Outbound>>, H: Wait + Log>(
     rt: &H,
     shared: &Shared<A, T, U, S>,
 ) -> Answer {
@@ -167,7 +167,7 @@ fn cancel<A: Opening, T: Ledger, U: Ledger, S: RowStore<Addressed<Letter>>, H: W
 }
 
 /// Puts a plan in force.
-fn deploy<A: Opening, T: Ledger, U: Ledger, S: RowStore<Addressed<Letter>>, H: Wait + Log>(
+fn deploy<A: ArrivalLedger, T: Ledger, U: Ledger, S: RowStore<Queued<Outbound>>, H: Wait + Log>(
     rt: &H,
     shared: &Shared<A, T, U, S>,
     plan: &Arc<Plan>,
@@ -183,7 +183,7 @@ fn deploy<A: Opening, T: Ledger, U: Ledger, S: RowStore<Addressed<Letter>>, H: W
 }
 
 /// Forgets message 0.
-fn prune<A: Opening, T: Ledger, U: Ledger, S: RowStore<Addressed<Letter>>, H: Wait + Log>(
+fn prune<A: ArrivalLedger, T: Ledger, U: Ledger, S: RowStore<Queued<Outbound>>, H: Wait + Log>(
     rt: &H,
     shared: &Shared<A, T, U, S>,
 ) -> Answer {
@@ -195,11 +195,11 @@ fn prune<A: Opening, T: Ledger, U: Ledger, S: RowStore<Addressed<Letter>>, H: Wa
 }
 
 /// Makes a call.
-fn make<A: Opening, T: Ledger, U: Ledger, S: RowStore<Addressed<Letter>>, H: Wait + Log>(
+fn make<A: ArrivalLedger, T: Ledger, U: Ledger, S: RowStore<Queued<Outbound>>, H: Wait + Log>(
     rt: &H,
     shared: &Shared<A, T, U, S>,
     desk: &mut Desk<A>,
-    station: &mut Station<T, U>,
+    station: &mut Station<A, T, U>,
     parts: &Parts,
     receipt: &mut Option<Receipt>,
     call: Call,
@@ -219,11 +219,17 @@ fn make<A: Opening, T: Ledger, U: Ledger, S: RowStore<Addressed<Letter>>, H: Wai
 
 /// Makes a call, and makes it again where memory was refused. How often that was; none where the call was answered otherwise
 /// than it is to be, or a refusal changed the statistics.
-fn make_surely<A: Opening, T: Ledger, U: Ledger, S: RowStore<Addressed<Letter>>, H: Wait + Log>(
+fn make_surely<
+    A: ArrivalLedger,
+    T: Ledger,
+    U: Ledger,
+    S: RowStore<Queued<Outbound>>,
+    H: Wait + Log,
+>(
     rt: &H,
     shared: &Shared<A, T, U, S>,
     desk: &mut Desk<A>,
-    station: &mut Station<T, U>,
+    station: &mut Station<A, T, U>,
     parts: &Parts,
     receipt: &mut Option<Receipt>,
     call: Call,
@@ -244,11 +250,11 @@ fn make_surely<A: Opening, T: Ledger, U: Ledger, S: RowStore<Addressed<Letter>>,
 }
 
 /// Makes all calls. How many were refused memory; none where one was answered otherwise than it is to be.
-fn make_all<A: Opening, T: Ledger, U: Ledger, S: RowStore<Addressed<Letter>>, H: Wait + Log>(
+fn make_all<A: ArrivalLedger, T: Ledger, U: Ledger, S: RowStore<Queued<Outbound>>, H: Wait + Log>(
     rt: &H,
     shared: &Shared<A, T, U, S>,
     desk: &mut Desk<A>,
-    station: &mut Station<T, U>,
+    station: &mut Station<A, T, U>,
     parts: &Parts,
     receipt: &mut Option<Receipt>,
 ) -> Option<u32> {
@@ -261,7 +267,7 @@ fn make_all<A: Opening, T: Ledger, U: Ledger, S: RowStore<Addressed<Letter>>, H:
 }
 
 /// The results of all calls, with what is shown after them.
-fn answers_of<A: Opening, T: Ledger, U: Ledger, S: RowStore<Addressed<Letter>>, H: Wait + Log>(
+fn answers_of<A: ArrivalLedger, T: Ledger, U: Ledger, S: RowStore<Queued<Outbound>>, H: Wait + Log>(
     rt: &H,
     shared: &Shared<A, T, U, S>,
     desk: &mut Desk<A>,
@@ -288,7 +294,7 @@ fn ended(delivered: u64, attempts: u64) -> DestinationCounts {
 }
 
 /// Whether the book has seven entries that are folded, and nothing of the message in its slots and queues.
-fn is_folded<S: RowStore<Addressed<Letter>>>(book: &Book<S>) -> bool {
+fn is_folded<S: RowStore<Queued<Outbound>>>(book: &Book<S>) -> bool {
     for d in 0..3 {
         if book.status(0, d).is_some() || book.queue_len(d) != 0 {
             return false;
@@ -305,7 +311,7 @@ fn are_right(counts: &Counts) -> bool {
 }
 
 /// Whether the receipt that is due is the message's.
-fn is_due<S: RowStore<Addressed<Letter>>>(receipt: &Option<Receipt>, closed: &Closed<S>) -> bool {
+fn is_due<S: RowStore<Queued<Outbound>>>(receipt: &Option<Receipt>, closed: &Closed<S>) -> bool {
     match receipt {
         Some(receipt) => audit(closed, slice::from_ref(receipt)).is_ok(),
         None => false,
@@ -316,13 +322,13 @@ impl Task for Parts {
     type Answer = Answers;
 
     /// Makes the calls. The plan and the statistics are shown with no further memory.
-    fn work<A: Opening, T: Ledger, U: Ledger, S: RowStore<Addressed<Letter>>, H: Wait + Log>(
+    fn work<A: ArrivalLedger, T: Ledger, U: Ledger, S: RowStore<Queued<Outbound>>, H: Wait + Log>(
         &self,
         rt: &H,
         _: Global,
         shared: &Shared<A, T, U, S>,
         desks: &mut [Desk<A>],
-        stations: &mut [Station<T, U>],
+        stations: &mut [Station<A, T, U>],
     ) -> Option<Answers> {
         let (desk, station) = (desks.first_mut()?, stations.first_mut()?);
         let mut receipt = None;
@@ -332,7 +338,7 @@ impl Task for Parts {
 
     /// Whether the book has what the calls did, each once: entries that are folded, what became of the message in the
     /// statistics, empty queues, and no receipt that is due.
-    fn is_right<S: RowStore<Addressed<Letter>>>(&self, done: &Done<Answers, S>) -> bool {
+    fn is_right<S: RowStore<Queued<Outbound>>>(&self, done: &Done<Answers, S>) -> bool {
         let (answers, closed) = (&done.answer, &done.closed);
         let (book, counts) = (closed.book(), closed.book().counts());
         is_folded(book)
@@ -357,7 +363,7 @@ enum CallsEnd {
 }
 
 /// Makes the calls of a book.
-fn make_calls<S: RowStore<Addressed<Letter>> + Drop, H: Wait + Log>(
+fn make_calls<S: RowStore<Queued<Outbound>> + Drop, H: Wait + Log>(
     rt: &H,
     alloc: Global,
     book: Book<S>,
@@ -374,7 +380,7 @@ fn make_calls<S: RowStore<Addressed<Letter>> + Drop, H: Wait + Log>(
 }
 
 /// Makes the calls of a book, where there is one.
-fn end_of_calls<S: RowStore<Addressed<Letter>> + Drop, H: Wait + Log>(
+fn end_of_calls<S: RowStore<Queued<Outbound>> + Drop, H: Wait + Log>(
     rt: &H,
     alloc: Global,
     prepared: Option<(Book<S>, Parts)>,

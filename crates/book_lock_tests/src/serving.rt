@@ -2,10 +2,10 @@
 
 use crate::devices::{CUTS, Cut, Devices, Mishap, SMOOTH, Sink, Source};
 use crate::stage::{Rows, waiting};
-use book_core::{Book, EVENTS_MAX, Letter};
-use conn_core::Line;
+use book_core::{Book, EVENTS_MAX, Outbound};
+use conn_core::ConnectionId;
 use conn_worker::{Counted, ServeEnd, ServeReport, Still, TURNS_MAX, nearest, serve_within};
-use dest_queue::Addressed;
+use dest_queue::Queued;
 use row_store::RowStore;
 use std::alloc::Global;
 use std::test::Fail;
@@ -42,7 +42,7 @@ struct Served {
 }
 
 /// Serves a stream from a book over these devices, at 14 November 2023, 22:13:20 UTC.
-fn serve_from<S: RowStore<Addressed<Letter>>>(
+fn serve_from<S: RowStore<Queued<Outbound>>>(
     alloc: Global,
     book: &mut Book<S>,
     stream: &[u8],
@@ -53,7 +53,7 @@ fn serve_from<S: RowStore<Addressed<Letter>>>(
     let (conn, channel) = (0, 0);
     book.plan().rules();
     let report: ServeReport = serve_within(
-        &Line {
+        &ConnectionId {
             alloc,
             conn,
             channel,

@@ -5,9 +5,10 @@ ghost use Rattle.judge_core.specs.Judging.{is_bookable};
 ghost use Rattle.event_log.specs.History.{next_place, plan_in_force};
 ghost use Rattle.event_log.specs.Counting.{counted};
 
-use book_core::{Book, EVENTS_MAX, Letter, Receipt};
-use book_lock::{Closed, Desk, Opening, Shared, Station};
-use dest_queue::Addressed;
+use book_core::{Book, EVENTS_MAX, Outbound, Receipt};
+use book_lock::{ArrivalLedger, Closed, Desk, LogEntry, Shared, Station};
+use dest_queue::Queued;
+use ghost_log::BlankLog;
 use judge_core::{Judged, fits_block, judge};
 use log::Log;
 use plan_text::Plan;
@@ -21,7 +22,7 @@ use std::sync::{Arc, Wait};
 use std::test::Fail;
 
 /// The rows of the tests' books.
-pub type Rows = RecordList<Addressed<Letter>>;
+pub type Rows = RecordList<Queued<Outbound>>;
 
 /// A message with the control id M1, which requests accept acknowledgments (HL7 v2.5.1, 2.9.3).
 pub const M1: &str =
@@ -40,13 +41,13 @@ const FOUR: &str =
     "[[destination]]\nname = \"A\"\naddress = \"127.0.0.1:6671\"\n[[destination]]\nname = \"B\"\naddress = \"127.0.0.1:6672\"\n[[destination]]\nname = \"C\"\naddress = \"127.0.0.1:6673\"\n[[destination]]\nname = \"D\"\naddress = \"127.0.0.1:6674\"\n[[channel]]\nname = \"ADT\"\nlisten = \"127.0.0.1:6670\"\ntypes = [\"ADT\"]\nprocessing = [\"P\"]\nversions = [\"2.5.1\"]\n[[channel.route]]\nto = \"A\"\nfilter = { equals = [\"PV1-2\", \"I\"] }\n[[channel.route]]\nto = \"B\"\nfilter = { equals = [\"PV1-2\", \"O\"] }\n[[channel.route]]\nto = \"C\"\nfilter = { exists = \"PID-3.1\" }\n[[channel.route]]\nto = \"D\"\nfilter = { equals = [\"MSH-9.2\", \"A08\"] }\n";
 
 /// A plan by its text. None where it is no plan, or memory is refused.
-pub fn plan_of(alloc: Global, text: &str) -> Option<Arc<Plan>> {
+pub(crate) fn plan_of(alloc: Global, text: &str) -> Option<Arc<Plan>> {
     let plan = Plan::read(alloc, text.as_bytes()).ok()?;
     Arc::new(alloc, plan).ok()
 }
 
 /// The built-in plan, or that of four destinations. None where memory is refused.
-pub fn plan(alloc: Global, four: bool) -> Option<Arc<Plan>> {
+pub(crate) fn plan(alloc: Global, four: bool) -> Option<Arc<Plan>> {
     match four {
         true => plan_of(alloc, FOUR),
         false => Arc::new(alloc, Plan::built_in(alloc).ok()?).ok(),
@@ -54,7 +55,7 @@ pub fn plan(alloc: Global, four: bool) -> Option<Arc<Plan>> {
 }
 
 /// A message on the first channel of a plan, judged by it. None where it is not bookable, or memory is refused.
-pub fn judged(alloc: Global, plan: &Arc<Plan>, text: &str) -> Option<Judged>
+pub(crate) fn judged(alloc: Global, plan: &Arc<Plan>, text: &str) -> Option<Judged>
     ensures { IfSome result (λ judged. IsTrue (is_bookable judged.raw)) }
 {
     let raw = Vec::from_slice(alloc, text.as_bytes()).ok()?;
@@ -70,7 +71,7 @@ pub fn judged(alloc: Global, plan: &Arc<Plan>, text: &str) -> Option<Judged>
 }
 
 /// An empty book of a plan with room for a number of entries. None where memory is refused.
-pub fn empty_book<S: RowStore<Addressed<Letter>> + Drop>(
+pub(crate) fn empty_book<S: RowStore<Queued<Outbound>> + Drop>(
     rt: &HostRuntime,
     plan: Arc<Plan>,
     room: u32,
@@ -81,7 +82,7 @@ pub fn empty_book<S: RowStore<Addressed<Letter>> + Drop>(
 }
 
 /// Books messages by connection 0. None where one is not booked.
-fn fill<S: RowStore<Addressed<Letter>>>(
+fn fill<S: RowStore<Queued<Outbound>>>(
     alloc: Global,
     book: &mut Book<S>,
     messages: &[&str],
@@ -94,7 +95,7 @@ fn fill<S: RowStore<Addressed<Letter>>>(
 }
 
 /// A book of a plan with room for a number of entries, in which these messages wait.
-pub fn waiting<S: RowStore<Addressed<Letter>> + Drop>(
+pub(crate) fn waiting<S: RowStore<Queued<Outbound>> + Drop>(
     rt: &HostRuntime,
     four: bool,
     room: u32,
@@ -113,12 +114,13 @@ pub fn waiting<S: RowStore<Addressed<Letter>> + Drop>(
 }
 
 /// A message judged by the plan in force of a shared book. None where it is not bookable, or memory is refused.
-pub fn judged_now<A: Opening, T: Ledger, U: Ledger, S: RowStore<Addressed<Letter>>, H: Wait + Log>(
-    rt: &H,
-    alloc: Global,
-    shared: &Shared<A, T, U, S>,
-    text: &str,
-) -> Option<Judged>
+pub(crate) fn judged_now<
+    A: ArrivalLedger,
+    T: Ledger,
+    U: Ledger,
+    S: RowStore<Queued<Outbound>>,
+    H: Wait + Log,
+>(rt: &H, alloc: Global, shared: &Shared<A, T, U, S>, text: &str) -> Option<Judged>
     ensures { IfSome result (λ judged. IsTrue (is_bookable judged.raw)) }
 {
     let plan = shared.plan(rt).ok()?;
@@ -126,7 +128,13 @@ pub fn judged_now<A: Opening, T: Ledger, U: Ledger, S: RowStore<Addressed<Letter
 }
 
 /// Books a message by a connection. None where it is not booked.
-pub fn bring<A: Opening, T: Ledger, U: Ledger, S: RowStore<Addressed<Letter>>, H: Wait + Log>(
+pub(crate) fn bring<
+    A: ArrivalLedger,
+    T: Ledger,
+    U: Ledger,
+    S: RowStore<Queued<Outbound>>,
+    H: Wait + Log,
+>(
     rt: &H,
     alloc: Global,
     shared: &Shared<A, T, U, S>,
@@ -144,22 +152,22 @@ pub trait Task {
     type Answer: Drop;
 
     /// Does it, at the desks and the stations of the book. None where nothing comes of it.
-    fn work<A: Opening, T: Ledger, U: Ledger, S: RowStore<Addressed<Letter>>, H: Wait + Log>(
+    fn work<A: ArrivalLedger, T: Ledger, U: Ledger, S: RowStore<Queued<Outbound>>, H: Wait + Log>(
         &self,
         rt: &H,
         alloc: Global,
         shared: &Shared<A, T, U, S>,
         desks: &mut [Desk<A>],
-        stations: &mut [Station<T, U>],
+        stations: &mut [Station<A, T, U>],
     ) -> Option<Self::Answer>;
 
     /// Whether that, and the book after it, are as they are to be.
-    fn is_right<S: RowStore<Addressed<Letter>>>(&self, done: &Done<Self::Answer, S>) -> bool;
+    fn is_right<S: RowStore<Queued<Outbound>>>(&self, done: &Done<Self::Answer, S>) -> bool;
 }
 
 /// The result of a task, and the book after it.
 #[derive(Drop)]
-pub struct Done<X, S: RowStore<Addressed<Letter>>> {
+pub struct Done<X, S: RowStore<Queued<Outbound>>> {
     pub answer: X,
     pub closed: Closed<S>,
 }
@@ -177,21 +185,24 @@ pub enum Undone {
 
 /// Shares a book between a desk and a station, does a task with it, and closes it.
 fn share_and_close<
-    A: Opening,
+    A: ArrivalLedger,
     T: Ledger,
     U: Ledger,
-    S: RowStore<Addressed<Letter>> + Drop,
+    S: RowStore<Queued<Outbound>> + Drop,
     K: Task,
     H: Wait + Log,
 >(
     rt: &H,
     alloc: Global,
     book: Book<S>,
+    log: BlankLog<LogEntry>,
     arrivals: Blank,
     takes: Blank,
     settlements: Blank,
     task: &K,
 ) -> Result<Done<K::Answer, S>, Undone>
+    requires opening { book ≡ A.opening }
+    requires log { log.table.shared.table_id ≡ A.table }
     requires counts { counted book ≡ A.counts }
     requires first { next_place book ≡ A.first }
     requires channels { length (plan_in_force book).channels ≡ A.channels }
@@ -199,7 +210,7 @@ fn share_and_close<
     requires takes { (takes.name ≡ T.name) × (takes.parts ≡ T.parts) × (T.parts ≡ 2) }
     requires settlements { (settlements.name ≡ U.name) × (settlements.parts ≡ U.parts) × (U.parts ≡ 2) }
 {
-    let opened = Shared::<A, T, U, S>::new(alloc, book, 1, 1, arrivals, takes, settlements);
+    let opened = Shared::<A, T, U, S>::new(alloc, book, 1, 1, log, arrivals, takes, settlements);
     let Ok((shared, mut desks, mut stations)) = opened else {
         return Err(Undone::NotShared);
     };
@@ -213,16 +224,20 @@ fn share_and_close<
 }
 
 /// Does a task with a book that is shared between a desk and a station.
-pub fn share<S: RowStore<Addressed<Letter>> + Drop, K: Task, H: Wait + Log>(
+pub(crate) fn share<S: RowStore<Queued<Outbound>> + Drop, K: Task, H: Wait + Log>(
     rt: &H,
     alloc: Global,
     book: Book<S>,
     task: &K,
 ) -> Result<Done<K::Answer, S>, Undone> {
+    let Ok(log) = BlankLog::new(alloc) else {
+        return Err(Undone::NotShared);
+    };
     share_and_close::<Brand, Brand, Brand, S, K, H>(
         rt,
         alloc,
         book,
+        log,
         Blank::new(2),
         Blank::new(2),
         Blank::new(2),
@@ -231,7 +246,7 @@ pub fn share<S: RowStore<Addressed<Letter>> + Drop, K: Task, H: Wait + Log>(
 }
 
 /// Whether a task with a shared book comes out as it is to.
-pub fn comes_out<S: RowStore<Addressed<Letter>> + Drop, K: Task, H: Wait + Log>(
+pub(crate) fn comes_out<S: RowStore<Queued<Outbound>> + Drop, K: Task, H: Wait + Log>(
     rt: &H,
     alloc: Global,
     book: Book<S>,

@@ -5,10 +5,11 @@ ghost use Rattle.event_log.specs.History.{next_place, plan_in_force};
 ghost use Rattle.event_log.specs.Counting.{counted};
 
 use crate::stage::{Rows, UPDATE, waiting};
-use book_core::{Book, EVENTS_MAX, Letter};
-use book_lock::{Closed, Opening, Shared, Station};
+use book_core::{Book, EVENTS_MAX, Outbound};
+use book_lock::{ArrivalLedger, Closed, LogEntry, Shared, Station};
 use conn_worker::nearest;
-use dest_queue::{Addressed, FailCause, Outcome, SlotState};
+use dest_queue::{FailCause, Outcome, Queued, SlotState};
+use ghost_log::BlankLog;
 use log::Log;
 use row_store::RowStore;
 use std::alloc::Global;
@@ -23,11 +24,13 @@ use std::thread::Threads;
 const ROUNDS: u32 = 200;
 
 /// Takes the front of each of four queues, and has it delivered.
-fn deliver_all<A: Opening, T: Ledger, U: Ledger, S: RowStore<Addressed<Letter>>, H: Wait + Log>(
-    rt: &H,
-    shared: &Shared<A, T, U, S>,
-    station: Station<T, U>,
-) -> Station<T, U> {
+fn deliver_all<
+    A: ArrivalLedger,
+    T: Ledger,
+    U: Ledger,
+    S: RowStore<Queued<Outbound>>,
+    H: Wait + Log,
+>(rt: &H, shared: &Shared<A, T, U, S>, station: Station<A, T, U>) -> Station<A, T, U> {
     let mut station = station;
     for d in 0..4 {
         if let Ok(job) = shared.take(rt, &mut station, d, nearest(0)) {
@@ -44,7 +47,7 @@ fn deliver_all<A: Opening, T: Ledger, U: Ledger, S: RowStore<Addressed<Letter>>,
 }
 
 /// Cancels message 0. Whether a slot of it waited.
-fn cancel<A: Opening, T: Ledger, U: Ledger, S: RowStore<Addressed<Letter>>, H: Wait + Log>(
+fn cancel<A: ArrivalLedger, T: Ledger, U: Ledger, S: RowStore<Queued<Outbound>>, H: Wait + Log>(
     rt: &H,
     shared: &Shared<A, T, U, S>,
 ) -> bool {
@@ -53,12 +56,12 @@ fn cancel<A: Opening, T: Ledger, U: Ledger, S: RowStore<Addressed<Letter>>, H: W
 
 /// Cancels message 0 on one thread, while another delivers what waits.
 fn beside<
-    A: Opening + Send + Sync,
+    A: ArrivalLedger + Send + Sync,
     T: Ledger + Send + Sync,
     U: Ledger + Send + Sync,
-    S: RowStore<Addressed<Letter>> + Send,
+    S: RowStore<Queued<Outbound>> + Send,
     H: Log + Threads + Wait + Sync,
->(rt: &H, shared: &Shared<A, T, U, S>, station: Station<T, U>) -> Station<T, U> {
+>(rt: &H, shared: &Shared<A, T, U, S>, station: Station<A, T, U>) -> Station<A, T, U> {
     let (_, station) = thread::join(
         rt,
         move || cancel(rt, shared),
@@ -69,31 +72,34 @@ fn beside<
 
 /// Cancels message 0 of a shared book, while the last of the stations delivers what waits.
 fn work_beside<
-    A: Opening + Send + Sync,
+    A: ArrivalLedger + Send + Sync,
     T: Ledger + Send + Sync,
     U: Ledger + Send + Sync,
-    S: RowStore<Addressed<Letter>> + Send,
+    S: RowStore<Queued<Outbound>> + Send,
     H: Log + Threads + Wait + Sync,
->(rt: &H, shared: &Shared<A, T, U, S>, stations: &mut Vec<Station<T, U>>) -> Option<()> {
+>(rt: &H, shared: &Shared<A, T, U, S>, stations: &mut Vec<Station<A, T, U>>) -> Option<()> {
     let station = stations.pop()?;
     stations.push(beside(rt, shared, station)).ok()
 }
 
 /// Shares a book, has its message 0 cancelled beside its deliveries, and closes it. None where memory is refused.
 fn cancel_and_deliver<
-    A: Opening + Send + Sync,
+    A: ArrivalLedger + Send + Sync,
     T: Ledger + Send + Sync,
     U: Ledger + Send + Sync,
-    S: RowStore<Addressed<Letter>> + Drop + Send,
+    S: RowStore<Queued<Outbound>> + Drop + Send,
     H: Log + Threads + Wait + Sync,
 >(
     rt: &H,
     alloc: Global,
     book: Book<S>,
+    log: BlankLog<LogEntry>,
     arrivals: Blank,
     takes: Blank,
     settlements: Blank,
 ) -> Option<Closed<S>>
+    requires opening { book ≡ A.opening }
+    requires log { log.table.shared.table_id ≡ A.table }
     requires counts { counted book ≡ A.counts }
     requires first { next_place book ≡ A.first }
     requires channels { length (plan_in_force book).channels ≡ A.channels }
@@ -101,14 +107,14 @@ fn cancel_and_deliver<
     requires takes { (takes.name ≡ T.name) × (takes.parts ≡ T.parts) × (T.parts ≡ 2) }
     requires settlements { (settlements.name ≡ U.name) × (settlements.parts ≡ U.parts) × (U.parts ≡ 2) }
 {
-    let opened = Shared::<A, T, U, S>::new(alloc, book, 0, 1, arrivals, takes, settlements);
+    let opened = Shared::<A, T, U, S>::new(alloc, book, 0, 1, log, arrivals, takes, settlements);
     let (shared, desks, mut stations) = opened.ok()?;
     work_beside(rt, &shared, &mut stations)?;
     shared.close(desks, stations).ok()
 }
 
 /// Whether the slot at a destination reached its end, and is counted there once.
-fn is_over<S: RowStore<Addressed<Letter>>>(book: &Book<S>, d: u32) -> bool
+fn is_over<S: RowStore<Queued<Outbound>>>(book: &Book<S>, d: u32) -> bool
     requires { d < 32 }
 {
     let state = book.status(0, d);
@@ -119,20 +125,24 @@ fn is_over<S: RowStore<Addressed<Letter>>>(book: &Book<S>, d: u32) -> bool
 }
 
 /// Whether each slot of message 0 was delivered or cancelled, and the statistics count as many as there are.
-fn is_right<S: RowStore<Addressed<Letter>>>(book: &Book<S>) -> bool {
+fn is_right<S: RowStore<Queued<Outbound>>>(book: &Book<S>) -> bool {
     book.status(0, 0).is_none() && is_over(book, 1) && is_over(book, 2) && is_over(book, 3)
 }
 
 /// Whether a cancellation beside deliveries, in this book, comes out as it is to.
-fn comes_out<S: RowStore<Addressed<Letter>> + Drop + Send, H: Log + Threads + Wait + Sync>(
+fn comes_out<S: RowStore<Queued<Outbound>> + Drop + Send, H: Log + Threads + Wait + Sync>(
     rt: &H,
     alloc: Global,
     book: Book<S>,
 ) -> bool {
+    let Ok(log) = BlankLog::new(alloc) else {
+        return false;
+    };
     let closed = cancel_and_deliver::<Brand, Brand, Brand, S, H>(
         rt,
         alloc,
         book,
+        log,
         Blank::new(1),
         Blank::new(2),
         Blank::new(2),

@@ -1,10 +1,10 @@
 //! What a service asks of a shared book: arrivals that prune a tight book, numbers of connections, and what is shown.
 
 use crate::stage::{Done, M1, M2, Rows, Task, comes_out, judged_now, waiting};
-use book_core::{Book, Front, Letter, PruneRefusal, Told};
-use book_lock::{Desk, Found, Gauge, Opening, Shared, Station, Status, Tidied, Tidying};
+use book_core::{Book, Front, Outbound, PruneRefusal, Told};
+use book_lock::{ArrivalLedger, Desk, Found, Gauge, Shared, Station, Status, Tidied, Tidying};
 use conn_worker::nearest;
-use dest_queue::{Addressed, Outcome, SlotState};
+use dest_queue::{Outcome, Queued, SlotState};
 use log::Log;
 use row_store::RowStore;
 use std::alloc::Global;
@@ -40,13 +40,13 @@ struct Showing;
 impl Task for Showing {
     type Answer = Shown;
 
-    fn work<A: Opening, T: Ledger, U: Ledger, S: RowStore<Addressed<Letter>>, H: Wait + Log>(
+    fn work<A: ArrivalLedger, T: Ledger, U: Ledger, S: RowStore<Queued<Outbound>>, H: Wait + Log>(
         &self,
         rt: &H,
         _: Global,
         shared: &Shared<A, T, U, S>,
         _: &mut [Desk<A>],
-        _: &mut [Station<T, U>],
+        _: &mut [Station<A, T, U>],
     ) -> Option<Shown> {
         let admitted = [shared.admit(rt), shared.admit(rt)];
         let (status, plan) = shared.status(rt).ok()?;
@@ -66,7 +66,7 @@ impl Task for Showing {
     }
 
     /// Whether all that is shown is that of two messages that wait at the one destination.
-    fn is_right<S: RowStore<Addressed<Letter>>>(&self, done: &Done<Shown, S>) -> bool {
+    fn is_right<S: RowStore<Queued<Outbound>>>(&self, done: &Done<Shown, S>) -> bool {
         let shown = &done.answer;
         shown.admitted == [Some(0), Some(1)]
             && done.closed.admitted() == 2
@@ -170,10 +170,10 @@ fn is_folded(found: &Found) -> bool {
 }
 
 /// Delivers the front of queue 0. None where that is refused.
-fn deliver<A: Opening, T: Ledger, U: Ledger, S: RowStore<Addressed<Letter>>, H: Wait + Log>(
+fn deliver<A: ArrivalLedger, T: Ledger, U: Ledger, S: RowStore<Queued<Outbound>>, H: Wait + Log>(
     rt: &H,
     shared: &Shared<A, T, U, S>,
-    station: &mut Station<T, U>,
+    station: &mut Station<A, T, U>,
 ) -> Option<SlotState> {
     let ticket = shared.take(rt, station, 0, nearest(0)).ok()?.ticket;
     shared
@@ -182,7 +182,7 @@ fn deliver<A: Opening, T: Ledger, U: Ledger, S: RowStore<Addressed<Letter>>, H: 
 }
 
 /// Books a message by connection 7, with the last message kept where the book is tight.
-fn bring_tidy<A: Opening, T: Ledger, U: Ledger, S: RowStore<Addressed<Letter>>, H: Wait + Log>(
+fn bring_tidy<A: ArrivalLedger, T: Ledger, U: Ledger, S: RowStore<Queued<Outbound>>, H: Wait + Log>(
     rt: &H,
     alloc: Global,
     shared: &Shared<A, T, U, S>,
@@ -196,13 +196,13 @@ fn bring_tidy<A: Opening, T: Ledger, U: Ledger, S: RowStore<Addressed<Letter>>, 
 impl Task for Filling {
     type Answer = Tidyings;
 
-    fn work<A: Opening, T: Ledger, U: Ledger, S: RowStore<Addressed<Letter>>, H: Wait + Log>(
+    fn work<A: ArrivalLedger, T: Ledger, U: Ledger, S: RowStore<Queued<Outbound>>, H: Wait + Log>(
         &self,
         rt: &H,
         alloc: Global,
         shared: &Shared<A, T, U, S>,
         desks: &mut [Desk<A>],
-        stations: &mut [Station<T, U>],
+        stations: &mut [Station<A, T, U>],
     ) -> Option<Tidyings> {
         let desk = desks.first_mut()?;
         let station = stations.first_mut()?;
@@ -223,7 +223,7 @@ impl Task for Filling {
 
     /// Whether the second message found room, the last arrival pruned the book but for one message, and a pruning with none
     /// kept forgets nothing that waits.
-    fn is_right<S: RowStore<Addressed<Letter>>>(&self, done: &Done<Tidyings, S>) -> bool {
+    fn is_right<S: RowStore<Queued<Outbound>>>(&self, done: &Done<Tidyings, S>) -> bool {
         let came = &done.answer;
         told(&came.at_first) == Some(Told::Accepted(1))
             && came.at_first.tidying == Tidying::NotTight

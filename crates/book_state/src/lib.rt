@@ -5,8 +5,8 @@
 pub mod answers;
 pub mod words;
 
-use book_core::{Book, Letter};
-use dest_queue::Addressed;
+use book_core::{Book, Outbound};
+use dest_queue::Queued;
 use plan_text::Plan;
 use play_script::shown;
 use row_store::RowStore;
@@ -15,7 +15,7 @@ use std::alloc::AllocError;
 use std::fmt::Write;
 
 /// Appends how full a book is.
-fn push_size<S: RowStore<Addressed<Letter>>>(
+fn push_size<S: RowStore<Queued<Outbound>>>(
     told: &mut String,
     book: &Book<S>,
 ) -> Result<(), AllocError> {
@@ -44,7 +44,7 @@ fn push_plan(told: &mut String, plan: &Plan) -> Result<(), AllocError> {
 }
 
 /// Appends what was counted of each channel on which anything arrived, and of each destination that anything goes to.
-fn push_counts<S: RowStore<Addressed<Letter>>>(
+fn push_counts<S: RowStore<Queued<Outbound>>>(
     told: &mut String,
     book: &Book<S>,
 ) -> Result<(), AllocError> {
@@ -66,7 +66,7 @@ fn push_counts<S: RowStore<Addressed<Letter>>>(
 }
 
 /// Appends the slots of a message.
-fn push_slots<S: RowStore<Addressed<Letter>>>(
+fn push_slots<S: RowStore<Queued<Outbound>>>(
     told: &mut String,
     book: &Book<S>,
     number: u32,
@@ -80,7 +80,7 @@ fn push_slots<S: RowStore<Addressed<Letter>>>(
 }
 
 /// Appends what is kept of each message, and its slots.
-fn push_messages<S: RowStore<Addressed<Letter>>>(
+fn push_messages<S: RowStore<Queued<Outbound>>>(
     told: &mut String,
     book: &Book<S>,
 ) -> Result<(), AllocError> {
@@ -100,7 +100,7 @@ fn push_messages<S: RowStore<Addressed<Letter>>>(
 }
 
 /// Appends the message at the front of each queue.
-fn push_fronts<S: RowStore<Addressed<Letter>>>(
+fn push_fronts<S: RowStore<Queued<Outbound>>>(
     told: &mut String,
     book: &mut Book<S>,
 ) -> Result<(), AllocError> {
@@ -117,7 +117,7 @@ fn push_fronts<S: RowStore<Addressed<Letter>>>(
 /// # Errors
 ///
 /// Where memory is refused.
-pub fn push_held<S: RowStore<Addressed<Letter>>>(
+pub fn push_held<S: RowStore<Queued<Outbound>>>(
     told: &mut String,
     book: &Book<S>,
 ) -> Result<(), AllocError> {
@@ -132,7 +132,7 @@ pub fn push_held<S: RowStore<Addressed<Letter>>>(
 /// # Errors
 ///
 /// Where memory is refused.
-pub fn push_book<S: RowStore<Addressed<Letter>>>(
+pub fn push_book<S: RowStore<Queued<Outbound>>>(
     told: &mut String,
     book: &mut Book<S>,
 ) -> Result<(), AllocError> {

@@ -1,7 +1,7 @@
 //! Whether books and the sequential engine are alike.
 
-use book_core::{Book, Job, Letter, PruneRefusal, TakeRefusal};
-use dest_queue::{Addressed, Outcome, SlotState};
+use book_core::{Book, Job, Outbound, PruneRefusal, TakeRefusal};
+use dest_queue::{Outcome, Queued, SlotState};
 use event_log::{Entry, Ticket, Told};
 use hl7_head::Moment;
 use record_list::RecordList;
@@ -10,14 +10,14 @@ use sequential_book::SequentialBook;
 use std::alloc::AllocError;
 
 /// The book of the engines, with the rows of the program.
-pub type Engine = Book<RecordList<Addressed<Letter>>>;
+pub type Engine = Book<RecordList<Queued<Outbound>>>;
 
 /// Whether a slot, a queue and the number of entries are the same in a book and in the sequential engine.
 ///
 /// # Errors
 ///
 /// Where memory is refused.
-pub fn is_alike(
+pub(crate) fn is_alike(
     book: &Engine,
     other: &SequentialBook,
     number: u32,
@@ -32,7 +32,10 @@ pub fn is_alike(
 }
 
 /// Whether two takes gave jobs that send the same, or were refused for the same reason.
-pub fn is_same_take(one: &Result<Job, TakeRefusal>, other: &Result<Job, TakeRefusal>) -> bool {
+pub(crate) fn is_same_take(
+    one: &Result<Job, TakeRefusal>,
+    other: &Result<Job, TakeRefusal>,
+) -> bool {
     match (one, other) {
         (Ok(one), Ok(other)) => is_same_job(one, other),
         (Err(one), Err(other)) => one == other,
@@ -50,7 +53,7 @@ fn is_same_job(one: &Job, other: &Job) -> bool {
 
 /// Why the messages below a number may not be forgotten where those below `forgotten` are, by a book that keeps all. None that
 /// is forgotten was live.
-pub fn prune_refusal(book: &Engine, forgotten: u32, before: u32) -> Option<PruneRefusal> {
+pub(crate) fn prune_refusal(book: &Engine, forgotten: u32, before: u32) -> Option<PruneRefusal> {
     if before > book.message_count() {
         return Some(PruneRefusal::NoSuchMessage);
     }
@@ -69,7 +72,7 @@ fn is_live(book: &Engine, number: u32) -> bool {
 }
 
 /// Whether two entries are the same.
-pub fn is_same(one: &Entry, other: &Entry) -> bool {
+pub(crate) fn is_same(one: &Entry, other: &Entry) -> bool {
     match one {
         Entry::Arrival {
             conn,

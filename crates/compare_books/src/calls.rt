@@ -118,7 +118,7 @@ fn run(rt: &HostRuntime, seed: u32, calls: u32, asked: bool) -> Result<()> {
 /// # Errors
 ///
 /// The first difference, or that memory is refused or standard output can't be written.
-pub fn compare_calls(rt: &HostRuntime) -> Result<()> {
+pub(crate) fn compare_calls(rt: &HostRuntime) -> Result<()> {
     for seed in 0..RUNS {
         let asked = seed < ASKED;
         run(rt, seed, if asked { CALLS } else { LONG }, asked)?;

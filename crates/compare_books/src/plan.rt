@@ -86,7 +86,7 @@ route = [{{ to = "C" }}]
 /// # Errors
 ///
 /// Where the plan can't be read, or memory is refused.
-pub fn plan_of(alloc: Global, said: Said) -> Result<Arc<Plan>> {
+pub(crate) fn plan_of(alloc: Global, said: Said) -> Result<Arc<Plan>> {
     let text = text_of(alloc, said)?;
     match Plan::read(alloc, text.as_bytes()) {
         Ok(plan) => Ok(Arc::new(alloc, plan)?),
@@ -99,7 +99,12 @@ pub fn plan_of(alloc: Global, said: Said) -> Result<Arc<Plan>> {
 /// # Errors
 ///
 /// Where there is no such channel, no block holds the message, or memory is refused.
-pub fn judged_by(alloc: Global, plan: &Arc<Plan>, channel: u32, raw: Vec<u8>) -> Result<Judged>
+pub(crate) fn judged_by(
+    alloc: Global,
+    plan: &Arc<Plan>,
+    channel: u32,
+    raw: Vec<u8>,
+) -> Result<Judged>
     ensures { IfOk result (λ judged. judged.plan ≡ arc_value plan.now) }
 {
     if channel >= plan.channels() || !fits_block(&raw) {

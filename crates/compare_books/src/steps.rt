@@ -6,7 +6,7 @@ use crate::dice::Dice;
 use crate::worlds::Worlds;
 use anyhow::{Result, bail};
 
-/// How many pairs of runs there are, each run with engines in which nothing came. The second of a pair forgets messages.
+/// How many pairs of runs there are, each run with engines that have received nothing. The second of a pair forgets messages.
 const PAIRS: u32 = 20;
 
 /// How many steps a run takes that forgets no message.
@@ -31,7 +31,7 @@ fn step(dice: &mut Dice, worlds: &mut Worlds, forgets: bool) -> Result<()> {
     }
 }
 
-/// Compares what came of a run. An error where nothing was booked or sent.
+/// Compares the results of a run. An error where nothing was booked or sent.
 fn compare_ends(rt: &HostRuntime, worlds: &Worlds) -> Result<()> {
     worlds.compare_queues()?;
     let sent = worlds.compare_output()?;
@@ -59,7 +59,7 @@ struct Made {
     forgotten: u32,
 }
 
-/// Takes the steps of one run, and compares what came of them.
+/// Takes the steps of one run, and compares their results.
 fn run_worlds(rt: &HostRuntime, seed: u32, worlds: &mut Worlds, forgets: bool) -> Result<Made> {
     take_steps(seed, worlds, forgets)?;
     compare_ends(rt, worlds)?;
@@ -69,7 +69,7 @@ fn run_worlds(rt: &HostRuntime, seed: u32, worlds: &mut Worlds, forgets: bool) -
     })
 }
 
-/// Makes one run with engines in which nothing came.
+/// Makes one run with engines that have received nothing.
 fn run(rt: &HostRuntime, seed: u32) -> Result<Made> {
     let forgets = seed % 2 == 1;
     let mut worlds = Worlds::new(rt, forgets)?;
@@ -82,7 +82,7 @@ fn run(rt: &HostRuntime, seed: u32) -> Result<Made> {
 ///
 /// The first difference; that no plan was deployed, or no message forgotten; that memory is refused, or standard output
 /// can't be written.
-pub fn compare_steps(rt: &HostRuntime) -> Result<()> {
+pub(crate) fn compare_steps(rt: &HostRuntime) -> Result<()> {
     let (mut deployments, mut forgotten) = (0_u32, 0_u32);
     for seed in 0..PAIRS * 2 {
         let made = run(rt, seed)?;

@@ -6,8 +6,8 @@ use crate::known::{Key, Keys};
 use crate::line::{Block, Line, Piece};
 use crate::plan::{Said, judged_by, plan_of};
 use anyhow::{Result, bail};
-use book_core::{EVENTS_MAX, Letter};
-use dest_queue::Addressed;
+use book_core::{EVENTS_MAX, Outbound};
+use dest_queue::Queued;
 use engine_model::{Step, World, steps_of};
 use event_log::Ticket;
 use hl7_head::Moment;
@@ -17,7 +17,7 @@ use std::alloc::{AllocError, Global};
 use std::hash::RandomState;
 use std::sync::Arc;
 
-type Engine = World<RecordList<Addressed<Letter>>>;
+type Engine = World<RecordList<Queued<Outbound>>>;
 
 /// How many entries the engines may hold where no message is forgotten.
 const ENTRIES: u32 = 60;

@@ -15,8 +15,9 @@ use Rattle.event_log.specs.History.{History, plan_in_force}
 use Rattle.event_log.specs.Room.{is_full}
 use Rattle.event_log.proofs.Events.{arrival-full, arrival-room, arrival-told}
 use Rattle.judge_core.specs.Judging.{Judgement}
-use Rattle.conn_core.specs.Booking.{OutcomeAtBook, receipts_of}
-use Rattle.conn_core.specs.Replies.{told_by}
+use Rattle.conn_core.specs.Booking.{OutcomeAtBook}
+use Rattle.conn_core.specs.inner.Booking.{receipts_of}
+use Rattle.conn_core.specs.inner.Replies.{told_by}
 
 -- the same refusal, of what was told
 to_told : (r : Result Receipt NotBooked) (e : NotBooked) → IsErrOf r e → IsErrOf (told_by r) e

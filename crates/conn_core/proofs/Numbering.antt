@@ -11,7 +11,7 @@ use Rattle.event_log.specs.declared.entry.Told.{Told}
 use Rattle.hl7_head.specs.declared.ack.AckPart.{AckPart}
 use Rattle.hl7_head.specs.Header.{Msh}
 use Rattle.conn_core.specs.declared.replies.Replies.{Replies}
-use Rattle.conn_core.specs.Outcomes.{AppendsInPart}
+use Rattle.conn_core.specs.inner.Outcomes.{AppendsInPart}
 use Rattle.conn_core.specs.Replies.{Due, reply, numbered, dues_by, told_of}
 
 pub numbered-append : (conn first : ℕ) (xs ys : List Due) → numbered conn first (xs ++ ys) ≡ numbered conn first xs ++ numbered conn (first + length xs) ys

@@ -3,7 +3,7 @@ use Rattle.std.proofs.Common.{◌≡◌, ℕ, Bool, true, false, not, List, Opti
 use Rattle.std.proofs.lemmas.Bool.{eqb-true, or_cases}
 use Rattle.std.specs.Option.{option_map_or}
 use Rattle.hl7_head.specs.Header.{Msh, header_of}
-use Rattle.hl7_head.specs.Laws.{AreControl}
+use Rattle.hl7_head.specs.inner.Laws.{AreControl}
 use Rattle.judge_core.specs.Judging.{is_acknowledgment, is_bookable, is_unreadable, is_stray}
 use Rattle.mllp_frame.specs.Framing.{end_block, is_framing, start_block}
 

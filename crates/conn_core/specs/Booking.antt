@@ -1,26 +1,17 @@
 -- What a book is given, one receipt after the other.
-use Rattle.std.specs.Prelude.{◌≡◌, ℕ, ◌+◌, zero, suc, List, [], ◌∷◌, ◌++◌, length, map, Result, Ok, Err, IsTrue, IsErrOf, ◌≢◌, ◌↔◌, Some, refl}
-use Rattle.std.specs.List.{filter_map, range_with_len}
+use Rattle.std.specs.Prelude.{◌≡◌, ◌+◌, List, ◌++◌, length, map, Result, IsTrue, IsErrOf, ◌≢◌, ◌↔◌, Some}
+use Rattle.std.specs.List.{range_with_len}
 use Rattle.std.specs.Result.{IfOk}
-use Rattle.std.proofs.Common.{sym, ap, ◌∙◌, append_assoc, append-nil, length-append, arith}
-use Rattle.std.proofs.lemmas.List.{map-append}
 use Rattle.book_core.specs.declared.receipt.NotBooked.{NotBooked}
 use Rattle.book_core.specs.declared.receipt.NotBooked.TheVariants.{Full, PlanChanged}
 use Rattle.book_core.specs.declared.receipt.Receipt.{Receipt}
 use Rattle.event_log.specs.Answers.{arrival_answer}
-use Rattle.event_log.specs.History.{History, deployed_by, next_place, plan_in_force}
+use Rattle.event_log.specs.History.{History, next_place, plan_in_force}
 use Rattle.event_log.specs.Room.{is_full}
 use Rattle.event_log.specs.declared.entry.Entry.{Entry}
 use Rattle.event_log.specs.declared.entry.Entry.TheVariants.{Arrival}
 use Rattle.event_log.specs.declared.entry.Told.{Told}
-use Rattle.event_log.proofs.Following.{plan-kept_all}
 use Rattle.judge_core.specs.Judging.{Judgement}
-use Rattle.plan_text.specs.Entries.{PlanEntry}
-
--- the receipt that an outcome brings, if it brings one
-abbrev pub receipts_of : Result Receipt NotBooked → List Receipt
-receipts_of (Ok r) = r ∷ []
-receipts_of (Err refusal) = []
 
 -- the entry of an arrival that a receipt is of
 abbrev pub arrival_by : Receipt → Entry
@@ -38,53 +29,3 @@ pub record OutcomeAtBook (book : History) (judged : Judgement) (outcome : Result
   pub told : IfOk outcome (λ told. arrival_answer book judged.channel judged.raw ≡ Some told)
   pub plan : IsErrOf outcome PlanChanged ↔ judged.plan ≢ plan_in_force book
   pub full : IsErrOf outcome Full ↔ (judged.plan ≡ plan_in_force book) × IsTrue (is_full book judged.channel judged.raw)
-
-range-append : (a m n : ℕ) → range_with_len a (m + n) ≡ range_with_len a m ++ range_with_len (a + m) n
-range-append a zero n = ap (range_with_len a) (omega arith) ∙ ap (λ b. range_with_len b n) (omega arith)
-range-append a (suc m) n =
-    let one : suc m + n ≡ suc (m + n) = omega arith in
-    let next : (a + 1) + m ≡ a + suc m = omega arith in
-    ap (range_with_len a) one
-    ∙ ap (λ l. a ∷ l) (range-append (a + 1) m n)
-    ∙ ap (λ b. a ∷ (range_with_len (a + 1) m ++ range_with_len b n)) next
-
-length-map : {X Y : Type 0} (f : X → Y) (xs : List X) → length (map f xs) ≡ length xs
-length-map f [] = refl
-length-map f (x ∷ xs) = ap (λ n. suc n) (length-map f xs)
-
-abbrev with_entries : History → List Entry → History
-with_entries book entries = record book { entries = entries }
-
-pub books_none : (book : History) → Books book book []
-books_none book = record { history = ap (with_entries book) (sym (append-nil book.entries)); places = refl }
-
-pub books_trans : (a b c : History) (xs ys : List Receipt) → Books a b xs → Books b c ys → Books a c (xs ++ ys)
-books_trans a b c xs ys one two =
-    let place : Receipt → ℕ = λ r. r.entry in
-    let size : next_place b ≡ next_place a + length xs = omega (arith, ap next_place one.history, length-append a.entries (map arrival_by xs), length-map arrival_by xs) in
-    record {
-      history =
-          two.history
-          ∙ ap (λ (l : History). with_entries l (l.entries ++ map arrival_by ys)) one.history
-          ∙ ap (with_entries a) (append_assoc a.entries (map arrival_by xs) (map arrival_by ys) ∙ ap (λ l. a.entries ++ l) (sym (map-append arrival_by xs ys)));
-      places =
-          map-append (λ (r : Receipt). r.entry) xs ys
-          ∙ ap (λ l. l ++ map (λ (r : Receipt). r.entry) ys) one.places
-          ∙ ap (λ l. range_with_len (next_place a) (length xs) ++ l) (two.places ∙ ap (λ n. range_with_len n (length ys)) size)
-          ∙ sym (range-append (next_place a) (length xs) (length ys))
-          ∙ ap (range_with_len (next_place a)) (sym (length-append xs ys));
-    }
-
-pub books_one : (old new : History) (r : Receipt) → new ≡ record old { entries = old.entries ++ arrival_by r ∷ [] } → r.entry ≡ next_place old → Books old new (r ∷ [])
-books_one old new r grown place = record { history = grown; places = ap (λ n. n ∷ []) place }
-
--- arrivals deploy no plan
-pub books_deploy_none : (rs : List Receipt) → filter_map deployed_by (map arrival_by rs) ≡ []
-books_deploy_none [] = refl
-books_deploy_none (r ∷ rs) = books_deploy_none rs
-
--- the plan in force stays
-pub books_same_channels : (old new : History) (rs : List Receipt) → Books old new rs → length (plan_in_force new).channels ≡ length (plan_in_force old).channels
-books_same_channels old new rs more =
-    ap (λ (h : History). length (plan_in_force h).channels) more.history
-    ∙ ap (λ (p : PlanEntry). length p.channels) (plan-kept_all old.opening.plan old.entries (map arrival_by rs) (books_deploy_none rs))

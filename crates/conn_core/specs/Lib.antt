@@ -1,4 +1,4 @@
 pub mod Messages
 pub mod Replies
 pub mod Booking
-pub mod Outcomes
+pub mod inner

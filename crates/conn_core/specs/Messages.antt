@@ -5,17 +5,17 @@ use Rattle.book_core.specs.declared.receipt.NotBooked.{NotBooked}
 use Rattle.book_core.specs.declared.receipt.Receipt.{Receipt}
 use Rattle.event_log.specs.declared.entry.Told.{Told}
 use Rattle.judge_core.specs.Judging.{is_bookable, is_unreadable as is_unreadable_text, is_stray as is_stray_text}
-use Rattle.mllp_frame.specs.Event.{Event, block, broken}
+use Rattle.mllp_frame.specs.Event.{FramingEvent, block, broken}
 use Rattle.mllp_frame.specs.Framing.{blocks}
 use Rattle.conn_core.specs.Replies.{Answer}
 
 -- the message that an event brings: a block that can be read and is no acknowledgment
-abbrev pub message_of : Event → Option (List ℕ)
+abbrev pub message_of : FramingEvent → Option (List ℕ)
 message_of (block raw) = if is_bookable raw then Some raw else None
 message_of (broken cause) = None
 
 -- the messages that events bring, in order
-abbrev pub messages_of : List Event → List (List ℕ)
+abbrev pub messages_of : List FramingEvent → List (List ℕ)
 messages_of events = filter_map message_of events
 
 -- the messages of a stream: its blocks that can be read and are no acknowledgments, in order
@@ -23,17 +23,17 @@ abbrev pub messages : List ℕ → List (List ℕ)
 messages stream = messages_of (blocks stream)
 
 -- a block that is no message
-abbrev pub is_unreadable : Event → Bool
-is_unreadable (block raw) = is_unreadable_text raw
-is_unreadable (broken cause) = false
+abbrev pub is_unreadable_block : FramingEvent → Bool
+is_unreadable_block (block raw) = is_unreadable_text raw
+is_unreadable_block (broken cause) = false
 
 -- a block that is an acknowledgment, which requests no answer
-abbrev pub is_stray : Event → Bool
-is_stray (block raw) = is_stray_text raw
-is_stray (broken cause) = false
+abbrev pub is_stray_block : FramingEvent → Bool
+is_stray_block (block raw) = is_stray_text raw
+is_stray_block (broken cause) = false
 
 -- a block that was broken
-abbrev pub is_break : Event → Bool
+abbrev pub is_break : FramingEvent → Bool
 is_break (block raw) = false
 is_break (broken cause) = true
 

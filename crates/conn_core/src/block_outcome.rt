@@ -3,11 +3,12 @@
 ghost use Rattle.std.specs.Prelude.{◌≡◌, ◌+◌, ◌<◌, ◌≤◌, ◌∷◌, [], ◌++◌, IfOk, IfErr, OnErr, IsTrue, IsFalse, length};
 ghost use Rattle.judge_core.specs.Judging.{is_bookable};
 ghost use Rattle.mllp_frame.specs.Framing.{IsBlockData};
-ghost use Rattle.conn_core.specs.Outcomes.{AppendsInPart, IsOutcome, MayBecome, dues_in, is_whole, receipts_in};
-ghost use Rattle.conn_core.specs.Replies.{answer_to, dues_of, numbered, told_by};
+ghost use Rattle.conn_core.specs.inner.Outcomes.{AppendsInPart, IsOutcome, MayBecome, dues_in, is_whole, receipts_in};
+ghost use Rattle.conn_core.specs.Replies.{dues_of, numbered};
+ghost use Rattle.conn_core.specs.inner.Replies.{answer_to, told_by};
 
 use crate::booking::Booking;
-use crate::line::Line;
+use crate::line::ConnectionId;
 use crate::replies::Replies;
 use book_core::{NotBooked, Receipt};
 use event_log::Told;
@@ -59,7 +60,7 @@ fn told_by(outcome: &Result<Receipt, NotBooked>) -> Result<Told, NotBooked>
 
 /// Books a message, and appends its replies, at most two.
 pub fn book_and_reply<B: Booking>(
-    line: &Line,
+    line: &ConnectionId,
     book: &mut B,
     judged: &Judged,
     now: Moment,
@@ -96,7 +97,7 @@ pub fn book_and_reply<B: Booking>(
 }
 
 /// The text of a block, judged by the plan of where it is booked.
-fn judged_by<B: Booking>(line: &Line, book: &B, raw: Vec<u8>) -> Result<Judged, AllocError>
+fn judged_by<B: Booking>(line: &ConnectionId, book: &B, raw: Vec<u8>) -> Result<Judged, AllocError>
     requires channel { line.now.channel < B.channels book.now }
     requires data { IsBlockData raw.items }
     ensures for_channel { IfOk result (λ judged. judged.channel ≡ line.now.channel) }
@@ -109,7 +110,7 @@ fn judged_by<B: Booking>(line: &Line, book: &B, raw: Vec<u8>) -> Result<Judged, 
 
 /// Answers a block that was judged, as [`answer_block`] does.
 fn answer_judged<B: Booking>(
-    line: &Line,
+    line: &ConnectionId,
     book: &mut B,
     judged: &Judged,
     now: Moment,
@@ -145,7 +146,7 @@ fn answer_judged<B: Booking>(
 ///
 /// Where memory is refused before a message is booked; nothing is booked and nothing replied then.
 pub fn answer_block<B: Booking>(
-    line: &Line,
+    line: &ConnectionId,
     book: &mut B,
     raw: Vec<u8>,
     now: Moment,

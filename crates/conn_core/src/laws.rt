@@ -2,7 +2,7 @@
 
 ghost use Rattle.hl7_head.specs.Ack.{ack};
 ghost use Rattle.mllp_frame.specs.Framing.{IsData};
-ghost use Rattle.conn_core.specs.Outcomes.{CameInBlock};
+ghost use Rattle.conn_core.specs.inner.Outcomes.{CameInBlock};
 
 use hl7_head::{AckPart, Header, Moment, ack_adds_no_control};
 

@@ -11,5 +11,5 @@ mod replies;
 pub use block_outcome::{BlockOutcome, Booked, answer_block, book_and_reply};
 pub use booking::Booking;
 pub use laws::replies_fit_blocks;
-pub use line::Line;
+pub use line::ConnectionId;
 pub use replies::Replies;

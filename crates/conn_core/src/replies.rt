@@ -4,7 +4,7 @@ ghost use Rattle.std.specs.Prelude.{◌≡◌, ◌+◌, ◌<◌, ◌≤◌, [], 
 ghost use Rattle.std.specs.Option.{option_to_list};
 ghost use Rattle.hl7_head.specs.Ack.{ack};
 ghost use Rattle.mllp_frame.specs.Framing.{block_bytes};
-ghost use Rattle.conn_core.specs.Outcomes.{AppendsInPart};
+ghost use Rattle.conn_core.specs.inner.Outcomes.{AppendsInPart};
 ghost use Rattle.conn_core.specs.Replies.{numbered, dues_by, told_of};
 
 use ack_rule::{AckMode, Verdictum, parts};

@@ -3,10 +3,10 @@ use Rattle.std.proofs.Common.{◌≡◌, ℕ, ◌+◌, cond, map, Result, Ok, Er
 use Rattle.book_core.specs.declared.receipt.Receipt.{Receipt}
 use Rattle.book_core.specs.declared.receipt.NotBooked.{NotBooked}
 use Rattle.std.specs.Result.{is_err}
-use Rattle.conn_core.specs.Booking.{receipts_of}
+use Rattle.conn_core.specs.inner.Booking.{receipts_of}
 use Rattle.conn_core.specs.Messages.{booked, message_by}
-use Rattle.conn_core.specs.Replies.{answer_to, told_by}
-use Rattle.conn_worker.specs.Counting.{unbooked_of}
+use Rattle.conn_core.specs.inner.Replies.{answer_to, told_by}
+use Rattle.conn_worker.specs.inner.Counting.{unbooked_of}
 
 -- From one book and one keeper of receipts to others, these receipts were booked and handed in, and nothing else was.
 pub record Adds {B K : Type 0} (books : B → List Receipt → Type 0) (has : K → List Receipt → Type 0) (added : List Receipt) (b b' : B) (k k' : K) : Type 0 where

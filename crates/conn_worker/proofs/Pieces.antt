@@ -3,19 +3,20 @@ use Rattle.std.proofs.Common.{◌≡◌, ◌≢◌, ℕ, List, [], ◌++◌, Opt
 use Rattle.std.specs.Io.KnownBytes.{Consumes, Appends, IsAtEnd}
 use Rattle.std.proofs.KnownBytes.{Consumes-nil, Consumes-trans, Appends-nil, Appends-trans}
 use Rattle.book_core.specs.declared.receipt.Receipt.{Receipt}
-use Rattle.mllp_frame.specs.Event.{Event}
-use Rattle.mllp_frame.specs.Framed.{Framed, fed}
-use Rattle.mllp_frame.specs.Framing.{blocks, open_end}
+use Rattle.mllp_frame.specs.Event.{FramingEvent}
+use Rattle.mllp_frame.specs.inner.Framed.{Framed, fed}
+use Rattle.mllp_frame.specs.Framing.{blocks}
+use Rattle.mllp_frame.specs.inner.Framing.{open_end}
 use Rattle.conn_worker.specs.declared.report.ServeEnd.{ServeEnd}
 use Rattle.conn_worker.specs.declared.report.ServeEnd.TheVariants.{End, ReadFault, WriteFault, NoMemory, TurnBound}
 use Rattle.conn_worker.specs.declared.report.ServeReport.{ServeReport}
-use Rattle.conn_worker.specs.declared.dialogue.Dialogue.{Dialogue}
+use Rattle.conn_worker.specs.declared.dialogue.Progress.{Progress}
 use Rattle.conn_core.specs.Replies.{Answer}
-use Rattle.conn_worker.specs.Serving.{Tells, ServesAndBooks}
+use Rattle.conn_worker.specs.Serving.{ReportsServing, ServesAndBooks}
 use Rattle.conn_worker.specs.declared.session.Session.{Session}
-use Rattle.conn_worker.specs.Session.{IsFresh, SoFar}
-use Rattle.conn_worker.specs.Stream.{StopsReading, StopsWriting}
-use Rattle.conn_worker.specs.Handling.{HandlesAll, HandlesFront, StopsHandling}
+use Rattle.conn_worker.specs.inner.Session.{IsFresh, SoFar}
+use Rattle.conn_worker.specs.inner.Stream.{StopsReading, StopsWriting}
+use Rattle.conn_worker.specs.inner.Handling.{HandlesAll, HandlesFront, StopsHandling}
 
 -- What a longer stream holds, as the laws of framing say it.
 pub record StreamLaws : Type 0 where
@@ -23,8 +24,8 @@ pub record StreamLaws : Type 0 where
   pub end_is : (s more : List ℕ) → open_end (s ++ more) ≡ open_end (open_end s ++ more)
 
 -- how serving ended is no part of what is told
-tells_end : {K : Type 0} {conn channel : ℕ} {events : List Event} {answers : List Answer} {receipts : List Receipt} (r : ServeReport K) (end : ServeEnd) → Tells conn channel events answers receipts r
-    → Tells conn channel events answers receipts (record r { end = end })
+tells_end : {K : Type 0} {conn channel : ℕ} {events : List FramingEvent} {answers : List Answer} {receipts : List Receipt} (r : ServeReport K) (end : ServeEnd) → ReportsServing conn channel events answers receipts r
+    → ReportsServing conn channel events answers receipts (record r { end = end })
 tells_end r end s =
     record {
       messages = s.messages;
@@ -62,7 +63,7 @@ ends_here {B} {K} {books} {has} {conn} {channel} {to_read} {left} {held} {holds}
 
 module _ {B K : Type 0} (books : B → B → List Receipt → Type 0) {has : K → List Receipt → Type 0} {first b b' : B} (laws : StreamLaws) where
   -- a piece was read, the first of its events handled, and the front of their replies written
-  pub ends_amid : {conn channel : ℕ} {to_read left held holds : Option (List ℕ)} {z : Session K} (left' holds' : Option (List ℕ)) (t' : Dialogue K) (end : ServeEnd) (piece written unwritten : List ℕ)
+  pub ends_amid : {conn channel : ℕ} {to_read left held holds : Option (List ℕ)} {z : Session K} (left' holds' : Option (List ℕ)) (t' : Progress K) (end : ServeEnd) (piece written unwritten : List ℕ)
       → SoFar (books first) has conn channel to_read left held holds b z
       → Consumes left left' piece → HandlesFront books has conn channel (blocks (z.framer.open_end ++ piece)) b b' z.dialogue t'
       → t'.replies.bytes.items ≡ written ++ unwritten → Appends holds holds' written → end ≢ End
@@ -98,7 +99,7 @@ module _ {B K : Type 0} (books : B → B → List Receipt → Type 0) {has : K �
       }
 
   -- a piece was read, its events handled, and all their replies written
-  pub goes_on : {conn channel : ℕ} {to_read left held holds : Option (List ℕ)} {z : Session K} (left' holds' : Option (List ℕ)) (t' : Dialogue K) (z'' : Session K) (piece : List ℕ)
+  pub goes_on : {conn channel : ℕ} {to_read left held holds : Option (List ℕ)} {z : Session K} (left' holds' : Option (List ℕ)) (t' : Progress K) (z'' : Session K) (piece : List ℕ)
       → SoFar (books first) has conn channel to_read left held holds b z
       → Consumes left left' piece → HandlesAll books has conn channel (blocks (z.framer.open_end ++ piece)) b b' z.dialogue t'
       → Appends holds holds' t'.replies.bytes.items → z''.framer.to_come ≡ [] → z''.framer.open_end ≡ open_end (z.framer.open_end ++ piece)

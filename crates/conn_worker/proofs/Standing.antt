@@ -8,19 +8,20 @@ use Rattle.std.proofs.lemmas.List.Sums.{sum_by-append}
 use Rattle.std.proofs.lemmas.List.Elements.{filter_map-append}
 use Rattle.book_core.specs.declared.receipt.Receipt.{Receipt}
 use Rattle.judge_core.specs.Judging.{is_bookable}
-use Rattle.mllp_frame.specs.Event.{Event, block, broken}
+use Rattle.mllp_frame.specs.Event.{FramingEvent, block, broken}
 use Rattle.mllp_frame.specs.declared.Break.{Break}
-use Rattle.conn_worker.specs.declared.dialogue.Dialogue.{Dialogue}
+use Rattle.conn_worker.specs.declared.dialogue.Progress.{Progress}
 use Rattle.conn_worker.specs.declared.report.ServeReport.{ServeReport}
-use Rattle.conn_core.specs.Replies.{Answer, Due, answer_to, dues, dues_of, numbered, replies}
-use Rattle.conn_core.specs.Messages.{message_of, is_unreadable, is_stray, is_break, message_by, booked, booked_with}
+use Rattle.conn_core.specs.Replies.{Answer, Due, dues, dues_of, numbered, replies}
+use Rattle.conn_core.specs.inner.Replies.{answer_to}
+use Rattle.conn_core.specs.Messages.{message_of, is_unreadable_block, is_stray_block, is_break, message_by, booked, booked_with}
 use Rattle.conn_core.specs.declared.block_outcome.Booked.{Booked}
 use Rattle.conn_core.specs.declared.block_outcome.BlockOutcome.{BlockOutcome}
 use Rattle.conn_core.specs.declared.block_outcome.BlockOutcome.TheVariants.{Unreadable, Stray, Message}
-use Rattle.conn_core.specs.Outcomes.{AppendsInPart, IsOutcome, dues_in, is_whole, receipts_in}
-use Rattle.conn_worker.specs.Counting.{unbooked_in, unreadable_in, strays_in}
-use Rattle.conn_worker.specs.Serving.{Tells}
-use Rattle.conn_worker.specs.Handling.{Stands, StandsAmid, HandlesAll, HandlesFront}
+use Rattle.conn_core.specs.inner.Outcomes.{AppendsInPart, IsOutcome, dues_in, is_whole, receipts_in}
+use Rattle.conn_worker.specs.inner.Counting.{unbooked_in, unreadable_in, strays_in}
+use Rattle.conn_worker.specs.Serving.{ReportsServing}
+use Rattle.conn_worker.specs.inner.Handling.{Stands, StandsAmid, HandlesAll, HandlesFront}
 use Rattle.conn_core.proofs.Numbering.{numbered-append}
 use Rattle.conn_core.proofs.Texts.{IsNoMessage, IsStrayText, IsMessageText, bookable_text, stray_known, unreadable_text}
 use Rattle.conn_worker.proofs.Growing.{Adds, message_of_receipt, unbooked_is}
@@ -34,7 +35,7 @@ count_one : {X : Type 0} (p : X → Bool) (xs : List X) (x : X) → count_by p (
 count_one p xs x = omega (arith, sum_by-append (λ y. cond (p y) 1 0) xs (x ∷ []))
 
 -- what a dialogue shows of another: the same but for its receipts, its counters, the replies made and their bytes
-pub record Changes {K : Type 0} (old new : Dialogue K) (unreadable_ones stray_ones broken_ones : ℕ) : Type 0 where
+pub record Changes {K : Type 0} (old new : Progress K) (unreadable_ones stray_ones broken_ones : ℕ) : Type 0 where
   pub unbooked : new.report.unbooked ≡ old.report.unbooked
   pub unreadable : new.report.unreadable ≡ old.report.unreadable + unreadable_ones
   pub strays : new.report.strays ≡ old.report.strays + stray_ones
@@ -42,9 +43,9 @@ pub record Changes {K : Type 0} (old new : Dialogue K) (unreadable_ones stray_on
   pub made : new.replies.made ≡ old.replies.made
   pub bytes : new.replies.bytes.items ≡ old.replies.bytes.items
 
-module _ {B K : Type 0} {books : B → List Receipt → Type 0} {has : K → List Receipt → Type 0} {conn channel : ℕ} {before : List Event} {text : List ℕ} {b b' : B} where
+module _ {B K : Type 0} {books : B → List Receipt → Type 0} {has : K → List Receipt → Type 0} {conn channel : ℕ} {before : List FramingEvent} {text : List ℕ} {b b' : B} where
   -- a dialogue that shows the same stands where the other one did
-  pub same_dialogue : (old new : Dialogue K) → Stands books has conn channel before text b old → Adds books has [] b b' old.report.receipts new.report.receipts
+  pub same_dialogue : (old new : Progress K) → Stands books has conn channel before text b old → Adds books has [] b b' old.report.receipts new.report.receipts
       → Changes old new 0 0 0 → Stands books has conn channel before text b' new
   same_dialogue old new s adds same =
       record {
@@ -65,8 +66,8 @@ module _ {B K : Type 0} {books : B → List Receipt → Type 0} {has : K → Lis
       }
 
   -- an event that brings no message
-  passed : (e : Event) (old new : Dialogue K) → Stands books has conn channel before text b old → Adds books has [] b b' old.report.receipts new.report.receipts
-      → message_of e ≡ None → Changes old new (cond (is_unreadable e) 1 0) (cond (is_stray e) 1 0) (cond (is_break e) 1 0)
+  passed : (e : FramingEvent) (old new : Progress K) → Stands books has conn channel before text b old → Adds books has [] b b' old.report.receipts new.report.receipts
+      → message_of e ≡ None → Changes old new (cond (is_unreadable_block e) 1 0) (cond (is_stray_block e) 1 0) (cond (is_break e) 1 0)
       → Stands books has conn channel (before ++ e ∷ []) text b' new
   passed e old new s adds none counted =
       record {
@@ -78,8 +79,8 @@ module _ {B K : Type 0} {books : B → List Receipt → Type 0} {has : K → Lis
           messages = filter_map-append message_of before (e ∷ []) ∙ ap (λ o. filter_map message_of before ++ cons_option o []) none ∙ append-nil (filter_map message_of before) ∙ s.tells.messages;
           booked = ap (map message_by) (append-nil s.receipts) ∙ s.tells.booked;
           unbooked = counted.unbooked ∙ s.tells.unbooked;
-          unreadable_ones = omega (arith, counted.unreadable, s.tells.unreadable_ones, count_one is_unreadable before e);
-          stray_ones = omega (arith, counted.strays, s.tells.stray_ones, count_one is_stray before e);
+          unreadable_ones = omega (arith, counted.unreadable, s.tells.unreadable_ones, count_one is_unreadable_block before e);
+          stray_ones = omega (arith, counted.strays, s.tells.stray_ones, count_one is_stray_block before e);
           broken_ones = omega (arith, counted.breaks, s.tells.broken_ones, count_one is_break before e);
         };
         replies = rw counted.bytes s.replies;
@@ -97,25 +98,25 @@ none_if false is = refl
 no_message_of : (raw : List ℕ) → is_bookable raw ≡ false → message_of (block raw) ≡ None
 no_message_of raw is = rw is
 
-module _ {B K : Type 0} {books : B → List Receipt → Type 0} {has : K → List Receipt → Type 0} {conn channel : ℕ} {before : List Event} {text : List ℕ} {b b' : B} where
+module _ {B K : Type 0} {books : B → List Receipt → Type 0} {has : K → List Receipt → Type 0} {conn channel : ℕ} {before : List FramingEvent} {text : List ℕ} {b b' : B} where
   -- a block that is no message
-  pub passed_unreadable : (raw : List ℕ) (old new : Dialogue K) → Stands books has conn channel before text b old → Adds books has [] b b' old.report.receipts new.report.receipts
+  pub passed_unreadable : (raw : List ℕ) (old new : Progress K) → Stands books has conn channel before text b old → Adds books has [] b b' old.report.receipts new.report.receipts
       → IsNoMessage raw → Changes old new 1 0 0 → Stands books has conn channel (before ++ block raw ∷ []) text b' new
   passed_unreadable raw old new s adds is counted =
-      let un = one_if (is_unreadable (block raw)) is.unreadable in
-      let st = none_if (is_stray (block raw)) is.stray in
+      let un = one_if (is_unreadable_block (block raw)) is.unreadable in
+      let st = none_if (is_stray_block (block raw)) is.stray in
       passed (block raw) old new s adds (no_message_of raw is.bookable) (rw (un, st) counted)
 
   -- a block that is an acknowledgment
-  pub passed_stray : (raw : List ℕ) (old new : Dialogue K) → Stands books has conn channel before text b old → Adds books has [] b b' old.report.receipts new.report.receipts
+  pub passed_stray : (raw : List ℕ) (old new : Progress K) → Stands books has conn channel before text b old → Adds books has [] b b' old.report.receipts new.report.receipts
       → IsStrayText raw → is_bookable raw ≡ false → Changes old new 0 1 0 → Stands books has conn channel (before ++ block raw ∷ []) text b' new
   passed_stray raw old new s adds is unbookable counted =
-      let un = none_if (is_unreadable (block raw)) is.unreadable in
-      let st = one_if (is_stray (block raw)) is.stray in
+      let un = none_if (is_unreadable_block (block raw)) is.unreadable in
+      let st = one_if (is_stray_block (block raw)) is.stray in
       passed (block raw) old new s adds (no_message_of raw unbookable) (rw (un, st) counted)
 
   -- a broken block
-  pub passed_break : (cause : Break) (old new : Dialogue K) → Stands books has conn channel before text b old → Adds books has [] b b' old.report.receipts new.report.receipts
+  pub passed_break : (cause : Break) (old new : Progress K) → Stands books has conn channel before text b old → Adds books has [] b b' old.report.receipts new.report.receipts
       → Changes old new 0 0 1 → Stands books has conn channel (before ++ broken cause ∷ []) text b' new
   passed_break cause old new s adds counted = passed (broken cause) old new s adds refl counted
 
@@ -150,12 +151,12 @@ pub record TellsOf {K : Type 0} (conn channel : ℕ) (a : Answer) (added : List 
   pub strays : new.strays ≡ old.strays
   pub breaks : new.breaks ≡ old.breaks
 
-tells_more : {K : Type 0} {conn channel : ℕ} {before : List Event} {answers : List Answer} {receipts added : List Receipt} (a : Answer) (old new : ServeReport K)
-    → Tells conn channel before answers receipts old → TellsOf conn channel a added old new
-    → Tells conn channel (before ++ block a.raw ∷ []) (answers ++ a ∷ []) (receipts ++ added) new
+tells_more : {K : Type 0} {conn channel : ℕ} {before : List FramingEvent} {answers : List Answer} {receipts added : List Receipt} (a : Answer) (old new : ServeReport K)
+    → ReportsServing conn channel before answers receipts old → TellsOf conn channel a added old new
+    → ReportsServing conn channel (before ++ block a.raw ∷ []) (answers ++ a ∷ []) (receipts ++ added) new
 tells_more {K} {conn} {channel} {before} {answers} {receipts} {added} a old new s more =
-    let no_unreadable = none_if (is_unreadable (block a.raw)) more.text.unreadable in
-    let no_stray = none_if (is_stray (block a.raw)) more.text.stray in
+    let no_unreadable = none_if (is_unreadable_block (block a.raw)) more.text.unreadable in
+    let no_stray = none_if (is_stray_block (block a.raw)) more.text.stray in
     let brings : message_of (block a.raw) ≡ Some a.raw = rw more.bookable in
     record {
       messages =
@@ -169,13 +170,13 @@ tells_more {K} {conn} {channel} {before} {answers} {receipts} {added} a old new 
           ∙ ap (λ l. l ++ booked conn channel (a ∷ [])) s.booked
           ∙ sym (filter_map-append (λ (x : Answer). booked_with conn channel x.raw x.outcome) answers (a ∷ []));
       unbooked = omega (arith, more.unbooked, s.unbooked, count_one (λ (x : Answer). is_err x.outcome) answers a);
-      unreadable_ones = omega (arith, more.unreadable, s.unreadable_ones, no_unreadable, count_one is_unreadable before (block a.raw));
-      stray_ones = omega (arith, more.strays, s.stray_ones, no_stray, count_one is_stray before (block a.raw));
+      unreadable_ones = omega (arith, more.unreadable, s.unreadable_ones, no_unreadable, count_one is_unreadable_block before (block a.raw));
+      stray_ones = omega (arith, more.strays, s.stray_ones, no_stray, count_one is_stray_block before (block a.raw));
       broken_ones = omega (arith, more.breaks, s.broken_ones, count_one is_break before (block a.raw));
     }
 
-module _ {B K : Type 0} {books : B → List Receipt → Type 0} {has : K → List Receipt → Type 0} {conn channel : ℕ} {before : List Event} {text : List ℕ} {b b' : B} {added : List Receipt}
-    (a : Answer) (old new : Dialogue K) (s : Stands books has conn channel before text b old) (adds : Adds books has added b b' old.report.receipts new.report.receipts)
+module _ {B K : Type 0} {books : B → List Receipt → Type 0} {has : K → List Receipt → Type 0} {conn channel : ℕ} {before : List FramingEvent} {text : List ℕ} {b b' : B} {added : List Receipt}
+    (a : Answer) (old new : Progress K) (s : Stands books has conn channel before text b old) (adds : Adds books has added b b' old.report.receipts new.report.receipts)
     (more : TellsOf conn channel a added old.report new.report) where
   -- a message that was answered
   pub answered : new.replies.made ≡ old.replies.made + length (dues_of a) → new.replies.bytes.items ≡ old.replies.bytes.items ++ numbered conn (old.replies.made + 1) (dues_of a)
@@ -235,8 +236,8 @@ one_message conn channel raw moment b old new is counts =
       breaks = counts.breaks;
     }
 
-module _ {B K : Type 0} {books : B → List Receipt → Type 0} {has : K → List Receipt → Type 0} {conn channel : ℕ} {before : List Event} {text : List ℕ} {b b' : B}
-    (raw : List ℕ) (moment : ℕ) (old new : Dialogue K) (s : Stands books has conn channel before text b old) where
+module _ {B K : Type 0} {books : B → List Receipt → Type 0} {has : K → List Receipt → Type 0} {conn channel : ℕ} {before : List FramingEvent} {text : List ℕ} {b b' : B}
+    (raw : List ℕ) (moment : ℕ) (old new : Progress K) (s : Stands books has conn channel before text b old) where
   -- a block that was answered
   pub block_answered : (o : BlockOutcome) → IsOutcome conn channel raw o → Adds books has (receipts_in o) b b' old.report.receipts new.report.receipts → Counts o old.report new.report
       → new.replies.made ≡ old.replies.made + length (dues_in raw moment o) → new.replies.bytes.items ≡ old.replies.bytes.items ++ numbered conn (old.replies.made + 1) (dues_in raw moment o)
@@ -285,7 +286,7 @@ on_err_one (Ok x) f p = tt
 on_err_one (Err e) f p = f p
 
 -- nothing of these events was handled
-pub none_handled : {B K : Type 0} {books : B → List Receipt → Type 0} {has : K → List Receipt → Type 0} {conn channel : ℕ} {before events : List Event} {text : List ℕ} {b : B} {t : Dialogue K}
+pub none_handled : {B K : Type 0} {books : B → List Receipt → Type 0} {has : K → List Receipt → Type 0} {conn channel : ℕ} {before events : List FramingEvent} {text : List ℕ} {b : B} {t : Progress K}
     → Stands books has conn channel before text b t → StandsAmid books has conn channel before events text b t
 none_handled {B} {K} {books} {has} {conn} {channel} {before} {events} {text} {b} {t} s =
     record {
@@ -308,12 +309,12 @@ from_bool old n false c h e = cc
 
 module _ {B K : Type 0} {books : B → B → List Receipt → Type 0} {has : K → List Receipt → Type 0} {conn channel : ℕ} {b b' b'' : B} where
   -- one more event, and then those that are left
-  pub handled_more : {handled : List Event} {e : Event} {first old new : Dialogue K} → HandlesAll books has conn channel handled b b' first old → HandlesAll books has conn channel (e ∷ []) b' b'' old new
+  pub handled_more : {handled : List FramingEvent} {e : FramingEvent} {first old new : Progress K} → HandlesAll books has conn channel handled b b' first old → HandlesAll books has conn channel (e ∷ []) b' b'' old new
       → HandlesAll books has conn channel (handled ++ e ∷ []) b b'' first new
   handled_more {handled} {e} all one from before text s =
       rw (sym (append_assoc before handled (e ∷ []))) (one from (before ++ handled) text (all from before text s))
 
-  pub handled_front : {handled left : List Event} {first old new : Dialogue K} → HandlesAll books has conn channel handled b b' first old → HandlesFront books has conn channel left b' b'' old new
+  pub handled_front : {handled left : List FramingEvent} {first old new : Progress K} → HandlesAll books has conn channel handled b b' first old → HandlesFront books has conn channel left b' b'' old new
       → HandlesFront books has conn channel (handled ++ left) b b'' first new
   handled_front {handled} {left} all front from before text s =
       let f = front from (before ++ handled) text (all from before text s) in
@@ -332,7 +333,7 @@ module _ {B K : Type 0} {books : B → B → List Receipt → Type 0} {has : K �
 
 module _ {B K : Type 0} {books : B → B → List Receipt → Type 0} {has : K → List Receipt → Type 0} {conn channel : ℕ} {b b' : B} where
   -- the same where more events are left
-  pub front_of_more : {some all : List Event} {old new : Dialogue K} (more : List Event) → HandlesFront books has conn channel some b b' old new → all ≡ some ++ more → HandlesFront books has conn channel all b b' old new
+  pub front_of_more : {some all : List FramingEvent} {old new : Progress K} (more : List FramingEvent) → HandlesFront books has conn channel some b b' old new → all ≡ some ++ more → HandlesFront books has conn channel all b b' old new
   front_of_more {some} {all} more front is from before text s =
       let f = front from before text s in
       record {
@@ -349,7 +350,7 @@ module _ {B K : Type 0} {books : B → B → List Receipt → Type 0} {has : K �
       }
 
   -- where handling stops between two events
-  pub stop_between : {handled all : List Event} {first old : Dialogue K} (left : List Event) → HandlesAll books has conn channel handled b b' first old → all ≡ handled ++ left → HandlesFront books has conn channel all b b' first old
+  pub stop_between : {handled all : List FramingEvent} {first old : Progress K} (left : List FramingEvent) → HandlesAll books has conn channel handled b b' first old → all ≡ handled ++ left → HandlesFront books has conn channel all b b' first old
   stop_between {handled} left all_handled is from before text s =
       let t = all_handled from before text s in
       record {
@@ -367,12 +368,12 @@ module _ {B K : Type 0} {books : B → B → List Receipt → Type 0} {has : K �
 
 module _ {B K : Type 0} (books : B → B → List Receipt → Type 0) (has : K → List Receipt → Type 0) {conn channel : ℕ} {b b' : B} where
   -- handled in whole or in part
-  pub either_way : {T E : Type 0} {events : List Event} {old new : Dialogue K} (r : Result T E) → OnOk r (HandlesAll books has conn channel events b b' old new) → OnErr r (HandlesFront books has conn channel events b b' old new)
+  pub either_way : {T E : Type 0} {events : List FramingEvent} {old new : Progress K} (r : Result T E) → OnOk r (HandlesAll books has conn channel events b b' old new) → OnErr r (HandlesFront books has conn channel events b b' old new)
       → HandlesFront books has conn channel events b b' old new
   either_way {T} {E} {events} (Ok x) all front = stop_between [] all (sym (append-nil events))
   either_way (Err e) all front = front
 
 -- the first event, taken away
-pub first_event : (events : List Event) (e : Event) → Some e ≡ slice_get events 0 → events ≡ e ∷ drop 1 events
+pub first_event : (events : List FramingEvent) (e : FramingEvent) → Some e ≡ slice_get events 0 → events ≡ e ∷ drop 1 events
 first_event [] e h = cc
 first_event (x ∷ es) e h = cc

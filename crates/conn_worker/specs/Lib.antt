@@ -1,6 +1,4 @@
 pub mod Faults
-pub mod Stream
-pub mod Counting
 pub mod Serving
-pub mod Handling
-pub mod Session
+pub mod Arriving
+pub mod inner

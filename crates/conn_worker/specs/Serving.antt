@@ -3,21 +3,21 @@ use Rattle.std.specs.Prelude.{◌≡◌, ℕ, List, [], ◌++◌, map, Option, c
 use Rattle.std.specs.Result.{is_err}
 use Rattle.std.specs.Io.KnownBytes.{Consumes, Appends, IsAtEnd}
 use Rattle.book_core.specs.declared.receipt.Receipt.{Receipt}
-use Rattle.mllp_frame.specs.Event.{Event}
+use Rattle.mllp_frame.specs.Event.{FramingEvent}
 use Rattle.mllp_frame.specs.Framing.{blocks}
-use Rattle.conn_core.specs.Messages.{booked, is_break, is_stray, is_unreadable, message_by, messages_of}
+use Rattle.conn_core.specs.Messages.{booked, is_break, is_stray_block, is_unreadable_block, message_by, messages_of}
 use Rattle.conn_core.specs.Replies.{Answer, replies}
 use Rattle.conn_worker.specs.declared.report.ServeReport.{ServeReport}
 use Rattle.conn_worker.specs.declared.report.ServeEnd.TheVariants.{End}
 
 -- A report is of these events, of which the messages got these answers, and the booked ones these receipts.
-pub record Tells {K : Type 0} (conn channel : ℕ) (events : List Event) (answers : List Answer) (receipts : List Receipt)
+pub record ReportsServing {K : Type 0} (conn channel : ℕ) (events : List FramingEvent) (answers : List Answer) (receipts : List Receipt)
     (r : ServeReport K) : Type 0 where
   pub messages : messages_of events ≡ map (λ a. a.raw) answers
   pub booked : map message_by receipts ≡ booked conn channel answers
   pub unbooked : r.unbooked ≡ count_by (λ a. is_err a.outcome) answers
-  pub unreadable_ones : r.unreadable ≡ count_by is_unreadable events
-  pub stray_ones : r.strays ≡ count_by is_stray events
+  pub unreadable_ones : r.unreadable ≡ count_by is_unreadable_block events
+  pub stray_ones : r.strays ≡ count_by is_stray_block events
   pub broken_ones : r.breaks ≡ count_by is_break events
 
 -- A prefix of the events read was handled and reported, and a prefix of their replies was written. At the
@@ -26,11 +26,11 @@ pub record Serves {K : Type 0} (conn channel : ℕ) (to_read left held holds : O
     (r : ServeReport K) : Type 0 where
   pub read : List ℕ
   pub reads : Consumes to_read left read
-  pub handled : List Event
-  pub later : List Event
+  pub handled : List FramingEvent
+  pub later : List FramingEvent
   pub events : blocks read ≡ handled ++ later
   pub answers : List Answer
-  pub tells : Tells conn channel handled answers receipts r
+  pub tells : ReportsServing conn channel handled answers receipts r
   pub written : List ℕ
   pub unwritten : List ℕ
   pub replies : replies conn answers ≡ written ++ unwritten

@@ -1,6 +1,7 @@
 //! Serving a connection at a desk of a shared book.
 
 ghost use Rattle.std.specs.Prelude.{◌≡◌, ◌+◌, ◌<◌, false, vec_len};
+ghost use Rattle.conn_worker.specs.Arriving.{BooksInLog};
 ghost use Rattle.conn_worker.specs.Serving.{Serves};
 ghost use Rattle.conn_worker.specs.Faults.{Rose};
 
@@ -9,10 +10,10 @@ use crate::counted::Counted;
 use crate::lines::{log_arrival, log_break, log_fill, log_passed_over};
 use crate::report::{ServeEnd, ServeReport};
 use crate::session::serve_within;
-use book_core::{Letter, NotBooked, Receipt};
-use book_lock::{Desk, Opening, Shared};
-use conn_core::{Booking, Line};
-use dest_queue::Addressed;
+use book_core::{NotBooked, Outbound, Receipt};
+use book_lock::{ArrivalLedger, Desk, Shared};
+use conn_core::{Booking, ConnectionId};
+use dest_queue::Queued;
 use fixed_numbers::TURNS_MAX;
 use judge_core::Judged;
 use log::Log;
@@ -29,20 +30,28 @@ const FILL_STEP: usize = 16;
 
 /// A desk of a shared book, at which messages are booked. Each call takes the book's lock for a moment.
 #[derive(Drop)]
-pub struct AtDesk<'a, A: Opening, T: Ledger, U: Ledger, S: RowStore<Addressed<Letter>>, H> {
+pub struct AtDesk<'a, A: ArrivalLedger, T: Ledger, U: Ledger, S: RowStore<Queued<Outbound>>, H> {
     pub rt: &'a H,
     pub alloc: Global,
     pub shared: &'a Shared<A, T, U, S>,
     pub desk: &'a mut Desk<A>,
 }
 
-impl<'a, A: Opening, T: Ledger, U: Ledger, S: RowStore<Addressed<Letter>>, H: Wait + Log> Booking
-    for AtDesk<'a, A, T, U, S, H> {
-    ghost use Rattle.std.specs.Prelude.{◌≡◌, ◌+◌, length, refl, ⊤};
-    ghost use Rattle.std.proofs.Common.{◌∙◌, arith, length-append};
+impl<
+    'a,
+    A: ArrivalLedger,
+    T: Ledger,
+    U: Ledger,
+    S: RowStore<Queued<Outbound>>,
+    H: Wait + Log,
+> Booking for AtDesk<'a, A, T, U, S, H> {
+    ghost use Rattle.std.specs.Prelude.{refl, ⊤};
+    ghost use Rattle.conn_worker.specs.inner.Arriving.{BooksAtDesk, desk_after, desk_nothing};
 
-    /// The desk counted as many arrivals. It is the same desk.
-    ghost books = { λ old new receipts. (new.desk.now ≡ old.desk.now + length receipts) × (new.desk.ghost_name ≡ old.desk.ghost_name) };
+    /// The arrivals of these receipts were booked at the desk, in this order, and nothing else was. It is the same desk.
+    ghost books = { λ old new receipts.
+        BooksAtDesk A.opening old.desk.now new.desk.now receipts
+        old.desk.ghost_name new.desk.ghost_name };
 
     ghost channels = { λ _. A.channels };
 
@@ -76,9 +85,11 @@ impl<'a, A: Opening, T: Ledger, U: Ledger, S: RowStore<Addressed<Letter>>, H: Wa
         }
     }
 
-    ghost nothing = { λ x. (Prim.omega arith, refl) };
+    ghost nothing = { λ x. desk_nothing A.opening x.desk.now x.desk.ghost_name };
 
-    ghost after = { λ x y z rs ss h k. (Prim.omega (arith, h.0, k.0, length-append rs ss), k.1 ∙ h.1) };
+    ghost after = { λ x y z rs ss.
+        desk_after A.opening x.desk.now y.desk.now z.desk.now rs ss
+        x.desk.ghost_name y.desk.ghost_name z.desk.ghost_name };
 
     ghost same_channels = { λ _ _ _ _. refl };
 }
@@ -88,10 +99,10 @@ impl<'a, A: Opening, T: Ledger, U: Ledger, S: RowStore<Addressed<Letter>>, H: Wa
 /// (HL7 v2.5.1, 2.9.2 and 2.9.3). The lock of the book is held neither while a message is judged, nor while the reader or
 /// the writer waits. The moments of the replies are the clock's.
 pub fn serve<
-    A: Opening,
+    A: ArrivalLedger,
     T: Ledger,
     U: Ledger,
-    S: RowStore<Addressed<Letter>>,
+    S: RowStore<Queued<Outbound>>,
     R: Read,
     W: Write,
     C: Clock,
@@ -113,8 +124,11 @@ pub fn serve<
     ensures served { Serves conn channel (R.remaining reader.old.inner) (R.remaining reader.new.inner)
         (W.contents writer.old.inner) (W.contents writer.new.inner) result.receipts.items result }
 
+    // What the desk added to the one history of the book is the arrivals of these receipts, in their order.
+    ensures booked { BooksInLog A.opening desk.old.seat desk.new.seat result.receipts.items }
+
     // The receipts are as many as the arrivals that the desk counted.
-    ensures counted { desk.new ≡ desk.old + vec_len result.receipts }
+    ensures counted { desk.new.made ≡ desk.old.made + vec_len result.receipts }
 
     // A fault is reported only where the device failed.
     ensures read_fault { result.end ≡ ServeEnd.ReadFault → Rose reader.old.faults reader.new.faults }
@@ -123,7 +137,7 @@ pub fn serve<
     // At the reader's end all that was written is flushed.
     ensures flushed { result.end ≡ ServeEnd.End → writer.old.unflushed ≡ false → writer.new.unflushed ≡ false }
 {
-    let line = Line {
+    let line = ConnectionId {
         alloc,
         conn,
         channel,

@@ -1,14 +1,16 @@
 //! What a connection and the engine said to each other.
 
 ghost use Rattle.std.specs.Prelude.{◌≡◌, ◌+◌, ◌<◌, ◌≤◌, ◌∷◌, [], IfErr, OnOk, OnErr};
-ghost use Rattle.mllp_frame.specs.Event.{block, event_of};
-ghost use Rattle.mllp_frame.specs.Framing.{IsBlockData, HoldsData};
-ghost use Rattle.conn_worker.specs.Handling.{Fits, HandlesAll, HandlesFront, StopsHandling};
+ghost use Rattle.mllp_frame.specs.Event.{block};
+ghost use Rattle.mllp_frame.specs.inner.Event.{event_of};
+ghost use Rattle.mllp_frame.specs.Framing.{IsBlockData};
+ghost use Rattle.mllp_frame.specs.inner.Framing.{HoldsData};
+ghost use Rattle.conn_worker.specs.inner.Handling.{Fits, HandlesAll, HandlesFront, StopsHandling};
 
 use crate::clock::Clock;
-use crate::keeping::Keeping;
+use crate::keeping::ReceiptSink;
 use crate::report::{ServeEnd, ServeReport};
-use conn_core::{Booking, Line, Replies, answer_block};
+use conn_core::{Booking, ConnectionId, Replies, answer_block};
 use fixed_numbers::TURNS_MAX;
 use hl7_head::Moment;
 use mllp_frame::{FrameEvent, Framer};
@@ -16,14 +18,14 @@ use std::alloc::{AllocError, Global};
 
 /// What became of a connection's events so far, and the replies to them.
 #[derive(Drop)]
-pub struct Dialogue<K> {
+pub struct Progress<K> {
     pub report: ServeReport<K>,
     /// How many events there were.
     pub events: u64,
     pub replies: Replies,
 }
 
-impl<K: Keeping> Dialogue<K> {
+impl<K: ReceiptSink> Progress<K> {
     /// The dialogue of a connection of which nothing is read yet.
     pub fn new(alloc: Global) -> Self
         ensures receipts { K.has result.report.receipts [] }
@@ -35,7 +37,7 @@ impl<K: Keeping> Dialogue<K> {
         ensures made { result.replies.made ≡ 0 }
         ensures bytes { result.replies.bytes.items ≡ [] }
     {
-        Dialogue {
+        Progress {
             report: ServeReport::new(alloc),
             events: 0,
             replies: Replies::new(alloc),
@@ -45,7 +47,7 @@ impl<K: Keeping> Dialogue<K> {
     /// Answers a block, and counts what became of it. Room for a receipt is made before anything is booked.
     fn answer<B: Booking>(
         &mut self,
-        line: &Line,
+        line: &ConnectionId,
         book: &mut B,
         raw: Vec<u8>,
         now: Moment,
@@ -76,7 +78,7 @@ impl<K: Keeping> Dialogue<K> {
     /// Handles an event.
     fn answer_event<B: Booking, C: Clock>(
         &mut self,
-        line: &Line,
+        line: &ConnectionId,
         book: &mut B,
         event: FrameEvent,
         clock: &mut C,
@@ -112,7 +114,7 @@ impl<K: Keeping> Dialogue<K> {
     /// memory is refused. The events before that are handled, and some replies may be missing.
     pub fn answer_events<B: Booking, C: Clock>(
         &mut self,
-        line: &Line,
+        line: &ConnectionId,
         book: &mut B,
         framer: &mut Framer,
         clock: &mut C,

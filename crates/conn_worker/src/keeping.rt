@@ -4,7 +4,7 @@ use book_core::Receipt;
 use std::alloc::{AllocError, Global};
 
 /// What is kept of the receipts of a connection's messages.
-pub trait Keeping {
+pub trait ReceiptSink {
     ghost use Rattle.std.specs.Prelude.{List, [], ◌∷◌, ◌++◌, OnOk};
     ghost use Rattle.book_core.specs.declared.receipt.Receipt.{Receipt};
 
@@ -30,7 +30,7 @@ pub trait Keeping {
 }
 
 /// All receipts are kept, as an audit requires them.
-impl Keeping for Vec<Receipt> {
+impl ReceiptSink for Vec<Receipt> {
     ghost use Rattle.std.specs.Prelude.{◌≡◌, ◌<◌, vec_len, vec_capacity};
 
     ghost has = { λ kept receipts. kept.items ≡ receipts };
@@ -52,9 +52,9 @@ impl Keeping for Vec<Receipt> {
 
 /// No receipt is kept, where nobody reads them.
 #[derive(Clone, Copy, Drop)]
-pub struct Unkept;
+pub struct DiscardReceipts;
 
-impl Keeping for Unkept {
+impl ReceiptSink for DiscardReceipts {
     ghost use Rattle.std.specs.Prelude.{⊤};
 
     ghost has = { λ _ _. ⊤ };
@@ -62,7 +62,7 @@ impl Keeping for Unkept {
     ghost has_room = { λ _. ⊤ };
 
     fn new(_: Global) -> Self {
-        Unkept
+        DiscardReceipts
     }
 
     fn reserve(&mut self) -> Result<(), AllocError> {

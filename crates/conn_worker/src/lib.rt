@@ -16,7 +16,7 @@ pub use at_desk::{AtDesk, serve};
 pub use clock::{Clock, Running, Steady, Still, nearest};
 pub use counted::Counted;
 pub use fixed_numbers::TURNS_MAX;
-pub use keeping::{Keeping, Unkept};
+pub use keeping::{DiscardReceipts, ReceiptSink};
 pub use lines::{log_arrival, log_break, log_fill, log_passed_over};
 pub use report::{ServeEnd, ServeReport};
 pub use session::serve_within;

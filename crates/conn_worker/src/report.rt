@@ -2,10 +2,10 @@
 
 ghost use Rattle.std.specs.Prelude.{◌≡◌, ◌+◌, ◌<◌, ◌++◌, [], List};
 ghost use Rattle.book_core.specs.declared.receipt.Receipt.{Receipt};
-ghost use Rattle.conn_core.specs.Outcomes.{receipts_in};
-ghost use Rattle.conn_worker.specs.Counting.{unbooked_in, unreadable_in, strays_in};
+ghost use Rattle.conn_core.specs.inner.Outcomes.{receipts_in};
+ghost use Rattle.conn_worker.specs.inner.Counting.{unbooked_in, unreadable_in, strays_in};
 
-use crate::keeping::Keeping;
+use crate::keeping::ReceiptSink;
 use book_core::Receipt;
 use conn_core::{BlockOutcome, Booked};
 use std::alloc::{AllocError, Global};
@@ -52,7 +52,7 @@ pub struct ServeReport<K = Vec<Receipt>> {
     pub end: ServeEnd,
 }
 
-impl<K: Keeping> ServeReport<K> {
+impl<K: ReceiptSink> ServeReport<K> {
     /// The report of no event yet; where nothing else ends it, memory was refused.
     pub fn new(alloc: Global) -> Self
         ensures receipts { K.has result.receipts [] }

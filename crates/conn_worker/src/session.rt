@@ -3,15 +3,15 @@
 ghost use Rattle.std.specs.Prelude.{◌≡◌, ◌<◌, ◌≤◌, ◌⊎◌, false, IfOk, IfErr, OnOk, List, ℕ, Option};
 ghost use Rattle.conn_worker.specs.Serving.{ServesAndBooks};
 ghost use Rattle.conn_worker.specs.Faults.{Rose};
-ghost use Rattle.conn_worker.specs.Session.{IsFresh, IsReady, SoFar};
+ghost use Rattle.conn_worker.specs.inner.Session.{IsFresh, IsReady, SoFar};
 
 use crate::clock::Clock;
 use crate::counted::Counted;
-use crate::dialogue::Dialogue;
-use crate::keeping::Keeping;
+use crate::dialogue::Progress;
+use crate::keeping::ReceiptSink;
 use crate::report::{ServeEnd, ServeReport};
 use crate::stream::{read_piece, write_out};
-use conn_core::{Booking, Line};
+use conn_core::{Booking, ConnectionId};
 use fixed_numbers::TURNS_MAX;
 use mllp_frame::{Framer, longer_streams};
 use std::alloc::{AllocError, Global};
@@ -31,10 +31,10 @@ pub struct Session<K> {
     pub turns: u64,
     /// The most events that are handled.
     pub events_max: u64,
-    pub dialogue: Dialogue<K>,
+    pub dialogue: Progress<K>,
 }
 
-impl<K: Keeping> Session<K> {
+impl<K: ReceiptSink> Session<K> {
     /// The session of a connection of which nothing is read yet.
     fn new(alloc: Global, bound: u64) -> Result<Self, AllocError>
         requires { bound ≤ TURNS_MAX }
@@ -46,14 +46,14 @@ impl<K: Keeping> Session<K> {
             buffer: vec![in alloc; 0; PIECE]?,
             turns: bound,
             events_max: bound,
-            dialogue: Dialogue::new(alloc),
+            dialogue: Progress::new(alloc),
         })
     }
 
     /// Reads a piece, handles its events, and writes and flushes their replies.
     fn serve_piece<B: Booking, R: Read, W: Write, C: Clock>(
         &mut self,
-        line: &Line,
+        line: &ConnectionId,
         book: &mut B,
         reader: &mut Counted<R>,
         writer: &mut Counted<W>,
@@ -104,7 +104,7 @@ impl<K: Keeping> Session<K> {
     /// Serves piece after piece, and returns why it ended.
     fn serve_pieces<B: Booking, R: Read, W: Write, C: Clock>(
         &mut self,
-        line: &Line,
+        line: &ConnectionId,
         book: &mut B,
         reader: &mut Counted<R>,
         writer: &mut Counted<W>,
@@ -132,8 +132,8 @@ impl<K: Keeping> Session<K> {
 /// Serves a connection to its reader's end, or to a fault, or to `bound` reads or events: each message is booked and
 /// acknowledged as its header requests (HL7 v2.5.1, 2.9.2 and 2.9.3). The replies to a piece are written and flushed before
 /// the next read waits. The moments of the replies are the clock's.
-pub fn serve_within<B: Booking, K: Keeping, R: Read, W: Write, C: Clock>(
-    line: &Line,
+pub fn serve_within<B: Booking, K: ReceiptSink, R: Read, W: Write, C: Clock>(
+    line: &ConnectionId,
     book: &mut B,
     reader: &mut Counted<R>,
     writer: &mut Counted<W>,

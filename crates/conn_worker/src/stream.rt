@@ -2,7 +2,7 @@
 
 ghost use Rattle.std.specs.Prelude.{◌≡◌, ◌+◌, ◌<◌, ◌≤◌, [], false, IfOk, IfErr, OnOk, OnErr, length, take};
 ghost use Rattle.std.specs.Io.KnownBytes.{Consumes, Appends, Keeps};
-ghost use Rattle.conn_worker.specs.Stream.{StopsReading, StopsWriting, WritesFront};
+ghost use Rattle.conn_worker.specs.inner.Stream.{StopsReading, StopsWriting, WritesFront};
 
 use crate::counted::{Counted, is_interruption};
 use crate::report::ServeEnd;
@@ -25,7 +25,7 @@ fn take_turn(turns: &mut u64) -> Result<(), ServeEnd>
 /// # Errors
 ///
 /// `End` at the reader's end, `ReadFault` where the reader failed, `TurnBound` where no turn is left.
-pub fn read_piece<R: Read>(
+pub(crate) fn read_piece<R: Read>(
     reader: &mut Counted<R>,
     buffer: &mut [u8],
     turns: &mut u64,
@@ -109,7 +109,7 @@ fn flush<W: Write>(writer: &mut Counted<W>, turns: &mut u64) -> Result<(), Serve
 /// # Errors
 ///
 /// `WriteFault` where the writer failed, `TurnBound` where no turn is left. The first bytes may be written.
-pub fn write_out<W: Write>(
+pub(crate) fn write_out<W: Write>(
     writer: &mut Counted<W>,
     replies: &[u8],
     turns: &mut u64,

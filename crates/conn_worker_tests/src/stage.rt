@@ -1,9 +1,9 @@
 //! A stream that comes in pieces, a writer that takes nothing at one of its calls, and a connection that is served over them.
 
-use book_core::{Book, EVENTS_MAX, Letter};
-use conn_core::Line;
+use book_core::{Book, EVENTS_MAX, Outbound};
+use conn_core::ConnectionId;
 use conn_worker::{Counted, ServeEnd, ServeReport, Still, TURNS_MAX, nearest, serve_within};
-use dest_queue::Addressed;
+use dest_queue::Queued;
 use mllp_frame::{FrameEvent, FrameFault, Framer};
 use plan_text::Plan;
 use record_list::RecordList;
@@ -16,7 +16,7 @@ use std::sync::Arc;
 use std::test::Fail;
 
 /// The rows of the tests' books.
-pub type Rows = RecordList<Addressed<Letter>>;
+pub type Rows = RecordList<Queued<Outbound>>;
 
 /// Three letters outside of blocks before each of two admissions, of which the first requests an accept acknowledgment and
 /// the second both.
@@ -133,12 +133,12 @@ impl Served {
 }
 
 /// The built-in plan.
-pub fn built_in(rt: &HostRuntime) -> Result<Arc<Plan>, Fail> {
+pub(crate) fn built_in(rt: &HostRuntime) -> Result<Arc<Plan>, Fail> {
     Ok(Arc::new(rt.alloc(), Plan::built_in(rt.alloc())?)?)
 }
 
 /// An empty book of a plan.
-fn empty_book<S: RowStore<Addressed<Letter>>>(
+fn empty_book<S: RowStore<Queued<Outbound>>>(
     rt: &HostRuntime,
     plan: &Arc<Plan>,
 ) -> Result<Book<S>, Fail> {
@@ -147,7 +147,7 @@ fn empty_book<S: RowStore<Addressed<Letter>>>(
 }
 
 /// Serves a stream from a book, at 14 November 2023, 22:13:20 UTC.
-fn serve_from<S: RowStore<Addressed<Letter>>>(
+fn serve_from<S: RowStore<Queued<Outbound>>>(
     alloc: Global,
     book: &mut Book<S>,
     source: Source<'_>,
@@ -162,7 +162,7 @@ fn serve_from<S: RowStore<Addressed<Letter>>>(
     let (conn, channel) = (0, 0);
     book.plan().rules();
     let report: ServeReport = serve_within(
-        &Line {
+        &ConnectionId {
             alloc,
             conn,
             channel,
@@ -183,7 +183,7 @@ fn serve_from<S: RowStore<Addressed<Letter>>>(
 }
 
 /// Serves a stream that is cut so, from an empty book of a plan, to a writer.
-pub fn serve(
+pub(crate) fn serve(
     rt: &HostRuntime,
     plan: &Arc<Plan>,
     stream: &[u8],
@@ -214,7 +214,11 @@ fn feed(framer: &mut Framer, events: &mut Vec<FrameEvent>, piece: &[u8]) -> Resu
 }
 
 /// The events of a stream that is cut so.
-pub fn events_of(alloc: Global, stream: &[u8], cuts: Cuts) -> Result<Vec<FrameEvent>, FrameFault> {
+pub(crate) fn events_of(
+    alloc: Global,
+    stream: &[u8],
+    cuts: Cuts,
+) -> Result<Vec<FrameEvent>, FrameFault> {
     let mut events = Vec::new(alloc);
     let mut framer = Framer::new(alloc);
     let mut at = 0;

@@ -1,6 +1,6 @@
 -- How calls add up.
 use Rattle.std.proofs.Common.{◌≡◌, ◌+◌, ◌≤◌, ℕ, Option, None, Some, arith}
-use Rattle.delivery_worker.specs.Calls.{CallsMore, CallsUpTo}
+use Rattle.delivery_worker.specs.inner.Calls.{CallsMore, CallsUpTo}
 
 -- no call
 pub calls_none : (a : Option ℕ) → CallsUpTo a a 0

@@ -6,20 +6,25 @@ use Rattle.std.proofs.KnownBytes.{Appends-kept, Appends-nil, Appends-trans, Keep
 use Rattle.std.proofs.lemmas.List.Elements.{All-nil, All-push}
 use Rattle.std.proofs.lemmas.List.Concat.{flat_map-append}
 use Rattle.std.proofs.lemmas.List.Sums.{sum_by-append}
-use Rattle.book_lock.specs.Shares.{Made}
+use Rattle.book_lock.specs.Log.{SeatView}
+use Rattle.book_lock.specs.Shares.{Made, StationView}
+use Rattle.event_log.specs.History.{History}
 use Rattle.dest_queue.specs.declared.Outcome.{Outcome}
 use Rattle.dest_queue.specs.declared.Outcome.TheVariants.{Delivered, Again, Rejected}
 use Rattle.delivery_worker.specs.declared.report.DeliverReport.{DeliverReport}
-use Rattle.mllp_frame.specs.Event.{Event}
-use Rattle.mllp_frame.specs.Framed.{Framed, blank}
+use Rattle.mllp_frame.specs.Event.{FramingEvent}
+use Rattle.mllp_frame.specs.inner.Framed.{Framed, blank}
 use Rattle.mllp_frame.specs.Framing.{block_bytes}
 use Rattle.hl7_head.specs.Msa.{MsaFields}
 use Rattle.delivery_worker.specs.Answers.{answer_in, outcome_of}
-use Rattle.delivery_worker.specs.Calls.{CallsMore}
+use Rattle.delivery_worker.specs.inner.Calls.{CallsMore}
 use Rattle.delivery_worker.proofs.Calls.{calls_then}
-use Rattle.delivery_worker.specs.Stream.{Before, Goes, Receives, Stands}
+use Rattle.delivery_worker.specs.inner.Stream.{Before, Goes, Receives, Stands}
 use Rattle.delivery_worker.proofs.Streams.{goes_nowhere, goes_opened, goes_stays}
-use Rattle.delivery_worker.specs.Delivering.{Attempt, Begins, Delivers, InTurn, IsOf, IsOnward, ReadsInOrder, Sends, Spends, Tells, Tries, Visit, block_if, way_of, attempt_outcome, attempts_in, counted, is_again, is_delivered, is_rejected, is_used, no_attempts, read_in, received_in, sent_by}
+use Rattle.delivery_worker.specs.Delivering.{Attempt, Begins, Delivers, InTurn, IsSendingOf, IsOnward, ReadsInOrder, ReportsAttempts, Visit, block_if, attempt_outcome, attempts_in, is_again, is_delivery, is_rejected, is_used, read_in, received_in, sent_by}
+use Rattle.delivery_worker.specs.inner.Delivering.{Sends, Spends, Tries, way_of, counted, no_attempts}
+use Rattle.delivery_worker.specs.Turns.{DeliversInLog}
+use Rattle.delivery_worker.proofs.InLog.{no_more_turns, no_turn, turns_then}
 
 abbrev one_where : Bool → ℕ
 one_where b = cond b 1 0
@@ -36,26 +41,26 @@ counts_more attempts a o is_kind n is so_far =
     omega (arith, count_one (λ b. is_kind (attempt_outcome b)) attempts a, ap (λ x. one_where (is_kind x)) is, so_far)
 
 -- a report with one more attempt
-pub tells_more : (attempts : List Attempt) (r : DeliverReport) (a : Attempt) (o : Outcome) → attempt_outcome a ≡ o → Tells attempts r
-    → Tells (attempts ++ a ∷ []) (counted o r)
+pub tells_more : (attempts : List Attempt) (r : DeliverReport) (a : Attempt) (o : Outcome) → attempt_outcome a ≡ o → ReportsAttempts attempts r
+    → ReportsAttempts (attempts ++ a ∷ []) (counted o r)
 tells_more attempts r a Delivered is t =
     record {
       taken = omega (arith, length-append attempts (a ∷ []), t.taken);
-      delivered = omega (arith, counts_more attempts a Delivered is_delivered r.delivered is t.delivered);
+      delivered = omega (arith, counts_more attempts a Delivered is_delivery r.delivered is t.delivered);
       again = omega (arith, counts_more attempts a Delivered is_again r.again is t.again);
       rejected = omega (arith, counts_more attempts a Delivered is_rejected r.rejected is t.rejected);
     }
 tells_more attempts r a Again is t =
     record {
       taken = omega (arith, length-append attempts (a ∷ []), t.taken);
-      delivered = omega (arith, counts_more attempts a Again is_delivered r.delivered is t.delivered);
+      delivered = omega (arith, counts_more attempts a Again is_delivery r.delivered is t.delivered);
       again = omega (arith, counts_more attempts a Again is_again r.again is t.again);
       rejected = omega (arith, counts_more attempts a Again is_rejected r.rejected is t.rejected);
     }
 tells_more attempts r a Rejected is t =
     record {
       taken = omega (arith, length-append attempts (a ∷ []), t.taken);
-      delivered = omega (arith, counts_more attempts a Rejected is_delivered r.delivered is t.delivered);
+      delivered = omega (arith, counts_more attempts a Rejected is_delivery r.delivered is t.delivered);
       again = omega (arith, counts_more attempts a Rejected is_again r.again is t.again);
       rejected = omega (arith, counts_more attempts a Rejected is_rejected r.rejected is t.rejected);
     }
@@ -72,7 +77,7 @@ none_sent (Some xs) (Some ys) q = q ∙ sym (append-nil xs)
 
 -- a sending whose text was not sent
 pub tried_nothing : (old new : Option Framed) (sent sends log logs : Option (List ℕ)) (control_id payload : List ℕ) (ack : Bool) → new ≡ None → Keeps sent sends → Keeps log logs
-    → (s : Sends old new sent sends log logs Again) × IsOf s.sending control_id payload ack
+    → (s : Sends old new sent sends log logs Again) × IsSendingOf s.sending control_id payload ack
 tried_nothing old new sent sends log logs control_id payload ack none same_sent same_log = (
   record {
     sending = record { control_id = control_id; payload = payload; ack = ack; sent = false; read = [] };
@@ -88,7 +93,7 @@ tried_nothing old new sent sends log logs control_id payload ack none same_sent 
 -- a sending of a text to a destination that doesn't acknowledge
 pub tried_sending : (f : Framed) (sent sends log logs : Option (List ℕ)) (control_id payload text : List ℕ) (ack : Bool)
     → Appends sent sends (block_bytes text) → text ≡ payload → Keeps log logs → ack ≡ false
-    → (s : Sends (Some f) (Some f) sent sends log logs Delivered) × IsOf s.sending control_id payload ack
+    → (s : Sends (Some f) (Some f) sent sends log logs Delivered) × IsSendingOf s.sending control_id payload ack
 tried_sending f sent sends log logs control_id payload text ack wrote same_text same_log no_ack = (
   record {
     sending = record { control_id = control_id; payload = payload; ack = false; sent = true; read = [] };
@@ -104,7 +109,7 @@ tried_sending f sent sends log logs control_id payload text ack wrote same_text 
 -- a sending of a text over a connection that was ended before a byte came
 pub tried_in_vain : (old : Option Framed) (sent wrote sends log mid logs : Option (List ℕ)) (control_id payload text : List ℕ) (ack : Bool)
     → Appends sent wrote (block_bytes text) → text ≡ payload → Keeps wrote sends → Keeps log mid → Keeps mid logs → ack ≡ true
-    → (s : Sends old None sent sends log logs Again) × IsOf s.sending control_id payload ack
+    → (s : Sends old None sent sends log logs Again) × IsSendingOf s.sending control_id payload ack
 tried_in_vain old sent wrote sends log mid logs control_id payload text ack writes same_text same_sent same_log no_more acks = (
   record {
     sending = record { control_id = control_id; payload = payload; ack = true; sent = true; read = [] };
@@ -121,7 +126,7 @@ tried_in_vain old sent wrote sends log mid logs control_id payload text ack writ
 pub tried_reading : (f : Framed) (new after : Option Framed) (sent wrote sends log mid logs : Option (List ℕ)) (control_id payload text : List ℕ) (ack : Bool)
     (had has : List (Option MsaFields)) (o : Outcome) → Appends sent wrote (block_bytes text) → text ≡ payload → Keeps wrote sends → Keeps log mid
     → Receives f new mid logs had has → had ≡ [] → after ≡ new → o ≡ outcome_of control_id has → ack ≡ true
-    → (s : Sends (Some f) after sent sends log logs o) × IsOf s.sending control_id payload ack
+    → (s : Sends (Some f) after sent sends log logs o) × IsSendingOf s.sending control_id payload ack
 tried_reading f new after sent wrote sends log mid logs control_id payload text ack had has o writes same_text same_sent same_log r none is decides acks = (
   record {
     sending = record { control_id = control_id; payload = payload; ack = true; sent = true; read = r.read };
@@ -136,8 +141,8 @@ tried_reading f new after sent wrote sends log mid logs control_id payload text 
 
 -- a sending over a new connection
 pub sends_anew : (f : Framed) (new : Option Framed) (sent begin sends log first logs : Option (List ℕ)) (control_id payload : List ℕ) (ack : Bool) (o : Outcome)
-    → f ≡ blank → Keeps sent begin → Keeps log first → (s : Sends (Some f) new begin sends first logs o) × IsOf s.sending control_id payload ack
-    → (s : Sends None new sent sends log logs o) × IsOf s.sending control_id payload ack
+    → f ≡ blank → Keeps sent begin → Keeps log first → (s : Sends (Some f) new begin sends first logs o) × IsSendingOf s.sending control_id payload ack
+    → (s : Sends None new sent sends log logs o) × IsSendingOf s.sending control_id payload ack
 sends_anew f new sent begin sends log first logs control_id payload ack o is same_sent same_log s = (
   record {
     sending = s.0.sending;
@@ -152,8 +157,8 @@ sends_anew f new sent begin sends log first logs control_id payload ack o is sam
 
 -- before an attempt nothing is sent
 pub sends_after : (old : Option Framed) (f : Framed) (new : Option Framed) (sent begin sends log first logs : Option (List ℕ)) (control_id payload : List ℕ) (ack : Bool) (o : Outcome)
-    → old ≡ Some f → Keeps sent begin → Keeps log first → (s : Sends (Some f) new begin sends first logs o) × IsOf s.sending control_id payload ack
-    → (s : Sends old new sent sends log logs o) × IsOf s.sending control_id payload ack
+    → old ≡ Some f → Keeps sent begin → Keeps log first → (s : Sends (Some f) new begin sends first logs o) × IsSendingOf s.sending control_id payload ack
+    → (s : Sends old new sent sends log logs o) × IsSendingOf s.sending control_id payload ack
 sends_after old f new sent begin sends log first logs control_id payload ack o is same_sent same_log s = (
   record {
     sending = s.0.sending;
@@ -174,7 +179,7 @@ spends_none old sent sends log logs calls call payload same_sent same_log =
 
 -- the text went over a connection that was kept, or did not, and not a byte came
 pub spends_sending : (old : Option Framed) (f : Framed) (new : Option Framed) (sent begin sends log first logs : Option (List ℕ)) (calls mid call : Option ℕ) (control_id payload : List ℕ) (ack : Bool) (o : Outcome) (n : ℕ)
-    → old ≡ Some f → Keeps sent begin → Keeps log first → CallsMore calls mid 0 → (s : Sends (Some f) new begin sends first logs o) × IsOf s.sending control_id payload ack
+    → old ≡ Some f → Keeps sent begin → Keeps log first → CallsMore calls mid 0 → (s : Sends (Some f) new begin sends first logs o) × IsSendingOf s.sending control_id payload ack
     → Keeps first logs → CallsMore mid call n → Keeps begin sends ⊎ (n ≡ 1) → Spends old sent sends log logs calls call payload
 spends_sending old f new sent begin sends log first logs calls mid call control_id payload ack o n is same_sent same_log no_call s nothing asked (inl unsent) =
     spends_none old sent sends log logs calls call payload (Keeps-trans sent begin sends same_sent unsent) (Keeps-trans log first logs same_log nothing)
@@ -190,8 +195,8 @@ spends_sending old f new sent begin sends log first logs calls mid call control_
 
 -- an attempt over the connection that was open
 pub tries_kept : (old new : Option Framed) (sent begin sends log first logs : Option (List ℕ)) (control_id payload : List ℕ) (ack : Bool) (o : Outcome)
-    → Keeps sent begin → Keeps log first → is_some old ≡ true → (s : Sends old new begin sends first logs o) × IsOf s.sending control_id payload ack
-    → (t : Tries old new sent sends log logs o) × IsOf t.attempt.last control_id payload ack
+    → Keeps sent begin → Keeps log first → is_some old ≡ true → (s : Sends old new begin sends first logs o) × IsSendingOf s.sending control_id payload ack
+    → (t : Tries old new sent sends log logs o) × IsSendingOf t.attempt.last control_id payload ack
 tries_kept old new sent begin sends log first logs control_id payload ack o same_sent same_log is_open s = (
   record {
     attempt = record { last = s.0.sending; anew = false; spent = false };
@@ -209,8 +214,8 @@ tries_kept old new sent begin sends log first logs control_id payload ack o same
 
 -- an attempt over a new connection, after the open one was of no use
 pub tries_anew : (old new : Option Framed) (sent begin mid sends log first between logs : Option (List ℕ)) (calls call : Option ℕ) (control_id payload : List ℕ) (ack : Bool) (o : Outcome)
-    → Keeps sent begin → Keeps log first → Spends old begin mid first between calls call payload → (s : Sends None new mid sends between logs o) × IsOf s.sending control_id payload ack
-    → (t : Tries old new sent sends log logs o) × IsOf t.attempt.last control_id payload ack
+    → Keeps sent begin → Keeps log first → Spends old begin mid first between calls call payload → (s : Sends None new mid sends between logs o) × IsSendingOf s.sending control_id payload ack
+    → (t : Tries old new sent sends log logs o) × IsSendingOf t.attempt.last control_id payload ack
 tries_anew old new sent begin mid sends log first between logs calls call control_id payload ack o same_sent same_log spent s = (
   record {
     attempt = record { last = s.0.sending; anew = true; spent = spent.spent };
@@ -229,21 +234,24 @@ tries_anew old new sent begin mid sends log first between logs calls call contro
   s.1,
 )
 
--- nothing was sent or received after an attempt
-pub tries_told : (old new : Option Framed) (sent sends after log logs later : Option (List ℕ)) (o : Outcome) → Tries old new sent sends log logs o
-    → Keeps sends after → Keeps logs later → Tries old new sent after log later o
-tries_told old new sent sends after log logs later o t same_sent same_log =
-    record {
-      attempt = t.attempt;
-      outcome = t.outcome;
-      sends_block = Appends-kept sent sends after _ t.sends_block same_sent;
-      was_kept = t.was_kept;
-      is_anew = t.is_anew;
-      is_open = t.is_open;
-      got = t.got;
-      logged = Appends-kept log logs later _ t.logged same_log;
-      goes = t.goes;
-    }
+-- nothing was sent or received after an attempt, which was a turn
+pub tries_told : (h : History) (d : ℕ) (old new : Option Framed) (sent sends after log logs later : Option (List ℕ)) (begun ended : SeatView) (o : Outcome)
+    → (t : Tries old new sent sends log logs o) → Keeps sends after → Keeps logs later → DeliversInLog h d begun ended (t.attempt ∷ [])
+    → (t : Tries old new sent after log later o) × DeliversInLog h d begun ended (t.attempt ∷ [])
+tries_told h d old new sent sends after log logs later begun ended o t same_sent same_log turn = (
+  record {
+    attempt = t.attempt;
+    outcome = t.outcome;
+    sends_block = Appends-kept sent sends after _ t.sends_block same_sent;
+    was_kept = t.was_kept;
+    is_anew = t.is_anew;
+    is_open = t.is_open;
+    got = t.got;
+    logged = Appends-kept log logs later _ t.logged same_log;
+    goes = t.goes;
+  },
+  turn,
+)
 
 -- whether the last of these connections had an attempt
 abbrev pub last_used : Bool → List Visit → Bool
@@ -359,7 +367,7 @@ going_one old None log mid logs all a got ready goes more =
     record {
       visits = g.visits ++ last ∷ [];
       in_order = All-push ReadsInOrder g.visits last g.in_order
-          (after.0, after.1 ∙ ap (λ (l : List Event). l ++ after.0) (sym (flat_one (λ (b : Attempt). b.last.read) g.attempts a)));
+          (after.0, after.1 ∙ ap (λ (l : List FramingEvent). l ++ after.0) (sym (flat_one (λ (b : Attempt). b.last.read) g.attempts a)));
       in_turn = turn_push false g.visits last g.in_turn ready.begins;
       attempts = [];
       begins = tt;
@@ -382,33 +390,36 @@ going_one old (Some f) log mid logs all a got ready goes more =
       begins = ready.begins;
       used = used_push g.attempts a;
       received = g.received ++ got;
-      open_one = subst (λ (l : List Event). Stands (g.received ++ got) l f) (sym (flat_one (λ (b : Attempt). b.last.read) g.attempts a)) (goes g.received (read_in g.attempts) g.open_one);
+      open_one = subst (λ (l : List FramingEvent). Stands (g.received ++ got) l f) (sym (flat_one (λ (b : Attempt). b.last.read) g.attempts a)) (goes g.received (read_in g.attempts) g.open_one);
       all_are = ap (λ (l : List Attempt). l ++ a ∷ []) g.all_are ∙ append_assoc (attempts_in g.visits) g.attempts (a ∷ []);
       logged = subst (λ (l : List ℕ). Appends log logs l) (append_assoc (received_in g.visits) g.received got) (Appends-trans log mid logs _ _ g.logged more);
     }
 
--- From the start of delivering on: the attempts are counted, they are the takes of the station, and they sent what was sent.
-pub record SoFar (framer : Option Framed) (begin now log logs : Option (List ℕ)) (first made : Made) (turns : ℕ) (r : DeliverReport) : Type 0 where
+-- From the start of delivering on: the attempts are counted, they are the takes of the station and its turns in the log, and
+-- they sent what was sent.
+pub record SoFar (h : History) (d : ℕ) (framer : Option Framed) (begin now log logs : Option (List ℕ)) (first made : StationView) (turns : ℕ) (r : DeliverReport) : Type 0 where
   pub attempts : List Attempt
   pub going : Going framer log logs attempts
-  pub tells : Tells attempts r
+  pub tells : ReportsAttempts attempts r
   pub sent : Appends begin now (flat_map sent_by attempts)
+  pub in_log : DeliversInLog h d first.seat made.seat attempts
   pub sum : r.taken ≡ r.delivered + r.again + r.rejected
   pub few : r.taken ≤ turns
-  pub taken : made.takes ≡ first.takes + r.taken
-  pub settled_least : first.settlements ≤ made.settlements
-  pub settled_most : made.settlements ≤ first.settlements + r.taken
+  pub taken : made.counts.takes ≡ first.counts.takes + r.taken
+  pub settled_least : first.counts.settlements ≤ made.counts.settlements
+  pub settled_most : made.counts.settlements ≤ first.counts.settlements + r.taken
 
 -- at the start
-pub starts : (begin log : Option (List ℕ)) (first : Made) (framer : Option Framed) (r : DeliverReport) → framer ≡ None → r ≡ no_attempts
-    → SoFar framer begin begin log log first first 0 r
-starts begin log first framer r none new =
-    subst (λ (f : Option Framed). SoFar f begin begin log log first first 0 r) (sym none)
-    (subst (λ (s : DeliverReport). SoFar None begin begin log log first first 0 s) (sym new) (record {
+pub starts : (h : History) (d : ℕ) (begin log : Option (List ℕ)) (first : StationView) (framer : Option Framed) (r : DeliverReport) → framer ≡ None → r ≡ no_attempts
+    → SoFar h d framer begin begin log log first first 0 r
+starts h d begin log first framer r none new =
+    subst (λ (f : Option Framed). SoFar h d f begin begin log log first first 0 r) (sym none)
+    (subst (λ (s : DeliverReport). SoFar h d None begin begin log log first first 0 s) (sym new) (record {
       attempts = [];
       going = going_start log;
       tells = record { taken = refl; delivered = refl; again = refl; rejected = refl };
       sent = Appends-nil begin;
+      in_log = no_turn h d first.seat first.seat refl;
       sum = refl;
       few = omega arith;
       taken = omega arith;
@@ -429,16 +440,20 @@ counted_taken Again r = refl
 counted_taken Rejected r = refl
 
 -- after one more attempt
-pub attempted : (old new : Option Framed) (begin mid now log between logs : Option (List ℕ)) (first made more : Made) (turns : ℕ) (r s : DeliverReport) (o : Outcome)
-    → SoFar old begin mid log between first made turns r → Tries old new mid now between logs o → more.takes ≡ made.takes + 1
-    → (made.settlements ≤ more.settlements) × (more.settlements ≤ made.settlements + 1) → s ≡ counted o r → SoFar new begin now log logs first more (turns + 1) s
-attempted old new begin mid now log between logs first made more turns r s o f one takes settled is =
-    subst (λ (t : DeliverReport). SoFar new begin now log logs first more (turns + 1) t) (sym is) (record {
+pub attempted : (h : History) (d : ℕ) (old new : Option Framed) (begin mid now log between logs : Option (List ℕ)) (first made more : StationView) (turns : ℕ) (r s : DeliverReport) (o : Outcome)
+    → SoFar h d old begin mid log between first made turns r
+    → (t : Tries old new mid now between logs o) × DeliversInLog h d made.seat more.seat (t.attempt ∷ []) → more.counts.takes ≡ made.counts.takes + 1
+    → (made.counts.settlements ≤ more.counts.settlements) × (more.counts.settlements ≤ made.counts.settlements + 1) → s ≡ counted o r
+    → SoFar h d new begin now log logs first more (turns + 1) s
+attempted h d old new begin mid now log between logs first made more turns r s o f turn takes settled is =
+    let one = turn.0 in
+    subst (λ (t : DeliverReport). SoFar h d new begin now log logs first more (turns + 1) t) (sym is) (record {
       attempts = f.attempts ++ one.attempt ∷ [];
       going = going_one (way_of one.attempt old) new log between logs f.attempts one.attempt one.got
           (going_over one.attempt one.attempt.anew old log between f.attempts refl one.was_kept one.is_anew one.is_open f.going) one.goes one.logged;
       tells = tells_more f.attempts r one.attempt o one.outcome f.tells;
       sent = subst (λ (l : List ℕ). Appends begin now l) (sym (flat_one sent_by f.attempts one.attempt)) (Appends-trans begin mid now _ _ f.sent one.sends_block);
+      in_log = turns_then h d first.seat made.seat more.seat f.attempts (one.attempt ∷ []) f.in_log turn.1;
       sum = counted_sum o r f.sum;
       few = omega (arith, counted_taken o r, f.few);
       taken = omega (arith, counted_taken o r, f.taken, takes);
@@ -447,13 +462,14 @@ attempted old new begin mid now log between logs first made more turns r s o f o
     })
 
 -- after a take that was refused
-pub refused : (old new : Option Framed) (begin mid now log between logs : Option (List ℕ)) (first made more : Made) (turns : ℕ) (r s : DeliverReport)
-    → SoFar old begin mid log between first made turns r → (more ≡ made) × (new ≡ old) → Keeps mid now × Keeps between logs → s ≡ r
-    → SoFar new begin now log logs first more (turns + 1) s
-refused old new begin mid now log between logs first made more turns r s f same kept is =
-    subst (λ (t : DeliverReport). SoFar new begin now log logs first more (turns + 1) t) (sym is)
-    (subst (λ (m : Made). SoFar new begin now log logs first m (turns + 1) r) (sym same.0)
-    (subst (λ (g : Option Framed). SoFar g begin now log logs first made (turns + 1) r) (sym same.1) (record {
+pub refused : (h : History) (d : ℕ) (old new : Option Framed) (begin mid now log between logs : Option (List ℕ)) (first made more : StationView) (turns : ℕ) (r s : DeliverReport)
+    → SoFar h d old begin mid log between first made turns r → (more.counts ≡ made.counts) × (new ≡ old) → DeliversInLog h d made.seat more.seat []
+    → Keeps mid now × Keeps between logs → s ≡ r → SoFar h d new begin now log logs first more (turns + 1) s
+refused h d old new begin mid now log between logs first made more turns r s f same in_log kept is =
+    let takes : more.counts.takes ≡ made.counts.takes = ap (λ (m : Made). m.takes) same.0 in
+    let settlements : more.counts.settlements ≡ made.counts.settlements = ap (λ (m : Made). m.settlements) same.0 in
+    subst (λ (t : DeliverReport). SoFar h d new begin now log logs first more (turns + 1) t) (sym is)
+    (subst (λ (g : Option Framed). SoFar h d g begin now log logs first more (turns + 1) r) (sym same.1) (record {
       attempts = f.attempts;
       going = record {
         visits = f.going.visits;
@@ -469,27 +485,31 @@ refused old new begin mid now log between logs first made more turns r s f same 
       };
       tells = f.tells;
       sent = Appends-kept begin mid now _ f.sent kept.0;
+      in_log = no_more_turns h d first.seat made.seat more.seat f.attempts f.in_log in_log;
       sum = f.sum;
       few = omega (arith, f.few);
-      taken = f.taken;
-      settled_least = f.settled_least;
-      settled_most = f.settled_most;
-    })))
+      taken = omega (arith, f.taken, takes);
+      settled_least = omega (arith, f.settled_least, settlements);
+      settled_most = omega (arith, f.settled_most, settlements);
+    }))
 
 -- at the end
-pub delivers : (framer : Option Framed) (begin mid now log between logs : Option (List ℕ)) (first made : Made) (turns : ℕ) (r s : DeliverReport)
-    → SoFar framer begin mid log between first made turns r → Keeps mid now → Keeps between logs
-    → s.taken ≡ r.taken → s.delivered ≡ r.delivered → s.again ≡ r.again → s.rejected ≡ r.rejected → Delivers begin now log logs s
-delivers framer begin mid now log between logs first made turns r s f same_sent same_log taken delivered again rejected =
+pub delivers : (h : History) (d : ℕ) (framer : Option Framed) (begin mid now log between logs : Option (List ℕ)) (first made : StationView) (end : SeatView) (turns : ℕ) (r s : DeliverReport)
+    → SoFar h d framer begin mid log between first made turns r → DeliversInLog h d made.seat end [] → Keeps mid now → Keeps between logs
+    → s.taken ≡ r.taken → s.delivered ≡ r.delivered → s.again ≡ r.again → s.rejected ≡ r.rejected
+    → (t : Delivers begin now log logs s) × DeliversInLog h d first.seat end (attempts_in t.visits)
+delivers h d framer begin mid now log between logs first made end turns r s f in_log same_sent same_log taken delivered again rejected =
     let g = f.going in
     let last : Visit = record { attempts = g.attempts; received = g.received } in
-    let all : f.attempts ≡ attempts_in (g.visits ++ last ∷ []) = g.all_are ∙ sym (flat_one (λ (v : Visit). v.attempts) g.visits last) in
-    record {
-      visits = g.visits ++ last ∷ [];
-      in_order = All-push ReadsInOrder g.visits last g.in_order (last_reads framer g.received g.attempts g.open_one);
-      in_turn = turn_push false g.visits last g.in_turn g.begins;
-      tells = subst (λ (l : List Attempt). Tells l s) all
-          (record { taken = taken ∙ f.tells.taken; delivered = delivered ∙ f.tells.delivered; again = again ∙ f.tells.again; rejected = rejected ∙ f.tells.rejected });
-      sends_blocks = subst (λ (l : List Attempt). Appends begin now (flat_map sent_by l)) all (Appends-kept begin mid now _ f.sent same_sent);
-      logged = subst (λ (l : List ℕ). Appends log logs l) (sym (flat_one (λ (v : Visit). v.received) g.visits last)) (Appends-kept log between logs _ g.logged same_log);
-    }
+    let all : f.attempts ≡ attempts_in (g.visits ++ last ∷ []) = g.all_are ∙ sym (flat_one (λ (v : Visit). v.attempts) g.visits last) in (
+      record {
+        visits = g.visits ++ last ∷ [];
+        in_order = All-push ReadsInOrder g.visits last g.in_order (last_reads framer g.received g.attempts g.open_one);
+        in_turn = turn_push false g.visits last g.in_turn g.begins;
+        tells = subst (λ (l : List Attempt). ReportsAttempts l s) all
+            (record { taken = taken ∙ f.tells.taken; delivered = delivered ∙ f.tells.delivered; again = again ∙ f.tells.again; rejected = rejected ∙ f.tells.rejected });
+        sends_blocks = subst (λ (l : List Attempt). Appends begin now (flat_map sent_by l)) all (Appends-kept begin mid now _ f.sent same_sent);
+        logged = subst (λ (l : List ℕ). Appends log logs l) (sym (flat_one (λ (v : Visit). v.received) g.visits last)) (Appends-kept log between logs _ g.logged same_log);
+      },
+      subst (λ (l : List Attempt). DeliversInLog h d first.seat end l) all (no_more_turns h d first.seat made.seat end f.attempts f.in_log in_log),
+    )

@@ -1,6 +1,9 @@
 pub mod Afresh
 pub mod Calls
 pub mod Delivered
+pub mod InLog
+pub mod Listed
 pub mod Reading
+pub mod Sent
 pub mod Streams
 mod Rows

@@ -4,26 +4,27 @@ use Rattle.std.specs.Io.KnownBytes.{Appends}
 use Rattle.std.proofs.KnownBytes.{Appends-nil, Appends-trans}
 use Rattle.std.proofs.lemmas.List.{map-append}
 use Rattle.hl7_head.specs.Msa.{MsaFields}
-use Rattle.mllp_frame.specs.Event.{Event}
-use Rattle.mllp_frame.specs.Framed.{Framed, blank, fed}
-use Rattle.mllp_frame.specs.Framing.{blocks, open_end}
+use Rattle.mllp_frame.specs.Event.{FramingEvent}
+use Rattle.mllp_frame.specs.inner.Framed.{Framed, blank, fed}
+use Rattle.mllp_frame.specs.Framing.{blocks}
+use Rattle.mllp_frame.specs.inner.Framing.{open_end}
 use Rattle.conn_worker.proofs.Pieces.{StreamLaws}
 use Rattle.conn_worker.proofs.Standing.{first_event}
 use Rattle.delivery_worker.specs.Answers.{answer_in}
-use Rattle.delivery_worker.specs.Stream.{Goes, ReadsFront, ReadsOn, Receives}
+use Rattle.delivery_worker.specs.inner.Stream.{Goes, ReadsFront, ReadsOn, Receives}
 
 -- no event was read yet
 pub reads_none : (f : Framed) (had : List (Option MsaFields)) → ReadsOn f f had had
 reads_none f had = record { read = []; front = refl; same_end = refl; answers = sym (append-nil had) }
 
 -- one more event was read
-pub reads_one_more : (old f g : Framed) (had mid has : List (Option MsaFields)) (e : Event) (answer : Option MsaFields) → ReadsOn old f had mid
+pub reads_one_more : (old f g : Framed) (had mid has : List (Option MsaFields)) (e : FramingEvent) (answer : Option MsaFields) → ReadsOn old f had mid
     → Some e ≡ slice_get f.to_come 0 → g ≡ record f { to_come = drop 1 f.to_come } → answer ≡ answer_in e → has ≡ mid ++ answer ∷ [] → ReadsOn old g had has
 reads_one_more old f g had mid has e answer r first gone is grown =
     let taken : e ∷ g.to_come ≡ f.to_come = ap (λ (h : Framed). e ∷ h.to_come) gone ∙ sym (first_event f.to_come e first) in
     record {
       read = r.read ++ e ∷ [];
-      front = r.front ∙ ap (λ (l : List Event). r.read ++ l) (sym taken) ∙ sym (append_assoc r.read (e ∷ []) g.to_come);
+      front = r.front ∙ ap (λ (l : List FramingEvent). r.read ++ l) (sym taken) ∙ sym (append_assoc r.read (e ∷ []) g.to_come);
       same_end = ap (λ (h : Framed). h.open_end) gone ∙ r.same_end;
       answers = grown ∙ ap (λ (l : List (Option MsaFields)). l ++ answer ∷ []) r.answers ∙ append_assoc had (map answer_in r.read) (answer ∷ [])
           ∙ ap (λ (x : Option MsaFields). had ++ (map answer_in r.read ++ x ∷ [])) is
@@ -35,10 +36,10 @@ pub reads_front : (old f : Framed) (had mid has : List (Option MsaFields)) → R
 reads_front old f had mid has r same = record { read = r.read; later = f.to_come; front = r.front; answers = same ∙ r.answers }
 
 -- events that are read after others
-regroup : (passed first second rest : List Event) → (passed ++ first) ++ (second ++ rest) ≡ (passed ++ (first ++ second)) ++ rest
-regroup passed first second rest = sym (append_assoc (passed ++ first) second rest) ∙ ap (λ (l : List Event). l ++ rest) (append_assoc passed first second)
+regroup : (passed first second rest : List FramingEvent) → (passed ++ first) ++ (second ++ rest) ≡ (passed ++ (first ++ second)) ++ rest
+regroup passed first second rest = sym (append_assoc (passed ++ first) second rest) ∙ ap (λ (l : List FramingEvent). l ++ rest) (append_assoc passed first second)
 
-answers_more : (had mid has : List (Option MsaFields)) (first second : List Event) → mid ≡ had ++ map answer_in first → has ≡ mid ++ map answer_in second
+answers_more : (had mid has : List (Option MsaFields)) (first second : List FramingEvent) → mid ≡ had ++ map answer_in first → has ≡ mid ++ map answer_in second
     → has ≡ had ++ map answer_in (first ++ second)
 answers_more had mid has first second one two =
     two ∙ ap (λ (l : List (Option MsaFields)). l ++ map answer_in second) one ∙ append_assoc had (map answer_in first) (map answer_in second)
@@ -48,7 +49,7 @@ answers_more had mid has first second one two =
 stays : (f : Framed) → Goes (Some f) (Some f) [] []
 stays f received passed s =
     record {
-      events = ap blocks (append-nil received) ∙ s.events ∙ ap (λ (l : List Event). l ++ f.to_come) (sym (append-nil passed));
+      events = ap blocks (append-nil received) ∙ s.events ∙ ap (λ (l : List FramingEvent). l ++ f.to_come) (sym (append-nil passed));
       left_open = s.left_open ∙ ap open_end (sym (append-nil received));
     }
 
@@ -67,7 +68,7 @@ receives_read old f g log logs had mid has r o =
       goes = λ received passed s.
           let t = r.goes received passed s in
           record {
-            events = t.events ∙ ap (λ (l : List Event). (passed ++ r.read) ++ l) o.front ∙ regroup passed r.read o.read g.to_come;
+            events = t.events ∙ ap (λ (l : List FramingEvent). (passed ++ r.read) ++ l) o.front ∙ regroup passed r.read o.read g.to_come;
             left_open = o.same_end ∙ t.left_open;
           };
     }
@@ -83,7 +84,7 @@ receives_front old f log logs had mid has r o =
       logged = r.logged;
       goes = λ received passed s.
           let t = r.goes received passed s in
-          (o.later, t.events ∙ ap (λ (l : List Event). (passed ++ r.read) ++ l) o.front ∙ regroup passed r.read o.read o.later);
+          (o.later, t.events ∙ ap (λ (l : List FramingEvent). (passed ++ r.read) ++ l) o.front ∙ regroup passed r.read o.read o.later);
     }
 
 -- the connection is lost
@@ -112,7 +113,7 @@ module _ (laws : StreamLaws) where
             let added = blocks (open_end (received ++ r.got) ++ more.0) in (
               f.to_come ++ added,
               ap blocks (sym (append_assoc received r.got more.0)) ∙ laws.blocks_are (received ++ r.got) more.0
-                  ∙ ap (λ (l : List Event). l ++ added) t.events ∙ append_assoc (passed ++ r.read) f.to_come added,
+                  ∙ ap (λ (l : List FramingEvent). l ++ added) t.events ∙ append_assoc (passed ++ r.read) f.to_come added,
             );
       }
 
@@ -129,7 +130,7 @@ module _ (laws : StreamLaws) where
             let t = r.goes received passed s in
             record {
               events = ap blocks (sym (append_assoc received r.got more.0)) ∙ laws.blocks_are (received ++ r.got) more.0
-                  ∙ ap (λ (l : List Event). l ++ blocks (open_end (received ++ r.got) ++ more.0)) t.events
+                  ∙ ap (λ (l : List FramingEvent). l ++ blocks (open_end (received ++ r.got) ++ more.0)) t.events
                   ∙ append_assoc (passed ++ r.read) f.to_come (blocks (open_end (received ++ r.got) ++ more.0))
                   ∙ ap (λ (l : List ℕ). (passed ++ r.read) ++ (f.to_come ++ blocks (l ++ more.0))) (sym t.left_open);
               left_open = ap (λ (l : List ℕ). open_end (l ++ more.0)) t.left_open ∙ sym (laws.end_is (received ++ r.got) more.0)
@@ -141,10 +142,10 @@ module _ (laws : StreamLaws) where
 pub goes_nowhere : (old : Option Framed) → Goes old None [] []
 goes_nowhere None received passed b = ([], rw (b.0, b.1) refl)
 goes_nowhere (Some f) received passed b =
-    (f.to_come, ap blocks (append-nil received) ∙ b.events ∙ ap (λ (l : List Event). l ++ f.to_come) (sym (append-nil passed)))
+    (f.to_come, ap blocks (append-nil received) ∙ b.events ∙ ap (λ (l : List FramingEvent). l ++ f.to_come) (sym (append-nil passed)))
 
 -- from a new connection
-pub goes_opened : (f : Framed) (new : Option Framed) (got : List ℕ) (read : List Event) → f ≡ blank → Goes (Some f) new got read → Goes None new got read
+pub goes_opened : (f : Framed) (new : Option Framed) (got : List ℕ) (read : List FramingEvent) → f ≡ blank → Goes (Some f) new got read → Goes None new got read
 goes_opened f new got read is goes received passed b =
     goes received passed (record { events = rw (b.0, b.1, is) refl; left_open = rw (is, b.0) refl })
 

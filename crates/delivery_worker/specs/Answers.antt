@@ -7,7 +7,7 @@ use Rattle.dest_queue.specs.declared.Outcome.{Outcome}
 use Rattle.dest_queue.specs.declared.Outcome.TheVariants.{Delivered, Again, Rejected}
 use Rattle.hl7_head.specs.Msa.{MsaFields}
 use Rattle.hl7_head.specs.Laws.{msa_of}
-use Rattle.mllp_frame.specs.Event.{Event, block, broken}
+use Rattle.mllp_frame.specs.Event.{FramingEvent, block, broken}
 
 -- what an acknowledgment code of table 0008 means: accepted is delivered, rejected stays rejected, and on an error,
 -- as on any other code, the message is sent again
@@ -29,6 +29,6 @@ abbrev pub outcome_of : List ℕ → List (Option MsaFields) → Outcome
 outcome_of control_id answers = option_map_or (λ msa. code_outcome msa.code) (find (answers_to control_id) (acknowledgments answers)) Again
 
 -- the answer that an event of the stream brings: that of a block's text, none where the block is broken
-abbrev pub answer_in : Event → Option MsaFields
+abbrev pub answer_in : FramingEvent → Option MsaFields
 answer_in (block text) = msa_of text
 answer_in (broken cause) = None

@@ -1,16 +1,13 @@
 -- The outcome of an attempt to deliver a message, and what a report says of attempts.
-use Rattle.std.specs.Prelude.{◌≡◌, ℕ, ◌+◌, Bool, true, false, if◌then◌else◌, List, [], ◌∷◌, ◌++◌, ⊤, Option, None, All, is_some, length, count_by, flat_map, map}
-use Rattle.std.specs.Io.KnownBytes.{Appends, Keeps}
+use Rattle.std.specs.Prelude.{◌≡◌, ℕ, Bool, true, false, if◌then◌else◌, List, [], ◌∷◌, ◌++◌, ⊤, Option, All, length, count_by, flat_map, map}
+use Rattle.std.specs.Io.KnownBytes.{Appends}
 use Rattle.dest_queue.specs.declared.Outcome.{Outcome}
 use Rattle.dest_queue.specs.declared.Outcome.TheVariants.{Delivered, Again, Rejected}
-use Rattle.mllp_frame.specs.Event.{Event}
-use Rattle.mllp_frame.specs.Framed.{Framed}
+use Rattle.mllp_frame.specs.Event.{FramingEvent}
 use Rattle.mllp_frame.specs.Framing.{block_bytes}
 use Rattle.delivery_worker.specs.Answers.{answer_in, outcome_of}
-use Rattle.delivery_worker.specs.Calls.{CallsMore}
-use Rattle.delivery_worker.specs.Stream.{Goes, IsFrontOf}
+use Rattle.delivery_worker.specs.Stream.{IsFrontOf}
 use Rattle.delivery_worker.specs.declared.report.DeliverReport.{DeliverReport}
-use Rattle.delivery_worker.specs.declared.report.DeliverEnd.TheVariants.{TurnsSpent}
 
 -- the sending of a message over one connection: its raw control id (MSH-10), the text to send, whether the destination
 -- acknowledges, whether the text was sent, and the events that were read afterwards
@@ -19,7 +16,11 @@ pub record Sending : Type 0 where
   pub payload : List ℕ
   pub ack : Bool
   pub sent : Bool
-  pub read : List Event
+  pub read : List FramingEvent
+
+-- A sending of the message with this control id and this text, to a destination that acknowledges or not.
+abbrev pub IsSendingOf : Sending → List ℕ → List ℕ → Bool → Type 0
+IsSendingOf s control_id payload ack = (s.control_id ≡ control_id) × (s.payload ≡ payload) × (s.ack ≡ ack)
 
 -- what is not sent is sent again; what is sent is delivered, and where the destination acknowledges, the answers decide
 abbrev pub sending_outcome : Sending → Outcome
@@ -53,12 +54,8 @@ abbrev pub IsOnward : Attempt → Type 0
 IsOnward a = (a.anew ≡ false) × (a.spent ≡ false)
 
 -- the events that attempts read, one after another
-abbrev pub read_in : List Attempt → List Event
+abbrev pub read_in : List Attempt → List FramingEvent
 read_in attempts = flat_map (λ a. a.last.read) attempts
-
--- the connection that the last sending went over, by that which was open before: a new one has no framer yet
-abbrev pub way_of : Attempt → Option Framed → Option Framed
-way_of a old = if a.anew then None else old
 
 -- what went over one connection: the attempts, and the bytes that were received
 pub record Visit : Type 0 where
@@ -93,45 +90,9 @@ attempts_in visits = flat_map (λ v. v.attempts) visits
 abbrev pub received_in : List Visit → List ℕ
 received_in visits = flat_map (λ v. v.received) visits
 
--- One sending, over the connection that was open, a new one, or none: what its outcome is, and what it sent, received
--- and read.
-pub record Sends (old new : Option Framed) (sent sends log logs : Option (List ℕ)) (o : Outcome) : Type 0 where
-  pub sending : Sending
-  pub outcome : sending_outcome sending ≡ o
-  pub sends_block : Appends sent sends (sent_in sending)
-  pub got : List ℕ
-  pub logged : Appends log logs got
-  pub goes : Goes old new got sending.read
-
--- A sending of this message.
-abbrev pub IsOf : Sending → List ℕ → List ℕ → Bool → Type 0
-IsOf s control_id payload ack = (s.control_id ≡ control_id) × (s.payload ≡ payload) × (s.ack ≡ ack)
-
--- The connection that was open is of no use any more, or there was none: the text may have gone over it, and then one
--- receive was made, but it gave no byte.
-pub record Spends (old : Option Framed) (sent sends log logs : Option (List ℕ)) (calls call : Option ℕ) (payload : List ℕ) : Type 0 where
-  pub spent : Bool
-  pub sends_block : Appends sent sends (block_if spent payload)
-  pub nothing_came : Keeps log logs
-  pub asked : spent ≡ true → CallsMore calls call 1
-  pub was_kept : spent ≡ true → is_some old ≡ true
-
--- One attempt, over the connection that was open, a new one, none, or first the one that was open and then, since no byte
--- was received over it, a new one: what its outcome is, and what it sent, received and read.
-pub record Tries (old new : Option Framed) (sent sends log logs : Option (List ℕ)) (o : Outcome) : Type 0 where
-  pub attempt : Attempt
-  pub outcome : attempt_outcome attempt ≡ o
-  pub sends_block : Appends sent sends (sent_by attempt)
-  pub was_kept : attempt.spent ≡ true → is_some old ≡ true
-  pub is_anew : attempt.spent ≡ true → attempt.anew ≡ true
-  pub is_open : attempt.anew ≡ false → is_some old ≡ true
-  pub got : List ℕ
-  pub logged : Appends log logs got
-  pub goes : Goes (way_of attempt old) new got attempt.last.read
-
-abbrev pub is_delivered : Outcome → Bool
-is_delivered Delivered = true
-is_delivered _ = false
+abbrev pub is_delivery : Outcome → Bool
+is_delivery Delivered = true
+is_delivery _ = false
 
 abbrev pub is_again : Outcome → Bool
 is_again Again = true
@@ -142,9 +103,9 @@ is_rejected Rejected = true
 is_rejected _ = false
 
 -- The report counts these attempts by their outcomes.
-pub record Tells (attempts : List Attempt) (r : DeliverReport) : Type 0 where
+pub record ReportsAttempts (attempts : List Attempt) (r : DeliverReport) : Type 0 where
   pub taken : r.taken ≡ length attempts
-  pub delivered : r.delivered ≡ count_by (λ a. is_delivered (attempt_outcome a)) attempts
+  pub delivered : r.delivered ≡ count_by (λ a. is_delivery (attempt_outcome a)) attempts
   pub again : r.again ≡ count_by (λ a. is_again (attempt_outcome a)) attempts
   pub rejected : r.rejected ≡ count_by (λ a. is_rejected (attempt_outcome a)) attempts
 
@@ -154,34 +115,6 @@ pub record Delivers (sent sends log logs : Option (List ℕ)) (r : DeliverReport
   pub visits : List Visit
   pub in_order : All ReadsInOrder visits
   pub in_turn : InTurn false visits
-  pub tells : Tells (attempts_in visits) r
+  pub tells : ReportsAttempts (attempts_in visits) r
   pub sends_blocks : Appends sent sends (flat_map sent_by (attempts_in visits))
   pub logged : Appends log logs (received_in visits)
-
--- a report of no attempt
-abbrev pub no_attempts : DeliverReport
-no_attempts = record { taken = 0; delivered = 0; again = 0; rejected = 0; end = TurnsSpent }
-
--- with one more attempt, by its outcome
-abbrev pub counted : Outcome → DeliverReport → DeliverReport
-counted Delivered r = record r { taken = r.taken + 1; delivered = r.delivered + 1 }
-counted Again r = record r { taken = r.taken + 1; again = r.again + 1 }
-counted Rejected r = record r { taken = r.taken + 1; rejected = r.rejected + 1 }
-
--- an attempt, with the bytes that were received in it
-pub record Exchanged : Type 0 where
-  pub attempt : Attempt
-  pub received : List ℕ
-
--- The events that were read are the first of those that were received in the attempt itself.
-abbrev pub IsFresh : Exchanged → Type 0
-IsFresh e = IsFrontOf e.received e.attempt.last.read
-
--- The attempts were made that the report counts, each with nothing left of what was received before it: they sent what was
--- sent, and what was received was received in them.
-pub record DeliversAfresh (sent sends log logs : Option (List ℕ)) (r : DeliverReport) : Type 0 where
-  pub exchanges : List Exchanged
-  pub fresh : All IsFresh exchanges
-  pub tells : Tells (map (λ e. e.attempt) exchanges) r
-  pub sends_blocks : Appends sent sends (flat_map (λ e. sent_by e.attempt) exchanges)
-  pub logged : Appends log logs (flat_map (λ e. e.received) exchanges)

@@ -1,4 +1,6 @@
 pub mod Answers
-pub mod Calls
 pub mod Stream
 pub mod Delivering
+pub mod Turns
+pub mod Sent
+pub mod inner

@@ -72,7 +72,7 @@ fn known_code(code: &[u8]) -> Option<AckCode> {
 }
 
 /// What the answers that [`outcome_of`] looks at say of the message with this raw control id.
-pub fn reply_to(control_id: &[u8], answers: &[Option<Msa>]) -> Reply {
+pub(crate) fn reply_to(control_id: &[u8], answers: &[Option<Msa>]) -> Reply {
     let read = &answers[..MAX_ANSWERS.min(answers.len())];
     match acknowledgment(control_id, read) {
         Some(msa) => Reply::Code(known_code(&msa.code)),

@@ -5,13 +5,14 @@ ghost use Rattle.std.specs.Option.{option_map_or};
 ghost use Rattle.std.specs.Io.KnownBytes.{Appends, Keeps};
 ghost use Rattle.dest_queue.specs.declared.Outcome.TheVariants.{Again};
 ghost use Rattle.fixed_numbers.specs.declared.serving.TheConstants.{RECEIVES_MAX};
-ghost use Rattle.mllp_frame.specs.Event.{event_of};
+ghost use Rattle.mllp_frame.specs.inner.Event.{event_of};
 ghost use Rattle.mllp_frame.specs.Framing.{IsData, block_bytes};
-ghost use Rattle.mllp_frame.specs.Framed.{blank, fed};
+ghost use Rattle.mllp_frame.specs.inner.Framed.{blank, fed};
 ghost use Rattle.delivery_worker.specs.Answers.{answer_in, answers_to};
-ghost use Rattle.delivery_worker.specs.Calls.{CallsMore, CallsUpTo};
-ghost use Rattle.delivery_worker.specs.Stream.{ReadsFront, ReadsOn, Receives};
-ghost use Rattle.delivery_worker.specs.Delivering.{IsOf, Sends, Spends, Tries};
+ghost use Rattle.delivery_worker.specs.inner.Calls.{CallsMore, CallsUpTo};
+ghost use Rattle.delivery_worker.specs.inner.Stream.{ReadsFront, ReadsOn, Receives};
+ghost use Rattle.delivery_worker.specs.Delivering.{IsSendingOf};
+ghost use Rattle.delivery_worker.specs.inner.Delivering.{Sends, Spends, Tries};
 
 use crate::answers::{Reply, outcome_of, reply_to};
 use crate::link::{Link, LinkFault};
@@ -260,10 +261,10 @@ impl Connection {
         requires none { self.old.framer ≡ None }
         ensures ok { IfOk result (λ o.
             (s : Sends (Some framer) self.new.framer (L.sent link.old) (L.sent link.new) (L.received link.old) (L.received link.new) o)
-            × IsOf s.sending job.now.control_id job.now.payload job.now.ack) }
+            × IsSendingOf s.sending job.now.control_id job.now.payload job.now.ack) }
         ensures err { OnErr result (
             (s : Sends (Some framer) None (L.sent link.old) (L.sent link.new) (L.received link.old) (L.received link.new) Again)
-            × IsOf s.sending job.now.control_id job.now.payload job.now.ack) }
+            × IsSendingOf s.sending job.now.control_id job.now.payload job.now.ack) }
         ensures unanswered { OnErr result (Keeps (L.received link.old) (L.received link.new) × (self.new.framer ≡ None)) }
 
         // Where the text was sent, one receive was made.
@@ -307,7 +308,7 @@ impl Connection {
     fn exchange_kept<L: Link>(&mut self, link: &mut L, job: &Job) -> Result<Outcome, Unanswered>
         ensures ok { IfOk result (λ o.
             (s : Sends self.old.framer self.new.framer (L.sent link.old) (L.sent link.new) (L.received link.old) (L.received link.new) o)
-            × IsOf s.sending job.now.control_id job.now.payload job.now.ack) }
+            × IsSendingOf s.sending job.now.control_id job.now.payload job.now.ack) }
         ensures open { OnOk result (is_some self.old.framer ≡ true) }
         ensures err { OnErr result (
             Spends self.old.framer (L.sent link.old) (L.sent link.new) (L.received link.old) (L.received link.new)
@@ -333,7 +334,7 @@ impl Connection {
     fn exchange_anew<L: Link>(&mut self, link: &mut L, job: &Job, limit: u32) -> Outcome
         requires none { self.old.framer ≡ None }
         ensures sends { (s : Sends None self.new.framer (L.sent link.old) (L.sent link.new) (L.received link.old) (L.received link.new) result)
-            × IsOf s.sending job.now.control_id job.now.payload job.now.ack }
+            × IsSendingOf s.sending job.now.control_id job.now.payload job.now.ack }
         ensures receives { CallsUpTo (L.receives link.old) (L.receives link.new) limit }
     {
         match link.connect() {
@@ -352,7 +353,7 @@ impl Connection {
     /// connects anew.
     pub fn attempt<L: Link>(&mut self, link: &mut L, job: &Job) -> Outcome
         ensures tries { (t : Tries self.old.framer self.new.framer (L.sent link.old) (L.sent link.new) (L.received link.old) (L.received link.new) result)
-            × IsOf t.attempt.last job.now.control_id job.now.payload job.now.ack }
+            × IsSendingOf t.attempt.last job.now.control_id job.now.payload job.now.ack }
         ensures receives { CallsUpTo (L.receives link.old) (L.receives link.new) RECEIVES_MAX }
     {
         link.begin();

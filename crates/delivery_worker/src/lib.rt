@@ -3,6 +3,7 @@
 
 mod answers;
 mod connection;
+mod laws;
 mod link;
 mod report;
 mod socket;
@@ -13,6 +14,7 @@ mod words;
 mod worker;
 
 pub use answers::{Reply, outcome_of};
+pub use laws::delivered_is_sent;
 pub use link::{Link, LinkFault};
 pub use report::{DeliverEnd, DeliverReport};
 pub use tcp_link::TcpLink;

@@ -16,7 +16,7 @@ pub trait Link {
     ghost use Rattle.std.specs.Result.{is_err};
     ghost use Rattle.std.specs.Io.KnownBytes.{Appends, Keeps};
     ghost use Rattle.conn_worker.specs.Faults.{with_fault};
-    ghost use Rattle.delivery_worker.specs.Calls.{CallsMore};
+    ghost use Rattle.delivery_worker.specs.inner.Calls.{CallsMore};
 
     /// How many calls failed so far. The number stays at its greatest value.
     ghost fault_count: { Self → ℕ };

@@ -1,7 +1,7 @@
 //! The report of delivering.
 
 ghost use Rattle.std.specs.Prelude.{◌≡◌, ◌+◌, ◌≤◌, ◌^◌, ◌<◌};
-ghost use Rattle.delivery_worker.specs.Delivering.{counted, no_attempts};
+ghost use Rattle.delivery_worker.specs.inner.Delivering.{counted, no_attempts};
 
 use dest_queue::Outcome;
 

@@ -34,7 +34,7 @@ impl Ready {
 
 /// Waits until something is to be read or the peer ends, or also until there is room for what is to be sent, for at most so
 /// long.
-pub fn wait_for(stream: &TcpStream, writes: bool, limit: Duration) -> Ready {
+pub(crate) fn wait_for(stream: &TcpStream, writes: bool, limit: Duration) -> Ready {
     let mut asked = [pollfd {
         fd: stream.as_raw_fd(),
         events: if writes {
@@ -55,7 +55,7 @@ pub fn wait_for(stream: &TcpStream, writes: bool, limit: Duration) -> Ready {
 }
 
 /// Reads and drops what has come. Whether the input is not at its end.
-pub fn drop_input(stream: &mut TcpStream) -> bool {
+pub(crate) fn drop_input(stream: &mut TcpStream) -> bool {
     let mut buffer = [0; PIECE];
     for _ in 0..PIECES_MAX {
         if !wait_for(stream, false, Duration::ZERO).is_readable() {
@@ -75,7 +75,7 @@ pub fn drop_input(stream: &mut TcpStream) -> bool {
 }
 
 /// Whether an error says that the peer ended the connection.
-pub fn is_end(error: &io::Error) -> bool {
+pub(crate) fn is_end(error: &io::Error) -> bool {
     matches!(
         error.kind(),
         ErrorKind::ConnectionReset | ErrorKind::BrokenPipe | ErrorKind::ConnectionAborted
@@ -90,7 +90,7 @@ const ENOBUFS: i32 = 105;
 
 /// Whether an error of connecting says that this program or its system lacks descriptors, ports, buffers or memory, and
 /// nothing of the peer.
-pub fn is_own_lack(error: &io::Error) -> bool {
+pub(crate) fn is_own_lack(error: &io::Error) -> bool {
     match error.raw_os_error() {
         Some(code) => matches!(
             code,

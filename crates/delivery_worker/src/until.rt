@@ -1,20 +1,21 @@
 //! Delivering the messages of a destination's queue until that is halted.
 
-ghost use Rattle.std.specs.Prelude.{◌≡◌, ◌+◌, ◌*◌, ◌≤◌, Some, IfOk, OnOk, OnErr};
+ghost use Rattle.std.specs.Prelude.{◌≡◌, ◌+◌, ◌*◌, ◌≤◌, [], ◌∷◌, Some, map, IfOk, OnOk, OnErr};
 ghost use Rattle.std.specs.Io.KnownBytes.{Keeps};
 ghost use Rattle.fixed_numbers.specs.declared.serving.TheConstants.{RECEIVES_MAX};
-ghost use Rattle.mllp_frame.specs.Framed.{blank};
-ghost use Rattle.delivery_worker.specs.Calls.{CallsUpTo};
-ghost use Rattle.delivery_worker.specs.Delivering.{DeliversAfresh, Tries};
+ghost use Rattle.mllp_frame.specs.inner.Framed.{blank};
+ghost use Rattle.delivery_worker.specs.Turns.{DeliversInLog};
+ghost use Rattle.delivery_worker.specs.inner.Calls.{CallsUpTo};
+ghost use Rattle.delivery_worker.specs.inner.Delivering.{DeliversAfresh, Tries};
 
 use crate::connection::Connection;
 use crate::link::Link;
 use crate::report::{DeliverEnd, DeliverReport};
 use crate::worker::take_turn;
-use book_core::{Front, Letter};
-use book_lock::{Opening, Shared, Station};
+use book_core::{Front, Outbound};
+use book_lock::{ArrivalLedger, Shared, Station};
 use conn_worker::Clock;
-use dest_queue::{Addressed, Outcome, SlotState};
+use dest_queue::{Outcome, Queued, SlotState};
 use log::Log;
 use row_store::RowStore;
 use std::alloc::Global;
@@ -53,29 +54,37 @@ fn is_due<C: Clock>(front: Option<Front>, clock: &mut C) -> bool {
 /// Readies the connection, and makes one attempt to deliver the message at the front of a queue.
 fn deliver_afresh<
     H: Wait,
-    A: Opening,
+    A: ArrivalLedger,
     T: Ledger,
     U: Ledger,
-    S: RowStore<Addressed<Letter>>,
+    S: RowStore<Queued<Outbound>>,
     L: Link,
     C: Clock,
 >(
     rt: &H,
     shared: &Shared<A, T, U, S>,
-    station: &mut Station<T, U>,
+    station: &mut Station<A, T, U>,
     connection: &mut Connection,
     link: &mut L,
     d: u32,
     clock: &mut C,
 ) -> Result<Outcome, Pause>
-    ensures taken { OnOk result (station.new.takes ≡ station.old.takes + 1) }
+    ensures taken { OnOk result (station.new.counts.takes ≡ station.old.counts.takes + 1) }
     ensures settled { OnOk result (
-        (station.old.settlements ≤ station.new.settlements) × (station.new.settlements ≤ station.old.settlements + 1)) }
+        (station.old.counts.settlements ≤ station.new.counts.settlements)
+        × (station.new.counts.settlements ≤ station.old.counts.settlements + 1)) }
     ensures attempt { IfOk result (λ outcome.
-        Tries (Some blank) connection.new.framer (L.sent link.old) (L.sent link.new) (L.received link.old) (L.received link.new) outcome) }
-    ensures receives { OnOk result (CallsUpTo (L.receives link.old) (L.receives link.new) RECEIVES_MAX) }
-    ensures refused { OnErr result (station.new ≡ station.old) }
-    ensures unused { OnErr result (Keeps (L.sent link.old) (L.sent link.new) × Keeps (L.received link.old) (L.received link.new)) }
+        (t : Tries (Some blank) connection.new.framer (L.sent link.old) (L.sent link.new)
+        (L.received link.old) (L.received link.new) outcome)
+        × DeliversInLog A.opening d station.old.seat station.new.seat (t.attempt ∷ [])) }
+    ensures receives { OnOk result (
+        CallsUpTo (L.receives link.old) (L.receives link.new) RECEIVES_MAX) }
+    ensures refused { OnErr result (station.new.counts ≡ station.old.counts) }
+    ensures untaken { OnErr result (
+        DeliversInLog A.opening d station.old.seat station.new.seat []) }
+    ensures unused { OnErr result (
+        Keeps (L.sent link.old) (L.sent link.new)
+        × Keeps (L.received link.old) (L.received link.new)) }
     ensures uncalled { OnErr result (CallsUpTo (L.receives link.old) (L.receives link.new) 0) }
 {
     match connection.prepare(link) {
@@ -91,29 +100,37 @@ fn deliver_afresh<
 /// Makes one attempt to deliver the message at the front of a queue, if it is due and the destination can be reached.
 fn turn_afresh<
     H: Wait,
-    A: Opening,
+    A: ArrivalLedger,
     T: Ledger,
     U: Ledger,
-    S: RowStore<Addressed<Letter>>,
+    S: RowStore<Queued<Outbound>>,
     L: Link,
     C: Clock,
 >(
     rt: &H,
     shared: &Shared<A, T, U, S>,
-    station: &mut Station<T, U>,
+    station: &mut Station<A, T, U>,
     connection: &mut Connection,
     link: &mut L,
     d: u32,
     clock: &mut C,
 ) -> Result<Outcome, Pause>
-    ensures taken { OnOk result (station.new.takes ≡ station.old.takes + 1) }
+    ensures taken { OnOk result (station.new.counts.takes ≡ station.old.counts.takes + 1) }
     ensures settled { OnOk result (
-        (station.old.settlements ≤ station.new.settlements) × (station.new.settlements ≤ station.old.settlements + 1)) }
+        (station.old.counts.settlements ≤ station.new.counts.settlements)
+        × (station.new.counts.settlements ≤ station.old.counts.settlements + 1)) }
     ensures attempt { IfOk result (λ outcome.
-        Tries (Some blank) connection.new.framer (L.sent link.old) (L.sent link.new) (L.received link.old) (L.received link.new) outcome) }
-    ensures receives { OnOk result (CallsUpTo (L.receives link.old) (L.receives link.new) RECEIVES_MAX) }
-    ensures refused { OnErr result (station.new ≡ station.old) }
-    ensures unused { OnErr result (Keeps (L.sent link.old) (L.sent link.new) × Keeps (L.received link.old) (L.received link.new)) }
+        (t : Tries (Some blank) connection.new.framer (L.sent link.old) (L.sent link.new)
+        (L.received link.old) (L.received link.new) outcome)
+        × DeliversInLog A.opening d station.old.seat station.new.seat (t.attempt ∷ [])) }
+    ensures receives { OnOk result (
+        CallsUpTo (L.receives link.old) (L.receives link.new) RECEIVES_MAX) }
+    ensures refused { OnErr result (station.new.counts ≡ station.old.counts) }
+    ensures untaken { OnErr result (
+        DeliversInLog A.opening d station.old.seat station.new.seat []) }
+    ensures unused { OnErr result (
+        Keeps (L.sent link.old) (L.sent link.new)
+        × Keeps (L.received link.old) (L.received link.new)) }
     ensures uncalled { OnErr result (CallsUpTo (L.receives link.old) (L.receives link.new) 0) }
 {
     // An arrival before this note is seen by the look after it.
@@ -137,10 +154,10 @@ fn turn_afresh<
 /// It ends where it is halted, or where no arrival will follow and the queue is empty.
 pub fn deliver_until<
     H: Wait + time::Clock + Log,
-    A: Opening,
+    A: ArrivalLedger,
     T: Ledger,
     U: Ledger,
-    S: RowStore<Addressed<Letter>>,
+    S: RowStore<Queued<Outbound>>,
     L: Link,
     C: Clock,
     E: Halt,
@@ -148,19 +165,24 @@ pub fn deliver_until<
     rt: &H,
     alloc: Global,
     shared: &Shared<A, T, U, S>,
-    station: &mut Station<T, U>,
+    station: &mut Station<A, T, U>,
     link: &mut L,
     d: u32,
     clock: &mut C,
     halt: &E,
 ) -> DeliverReport
     // The attempts are the takes of this station, and none is settled twice.
-    ensures taken { station.new.takes ≡ station.old.takes + result.taken }
-    ensures settled { (station.old.settlements ≤ station.new.settlements) × (station.new.settlements ≤ station.old.settlements + result.taken) }
+    ensures taken { station.new.counts.takes ≡ station.old.counts.takes + result.taken }
+    ensures settled { (station.old.counts.settlements ≤ station.new.counts.settlements)
+        × (station.new.counts.settlements ≤ station.old.counts.settlements + result.taken) }
 
-    // Each attempt is counted by its outcome: where it was sent, by the answers that were received in the attempt itself.
+    // Each attempt is counted by its outcome: where it was sent, by the answers that were received in the attempt itself. Each
+    // was made in a turn of this station: the job was taken, that job was sent, and it was settled by the outcome.
     ensures sum { result.taken ≡ result.delivered + result.again + result.rejected }
-    ensures attempts { DeliversAfresh (L.sent link.old) (L.sent link.new) (L.received link.old) (L.received link.new) result }
+    ensures attempts { (t : DeliversAfresh (L.sent link.old) (L.sent link.new)
+        (L.received link.old) (L.received link.new) result)
+        × DeliversInLog A.opening d station.old.seat station.new.seat
+        (map (λ e. e.attempt) t.exchanges) }
 
     // An attempt makes 1,000,000 receives at most.
     ensures receives { CallsUpTo (L.receives link.old) (L.receives link.new) (RECEIVES_MAX * result.taken) }

@@ -1,18 +1,20 @@
 //! Delivering the messages of a destination's queue.
 
-ghost use Rattle.std.specs.Prelude.{◌≡◌, ◌+◌, ◌*◌, ◌≤◌, IfOk, OnOk, OnErr};
+ghost use Rattle.std.specs.Prelude.{◌≡◌, ◌+◌, ◌*◌, ◌≤◌, [], ◌∷◌, IfOk, OnOk, OnErr};
 ghost use Rattle.std.specs.Io.KnownBytes.{Keeps};
 ghost use Rattle.fixed_numbers.specs.declared.serving.TheConstants.{RECEIVES_MAX};
-ghost use Rattle.delivery_worker.specs.Calls.{CallsUpTo};
-ghost use Rattle.delivery_worker.specs.Delivering.{Delivers, Tries};
+ghost use Rattle.delivery_worker.specs.inner.Calls.{CallsUpTo};
+ghost use Rattle.delivery_worker.specs.Delivering.{Delivers, attempts_in};
+ghost use Rattle.delivery_worker.specs.Turns.{DeliversInLog};
+ghost use Rattle.delivery_worker.specs.inner.Delivering.{Tries};
 
 use crate::connection::Connection;
 use crate::link::Link;
 use crate::report::{DeliverEnd, DeliverReport};
-use book_core::{Letter, TakeRefusal};
-use book_lock::{Opening, Shared, Station};
+use book_core::{Outbound, TakeRefusal};
+use book_lock::{ArrivalLedger, Shared, Station};
 use conn_worker::Clock;
-use dest_queue::{Addressed, Outcome};
+use dest_queue::{Outcome, Queued};
 use log::Log;
 use row_store::RowStore;
 use std::alloc::Global;
@@ -22,31 +24,41 @@ use std::time;
 
 /// Takes the message at the front of a queue, makes one attempt to deliver it, and settles the attempt, whatever its
 /// outcome. The lock is held for the take and for the settlement, and not in between.
-pub fn take_turn<
+pub(crate) fn take_turn<
     H: Wait,
-    A: Opening,
+    A: ArrivalLedger,
     T: Ledger,
     U: Ledger,
-    S: RowStore<Addressed<Letter>>,
+    S: RowStore<Queued<Outbound>>,
     L: Link,
     C: Clock,
 >(
     rt: &H,
     shared: &Shared<A, T, U, S>,
-    station: &mut Station<T, U>,
+    station: &mut Station<A, T, U>,
     connection: &mut Connection,
     link: &mut L,
     d: u32,
     clock: &mut C,
 ) -> Result<Outcome, TakeRefusal>
-    ensures taken { OnOk result (station.new.takes ≡ station.old.takes + 1) }
+    ensures taken { OnOk result (station.new.counts.takes ≡ station.old.counts.takes + 1) }
     ensures settled { OnOk result (
-        (station.old.settlements ≤ station.new.settlements) × (station.new.settlements ≤ station.old.settlements + 1)) }
+        (station.old.counts.settlements ≤ station.new.counts.settlements)
+        × (station.new.counts.settlements ≤ station.old.counts.settlements + 1)) }
     ensures attempt { IfOk result (λ outcome.
-        Tries connection.old.framer connection.new.framer (L.sent link.old) (L.sent link.new) (L.received link.old) (L.received link.new) outcome) }
-    ensures receives { OnOk result (CallsUpTo (L.receives link.old) (L.receives link.new) RECEIVES_MAX) }
-    ensures refused { OnErr result ((station.new ≡ station.old) × (connection.new.framer ≡ connection.old.framer)) }
-    ensures unused { OnErr result (Keeps (L.sent link.old) (L.sent link.new) × Keeps (L.received link.old) (L.received link.new)) }
+        (t : Tries connection.old.framer connection.new.framer (L.sent link.old) (L.sent link.new)
+        (L.received link.old) (L.received link.new) outcome)
+        × DeliversInLog A.opening d station.old.seat station.new.seat (t.attempt ∷ [])) }
+    ensures receives { OnOk result (
+        CallsUpTo (L.receives link.old) (L.receives link.new) RECEIVES_MAX) }
+    ensures refused { OnErr result (
+        (station.new.counts ≡ station.old.counts)
+        × (connection.new.framer ≡ connection.old.framer)) }
+    ensures untaken { OnErr result (
+        DeliversInLog A.opening d station.old.seat station.new.seat []) }
+    ensures unused { OnErr result (
+        Keeps (L.sent link.old) (L.sent link.new)
+        × Keeps (L.received link.old) (L.received link.new)) }
     ensures uncalled { OnErr result (CallsUpTo (L.receives link.old) (L.receives link.new) 0) }
 {
     let job = shared.take(rt, station, d, clock.at_take())?;
@@ -69,30 +81,34 @@ pub fn take_turn<
 /// It ends where no arrival will follow and the queue is empty, or after `turns` turns.
 pub fn deliver<
     H: Wait + time::Clock + Log,
-    A: Opening,
+    A: ArrivalLedger,
     T: Ledger,
     U: Ledger,
-    S: RowStore<Addressed<Letter>>,
+    S: RowStore<Queued<Outbound>>,
     L: Link,
     C: Clock,
 >(
     rt: &H,
     alloc: Global,
     shared: &Shared<A, T, U, S>,
-    station: &mut Station<T, U>,
+    station: &mut Station<A, T, U>,
     link: &mut L,
     d: u32,
     clock: &mut C,
     turns: u64,
 ) -> DeliverReport
     // The attempts are the takes of this station, and none is settled twice.
-    ensures taken { station.new.takes ≡ station.old.takes + result.taken }
-    ensures settled { (station.old.settlements ≤ station.new.settlements) × (station.new.settlements ≤ station.old.settlements + result.taken) }
+    ensures taken { station.new.counts.takes ≡ station.old.counts.takes + result.taken }
+    ensures settled { (station.old.counts.settlements ≤ station.new.counts.settlements)
+        × (station.new.counts.settlements ≤ station.old.counts.settlements + result.taken) }
     ensures turns { result.taken ≤ turns }
 
-    // Each attempt is counted by its outcome: where it was sent, by the answers that were read next of its connection.
+    // Each attempt is counted by its outcome: where it was sent, by the answers that were read next of its connection. Each
+    // was made in a turn of this station: the job was taken, that job was sent, and it was settled by the outcome.
     ensures sum { result.taken ≡ result.delivered + result.again + result.rejected }
-    ensures attempts { Delivers (L.sent link.old) (L.sent link.new) (L.received link.old) (L.received link.new) result }
+    ensures attempts { (t : Delivers (L.sent link.old) (L.sent link.new)
+        (L.received link.old) (L.received link.new) result)
+        × DeliversInLog A.opening d station.old.seat station.new.seat (attempts_in t.visits) }
 
     // An attempt makes 1,000,000 receives at most.
     ensures receives { CallsUpTo (L.receives link.old) (L.receives link.new) (RECEIVES_MAX * result.taken) }

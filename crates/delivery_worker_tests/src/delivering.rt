@@ -2,9 +2,9 @@
 
 use crate::played::{Play, Played};
 use crate::stage::{BLOCKS, Course, Delivered, Rows, deliver_all, waiting};
-use book_core::{Book, Letter};
+use book_core::{Book, Outbound};
 use delivery_worker::{DeliverEnd, DeliverReport, Reply};
-use dest_queue::{Addressed, FailCause, SlotState};
+use dest_queue::{FailCause, Queued, SlotState};
 use hl7_head::AckCode;
 use log::Log;
 use row_store::RowStore;
@@ -256,7 +256,7 @@ const CASES: [Case; 13] = [
 ];
 
 /// Whether the bytes are the two blocks in their order.
-pub fn are_both(bytes: &[u8]) -> bool {
+pub(crate) fn are_both(bytes: &[u8]) -> bool {
     match bytes.split_at_checked(BLOCKS[0].len()) {
         Some((first, second)) => { first == BLOCKS[0].as_bytes() && second == BLOCKS[1].as_bytes() }
         None => false,
@@ -264,7 +264,7 @@ pub fn are_both(bytes: &[u8]) -> bool {
 }
 
 /// Whether a case comes out as it is to. What was sent of two messages are two blocks in their order.
-fn is_right<S: RowStore<Addressed<Letter>>>(
+fn is_right<S: RowStore<Queued<Outbound>>>(
     case: &Case,
     link: &Played<'_>,
     delivered: &Delivered<S>,
@@ -277,7 +277,7 @@ fn is_right<S: RowStore<Addressed<Letter>>>(
 }
 
 /// Whether a case comes out as it is to, with the book in which its messages wait. It doesn't where memory was refused.
-fn comes_out<S: RowStore<Addressed<Letter>> + Drop, H: Wait + time::Clock + Log>(
+fn comes_out<S: RowStore<Queued<Outbound>> + Drop, H: Wait + time::Clock + Log>(
     rt: &H,
     alloc: Global,
     book: Option<Book<S>>,
@@ -299,7 +299,7 @@ fn is_doubled(bytes: &[u8]) -> bool {
 }
 
 /// Whether a message is sent over a new connection, within the attempt, where the one that was kept has ended before an answer.
-fn is_sent_again<S: RowStore<Addressed<Letter>> + Drop, H: Wait + time::Clock + Log>(
+fn is_sent_again<S: RowStore<Queued<Outbound>> + Drop, H: Wait + time::Clock + Log>(
     rt: &H,
     alloc: Global,
     book: Option<Book<S>>,
@@ -315,7 +315,7 @@ fn is_sent_again<S: RowStore<Addressed<Letter>> + Drop, H: Wait + time::Clock + 
 }
 
 /// Whether an answer that was left over on a connection that has ended decides nothing: the message is sent over a new one.
-fn forgets_what_was_left<S: RowStore<Addressed<Letter>> + Drop, H: Wait + time::Clock + Log>(
+fn forgets_what_was_left<S: RowStore<Queued<Outbound>> + Drop, H: Wait + time::Clock + Log>(
     rt: &H,
     alloc: Global,
     book: Option<Book<S>>,
@@ -341,7 +341,7 @@ fn left_over(rt: HostRuntime) -> Result<(), Fail> {
 
 /// How often bytes were asked for to deliver the one message of a book, what the answers to the last attempt said, and the
 /// state of the message then. None where memory was refused.
-fn deliver_one<S: RowStore<Addressed<Letter>> + Drop, H: Wait + time::Clock + Log>(
+fn deliver_one<S: RowStore<Queued<Outbound>> + Drop, H: Wait + time::Clock + Log>(
     rt: &H,
     alloc: Global,
     book: Option<Book<S>>,

@@ -3,9 +3,9 @@
 use crate::delivering::{ACCEPTED, LEFT_OVER, SECOND_ACCEPTED, are_both};
 use crate::played::{Play, Played};
 use crate::stage::{Course, Delivered, Rows, deliver_all, waiting};
-use book_core::{Book, Letter};
+use book_core::{Book, Outbound};
 use delivery_worker::{DeliverEnd, DeliverReport};
-use dest_queue::{Addressed, FailCause, SlotState};
+use dest_queue::{FailCause, Queued, SlotState};
 use log::Log;
 use row_store::RowStore;
 use std::alloc::Global;
@@ -102,7 +102,7 @@ const CASES: [Case; 7] = [
 ];
 
 /// Whether a case comes out as it is to. As much was sent as attempts were made.
-fn is_right<S: RowStore<Addressed<Letter>>>(
+fn is_right<S: RowStore<Queued<Outbound>>>(
     case: &Case,
     link: &Played<'_>,
     delivered: &Delivered<S>,
@@ -123,7 +123,7 @@ fn is_right<S: RowStore<Addressed<Letter>>>(
 }
 
 /// Whether a case comes out as it is to, with the book in which its messages wait. It doesn't where memory was refused.
-fn comes_out<S: RowStore<Addressed<Letter>> + Drop, H: Wait + time::Clock + Log>(
+fn comes_out<S: RowStore<Queued<Outbound>> + Drop, H: Wait + time::Clock + Log>(
     rt: &H,
     alloc: Global,
     book: Option<Book<S>>,

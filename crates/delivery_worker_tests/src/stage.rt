@@ -6,11 +6,12 @@ ghost use Rattle.event_log.specs.History.{next_place, plan_in_force};
 ghost use Rattle.event_log.specs.Counting.{counted};
 
 use crate::played::{Leaping, Looks, Played};
-use book_core::{Book, EVENTS_MAX, Letter};
-use book_lock::{Closed, Opening, Shared, Station};
+use book_core::{Book, EVENTS_MAX, Outbound};
+use book_lock::{ArrivalLedger, Closed, LogEntry, Shared, Station};
 use conn_worker::Clock;
 use delivery_worker::{DeliverReport, deliver, deliver_until};
-use dest_queue::Addressed;
+use dest_queue::Queued;
+use ghost_log::BlankLog;
 use judge_core::{Judged, fits_block, judge};
 use log::Log;
 use plan_text::Plan;
@@ -24,7 +25,7 @@ use std::sync::{Arc, Wait};
 use std::time;
 
 /// The rows of the tests' books.
-pub type Rows = RecordList<Addressed<Letter>>;
+pub type Rows = RecordList<Queued<Outbound>>;
 
 /// Messages with the control ids M1 and M2.
 pub const MESSAGES: [&str; 2] = [
@@ -55,7 +56,7 @@ fn judged(alloc: Global, plan: &Arc<Plan>, text: &str) -> Option<Judged>
 }
 
 /// An empty book of the built-in plan. None where memory was refused.
-fn empty_book<S: RowStore<Addressed<Letter>>>(rt: &HostRuntime) -> Option<Book<S>> {
+fn empty_book<S: RowStore<Queued<Outbound>>>(rt: &HostRuntime) -> Option<Book<S>> {
     let alloc = rt.alloc();
     let hasher = RandomState::new(rt).ok()?;
     let plan = Arc::new(alloc, Plan::built_in(alloc).ok()?).ok()?;
@@ -63,7 +64,7 @@ fn empty_book<S: RowStore<Addressed<Letter>>>(rt: &HostRuntime) -> Option<Book<S
 }
 
 /// Books messages received over connection 0. None where memory was refused.
-fn fill<S: RowStore<Addressed<Letter>>>(
+fn fill<S: RowStore<Queued<Outbound>>>(
     alloc: Global,
     book: &mut Book<S>,
     messages: &[&str],
@@ -76,7 +77,7 @@ fn fill<S: RowStore<Addressed<Letter>>>(
 }
 
 /// A book of the built-in plan in which messages wait, at most two. None where memory was refused.
-pub fn waiting<S: RowStore<Addressed<Letter>> + Drop>(
+pub(crate) fn waiting<S: RowStore<Queued<Outbound>> + Drop>(
     rt: &HostRuntime,
     messages: usize,
 ) -> Option<Book<S>> {
@@ -96,24 +97,24 @@ pub enum Course {
 
 /// The result of delivering, and the book after it.
 #[derive(Drop)]
-pub struct Delivered<S: RowStore<Addressed<Letter>>> {
+pub struct Delivered<S: RowStore<Queued<Outbound>>> {
     pub report: DeliverReport,
     pub closed: Closed<S>,
 }
 
 /// Delivers what waits at the last of the stations.
 fn deliver_at<
-    A: Opening,
+    A: ArrivalLedger,
     T: Ledger,
     U: Ledger,
-    S: RowStore<Addressed<Letter>>,
+    S: RowStore<Queued<Outbound>>,
     H: Wait + time::Clock + Log,
     C: Clock,
 >(
     rt: &H,
     alloc: Global,
     shared: &Shared<A, T, U, S>,
-    stations: &mut [Station<T, U>],
+    stations: &mut [Station<A, T, U>],
     link: &mut Played<'_>,
     clock: &mut C,
     course: Course,
@@ -131,16 +132,17 @@ fn deliver_at<
 
 /// Shares a book, delivers what waits in it, and closes it. None where memory was refused for sharing it.
 fn deliver_and_close<
-    A: Opening,
+    A: ArrivalLedger,
     T: Ledger,
     U: Ledger,
-    S: RowStore<Addressed<Letter>> + Drop,
+    S: RowStore<Queued<Outbound>> + Drop,
     H: Wait + time::Clock + Log,
     C: Clock,
 >(
     rt: &H,
     alloc: Global,
     book: Book<S>,
+    log: BlankLog<LogEntry>,
     arrivals: Blank,
     takes: Blank,
     settlements: Blank,
@@ -148,6 +150,8 @@ fn deliver_and_close<
     clock: &mut C,
     course: Course,
 ) -> Option<Delivered<S>>
+    requires opening { book ≡ A.opening }
+    requires log { log.table.shared.table_id ≡ A.table }
     requires counts { counted book ≡ A.counts }
     requires first { next_place book ≡ A.first }
     requires channels { length (plan_in_force book).channels ≡ A.channels }
@@ -155,7 +159,7 @@ fn deliver_and_close<
     requires takes { (takes.name ≡ T.name) × (takes.parts ≡ T.parts) × (T.parts ≡ 2) }
     requires settlements { (settlements.name ≡ U.name) × (settlements.parts ≡ U.parts) × (U.parts ≡ 2) }
 {
-    let opened = Shared::<A, T, U, S>::new(alloc, book, 0, 1, arrivals, takes, settlements);
+    let opened = Shared::<A, T, U, S>::new(alloc, book, 0, 1, log, arrivals, takes, settlements);
     let (shared, desks, mut stations) = opened.ok()?;
     let report = deliver_at(rt, alloc, &shared, &mut stations, link, clock, course)?;
     let closed = shared.close(desks, stations).ok()?;
@@ -163,7 +167,11 @@ fn deliver_and_close<
 }
 
 /// Delivers what waits in a book over a link by a clock. None where there is no book, or memory was refused for sharing it.
-pub fn deliver_by<S: RowStore<Addressed<Letter>> + Drop, H: Wait + time::Clock + Log, C: Clock>(
+pub(crate) fn deliver_by<
+    S: RowStore<Queued<Outbound>> + Drop,
+    H: Wait + time::Clock + Log,
+    C: Clock,
+>(
     rt: &H,
     alloc: Global,
     book: Option<Book<S>>,
@@ -171,10 +179,13 @@ pub fn deliver_by<S: RowStore<Addressed<Letter>> + Drop, H: Wait + time::Clock +
     clock: &mut C,
     course: Course,
 ) -> Option<Delivered<S>> {
+    let book = book?;
+    let log = BlankLog::new(alloc).ok()?;
     deliver_and_close::<Brand, Brand, Brand, S, H, C>(
         rt,
         alloc,
-        book?,
+        book,
+        log,
         Blank::new(1),
         Blank::new(2),
         Blank::new(2),
@@ -186,7 +197,7 @@ pub fn deliver_by<S: RowStore<Addressed<Letter>> + Drop, H: Wait + time::Clock +
 
 /// Delivers what waits in a book over a link, by a clock that leaps by twenty seconds at each look. None where there is no
 /// book, or memory was refused for sharing it.
-pub fn deliver_all<S: RowStore<Addressed<Letter>> + Drop, H: Wait + time::Clock + Log>(
+pub(crate) fn deliver_all<S: RowStore<Queued<Outbound>> + Drop, H: Wait + time::Clock + Log>(
     rt: &H,
     alloc: Global,
     book: Option<Book<S>>,

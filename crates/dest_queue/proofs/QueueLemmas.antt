@@ -9,14 +9,16 @@ use Rattle.std.proofs.lemmas.List.{append-nil}
 use Rattle.std.proofs.lemmas.Nat.Bits.{shr_and_one, bit_at-zero}
 use Rattle.std.proofs.lemmas.List.Elements.{filter-append, filter_agree}
 use Rattle.row_store.specs.declared.Row.{Row}
-use Rattle.row_store.specs.Rows.{NumbersRise, item_at, with_item, unlinked, without, changed_at}
+use Rattle.row_store.specs.Rows.{item_at}
+use Rattle.row_store.specs.inner.Rows.{NumbersRise, with_item, unlinked, without, changed_at}
 use Rattle.row_store.proofs.Changes.{changed_at-for, changed_at-kept, changed_at-twice, fold-unlinked}
-use Rattle.dest_queue.specs.declared.slots.Addressed.{Addressed}
+use Rattle.dest_queue.specs.declared.slots.Queued.{Queued}
 use Rattle.dest_queue.specs.declared.slots.Slot.{Slot}
 use Rattle.dest_queue.specs.declared.SlotState.{SlotState}
 use Rattle.dest_queue.specs.States.{is_live, is_waiting}
-use Rattle.dest_queue.specs.Slots.{is_at, with_state, waits_at, cancelled}
-use Rattle.dest_queue.specs.Queues.{put, settle, cancel, waiting_at}
+use Rattle.dest_queue.specs.Slots.{is_at}
+use Rattle.dest_queue.specs.inner.Slots.{with_state, waits_at, cancelled}
+use Rattle.dest_queue.specs.inner.Queues.{put, settle, cancel, waiting_at}
 
 or-false_left : (a b : Bool) → (a || b) ≡ false → a ≡ false
 or-false_left true b none = none
@@ -59,7 +61,7 @@ waiting_at-idle slots idle = filter-none (λ d. waits_at d slots) (range_with_le
 
 module _ {T : Type 0} (n : ℕ) where
   -- a slot is written through its row's item
-  pub put-written : (d : ℕ) (state : SlotState) (rows : List (Row (Addressed T))) (message : Addressed T) → NumbersRise rows → item_at n rows ≡ Some message
+  pub put-written : (d : ℕ) (state : SlotState) (rows : List (Row (Queued T))) (message : Queued T) → NumbersRise rows → item_at n rows ≡ Some message
       → with_item n (record message { slots = with_state d state message.slots }) rows ≡ changed_at n (put d state) rows
   put-written d state rows message rise found =
       changed_at-for n (λ row. record row { item = record message { slots = with_state d state message.slots } })
@@ -67,13 +69,13 @@ module _ {T : Type 0} (n : ℕ) where
       (λ row same. rw same refl)
 
   -- a slot that is settled for good leaves its queue
-  pub settle-for_good : (d : ℕ) (state : SlotState) (rows : List (Row (Addressed T))) → is_live state ≡ false → unlinked n d (changed_at n (put d state) rows) ≡ changed_at n (settle d state) rows
+  pub settle-for_good : (d : ℕ) (state : SlotState) (rows : List (Row (Queued T))) → is_live state ≡ false → unlinked n d (changed_at n (put d state) rows) ≡ changed_at n (settle d state) rows
   settle-for_good d state rows dead =
       changed_at-twice n (λ row. record row { mask = without d row.mask }) (λ row. record row { item = record row.item { slots = with_state d state row.item.slots } }) (λ row. refl) rows
       ∙ rw dead refl
 
   -- the slots of a message are cancelled, and it leaves one queue after another
-  pub cancel-folded : (rows : List (Row (Addressed T))) (message : Addressed T) (ds : List ℕ) → NumbersRise rows → item_at n rows ≡ Some message → ds ≡ waiting_at message.slots
+  pub cancel-folded : (rows : List (Row (Queued T))) (message : Queued T) (ds : List ℕ) → NumbersRise rows → item_at n rows ≡ Some message → ds ≡ waiting_at message.slots
       → fold (λ rows d. unlinked n d rows) (with_item n (record message { slots = cancelled message.slots }) rows) ds ≡ changed_at n cancel rows
   cancel-folded rows message ds rise found waits =
       fold-unlinked n ds (λ row. record row { item = record message { slots = cancelled message.slots } }) (λ row. refl) rows
@@ -82,18 +84,18 @@ module _ {T : Type 0} (n : ℕ) where
       (λ row same. rw (same, waits) refl)
 
   -- one more queue is left, or not
-  pub fold-left : (mask d : ℕ) (rows : List (Row (Addressed T))) → (bit_at mask d == 1) ≡ true
+  pub fold-left : (mask d : ℕ) (rows : List (Row (Queued T))) → (bit_at mask d == 1) ≡ true
       → fold (λ rows d. unlinked n d rows) rows (filter (λ d. bit_at mask d == 1) (range_with_len 0 (d + 1))) ≡ unlinked n d (fold (λ rows d. unlinked n d rows) rows (filter (λ d. bit_at mask d == 1) (range_with_len 0 d)))
   fold-left mask d rows set =
       rw (range-push d, filter-append (λ d. bit_at mask d == 1) (range_with_len 0 d) (d ∷ []), set, fold-append) refl
 
-  pub fold-stayed : (mask d : ℕ) (rows : List (Row (Addressed T))) → (bit_at mask d == 1) ≡ false
+  pub fold-stayed : (mask d : ℕ) (rows : List (Row (Queued T))) → (bit_at mask d == 1) ≡ false
       → fold (λ rows d. unlinked n d rows) rows (filter (λ d. bit_at mask d == 1) (range_with_len 0 (d + 1))) ≡ fold (λ rows d. unlinked n d rows) rows (filter (λ d. bit_at mask d == 1) (range_with_len 0 d))
   fold-stayed mask d rows clear =
       rw (range-push d, filter-append (λ d. bit_at mask d == 1) (range_with_len 0 d) (d ∷ []), clear, append-nil) refl
 
   -- where a message waits nowhere, nothing changes
-  pub cancel-idle : (rows : List (Row (Addressed T))) (message : Addressed T) → NumbersRise rows → item_at n rows ≡ Some message → ((d : ℕ) → waits_at d message.slots ≡ false) → changed_at n cancel rows ≡ rows
+  pub cancel-idle : (rows : List (Row (Queued T))) (message : Queued T) → NumbersRise rows → item_at n rows ≡ Some message → ((d : ℕ) → waits_at d message.slots ≡ false) → changed_at n cancel rows ≡ rows
   cancel-idle rows message rise found idle =
       changed_at-for n (λ row. record row { item = record row.item { slots = cancelled row.item.slots }; mask = fold (λ mask d. without d mask) row.mask (waiting_at row.item.slots) }) (λ row. row) rows message rise found
       (λ row same.
@@ -117,7 +119,7 @@ bits-at : (mask d : ℕ) (slots : List Slot) → d ≡ 32 → ((d : ℕ) → (bi
 bits-at mask d slots end same = ap (λ n. filter (λ d. bit_at mask d == 1) (range_with_len 0 n)) end ∙ waiting_at-bits mask slots same
 
 -- the rows when each queue was looked at
-pub cancel-done : {T : Type 0} (n mask d : ℕ) (before start after : List (Row (Addressed T))) (message : Addressed T) (slots : List Slot)
+pub cancel-done : {T : Type 0} (n mask d : ℕ) (before start after : List (Row (Queued T))) (message : Queued T) (slots : List Slot)
     → NumbersRise before → item_at n before ≡ Some message → slots ≡ cancelled message.slots → ((d : ℕ) → (bit_at mask d == 1) ≡ waits_at d message.slots)
     → start ≡ with_item n (record message { slots = slots }) before → d ≡ 32
     → after ≡ fold (λ rows d. unlinked n d rows) start (filter (λ d. bit_at mask d == 1) (range_with_len 0 d)) → after ≡ changed_at n cancel before

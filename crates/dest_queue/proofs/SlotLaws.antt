@@ -5,16 +5,17 @@ use Rattle.std.specs.Int.{bit_at}
 use Rattle.std.specs.List.{range_with_len}
 use Rattle.std.specs.Option.{option_map}
 use Rattle.std.proofs.lemmas.Bool.Decides.{nat_tests}
-use Rattle.row_store.specs.Rows.{without}
+use Rattle.row_store.specs.inner.Rows.{without}
 use Rattle.row_store.proofs.Bits.{bit_at-without_same, bit_at-without_other}
 use Rattle.dest_queue.specs.declared.slots.Slot.{Slot}
 use Rattle.dest_queue.specs.declared.SlotState.{SlotState}
 use Rattle.dest_queue.specs.declared.SlotState.TheVariants.{Failed}
 use Rattle.dest_queue.specs.declared.FailCause.TheVariants.{Cancelled}
 use Rattle.dest_queue.specs.States.{is_waiting}
-use Rattle.dest_queue.specs.Slots.{is_at, state_at, with_state, waits_at, cancelled}
-use Rattle.dest_queue.specs.SlotsBy.{slots_by, is_among}
-use Rattle.dest_queue.specs.Queues.{waiting_at}
+use Rattle.dest_queue.specs.Slots.{is_at, state_at}
+use Rattle.dest_queue.specs.inner.Slots.{with_state, waits_at, cancelled}
+use Rattle.dest_queue.specs.inner.SlotsBy.{slots_by, is_among}
+use Rattle.dest_queue.specs.inner.Queues.{waiting_at}
 use Rattle.dest_queue.proofs.SlotLemmas.{nat_cases}
 
 same_number : (a b : ℕ) → (a == b) ≡ true → a ≡ b

@@ -14,7 +14,8 @@ use Rattle.dest_queue.specs.declared.SlotState.{SlotState}
 use Rattle.dest_queue.specs.declared.SlotState.TheVariants.{Failed}
 use Rattle.dest_queue.specs.declared.FailCause.TheVariants.{Cancelled}
 use Rattle.dest_queue.specs.States.{is_waiting}
-use Rattle.dest_queue.specs.Slots.{is_at, with_state, waits_at, cancelled}
+use Rattle.dest_queue.specs.Slots.{is_at}
+use Rattle.dest_queue.specs.inner.Slots.{with_state, waits_at, cancelled}
 
 -- a change of each slot that keeps its destination keeps the bound on destinations
 pub bounded-map : (change : Slot → Slot) → ((slot : Slot) → (change slot).destination ≡ slot.destination) → (slots : List Slot) → All (λ slot. slot.destination < 32) slots → All (λ slot. slot.destination < 32) (map change slots)

@@ -1,5 +1,4 @@
 pub mod States
 pub mod Slots
 pub mod Queues
-pub mod SlotsBy
-pub mod Listed
+pub mod inner

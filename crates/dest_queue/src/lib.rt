@@ -3,7 +3,8 @@
 #![tactic(auto)]
 
 ghost use Rattle.std.specs.Prelude.{◌≡◌};
-ghost use Rattle.dest_queue.specs.States.{is_live, is_waiting, refusal_code};
+ghost use Rattle.dest_queue.specs.States.{is_live, is_waiting};
+ghost use Rattle.dest_queue.specs.inner.States.{refusal_code};
 
 use thiserror::Error;
 
@@ -12,7 +13,7 @@ mod slots;
 
 pub use fixed_numbers::ATTEMPTS_MAX;
 pub use queues::{begin_attempt, cancel_waiting, front_state, settle_slot, slot_of, take_front};
-pub use slots::{Addressed, Slot, Slots, slot_rules};
+pub use slots::{Queued, Slot, Slots, slot_rules};
 
 /// Why a message failed at a destination.
 #[derive(Clone, Copy, Debug, PartialEq, Eq)]

@@ -2,22 +2,25 @@
 
 ghost use Rattle.std.specs.Prelude.{◌≡◌, ◌==◌, ◌+◌, ◌<◌, ◌^◌, ◌↔◌, ℕ, Some, None, IsNone, IsSomeAnd, IfSome, IfOk, OnErr};
 ghost use Rattle.std.specs.Int.{bit_at};
-ghost use Rattle.row_store.specs.Rows.{item_at, changed_at};
-ghost use Rattle.dest_queue.specs.States.{next_attempt, settle_answer, state_after};
-ghost use Rattle.dest_queue.specs.Queues.{slot_of, front_state, put, settle, cancel, waits_in, WaitsBelow};
+ghost use Rattle.row_store.specs.Rows.{item_at};
+ghost use Rattle.row_store.specs.inner.Rows.{changed_at};
+ghost use Rattle.dest_queue.specs.States.{slot_answer, state_after};
+ghost use Rattle.dest_queue.specs.inner.States.{next_attempt};
+ghost use Rattle.dest_queue.specs.Queues.{slot_of};
+ghost use Rattle.dest_queue.specs.inner.Queues.{front_state, put, settle, cancel, waits_in, WaitsBelow};
 
-use crate::{ATTEMPTS_MAX, Addressed, FailCause, Outcome, SettleRefusal, SlotState};
+use crate::{ATTEMPTS_MAX, FailCause, Outcome, Queued, SettleRefusal, SlotState};
 use row_store::{QUEUES, RowStore};
 
 /// The slot of a message at d: nothing where there is no such message, or it doesn't name d.
-pub fn slot_of<T, S: RowStore<Addressed<T>>>(rows: &S, number: u32, d: u32) -> Option<SlotState>
+pub fn slot_of<T, S: RowStore<Queued<T>>>(rows: &S, number: u32, d: u32) -> Option<SlotState>
     ensures { result ≡ slot_of number d (S.rows rows.now) }
 {
     rows.get(number)?.slots.state_at(d)
 }
 
 /// The message at the front of queue d, and its slot there.
-pub fn front_state<T, S: RowStore<Addressed<T>>>(rows: &mut S, d: u32) -> Option<(u32, SlotState)>
+pub fn front_state<T, S: RowStore<Queued<T>>>(rows: &mut S, d: u32) -> Option<(u32, SlotState)>
     ensures front { result ≡ front_state d (S.rows rows.old) }
     ensures unchanged { S.rows rows.new ≡ S.rows rows.old }
 {
@@ -28,7 +31,7 @@ pub fn front_state<T, S: RowStore<Addressed<T>>>(rows: &mut S, d: u32) -> Option
 
 /// Takes the message at the front of queue d: returns its number and the attempt that begins, which is one more than
 /// those before. The message stays at the front while the attempt is in flight.
-pub fn take_front<T, S: RowStore<Addressed<T>>>(rows: &mut S, d: u32) -> (u32, u32)
+pub fn take_front<T, S: RowStore<Queued<T>>>(rows: &mut S, d: u32) -> (u32, u32)
     requires { IsSomeAnd (front_state d (S.rows rows.old)) (λ front. WaitsBelow ATTEMPTS_MAX front.1) }
     ensures taken { IsSomeAnd (front_state d (S.rows rows.old)) (λ front. result ≡ (front.0, next_attempt front.1)) }
     ensures changed { S.rows rows.new ≡ changed_at result.0 (put d (SlotState.InFlight result.1)) (S.rows rows.old) }
@@ -45,7 +48,7 @@ pub fn take_front<T, S: RowStore<Addressed<T>>>(rows: &mut S, d: u32) -> (u32, u
 
 /// Begins an attempt at d, for a caller that has found the front already: the slot there is in flight from then on, and
 /// the message keeps its position in its queues.
-pub fn begin_attempt<T, S: RowStore<Addressed<T>>>(rows: &mut S, number: u32, d: u32, attempt: u32)
+pub fn begin_attempt<T, S: RowStore<Queued<T>>>(rows: &mut S, number: u32, d: u32, attempt: u32)
     ensures { S.rows rows.new ≡ changed_at number (put d (SlotState.InFlight attempt)) (S.rows rows.old) }
 {
     put_slot(rows, number, d, SlotState::InFlight { attempt });
@@ -58,7 +61,7 @@ pub fn begin_attempt<T, S: RowStore<Addressed<T>>>(rows: &mut S, number: u32, d:
 ///
 /// `NoSlot` where there is no such message or it doesn't name d, and `NotInFlight` where the slot is not in flight with
 /// that very attempt. Nothing changes then.
-pub fn settle_slot<T, S: RowStore<Addressed<T>>>(
+pub fn settle_slot<T, S: RowStore<Queued<T>>>(
     rows: &mut S,
     number: u32,
     d: u32,
@@ -69,7 +72,7 @@ pub fn settle_slot<T, S: RowStore<Addressed<T>>>(
     interval: u32,
 ) -> Result<SlotState, SettleRefusal>
     requires { now + interval < 2 ^ 64 }
-    ensures answer { result ≡ settle_answer (slot_of number d (S.rows rows.old)) outcome attempt now max interval }
+    ensures answer { result ≡ slot_answer (slot_of number d (S.rows rows.old)) outcome attempt now max interval }
     ensures settled { IfOk result (λ state. S.rows rows.new ≡ changed_at number (settle d state) (S.rows rows.old)) }
     ensures refused { OnErr result (S.rows rows.new ≡ S.rows rows.old) }
 {
@@ -89,7 +92,7 @@ pub fn settle_slot<T, S: RowStore<Addressed<T>>>(
 
 /// Cancels each slot of a message that waits, and answers where as a mask: bit d is set where the message waited at d.
 /// Those queues lose it. Nothing where there is no such message; 0, and nothing changes, where it waits nowhere.
-pub fn cancel_waiting<T, S: RowStore<Addressed<T>>>(rows: &mut S, number: u32) -> Option<u32>
+pub fn cancel_waiting<T, S: RowStore<Queued<T>>>(rows: &mut S, number: u32) -> Option<u32>
     ensures missing { IsNone result ↔ (item_at number (S.rows rows.old) ≡ None) }
     ensures mask { IfSome result (λ mask. (d : ℕ) → (bit_at mask d == 1) ≡ waits_in number d (S.rows rows.old)) }
     ensures cancelled { S.rows rows.new ≡ changed_at number cancel (S.rows rows.old) }
@@ -107,7 +110,7 @@ pub fn cancel_waiting<T, S: RowStore<Addressed<T>>>(rows: &mut S, number: u32) -
 }
 
 /// Puts the slot of a message at d into a state.
-fn put_slot<T, S: RowStore<Addressed<T>>>(rows: &mut S, number: u32, d: u32, state: SlotState)
+fn put_slot<T, S: RowStore<Queued<T>>>(rows: &mut S, number: u32, d: u32, state: SlotState)
     ensures { S.rows rows.new ≡ changed_at number (put d state) (S.rows rows.old) }
 {
     // Each number has one row: its item is the one that is changed.

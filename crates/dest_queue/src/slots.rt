@@ -1,15 +1,16 @@
 //! The slots of one message.
 
 ghost use Rattle.std.specs.Prelude.{◌≡◌, ◌==◌, ◌<◌, ◌&&◌, ℕ, List, [], ◌∷◌, ◌++◌, Some, None, IfOk, OnOk, OnErr, All, not, fold, if◌then◌else◌};
-ghost use Rattle.row_store.specs.Rows.{without};
+ghost use Rattle.row_store.specs.inner.Rows.{without};
 ghost use Rattle.dest_queue.specs.declared.SlotState.{SlotState};
 ghost use Rattle.dest_queue.specs.declared.slots.Slot.{Slot};
 ghost use Rattle.dest_queue.specs.States.{is_waiting};
-ghost use Rattle.dest_queue.specs.Listed.{listed};
-ghost use Rattle.dest_queue.specs.SlotsBy.{slots_by, is_among};
-ghost use Rattle.dest_queue.specs.Queues.{waiting_at, without_each};
+ghost use Rattle.dest_queue.specs.inner.Listed.{listed};
+ghost use Rattle.dest_queue.specs.inner.SlotsBy.{slots_by, is_among};
+ghost use Rattle.dest_queue.specs.inner.Queues.{waiting_at, without_each};
 ghost use Rattle.std.specs.Int.{bit_at};
-ghost use Rattle.dest_queue.specs.Slots.{new_slot, state_at, with_state, waits_at, cancelled};
+ghost use Rattle.dest_queue.specs.Slots.{state_at};
+ghost use Rattle.dest_queue.specs.inner.Slots.{new_slot, with_state, waits_at, cancelled};
 
 use crate::{ATTEMPTS_MAX, FailCause, SlotState};
 use row_store::QUEUES;
@@ -107,7 +108,7 @@ pub struct Slots {
 impl Model for Slots {
     ghost use Rattle.std.specs.Prelude.{List, ◌<◌, All};
     ghost use Rattle.dest_queue.specs.declared.slots.Slot.{Slot};
-    ghost use Rattle.dest_queue.specs.Listed.{listed};
+    ghost use Rattle.dest_queue.specs.inner.Listed.{listed};
 
     ghost Value = { List Slot };
 
@@ -224,7 +225,7 @@ fn cancel_in(slots: &mut [Slot]) -> u32
 
 /// A row's item: what a message is, beside its slots.
 #[derive(Drop)]
-pub struct Addressed<T> {
+pub struct Queued<T> {
     pub content: T,
     pub slots: Slots,
 }

@@ -1,4 +1,1 @@
-pub mod Lines
-pub mod Segments
-pub mod Trying
-pub mod Ways
+pub mod inner

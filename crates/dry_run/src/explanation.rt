@@ -2,12 +2,12 @@
 
 ghost use Rattle.std.specs.Prelude.{◌≡◌, All, IfOk, MatchResult, None, map, option_map};
 ghost use Rattle.er7_tree.specs.Tree.{Tree};
-ghost use Rattle.hl7_filter.specs.View.{view as condition_view};
-ghost use Rattle.hl7_transform.specs.Step.{after};
-ghost use Rattle.hl7_transform.specs.View.{steps_view};
+ghost use Rattle.hl7_filter.specs.inner.View.{view as condition_view};
+ghost use Rattle.hl7_transform.specs.Step.{after_steps};
+ghost use Rattle.hl7_transform.specs.inner.View.{steps_view};
 ghost use Rattle.plan_text.specs.Entries.{AllStand};
 ghost use Rattle.judge_core.specs.Judging.{passes};
-ghost use Rattle.dry_run.specs.Ways.{Explains, Steps, stop_of, way, ways};
+ghost use Rattle.dry_run.specs.inner.Ways.{Explains, Steps, stop_of, way, ways};
 
 use er7_tree::Message;
 use hl7_filter::Cond;
@@ -59,7 +59,7 @@ enum Changed {
 /// What steps make of a message.
 fn after_steps(steps: &[Step], message: Message) -> Result<Changed, AllocError>
     requires { AllStand (steps_view steps.now) }
-    ensures { IfOk result (λ it. Steps (after (steps_view steps.now) message) it) }
+    ensures { IfOk result (λ it. Steps (after_steps (steps_view steps.now) message) it) }
 {
     match apply(steps, message) {
         Ok(message) => Ok(Changed::Taken(message)),
@@ -83,7 +83,7 @@ fn passes(filter: Option<&Cond>, message: &Message) -> Result<bool, AllocError>
 /// The first of some steps that can't be taken at a message, if there is one.
 fn stop_at(steps: &[Step], message: &Message) -> Result<Option<Stopped>, AllocError>
     requires { AllStand (steps_view steps.now) }
-    ensures { IfOk result (λ stop. stop ≡ stop_of (after (steps_view steps.now) message.now)) }
+    ensures { IfOk result (λ stop. stop ≡ stop_of (after_steps (steps_view steps.now) message.now)) }
 {
     match after_steps(steps, message.clone()?)? {
         Changed::Taken(_) => Ok(None),

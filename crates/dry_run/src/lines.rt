@@ -1,7 +1,7 @@
 //! Bytes of messages as lines.
 
 ghost use Rattle.std.specs.Prelude.{◌≡◌, ◌<◌, ◌++◌, OnOk, true};
-ghost use Rattle.dry_run.specs.Lines.{byte_shown, byte_line, hex_digit, lines_from};
+ghost use Rattle.dry_run.specs.inner.Lines.{byte_shown, byte_line, hex_digit, lines_from};
 
 use std::alloc::AllocError;
 
@@ -45,7 +45,7 @@ fn add_byte(out: &mut Vec<u8>, starts: bool, byte: u8) -> Result<(), AllocError>
 /// # Errors
 ///
 /// Where memory is refused.
-pub fn add_lines(out: &mut Vec<u8>, text: &[u8]) -> Result<(), AllocError>
+pub(crate) fn add_lines(out: &mut Vec<u8>, text: &[u8]) -> Result<(), AllocError>
     ensures { OnOk result (out.new.items ≡ out.old.items ++ lines_from true text.now) }
 {
     let mut starts = true;

@@ -4,7 +4,7 @@ ghost use Rattle.std.specs.Prelude.{◌≡◌, ◌<◌, ◌++◌, ◌∷◌, [],
 ghost use Rattle.std.specs.Arc.{arc_value};
 ghost use Rattle.mllp_frame.specs.Framing.{IsBlockData};
 ghost use Rattle.judge_core.specs.Judging.{verdict as decided};
-ghost use Rattle.dry_run.specs.Trying.{Tells, cause_word, is_taken, verdict_line, verdict_word};
+ghost use Rattle.dry_run.specs.inner.Trying.{Tells, cause_word, is_taken, verdict_line, verdict_word};
 
 use crate::explanation::{Explanation, Stopped, Way, explain};
 use crate::lines::add_lines;

@@ -1,7 +1,7 @@
 //! A message as a text file has it.
 
 ghost use Rattle.std.specs.Prelude.{◌≡◌, ◌++◌, IfOk, OnOk, false};
-ghost use Rattle.dry_run.specs.Segments.{ended, segments};
+ghost use Rattle.dry_run.specs.inner.Segments.{ended, segments};
 
 use std::alloc::{AllocError, Global};
 

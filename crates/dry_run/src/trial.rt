@@ -3,10 +3,11 @@
 ghost use Rattle.std.specs.Prelude.{◌≡◌, ◌<◌, ◌&&◌, ◌++◌, [], ◌∷◌, false, IfOk, OnOk, length};
 ghost use Rattle.std.specs.Arc.{arc_value};
 ghost use Rattle.std.specs.List.{list_all};
-ghost use Rattle.mllp_frame.specs.Event.{event_of};
-ghost use Rattle.mllp_frame.specs.Framing.{HoldsData, blocks, open_end};
-ghost use Rattle.dry_run.specs.Segments.{segments};
-ghost use Rattle.dry_run.specs.Trying.{IsTextTaken, IsInputTaken, event_taken};
+ghost use Rattle.mllp_frame.specs.inner.Event.{event_of};
+ghost use Rattle.mllp_frame.specs.Framing.{blocks};
+ghost use Rattle.mllp_frame.specs.inner.Framing.{HoldsData, open_end};
+ghost use Rattle.dry_run.specs.inner.Segments.{segments};
+ghost use Rattle.dry_run.specs.inner.Trying.{IsTextTaken, IsInputTaken, event_taken};
 
 use crate::report::try_text;
 use crate::text_input::segments_of;

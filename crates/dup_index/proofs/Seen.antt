@@ -5,7 +5,7 @@ use Rattle.std.specs.Option.{option_map}
 use Rattle.std.specs.Str.{bytes_eq}
 use Rattle.std.specs.Map.{lookup}
 use Rattle.std.proofs.lemmas.Slice.Eq.{bytes_eq-Decides}
-use Rattle.dup_index.specs.Known.{Known, is_key, place_of, from_place, EachOnce}
+use Rattle.dup_index.specs.inner.Known.{Known, is_key, place_of, from_place, EachOnce}
 
 -- the entries as a clause sees them
 abbrev pub seen : List (List ℕ × ℕ) → List Known

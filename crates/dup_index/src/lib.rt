@@ -3,7 +3,7 @@
 
 ghost use Rattle.std.specs.Prelude.{◌≡◌, ◌+◌, ◌<◌, ◌≤◌, ℕ, List, [], ◌∷◌, ◌++◌, Some, None, IsOk, OnOk, nat_le, option_and_then, if◌then◌else◌};
 ghost use Rattle.std.specs.Str.{bytes_eq};
-ghost use Rattle.dup_index.specs.Known.{Known, place_of, from_place};
+ghost use Rattle.dup_index.specs.inner.Known.{Known, place_of, from_place};
 
 mod key;
 
@@ -23,7 +23,7 @@ pub struct Keys {
 impl Model for Keys {
     ghost use Rattle.std.specs.Prelude.{map};
     ghost use Rattle.indexmap.specs.IndexMap.{spare};
-    ghost use Rattle.dup_index.specs.Known.{Index, EachOnce};
+    ghost use Rattle.dup_index.specs.inner.Known.{Index, EachOnce};
 
     ghost Value = { Index };
 

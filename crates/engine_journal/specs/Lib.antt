@@ -1,1 +1,1 @@
-pub mod Repeating
+pub mod inner

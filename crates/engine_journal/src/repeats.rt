@@ -1,7 +1,7 @@
 //! Which records repeat one that was shown a short while ago.
 
 ghost use Rattle.std.specs.Prelude.{◌≡◌, ◌-◌, nat_lt, not};
-ghost use Rattle.engine_journal.specs.Repeating.{hides, is_repetition};
+ghost use Rattle.engine_journal.specs.inner.Repeating.{hides, is_repetition};
 
 use crate::text::Part;
 use std::alloc::{AllocError, Global};

@@ -6,14 +6,14 @@ use Rattle.std.proofs.lemmas.List.Elements.{filter_map-append}
 use Rattle.book_core.specs.declared.receipt.NotBooked.{NotBooked}
 use Rattle.event_log.specs.declared.entry.Told.{Told}
 use Rattle.event_log.specs.History.{History}
-use Rattle.mllp_frame.specs.Event.{Event}
+use Rattle.mllp_frame.specs.Event.{FramingEvent}
 use Rattle.mllp_frame.specs.Framing.{blocks}
 use Rattle.conn_core.specs.Messages.{message_of, messages, messages_of}
 use Rattle.conn_core.specs.Replies.{Answer, Due, dues, dues_of, numbered}
 use Rattle.conn_core.proofs.Numbering.{numbered-append}
 use Rattle.engine_model.proofs.Duly.{dues-append}
 use Rattle.engine_model.specs.Run.{Connection}
-use Rattle.engine_model.specs.Amid.{Amid}
+use Rattle.engine_model.specs.inner.Amid.{Amid}
 use Rattle.engine_model.specs.Steps.{AreAnswered, EndsWithin, IsAnswered, ReadsOn, after_answer, after_answers, frame_events_max, history_with}
 
 abbrev raws : List Answer → List (List ℕ)
@@ -65,9 +65,9 @@ amid-start conn now h c c' channel answers output stays =
       stays = stays;
     }
 
-module _ (conn now : ℕ) (handled : List Event) (h h' : History) (c c' : Connection) (s : Amid conn now handled h h' c c') where
+module _ (conn now : ℕ) (handled : List FramingEvent) (h h' : History) (c c' : Connection) (s : Amid conn now handled h h' c c') where
   -- an event that brings no message
-  pub amid-passed : (e : Event) → message_of e ≡ None → Amid conn now (handled ++ e ∷ []) h h' c c'
+  pub amid-passed : (e : FramingEvent) → message_of e ≡ None → Amid conn now (handled ++ e ∷ []) h h' c c'
   amid-passed e none =
       record {
         new = s.new;
@@ -81,7 +81,7 @@ module _ (conn now : ℕ) (handled : List Event) (h h' : History) (c c' : Connec
       }
 
   -- a message that is answered
-  module _ (e : Event) (raw : List ℕ) (outcome : Result Told NotBooked) (brings : message_of e ≡ Some raw) (may : IsAnswered conn c.channel h' raw outcome) where
+  module _ (e : FramingEvent) (raw : List ℕ) (outcome : Result Told NotBooked) (brings : message_of e ≡ Some raw) (may : IsAnswered conn c.channel h' raw outcome) where
     abbrev one : Answer
     one = record { raw = raw; outcome = outcome; moment = now }
 
@@ -119,7 +119,7 @@ module _ (conn now : ℕ) (handled : List Event) (h h' : History) (c c' : Connec
         }
 
     -- or only the first of its replies sent, and the connection ended
-    pub amid-cut : (bytes : List ℕ) (later : List Event) (sent unsent : List Due) (d : Connection) → d.channel ≡ c'.channel → d.stream ≡ c.stream ++ bytes
+    pub amid-cut : (bytes : List ℕ) (later : List FramingEvent) (sent unsent : List Due) (d : Connection) → d.channel ≡ c'.channel → d.stream ≡ c.stream ++ bytes
         → d.answers ≡ c'.answers ++ one ∷ [] → dues_of one ≡ sent ++ unsent
         → d.output ≡ c'.output ++ numbered conn (1 + length (dues c'.answers)) sent → d.ended ≡ true
         → blocks (c.stream ++ bytes) ≡ blocks c.stream ++ ((handled ++ e ∷ []) ++ later)
@@ -164,7 +164,7 @@ module _ (conn now : ℕ) (handled : List Event) (h h' : History) (c c' : Connec
       }
 
   -- the connection ends between two events; the bytes that its stream couldn't take are lost
-  pub amid-ends : (kept lost : List ℕ) (later : List Event) (d : Connection) → d.channel ≡ c'.channel → d.stream ≡ c.stream ++ kept → d.answers ≡ c'.answers → d.output ≡ c'.output → d.ended ≡ true
+  pub amid-ends : (kept lost : List ℕ) (later : List FramingEvent) (d : Connection) → d.channel ≡ c'.channel → d.stream ≡ c.stream ++ kept → d.answers ≡ c'.answers → d.output ≡ c'.output → d.ended ≡ true
       → blocks (c.stream ++ kept) ≡ blocks c.stream ++ (handled ++ later)
       → EndsWithin conn (kept ++ lost) now h h' c d
   amid-ends kept lost later d channel stream answers output stops events =

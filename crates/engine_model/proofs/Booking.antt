@@ -15,7 +15,7 @@ use Rattle.event_log.proofs.Events.{may-follow}
 use Rattle.event_log.proofs.Following.{legal-followed_by}
 use Rattle.conn_core.specs.Messages.{BookedMessage, booked, booked_with}
 use Rattle.conn_core.specs.Replies.{Answer}
-use Rattle.engine_model.specs.Run.{arrival_on, arrivals}
+use Rattle.engine_model.specs.Run.{arrival_on, arrivals_on}
 use Rattle.engine_model.specs.Steps.{AreAnswered, IsNoArrival, IsAnswered, after_answer, after_answers, history_with}
 
 -- ---- answers
@@ -31,38 +31,38 @@ legal-answers conn channel now h (a ∷ answers) legal all =
     legal-answers conn channel now (after_answer conn channel h a) answers (legal-answer conn channel h a.raw a.outcome legal all.0) all.2
 
 -- one entry more
-pub arrivals-followed_by : (conn : ℕ) (h : History) (e : Entry) → arrivals conn (followed_by h e) ≡ arrivals conn h ++ cons_option (arrival_on conn e) []
+pub arrivals-followed_by : (conn : ℕ) (h : History) (e : Entry) → arrivals_on conn (followed_by h e) ≡ arrivals_on conn h ++ cons_option (arrival_on conn e) []
 arrivals-followed_by conn h e = filter_map-append (arrival_on conn) h.entries (e ∷ [])
 
 cons-split : {A : Type 0} (o : Option A) (xs : List A) → cons_option o [] ++ xs ≡ cons_option o xs
 cons-split None xs = refl
 cons-split (Some x) xs = refl
 
-own_one : (conn channel : ℕ) (h : History) (raw : List ℕ) (outcome : Result Told NotBooked) → arrivals conn (history_with conn channel h raw outcome) ≡ arrivals conn h ++ cons_option (booked_with conn channel raw outcome) []
+own_one : (conn channel : ℕ) (h : History) (raw : List ℕ) (outcome : Result Told NotBooked) → arrivals_on conn (history_with conn channel h raw outcome) ≡ arrivals_on conn h ++ cons_option (booked_with conn channel raw outcome) []
 own_one conn channel h raw (Ok told) =
     let same : (conn == conn) ≡ true = eq-eqb conn conn refl in
     let one : BookedMessage = record { conn = conn; channel = channel; raw = raw; told = told } in
-    arrivals-followed_by conn h (Arrival conn channel raw told) ∙ ap (λ b. arrivals conn h ++ cons_option (cond b (Some one) None) []) same
-own_one conn channel h raw (Err refusal) = sym (append-nil (arrivals conn h))
+    arrivals-followed_by conn h (Arrival conn channel raw told) ∙ ap (λ b. arrivals_on conn h ++ cons_option (cond b (Some one) None) []) same
+own_one conn channel h raw (Err refusal) = sym (append-nil (arrivals_on conn h))
 
 -- the answers of a connection book its arrivals
-pub arrivals-own : (conn channel : ℕ) (h : History) (answers : List Answer) → arrivals conn (after_answers conn channel h answers) ≡ arrivals conn h ++ booked conn channel answers
-arrivals-own conn channel h [] = sym (append-nil (arrivals conn h))
+pub arrivals-own : (conn channel : ℕ) (h : History) (answers : List Answer) → arrivals_on conn (after_answers conn channel h answers) ≡ arrivals_on conn h ++ booked conn channel answers
+arrivals-own conn channel h [] = sym (append-nil (arrivals_on conn h))
 arrivals-own conn channel h (a ∷ answers) =
     arrivals-own conn channel (after_answer conn channel h a) answers
     ∙ ap (λ l. l ++ booked conn channel answers) (own_one conn channel h a.raw a.outcome)
-    ∙ append_assoc (arrivals conn h) (cons_option (booked_with conn channel a.raw a.outcome) []) (booked conn channel answers)
-    ∙ ap (λ l. arrivals conn h ++ l) (cons-split (booked_with conn channel a.raw a.outcome) (booked conn channel answers))
+    ∙ append_assoc (arrivals_on conn h) (cons_option (booked_with conn channel a.raw a.outcome) []) (booked conn channel answers)
+    ∙ ap (λ l. arrivals_on conn h ++ l) (cons-split (booked_with conn channel a.raw a.outcome) (booked conn channel answers))
 
-other_one : (other conn channel : ℕ) (h : History) (raw : List ℕ) (outcome : Result Told NotBooked) → (conn ≡ other → ⊥) → arrivals other (history_with conn channel h raw outcome) ≡ arrivals other h
+other_one : (other conn channel : ℕ) (h : History) (raw : List ℕ) (outcome : Result Told NotBooked) → (conn ≡ other → ⊥) → arrivals_on other (history_with conn channel h raw outcome) ≡ arrivals_on other h
 other_one other conn channel h raw (Ok told) apart =
     let test : (conn == other) ≡ false = ne_eqb conn other apart in
     let one : BookedMessage = record { conn = conn; channel = channel; raw = raw; told = told } in
-    arrivals-followed_by other h (Arrival conn channel raw told) ∙ ap (λ b. arrivals other h ++ cons_option (cond b (Some one) None) []) test ∙ append-nil (arrivals other h)
+    arrivals-followed_by other h (Arrival conn channel raw told) ∙ ap (λ b. arrivals_on other h ++ cons_option (cond b (Some one) None) []) test ∙ append-nil (arrivals_on other h)
 other_one other conn channel h raw (Err refusal) apart = refl
 
 -- and no arrival of another
-pub arrivals-other : (other conn channel : ℕ) (h : History) (answers : List Answer) → (conn ≡ other → ⊥) → arrivals other (after_answers conn channel h answers) ≡ arrivals other h
+pub arrivals-other : (other conn channel : ℕ) (h : History) (answers : List Answer) → (conn ≡ other → ⊥) → arrivals_on other (after_answers conn channel h answers) ≡ arrivals_on other h
 arrivals-other other conn channel h [] apart = refl
 arrivals-other other conn channel h (a ∷ answers) apart =
     arrivals-other other conn channel (after_answer conn channel h a) answers apart ∙ other_one other conn channel h a.raw a.outcome apart
@@ -72,13 +72,13 @@ arrivals-other other conn channel h (a ∷ answers) apart =
 -- a history that comes of another, and brings no arrival
 pub record BringsNone (h h' : History) : Type 0 where
   pub legal : IsLegal h'
-  pub arrivals : (conn : ℕ) → arrivals conn h' ≡ arrivals conn h
+  pub arrivals : (conn : ℕ) → arrivals_on conn h' ≡ arrivals_on conn h
 
 brings_none : (h : History) (e : Entry) → IsLegal h → MayFollow h e → ((conn : ℕ) → arrival_on conn e ≡ None) → BringsNone h (followed_by h e)
 brings_none h e legal may none =
     record {
       legal = legal-followed_by h e legal may;
-      arrivals = λ conn. arrivals-followed_by conn h e ∙ ap (λ o. arrivals conn h ++ cons_option o []) (none conn) ∙ append-nil (arrivals conn h);
+      arrivals = λ conn. arrivals-followed_by conn h e ∙ ap (λ o. arrivals_on conn h ++ cons_option o []) (none conn) ∙ append-nil (arrivals_on conn h);
     }
 
 no-arrival : (e : Event) → IsNoArrival e → (reply : Reply e) (conn : ℕ) → arrival_on conn (entry_of e reply) ≡ None

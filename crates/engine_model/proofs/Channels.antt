@@ -9,9 +9,9 @@ use Rattle.event_log.specs.declared.entry.Entry.TheVariants.{Arrival, Take, Sett
 use Rattle.event_log.specs.declared.entry.Told.{Told}
 use Rattle.conn_core.specs.Messages.{BookedMessage, booked, booked_with}
 use Rattle.conn_core.specs.Replies.{Answer}
-use Rattle.engine_model.specs.Run.{Connection, Run, arrival_on, arrivals, booked_since, folded_at}
-use Rattle.engine_model.specs.Converse.{HaveChannels, KeepToOne, KeepsTo}
-use Rattle.engine_model.specs.Promise.{KeepsItsWord}
+use Rattle.engine_model.specs.Run.{Connection, Run, arrival_on, arrivals_on, booked_since, folded_at}
+use Rattle.engine_model.specs.inner.Converse.{HaveChannels, KeepToOne, KeepsTo}
+use Rattle.engine_model.specs.Promise.{RunInvariant}
 use Rattle.engine_model.proofs.Places.{same_or_apart}
 
 -- ---- of a run
@@ -46,11 +46,11 @@ own conn channel raw told =
     ap (λ b. cond b (Some one) None) (eq-eqb conn conn refl)
 
 -- each connection of a run keeps to its channel
-pub run-keeps : (r : Run) → KeepsItsWord r → KeepsTo (map (λ (c : Connection). c.channel) r.connections) r.history.entries
+pub run-keeps : (r : Run) → RunInvariant r → KeepsTo (map (λ (c : Connection). c.channel) r.connections) r.history.entries
 run-keeps r word = record { keeps = λ place conn channel raw told got. by place conn channel raw told got (slice_get r.connections conn) refl (word.booked conn) }
   where
     by : (place conn channel : ℕ) (raw : List ℕ) (told : Told) → slice_get r.history.entries place ≡ Some (Arrival conn channel raw told) → (o : Option Connection) → slice_get r.connections conn ≡ o
-        → arrivals conn r.history ≡ option_map_or (booked_since (folded_at r conn) conn) o [] → slice_get (map (λ (c : Connection). c.channel) r.connections) conn ≡ Some channel
+        → arrivals_on conn r.history ≡ option_map_or (booked_since (folded_at r conn) conn) o [] → slice_get (map (λ (c : Connection). c.channel) r.connections) conn ≡ Some channel
     by place conn channel raw told got None at is =
         absurd (each-kept (arrival_on conn) (λ _. ⊥) r.history.entries place (Arrival conn channel raw told) (record { conn = conn; channel = channel; raw = raw; told = told })
         (subst (AllByRecursion (λ _. ⊥)) (sym is) tt) got (own conn channel raw told))

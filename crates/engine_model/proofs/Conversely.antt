@@ -4,15 +4,17 @@ use Rattle.std.proofs.lemmas.List.{map-append, take_more}
 use Rattle.event_log.specs.declared.entry.Entry.{Entry}
 use Rattle.event_log.specs.declared.entry.Entry.TheVariants.{Arrival, Take, Settle, Cancel, Deploy}
 use Rattle.event_log.specs.History.{History, entry_at}
-use Rattle.event_log.specs.Legal.{IsLegal, IsSound}
+use Rattle.event_log.specs.Legal.{IsLegal}
+use Rattle.event_log.specs.inner.Legal.{IsSound}
 use Rattle.event_log.proofs.Following.{entry-since, follows-since, take-whole}
 use Rattle.engine_model.specs.declared.connection.Connected.{Connected}
 use Rattle.engine_model.specs.declared.step.Step.{Step}
-use Rattle.engine_model.specs.Converse.{CameInBlock, IsRunOf, KeepsTo, step_of, steps_of}
+use Rattle.engine_model.specs.Converse.{IsRunOf}
+use Rattle.engine_model.specs.inner.Converse.{CameInBlock, KeepsTo, step_of, steps_of}
 use Rattle.engine_model.specs.Run.{silent}
 use Rattle.engine_model.specs.Steps.{frame_events_max}
 use Rattle.engine_model.specs.Turn.{Turn}
-use Rattle.engine_model.specs.View.{connection_of, turn_by}
+use Rattle.engine_model.specs.inner.View.{connection_of, turn_by}
 use Rattle.engine_model.proofs.Reaching.{reaches}
 
 -- the text of an arrival that was booked came in a block

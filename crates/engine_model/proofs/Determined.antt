@@ -11,7 +11,7 @@ use Rattle.conn_core.specs.Replies.{Answer, dues, numbered, replies}
 use Rattle.conn_core.proofs.Numbering.{numbered-append}
 use Rattle.engine_model.proofs.Duly.{dues-append}
 use Rattle.engine_model.specs.Run.{Connection}
-use Rattle.engine_model.specs.Promise.{IsFrontOf, NoneLacked}
+use Rattle.engine_model.specs.inner.Promise.{IsFrontOf, NoneLacked}
 use Rattle.event_log.proofs.Events.{arrival-room, arrival-told}
 use Rattle.engine_model.specs.Steps.{AreAnswered, IsAnswered, ReadsOn, RepliesFront, after_answer, after_answers}
 

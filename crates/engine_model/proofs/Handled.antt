@@ -12,25 +12,26 @@ use Rattle.event_log.proofs.Events.{arrivable-follows}
 use Rattle.event_log.proofs.Following.{plan-kept_all}
 use Rattle.event_log.specs.Room.{is_full}
 use Rattle.judge_core.specs.Judging.{Judgement, is_bookable}
-use Rattle.mllp_frame.specs.Event.{Event, block}
+use Rattle.mllp_frame.specs.Event.{FramingEvent, block}
 use Rattle.mllp_frame.specs.Framing.{IsBlockData, blocks}
 use Rattle.conn_core.specs.Booking.{OutcomeAtBook, Books, arrival_by}
 use Rattle.conn_core.specs.Messages.{message_of}
-use Rattle.conn_core.specs.Replies.{Answer, answer_to, dues, dues_of, numbered, told_by}
+use Rattle.conn_core.specs.Replies.{Answer, dues, dues_of, numbered}
+use Rattle.conn_core.specs.inner.Replies.{answer_to, told_by}
 use Rattle.engine_model.proofs.Duly.{dues-append}
 use Rattle.engine_model.specs.declared.connection.Answered.{Answered}
-use Rattle.engine_model.specs.declared.connection.Words.{Words}
+use Rattle.engine_model.specs.declared.connection.Transcript.{Transcript}
 use Rattle.engine_model.specs.Steps.{IsAnswered, EndsWithin, history_with}
-use Rattle.engine_model.specs.Amid.{Amid}
-use Rattle.engine_model.specs.Handling.{Handles, HandlesFront, IsBooked, IsCounted, answer_of, answer_with, said}
+use Rattle.engine_model.specs.inner.Amid.{Amid}
+use Rattle.engine_model.specs.inner.Handling.{Handles, HandlesFront, IsBooked, IsCounted, answer_of, answer_with, said}
 use Rattle.engine_model.proofs.Amidst.{amid-answered, amid-cut, amid-ends, amid-passed}
 
 -- an event that brings no message
-pub handles-none : (conn channel now : ℕ) (e : Event) (h : History) (w : Words) → message_of e ≡ None → Handles conn channel now (e ∷ []) h h w w
+pub handles-none : (conn channel now : ℕ) (e : FramingEvent) (h : History) (w : Transcript) → message_of e ≡ None → Handles conn channel now (e ∷ []) h h w w
 handles-none conn channel now e h w none handled from c stream same amid = amid-passed conn now handled from h c (said channel stream false w) amid e none
 
 -- nothing more was handled
-pub handles-stop : (conn channel now : ℕ) (events : List Event) (h : History) (w w' : Words) → w'.answers.items ≡ w.answers.items → w'.replies.bytes.items ≡ w.replies.bytes.items → HandlesFront conn channel now events h h w w'
+pub handles-stop : (conn channel now : ℕ) (events : List FramingEvent) (h : History) (w w' : Transcript) → w'.answers.items ≡ w.answers.items → w'.replies.bytes.items ≡ w.replies.bytes.items → HandlesFront conn channel now events h h w w'
 handles-stop conn channel now events h w w' answers output handled later from c bytes same amid are =
     subst (λ l. EndsWithin conn l now from h c (said channel (c.stream ++ bytes) true w')) (append-nil bytes)
     (amid-ends conn now handled from h c (said channel (c.stream ++ bytes) false w) amid bytes [] (events ++ later) (said channel (c.stream ++ bytes) true w')
@@ -40,10 +41,10 @@ brings : (raw : List ℕ) → is_bookable raw ≡ true → message_of (block raw
 brings raw is = rw is refl
 
 -- the number of the next acknowledgment
-next_made : (w : Words) → IsCounted w → w.replies.made + 1 ≡ 1 + length (dues (map answer_of w.answers.items))
+next_made : (w : Transcript) → IsCounted w → w.replies.made + 1 ≡ 1 + length (dues (map answer_of w.answers.items))
 next_made w counted = let made : w.replies.made ≡ length (dues (map answer_of w.answers.items)) = counted.made in omega arith
 
-module _ (conn channel now : ℕ) (raw : List ℕ) (outcome : Result Told NotBooked) (h h' : History) (w w' : Words)
+module _ (conn channel now : ℕ) (raw : List ℕ) (outcome : Result Told NotBooked) (h h' : History) (w w' : Transcript)
     (bookable : is_bookable raw ≡ true) (books : IsBooked conn channel now raw outcome h h' w.answers.items w'.answers.items) (counted : IsCounted w) where
   abbrev a : Answer
   a = answer_with raw outcome now
@@ -81,21 +82,21 @@ pub on_err_one : {T E : Type 0} {P S : Type 0} (r : Result T E) → (P → S) �
 on_err_one (Ok x) f p = tt
 on_err_one (Err e) f p = f p
 
-pub handles-left : (conn channel now : ℕ) (events : List Event) (h h' : History) (w w' : Words) → h' ≡ h → w'.answers.items ≡ w.answers.items → w'.replies.bytes.items ≡ w.replies.bytes.items → HandlesFront conn channel now events h h' w w'
+pub handles-left : (conn channel now : ℕ) (events : List FramingEvent) (h h' : History) (w w' : Transcript) → h' ≡ h → w'.answers.items ≡ w.answers.items → w'.replies.bytes.items ≡ w.replies.bytes.items → HandlesFront conn channel now events h h' w w'
 handles-left conn channel now events h h' w w' same answers output handled later from c bytes on amid are =
     subst (λ g. EndsWithin conn bytes now from g c (said channel (c.stream ++ bytes) true w')) (sym same) (handles-stop conn channel now events h w w' answers output handled later from c bytes on amid are)
 
 -- ---- event after event
 
-pub handles-nothing : (conn channel now : ℕ) (h : History) (w : Words) → Handles conn channel now [] h h w w
+pub handles-nothing : (conn channel now : ℕ) (h : History) (w : Transcript) → Handles conn channel now [] h h w w
 handles-nothing conn channel now h w handled from c stream same amid = subst (λ l. Amid conn now l from h c (said channel stream false w)) (sym (append-nil handled)) amid
 
-pub handles-more : (conn channel now : ℕ) (xs ys : List Event) (h h' h'' : History) (w w' w'' : Words) → Handles conn channel now xs h h' w w' → Handles conn channel now ys h' h'' w' w'' → Handles conn channel now (xs ++ ys) h h'' w w''
+pub handles-more : (conn channel now : ℕ) (xs ys : List FramingEvent) (h h' h'' : History) (w w' w'' : Transcript) → Handles conn channel now xs h h' w w' → Handles conn channel now ys h' h'' w' w'' → Handles conn channel now (xs ++ ys) h h'' w w''
 handles-more conn channel now xs ys h h' h'' w w' w'' one two handled from c stream same amid =
     subst (λ l. Amid conn now l from h'' c (said channel stream false w'')) (append_assoc handled xs ys) (two (handled ++ xs) from c stream same (one handled from c stream same amid))
 
 -- after these events the connection has to end
-pub front-more : (conn channel now : ℕ) (xs ys zs all : List Event) (h h' h'' : History) (w w' w'' : Words) → all ≡ xs ++ (ys ++ zs) → Handles conn channel now xs h h' w w' → HandlesFront conn channel now ys h' h'' w' w'' → HandlesFront conn channel now all h h'' w w''
+pub front-more : (conn channel now : ℕ) (xs ys zs all : List FramingEvent) (h h' h'' : History) (w w' w'' : Transcript) → all ≡ xs ++ (ys ++ zs) → Handles conn channel now xs h h' w w' → HandlesFront conn channel now ys h' h'' w' w'' → HandlesFront conn channel now all h h'' w w''
 front-more conn channel now xs ys zs all h h' h'' w w' w'' whole one two handled later from c bytes same amid are =
     two (handled ++ xs) (zs ++ later) from c bytes same (one handled from c (c.stream ++ bytes) same amid)
     (are
@@ -106,7 +107,7 @@ front-more conn channel now xs ys zs all h h' h'' w w' w'' whole one two handled
     ∙ sym (append_assoc handled xs (ys ++ (zs ++ later)))
     ∙ sym (append_assoc (handled ++ xs) ys (zs ++ later))))
 
-pub first_event : (events : List Event) (e : Event) → Some e ≡ slice_get events 0 → events ≡ e ∷ drop 1 events
+pub first_event : (events : List FramingEvent) (e : FramingEvent) → Some e ≡ slice_get events 0 → events ≡ e ∷ drop 1 events
 first_event [] e is = absurd cc
 first_event (x ∷ events) e is = let same : x ≡ e = cc in ap (λ y. y ∷ events) same
 
@@ -147,7 +148,7 @@ module _ (conn now : ℕ) (j : Judgement) (h h' : History) (old new : List Answe
   is_booked (Err PlanChanged) is more none told refused kept = absurd (refused.plan.0 refl same)
 
 -- the acknowledgments are counted on
-pub counted-on : (raw : List ℕ) (now : ℕ) (o : Result Receipt NotBooked) (w w' : Words) → IsCounted w → map answer_of w'.answers.items ≡ map answer_of w.answers.items ++ answer_with raw (told_by o) now ∷ []
+pub counted-on : (raw : List ℕ) (now : ℕ) (o : Result Receipt NotBooked) (w w' : Transcript) → IsCounted w → map answer_of w'.answers.items ≡ map answer_of w.answers.items ++ answer_with raw (told_by o) now ∷ []
     → w'.replies.made ≡ w.replies.made + length (dues_of (answer_to raw o now)) → IsCounted w'
 counted-on raw now o w w' counted kept made =
     let before : List Answer = map answer_of w.answers.items in

@@ -9,9 +9,9 @@ use Rattle.conn_core.specs.Messages.{booked, booked_with, messages}
 use Rattle.conn_core.specs.Replies.{Answer, Due, dues, numbered, replies}
 use Rattle.conn_core.proofs.Numbering.{numbered-append}
 use Rattle.engine_model.proofs.Duly.{dues-append}
-use Rattle.engine_model.specs.Run.{Connection, Run, arrivals, booked_since, folded_at}
+use Rattle.engine_model.specs.Run.{Connection, Run, arrivals_on, booked_since, folded_at}
 use Rattle.engine_model.specs.Steps.{AreAnswered, EndsWithin, Hears, HearsAt, HearsIf, ReadsOn, RepliesFront, after_answers}
-use Rattle.engine_model.specs.Promise.{AreFirst, AreRead, AreWritten, KeepsItsWord}
+use Rattle.engine_model.specs.Promise.{AreFirst, AreRead, AreWritten, RunInvariant}
 use Rattle.engine_model.proofs.Booking.{arrivals-other, arrivals-own, legal-answers}
 use Rattle.engine_model.proofs.Places.{each-set, get-set_other, get-set_same, same_or_apart}
 
@@ -101,7 +101,7 @@ before-more : (n : ℕ) (xs ys new : List Answer) → n ≤ length xs → ys ≡
 before-more n xs ys new before grown = omega (arith, before, ap (λ (l : List Answer). length l) grown, length-append xs new)
 
 module _ (conn : ℕ) (r r' : Run) (c to : Connection) (at : slice_get r.connections conn ≡ Some c) (only : r'.connections ≡ set r.connections conn to) (stays : r'.folded ≡ r.folded) where
-  served : Served conn r.history r'.history c to → KeepsItsWord r → KeepsItsWord r'
+  served : Served conn r.history r'.history c to → RunInvariant r → RunInvariant r'
   served s word =
       let there : slice_get r'.connections conn ≡ Some to = ap (λ l. slice_get l conn) only ∙ get-set_same r.connections conn c to at in
       record {
@@ -110,15 +110,15 @@ module _ (conn : ℕ) (r r' : Run) (c to : Connection) (at : slice_get r.connect
         written = λ k d is. each-set (λ k (d : Connection). AreWritten d.ended k d.answers d.output) r.connections conn c to at s.written word.written k d (ap (λ l. slice_get l k) (sym only) ∙ is);
         booked = λ k. elim (same_or_apart conn k) [
           | inl same ↦
-              subst (λ n. arrivals n r'.history ≡ option_map_or (booked_since (folded_at r' n) n) (slice_get r'.connections n) []) same
-              (ap (arrivals conn) s.history
+              subst (λ n. arrivals_on n r'.history ≡ option_map_or (booked_since (folded_at r' n) n) (slice_get r'.connections n) []) same
+              (ap (arrivals_on conn) s.history
               ∙ arrivals-own conn c.channel r.history s.new
               ∙ ap (λ l. l ++ booked conn c.channel s.new) (word.booked conn ∙ ap (λ o. option_map_or (booked_since (folded_at r conn) conn) o []) at)
               ∙ since-more (folded_at r conn) conn c to s.new (word.before conn c at) s.channel s.answers
               ∙ ap (λ o. option_map_or (booked_since (folded_at r conn) conn) o []) (sym there)
               ∙ ap (λ f. option_map_or (booked_since (get_or f conn 0) conn) (slice_get r'.connections conn) []) (sym stays))
           | inr apart ↦
-              ap (arrivals k) s.history
+              ap (arrivals_on k) s.history
               ∙ arrivals-other k conn c.channel r.history s.new apart
               ∙ word.booked k
               ∙ ap (λ o. option_map_or (booked_since (folded_at r k) k) o []) (sym (ap (λ l. slice_get l k) only ∙ get-set_other r.connections conn k to apart))
@@ -130,7 +130,7 @@ module _ (conn : ℕ) (r r' : Run) (c to : Connection) (at : slice_get r.connect
             (ap (λ l. slice_get l k) (sym only) ∙ is));
       }
 
-hears : (conn : ℕ) (bytes : List ℕ) (now : ℕ) (r r' : Run) (c : Connection) → slice_get r.connections conn ≡ Some c → c.ended ≡ false → Hears conn bytes now r r' c → KeepsItsWord r → KeepsItsWord r'
+hears : (conn : ℕ) (bytes : List ℕ) (now : ℕ) (r r' : Run) (c : Connection) → slice_get r.connections conn ≡ Some c → c.ended ≡ false → Hears conn bytes now r r' c → RunInvariant r → RunInvariant r'
 hears conn bytes now r r' c at open_yet heard word =
     let read : messages c.stream ≡ raws c.answers = subst (λ b. AreRead b c.stream c.answers) open_yet (word.read conn c at) in
     let written : c.output ≡ replies conn c.answers = subst (λ b. AreWritten b conn c.answers c.output) open_yet (word.written conn c at) in
@@ -139,10 +139,10 @@ hears conn bytes now r r' c at open_yet heard word =
       | inr s ↦ served conn r r' c heard.to at heard.only heard.stays (ends_within conn bytes now r.history r'.history c heard.to read written s) word
     ]
 
-hears_if : (b : Bool) (conn : ℕ) (bytes : List ℕ) (now : ℕ) (r r' : Run) (c : Connection) → slice_get r.connections conn ≡ Some c → c.ended ≡ b → HearsIf b conn bytes now r r' c → KeepsItsWord r → KeepsItsWord r'
-hears_if true conn bytes now r r' c at is heard word = subst KeepsItsWord (sym heard) word
+hears_if : (b : Bool) (conn : ℕ) (bytes : List ℕ) (now : ℕ) (r r' : Run) (c : Connection) → slice_get r.connections conn ≡ Some c → c.ended ≡ b → HearsIf b conn bytes now r r' c → RunInvariant r → RunInvariant r'
+hears_if true conn bytes now r r' c at is heard word = subst RunInvariant (sym heard) word
 hears_if false conn bytes now r r' c at is heard word = hears conn bytes now r r' c at is heard word
 
-pub hears_at : (o : Option Connection) (conn : ℕ) (bytes : List ℕ) (now : ℕ) (r r' : Run) → slice_get r.connections conn ≡ o → HearsAt o conn bytes now r r' → KeepsItsWord r → KeepsItsWord r'
-hears_at None conn bytes now r r' at heard word = subst KeepsItsWord (sym heard) word
+pub hears_at : (o : Option Connection) (conn : ℕ) (bytes : List ℕ) (now : ℕ) (r r' : Run) → slice_get r.connections conn ≡ o → HearsAt o conn bytes now r r' → RunInvariant r → RunInvariant r'
+hears_at None conn bytes now r r' at heard word = subst RunInvariant (sym heard) word
 hears_at (Some c) conn bytes now r r' at heard word = hears_if c.ended conn bytes now r r' c at refl heard word

@@ -3,7 +3,8 @@ use Rattle.std.proofs.Common.{◌≡◌, ℕ, ◌+◌, ◌<◌, ◌≤◌, Bool,
 use Rattle.std.specs.List.{cons_option}
 use Rattle.std.proofs.lemmas.List.Elements.{filter_map-append}
 use Rattle.mllp_frame.specs.Event.{block}
-use Rattle.mllp_frame.specs.Framing.{block_bytes, blocks, open_end}
+use Rattle.mllp_frame.specs.Framing.{block_bytes, blocks}
+use Rattle.mllp_frame.specs.inner.Framing.{open_end}
 use Rattle.mllp_frame.proofs.DataLaws.{block_behind, nothing_open_behind}
 use Rattle.judge_core.specs.Judging.{is_bookable}
 use Rattle.event_log.specs.declared.entry.Entry.{Entry}
@@ -19,7 +20,8 @@ use Rattle.conn_core.specs.Replies.{Answer, dues, numbered}
 use Rattle.engine_model.specs.Run.{Connection, Run, silent, started}
 use Rattle.engine_model.specs.Turn.{Turn}
 use Rattle.engine_model.specs.Steps.{HearsAt, HearsIf, ReadsOn, Runs, Steps, frame_events_max, with_history}
-use Rattle.engine_model.specs.Converse.{IsRunOf, KeepsTo, step_of, steps_of}
+use Rattle.engine_model.specs.Converse.{IsRunOf}
+use Rattle.engine_model.specs.inner.Converse.{KeepsTo, step_of, steps_of}
 use Rattle.engine_model.proofs.Places.{get-set_other, get-set_same, same_or_apart}
 
 -- a connection on a channel that has had n frame events at most, and stands outside of a block
@@ -161,8 +163,8 @@ module _ (channels : List ℕ) (n : ℕ) (r : Run) (ready : AllReady channels n 
 
 -- ---- entry by entry
 
-abbrev continued : History → List Entry → History
-continued h es = record { opening = h.opening; entries = h.entries ++ es }
+abbrev of_snapshot : History → List Entry → History
+of_snapshot h es = record { opening = h.opening; entries = h.entries ++ es }
 
 get-after : {A : Type 0} (xs ys : List A) (x : A) → slice_get (xs ++ x ∷ ys) (length xs) ≡ Some x
 get-after [] ys x = refl
@@ -179,14 +181,14 @@ record Arrives (steps : List Turn) (r : Run) (h : History) : Type 0 where
 first : (e : Entry) (es : List Entry) (channels : List ℕ) → KeepsTo channels (e ∷ es) → (conn channel : ℕ) (raw : List ℕ) (told : Told) → e ≡ Arrival conn channel raw told → slice_get channels conn ≡ Some channel
 first e es channels keep conn channel raw told is = keep.keeps 0 conn channel raw told (ap (λ e. Some e) is)
 
-walk : (channels : List ℕ) (es : List Entry) (n : ℕ) (r : Run) → AllReady channels n r → IsLegal (continued r.history es) → KeepsTo channels es → n + length es < frame_events_max → Arrives (map step_of es) r (continued r.history es)
+walk : (channels : List ℕ) (es : List Entry) (n : ℕ) (r : Run) → AllReady channels n r → IsLegal (of_snapshot r.history es) → KeepsTo channels es → n + length es < frame_events_max → Arrives (map step_of es) r (of_snapshot r.history es)
 walk channels [] n r ready legal keep few =
     record { to = r; runs = refl; history = ap (λ es. record { opening = r.history.opening; entries = es }) (sym (append-nil r.history.entries)) }
 walk channels (e ∷ es) n r ready legal keep few =
-    let may : MayFollow r.history e = subst (λ xs. MayFollow (record { opening = r.history.opening; entries = xs }) e) (take-before r.history.entries (e ∷ es)) (follows-since (continued r.history (e ∷ es)) legal (length r.history.entries) e (get-after r.history.entries es e)) in
+    let may : MayFollow r.history e = subst (λ xs. MayFollow (record { opening = r.history.opening; entries = xs }) e) (take-before r.history.entries (e ∷ es)) (follows-since (of_snapshot r.history (e ∷ es)) legal (length r.history.entries) e (get-after r.history.entries es e)) in
     let one = step channels n r ready e may (first e es channels keep) (omega arith) in
     let joined : (r.history.entries ++ e ∷ []) ++ es ≡ r.history.entries ++ (e ∷ es) = append_assoc r.history.entries (e ∷ []) es in
-    let goes : continued one.to.history es ≡ continued r.history (e ∷ es) = ap (λ (h : History). continued h es) one.history ∙ ap (λ xs. record { opening = r.history.opening; entries = xs }) joined in
+    let goes : of_snapshot one.to.history es ≡ of_snapshot r.history (e ∷ es) = ap (λ (h : History). of_snapshot h es) one.history ∙ ap (λ xs. record { opening = r.history.opening; entries = xs }) joined in
     let rest = walk channels es (n + 1) one.to one.ready (subst IsLegal (sym goes) legal)
     (record { keeps = λ place conn channel raw told is. keep.keeps (suc place) conn channel raw told is }) (omega arith) in
     record { to = rest.to; runs = (one.to, one.steps, rest.runs); history = rest.history ∙ goes }

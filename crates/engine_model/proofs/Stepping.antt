@@ -5,18 +5,20 @@ use Rattle.std.proofs.Math.Seq.{drop-length}
 use Rattle.plan_text.specs.Entries.{PlanEntry}
 use Rattle.event_log.proofs.Following.{legal-since}
 use Rattle.event_log.specs.Folding.{pruned}
-use Rattle.event_log.specs.History.{History, Opening, begun, blank}
+use Rattle.event_log.specs.History.{History, Snapshot, begun}
+use Rattle.event_log.specs.inner.History.{blank}
 use Rattle.event_log.specs.Event.{next}
 use Rattle.conn_core.specs.Messages.{booked}
-use Rattle.engine_model.specs.Run.{Connection, Run, booked_since, folded_at, opened, silent, started}
+use Rattle.engine_model.specs.Run.{Connection, Run, booked_since, folded_at, silent, started}
+use Rattle.engine_model.specs.inner.Run.{opened}
 use Rattle.engine_model.specs.Turn.{Turn, chunk, event, prune}
 use Rattle.engine_model.specs.Steps.{Runs, Steps, folded_run, with_history}
-use Rattle.engine_model.specs.Promise.{AreRead, AreWritten, KeepsItsWord}
+use Rattle.engine_model.specs.Promise.{AreRead, AreWritten, RunInvariant}
 use Rattle.engine_model.proofs.Booking.{BringsNone, event-keeps}
 use Rattle.engine_model.proofs.Hearing.{hears_at}
 
 -- an event that brings no arrival
-quiet : (r : Run) (h' : History) → BringsNone r.history h' → KeepsItsWord r → KeepsItsWord (with_history r h')
+quiet : (r : Run) (h' : History) → BringsNone r.history h' → RunInvariant r → RunInvariant (with_history r h')
 quiet r h' none word =
     record {
       legal = none.legal;
@@ -44,7 +46,7 @@ no_more : (n m : ℕ) → n ≡ m → n ≤ m
 no_more n m same = omega (arith, same)
 
 -- nothing is held of a history that is folded, and nothing was answered since
-folding-keeps : (bound : ℕ) (r : Run) → KeepsItsWord r → KeepsItsWord (folded_run bound r)
+folding-keeps : (bound : ℕ) (r : Run) → RunInvariant r → RunInvariant (folded_run bound r)
 folding-keeps bound r word =
     record {
       legal = legal-since (pruned bound r.history) (λ k e is. absurd cc);
@@ -54,21 +56,21 @@ folding-keeps bound r word =
       before = λ conn c is. no_more (folded_at (folded_run bound r) conn) (length c.answers) (given-at r.connections conn c is);
     }
 
-pub step-keeps : (step : Turn) (r r' : Run) → KeepsItsWord r → Steps step r r' → KeepsItsWord r'
+pub step-keeps : (step : Turn) (r r' : Run) → RunInvariant r → Steps step r r' → RunInvariant r'
 step-keeps (chunk conn bytes now) r r' word does = hears_at (slice_get r.connections conn) conn bytes now r r' refl does word
 step-keeps (event e) r r' word does =
     elim does.1 [
-      | inl is ↦ subst KeepsItsWord (sym is.1) (quiet r (next r.history e) (event-keeps r.history e does.0 is.0 word.legal) word)
-      | inr is ↦ subst KeepsItsWord (sym is.1) word
+      | inl is ↦ subst RunInvariant (sym is.1) (quiet r (next r.history e) (event-keeps r.history e does.0 is.0 word.legal) word)
+      | inr is ↦ subst RunInvariant (sym is.1) word
     ]
 step-keeps (prune bound) r r' word does =
     elim does [
-      | inl is ↦ subst KeepsItsWord (sym is.1) (folding-keeps bound r word)
-      | inr is ↦ subst KeepsItsWord (sym is) word
+      | inl is ↦ subst RunInvariant (sym is.1) (folding-keeps bound r word)
+      | inr is ↦ subst RunInvariant (sym is) word
     ]
 
-pub runs-keep : (steps : List Turn) (r r' : Run) → KeepsItsWord r → Runs steps r r' → KeepsItsWord r'
-runs-keep [] r r' word runs = subst KeepsItsWord (sym runs) word
+pub runs-keep : (steps : List Turn) (r r' : Run) → RunInvariant r → Runs steps r r' → RunInvariant r'
+runs-keep [] r r' word runs = subst RunInvariant (sym runs) word
 runs-keep (step ∷ steps) r r' word runs = runs-keep steps runs.0 r' (step-keeps step r runs.0 word runs.1) runs.2
 
 -- one run behind another
@@ -98,7 +100,7 @@ none_booked conn (channel ∷ channels) (suc k) = none_booked conn channels k
 none_before : (n m : ℕ) → n ≡ 0 → n ≤ m
 none_before n m none = omega (arith, none)
 
-pub started-keeps : (opening : Opening) (channels : List ℕ) → KeepsItsWord (started opening channels)
+pub started-keeps : (opening : Snapshot) (channels : List ℕ) → RunInvariant (started opening channels)
 started-keeps opening channels =
     record {
       legal = legal-since (begun opening) (λ k e is. absurd cc);
@@ -108,5 +110,5 @@ started-keeps opening channels =
       before = λ conn c is. none_before (folded_at (started opening channels) conn) (length c.answers) (none_folded channels conn);
     }
 
-pub opened-keeps : (plan : PlanEntry) (events_max : ℕ) (channels : List ℕ) → KeepsItsWord (opened plan events_max channels)
+pub opened-keeps : (plan : PlanEntry) (events_max : ℕ) (channels : List ℕ) → RunInvariant (opened plan events_max channels)
 opened-keeps plan events_max channels = started-keeps (blank plan events_max) channels

@@ -12,18 +12,20 @@ use Rattle.event_log.specs.Answers.{settle_answer}
 use Rattle.event_log.specs.Event.{Does, Event, Refusal, Reply, entry_of}
 use Rattle.event_log.specs.Event as event
 use Rattle.event_log.specs.Folding.{prune_answer, pruned}
-use Rattle.event_log.specs.History.{History, deployed_by, followed_by, opened_by, plan_in_force}
+use Rattle.event_log.specs.History.{History, deployed_by, followed_by, plan_in_force}
+use Rattle.event_log.specs.inner.History.{snapshot_after}
 use Rattle.event_log.proofs.Deploying.{channels-same}
 use Rattle.event_log.proofs.Events.{deployable, does-follow, next-is, next-same}
 use Rattle.event_log.proofs.Following.{plan-followed_by, plan-kept, take-whole}
 use Rattle.engine_model.specs.declared.connection.Connected.{Connected}
-use Rattle.engine_model.specs.Handling.{HearsOn, answer_of}
-use Rattle.engine_model.specs.Promise.{KeepsItsWord}
-use Rattle.engine_model.specs.Run.{Connection, Run, opened, silent}
+use Rattle.engine_model.specs.inner.Handling.{HearsOn, answer_of}
+use Rattle.engine_model.specs.Promise.{RunInvariant}
+use Rattle.engine_model.specs.Run.{Connection, Run, silent}
+use Rattle.engine_model.specs.inner.Run.{opened}
 use Rattle.engine_model.specs.Steps.{Happens, HearsAt, HearsIf, IsNoArrival, Runs, Steps, folded_run}
 use Rattle.engine_model.specs.Turn as turn
 use Rattle.engine_model.specs.Turn.{Turn, chunk}
-use Rattle.engine_model.specs.View.{IsFit, IsOpen, IsWorld, connection_of, run_of, with_folded}
+use Rattle.engine_model.specs.inner.View.{IsFit, IsOpen, IsWorld, connection_of, run_of, with_folded}
 use Rattle.engine_model.proofs.Stepping.{opened-keeps, runs-append, step-keeps}
 
 -- a loop over steps
@@ -213,22 +215,22 @@ fit-open n (c ∷ cs) (m ∷ channels) same known open_ones =
     (record { known = subst (λ k. k < n) (sym channel) known.0; stands = λ _. open_ones.0 }, fit-open n cs channels rest known.1 open_ones.1)
 
 -- its run
-pub opened-is : (plan : PlanEntry) (events_max : ℕ) (h : History) (channels : List ℕ) (cs : List Connected) → h ≡ opened_by plan events_max → map connection_of cs ≡ map silent channels → All (λ (c : Connected). c.folded ≡ 0) cs
+pub opened-is : (plan : PlanEntry) (events_max : ℕ) (h : History) (channels : List ℕ) (cs : List Connected) → h ≡ snapshot_after plan events_max → map connection_of cs ≡ map silent channels → All (λ (c : Connected). c.folded ≡ 0) cs
     → run_of h cs ≡ opened plan events_max channels
 opened-is plan events_max h channels cs fresh same none =
     ap (λ g. run_of g cs) fresh
-    ∙ ap (λ l. record { history = opened_by plan events_max; connections = l; folded = map (λ (c : Connected). c.folded) cs }) same
-    ∙ ap (λ l. record { history = opened_by plan events_max; connections = map silent channels; folded = l }) (none-folded cs channels same (recursion_from_All (λ (c : Connected). c.folded ≡ 0) cs none))
+    ∙ ap (λ l. record { history = snapshot_after plan events_max; connections = l; folded = map (λ (c : Connected). c.folded) cs }) same
+    ∙ ap (λ l. record { history = snapshot_after plan events_max; connections = map silent channels; folded = l }) (none-folded cs channels same (recursion_from_All (λ (c : Connected). c.folded ≡ 0) cs none))
 
 -- a world at first
-pub world-opened : (plan : PlanEntry) (events_max : ℕ) (h : History) (channels : List ℕ) (cs : List Connected) → h ≡ opened_by plan events_max → map connection_of cs ≡ map silent channels
+pub world-opened : (plan : PlanEntry) (events_max : ℕ) (h : History) (channels : List ℕ) (cs : List Connected) → h ≡ snapshot_after plan events_max → map connection_of cs ≡ map silent channels
     → All (λ m. m < length plan.channels) channels → All IsOpen cs → All (λ (c : Connected). c.folded ≡ 0) cs → IsWorld h cs
 world-opened plan events_max h channels cs fresh same known open_ones none =
     record {
       fit =
           subst (λ (g : History). AllByRecursion (IsFit (length (plan_in_force g).channels)) cs) (sym fresh)
           (fit-open (length plan.channels) cs channels same (recursion_from_All (λ m. m < length plan.channels) channels known) (recursion_from_All IsOpen cs open_ones));
-      word = subst KeepsItsWord (sym (opened-is plan events_max h channels cs fresh same none)) (opened-keeps plan events_max channels);
+      word = subst RunInvariant (sym (opened-is plan events_max h channels cs fresh same none)) (opened-keeps plan events_max channels);
     }
 
 -- ---- where a connection stands

@@ -3,7 +3,4 @@ pub mod Run
 pub mod Steps
 pub mod Promise
 pub mod Converse
-pub mod Amid
-pub mod Coding
-pub mod Handling
-pub mod View
+pub mod inner

@@ -1,12 +1,10 @@
 -- What holds of every run, whatever the steps and their order.
-use Rattle.std.specs.Prelude.{◌≡◌, ◌≤◌, Bool, true, false, List, [], ◌++◌, length, map, slice_get, Some, ◌≢◌, ℕ, Err}
-use Rattle.std.specs.List.{AllByRecursion}
+use Rattle.std.specs.Prelude.{◌≡◌, ◌≤◌, Bool, true, false, List, [], ◌++◌, length, map, slice_get, Some, ℕ}
 use Rattle.std.specs.Option.{option_map_or}
-use Rattle.book_core.specs.declared.receipt.NotBooked.TheVariants.{NoMemory}
 use Rattle.event_log.specs.Legal.{IsLegal}
 use Rattle.conn_core.specs.Messages.{messages}
 use Rattle.conn_core.specs.Replies.{Answer, replies}
-use Rattle.engine_model.specs.Run.{Connection, Run, arrivals, booked_since, folded_at}
+use Rattle.engine_model.specs.Run.{Connection, Run, arrivals_on, booked_since, folded_at}
 use Rattle.engine_model.specs.Steps.{RepliesFront}
 
 -- some messages are the first of others
@@ -26,7 +24,7 @@ AreWritten false conn answers output = output ≡ replies conn answers
 AreWritten true conn answers output = RepliesFront conn 1 answers output
 
 -- What every run keeps, whatever the steps and their order.
-pub record KeepsItsWord (r : Run) : Type 0 where
+pub record RunInvariant (r : Run) : Type 0 where
   -- what was booked is what the sequential engine books of the same events
   pub legal : IsLegal r.history
   -- every message of a connection is answered once and in order; of one that has ended the first ones
@@ -37,14 +35,5 @@ pub record KeepsItsWord (r : Run) : Type 0 where
   -- the booked ones of its answers since the history was last folded are its arrivals that the history holds, in order, with
   -- channel, bytes and answer: all of its answers, where it never was folded; a number that no connection
   -- has has none
-  pub booked : (conn : ℕ) → arrivals conn r.history ≡ option_map_or (booked_since (folded_at r conn) conn) (slice_get r.connections conn) []
+  pub booked : (conn : ℕ) → arrivals_on conn r.history ≡ option_map_or (booked_since (folded_at r conn) conn) (slice_get r.connections conn) []
   pub before : (conn : ℕ) (c : Connection) → slice_get r.connections conn ≡ Some c → folded_at r conn ≤ length c.answers
-
--- a text is a prefix of another
-pub record IsFrontOf (text whole : List ℕ) : Type 0 where
-  pub rest : List ℕ
-  pub goes_on : whole ≡ text ++ rest
-
--- no message was answered that memory was refused
-abbrev pub NoneLacked : List Answer → Type 0
-NoneLacked answers = AllByRecursion (λ a. a.outcome ≢ Err NoMemory) answers

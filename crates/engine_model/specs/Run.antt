@@ -1,11 +1,9 @@
 -- A run so far: what was booked, and what every connection read, was answered and was sent.
-use Rattle.std.specs.Prelude.{ℕ, Bool, false, ◌==◌, if◌then◌else◌, List, [], drop, map, slice_get, slice_index_or, Option, None, Some}
+use Rattle.std.specs.Prelude.{ℕ, Bool, false, ◌==◌, if◌then◌else◌, List, [], drop, map, slice_index_or, Option, None, Some}
 use Rattle.std.specs.List.{filter_map}
-use Rattle.std.specs.Option.{option_map_or}
 use Rattle.event_log.specs.declared.entry.Entry.{Entry}
 use Rattle.event_log.specs.declared.entry.Entry.TheVariants.{Arrival, Take, Settle, Cancel, Deploy}
-use Rattle.event_log.specs.History.{History, Opening, begun, blank}
-use Rattle.plan_text.specs.Entries.{PlanEntry}
+use Rattle.event_log.specs.History.{History, Snapshot, begun}
 use Rattle.conn_core.specs.Messages.{BookedMessage, booked}
 use Rattle.conn_core.specs.Replies.{Answer}
 
@@ -30,12 +28,8 @@ abbrev pub silent : ℕ → Connection
 silent channel = record { channel = channel; stream = []; answers = []; output = []; ended = false }
 
 -- the run of no step from an opening on, with a connection on each of these channels
-abbrev pub started : Opening → List ℕ → Run
+abbrev pub started : Snapshot → List ℕ → Run
 started opening channels = record { history = begun opening; connections = map silent channels; folded = map (λ _. 0) channels }
-
--- the same where nothing was booked before
-abbrev pub opened : PlanEntry → ℕ → List ℕ → Run
-opened plan events_max channels = started (blank plan events_max) channels
 
 -- what an entry books for a connection, if it is an arrival there
 abbrev pub arrival_on : ℕ → Entry → Option BookedMessage
@@ -47,8 +41,8 @@ arrival_on conn (Cancel number mask) = None
 arrival_on conn (Deploy plan) = None
 
 -- the arrivals of a connection, in the order in which they were booked
-abbrev pub arrivals : ℕ → History → List BookedMessage
-arrivals conn h = filter_map (arrival_on conn) h.entries
+abbrev pub arrivals_on : ℕ → History → List BookedMessage
+arrivals_on conn h = filter_map (arrival_on conn) h.entries
 
 -- how many of the answers of a connection were given before the history was last folded
 abbrev pub folded_at : Run → ℕ → ℕ
@@ -57,11 +51,3 @@ folded_at r conn = slice_index_or r.folded conn 0
 -- what the answers of a connection book, but for the first few of them, as many as are given
 abbrev pub booked_since : ℕ → ℕ → Connection → List BookedMessage
 booked_since n conn c = booked conn c.channel (drop n c.answers)
-
--- what a connection was sent; nothing where there is no connection of that number
-abbrev pub output_of : Run → ℕ → List ℕ
-output_of r conn = option_map_or (λ c. c.output) (slice_get r.connections conn) []
-
--- whether a connection has ended
-abbrev pub ended_at : Run → ℕ → Bool
-ended_at r conn = option_map_or (λ c. c.ended) (slice_get r.connections conn) false

@@ -3,17 +3,19 @@
 ghost use Rattle.std.specs.Prelude.{◌≡◌, ◌+◌, ◌*◌, ◌<◌, ◌≤◌, ◌∷◌, [], true, IsTrue, OnOk, OnErr, length};
 ghost use Rattle.event_log.specs.History.{plan_in_force};
 ghost use Rattle.judge_core.specs.Judging.{is_bookable};
-ghost use Rattle.mllp_frame.specs.Event.{block, event_of};
-ghost use Rattle.mllp_frame.specs.Framing.{HoldsData, IsBlockData};
-ghost use Rattle.conn_core.specs.Replies.{told_by};
-ghost use Rattle.engine_model.specs.Handling.{Handles, HandlesFront, HearsOn, IsCounted};
+ghost use Rattle.mllp_frame.specs.Event.{block};
+ghost use Rattle.mllp_frame.specs.inner.Event.{event_of};
+ghost use Rattle.mllp_frame.specs.Framing.{IsBlockData};
+ghost use Rattle.mllp_frame.specs.inner.Framing.{HoldsData};
+ghost use Rattle.conn_core.specs.inner.Replies.{told_by};
+ghost use Rattle.engine_model.specs.inner.Handling.{Handles, HandlesFront, HearsOn, IsCounted};
 ghost use Rattle.engine_model.specs.Run.{silent};
 ghost use Rattle.engine_model.specs.Steps.{EndsWithin, ReadsOn};
-ghost use Rattle.engine_model.specs.View.{IsFit, IsOpen, connection_of};
+ghost use Rattle.engine_model.specs.inner.View.{IsFit, IsOpen, connection_of};
 
-use book_core::{Book, Letter, NotBooked, Receipt};
-use conn_core::{Line, Replies, book_and_reply};
-use dest_queue::Addressed;
+use book_core::{Book, NotBooked, Outbound, Receipt};
+use conn_core::{ConnectionId, Replies, book_and_reply};
+use dest_queue::Queued;
 use event_log::Told;
 use fixed_numbers::FRAME_EVENTS_MAX;
 use hl7_head::Moment;
@@ -35,7 +37,7 @@ pub struct Answered {
 
 /// The answers to a connection, and all that it was sent.
 #[derive(Drop)]
-pub struct Words {
+pub struct Transcript {
     pub answers: Vec<Answered>,
     pub replies: Replies,
 }
@@ -51,7 +53,7 @@ pub struct Connected {
     pub events: u64,
     /// All bytes received.
     pub stream: Vec<u8>,
-    pub words: Words,
+    pub words: Transcript,
     /// How many of its answers were given before the history was last folded.
     pub folded: usize,
     /// Whether it has ended.
@@ -70,12 +72,12 @@ fn told_by(outcome: &Result<Receipt, NotBooked>) -> Result<Told, NotBooked>
 
 /// Books a message that was judged by the plan in force, keeps its answer, for which room is made first, and sends its
 /// acknowledgments, each as a whole block; where memory is refused for one of them, those before it.
-fn answer_message<S: RowStore<Addressed<Letter>>>(
-    line: &Line,
+fn answer_message<S: RowStore<Queued<Outbound>>>(
+    line: &ConnectionId,
     book: &mut Book<S>,
     judged: &Judged,
     now: Moment,
-    words: &mut Words,
+    words: &mut Transcript,
 ) -> Result<(), AllocError>
     requires same_plan { judged.now.plan ≡ plan_in_force book.old }
     requires bookable { IsTrue (is_bookable judged.now.raw) }
@@ -102,12 +104,12 @@ fn answer_message<S: RowStore<Addressed<Letter>>>(
 }
 
 /// Answers a block, if it is a message.
-fn answer_text<S: RowStore<Addressed<Letter>>>(
-    line: &Line,
+fn answer_text<S: RowStore<Queued<Outbound>>>(
+    line: &ConnectionId,
     book: &mut Book<S>,
     raw: Vec<u8>,
     now: Moment,
-    words: &mut Words,
+    words: &mut Transcript,
 ) -> Result<(), AllocError>
     requires known { line.now.channel < length (plan_in_force book.old).channels }
     requires data { IsBlockData raw.items }
@@ -127,12 +129,12 @@ fn answer_text<S: RowStore<Addressed<Letter>>>(
 }
 
 /// Handles an event: a broken block gets no answer.
-fn answer_event<S: RowStore<Addressed<Letter>>>(
-    line: &Line,
+fn answer_event<S: RowStore<Queued<Outbound>>>(
+    line: &ConnectionId,
     book: &mut Book<S>,
     event: FrameEvent,
     now: Moment,
-    words: &mut Words,
+    words: &mut Transcript,
 ) -> Result<(), AllocError>
     requires known { line.now.channel < length (plan_in_force book.old).channels }
     requires data { HoldsData (event_of event) }
@@ -151,13 +153,13 @@ fn answer_event<S: RowStore<Addressed<Letter>>>(
 }
 
 /// Handles all events to come, up to the bound over the whole connection.
-fn answer_events<S: RowStore<Addressed<Letter>>>(
-    line: &Line,
+fn answer_events<S: RowStore<Queued<Outbound>>>(
+    line: &ConnectionId,
     book: &mut Book<S>,
     framer: &mut Framer,
     events: &mut u64,
     now: Moment,
-    words: &mut Words,
+    words: &mut Transcript,
 ) -> Result<(), AllocError>
     requires known { line.now.channel < length (plan_in_force book.old).channels }
     requires counted { IsCounted words.old }
@@ -197,7 +199,7 @@ impl Connected {
             framer: Framer::new(alloc),
             events: 0,
             stream: Vec::new(alloc),
-            words: Words {
+            words: Transcript {
                 answers: Vec::new(alloc),
                 replies: Replies::new(alloc),
             },
@@ -207,7 +209,7 @@ impl Connected {
     }
 
     /// Reads a piece. The connection has to end where this fails.
-    fn read<S: RowStore<Addressed<Letter>>>(
+    fn read<S: RowStore<Queued<Outbound>>>(
         &mut self,
         alloc: Global,
         conn: u32,
@@ -226,7 +228,7 @@ impl Connected {
         ensures plan { plan_in_force book.new ≡ plan_in_force book.old }
     {
         longer_streams();
-        let line = Line {
+        let line = ConnectionId {
             alloc,
             conn,
             channel: self.channel,
@@ -246,7 +248,7 @@ impl Connected {
     }
 
     /// Hears a piece of its stream. A connection that has ended hears nothing.
-    pub fn hear<S: RowStore<Addressed<Letter>>>(
+    pub fn hear<S: RowStore<Queued<Outbound>>>(
         &mut self,
         alloc: Global,
         conn: u32,

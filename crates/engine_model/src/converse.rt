@@ -1,12 +1,13 @@
 //! The steps by which a history comes.
 
 ghost use Rattle.std.specs.Prelude.{◌≡◌, ◌≤◌, List, ℕ, IfOk, map};
-ghost use Rattle.engine_model.specs.Converse.{CameInBlock, IsRunOf, KeepsTo, step_of, steps_of};
-ghost use Rattle.engine_model.specs.View.{turn_by};
+ghost use Rattle.engine_model.specs.Converse.{IsRunOf};
+ghost use Rattle.engine_model.specs.inner.Converse.{CameInBlock, KeepsTo, step_of, steps_of};
+ghost use Rattle.engine_model.specs.inner.View.{turn_by};
 
 use crate::step::Step;
-use book_core::{Book, Entry, Letter};
-use dest_queue::Addressed;
+use book_core::{Book, Entry, Outbound};
+use dest_queue::Queued;
 use hl7_head::Moment;
 use mllp_frame::write_block;
 use row_store::RowStore;
@@ -56,7 +57,7 @@ fn step_of(alloc: Global, entry: &Entry, first: Moment) -> Result<Step, AllocErr
 /// # Errors
 ///
 /// Where memory is refused, or a plan has more owners than can be counted.
-pub fn steps_of<S: RowStore<Addressed<Letter>>>(
+pub fn steps_of<S: RowStore<Queued<Outbound>>>(
     alloc: Global,
     book: &Book<S>,
 ) -> Result<Vec<Step>, AllocError>

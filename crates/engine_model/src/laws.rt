@@ -1,23 +1,26 @@
 //! What holds of every run.
 
 ghost use Rattle.std.specs.Prelude.{◌≡◌, ◌<◌, ◌≤◌, ◌++◌, List, ℕ, length, map};
-ghost use Rattle.event_log.specs.History.{History, Opening};
+ghost use Rattle.event_log.specs.History.{History, Snapshot};
 ghost use Rattle.event_log.specs.Legal.{IsLegal};
 ghost use Rattle.plan_text.specs.Entries.{PlanEntry};
 ghost use Rattle.conn_core.specs.Replies.{Answer, replies};
-ghost use Rattle.engine_model.specs.Run.{Connection, Run, opened, started};
+ghost use Rattle.engine_model.specs.Run.{Connection, Run, started};
+ghost use Rattle.engine_model.specs.inner.Run.{opened};
 ghost use Rattle.engine_model.specs.Turn.{Turn, chunk};
 ghost use Rattle.engine_model.specs.Steps.{ReadsOn, RepliesFront, Runs, Steps, frame_events_max};
-ghost use Rattle.engine_model.specs.Converse.{HaveChannels, IsRunOf, KeepToOne, KeepsTo, steps_of};
-ghost use Rattle.engine_model.specs.Promise.{IsFrontOf, KeepsItsWord, NoneLacked};
+ghost use Rattle.engine_model.specs.Converse.{IsRunOf};
+ghost use Rattle.engine_model.specs.inner.Converse.{HaveChannels, KeepToOne, KeepsTo, steps_of};
+ghost use Rattle.engine_model.specs.Promise.{RunInvariant};
+ghost use Rattle.engine_model.specs.inner.Promise.{IsFrontOf, NoneLacked};
 
 /// The laws of runs, for every plan, bound, connections and steps.
 pub fn run_rules()
     // A run keeps its word at first, from any opening on, after each step, and after any steps.
-    ensures started { (opening : Opening) (channels : List ℕ) → KeepsItsWord (started opening channels) }
-    ensures opened { (plan : PlanEntry) (events_max : ℕ) (channels : List ℕ) → KeepsItsWord (opened plan events_max channels) }
-    ensures stepped { (step : Turn) (r r' : Run) → KeepsItsWord r → Steps step r r' → KeepsItsWord r' }
-    ensures ran { (steps : List Turn) (r r' : Run) → KeepsItsWord r → Runs steps r r' → KeepsItsWord r' }
+    ensures started { (opening : Snapshot) (channels : List ℕ) → RunInvariant (started opening channels) }
+    ensures opened { (plan : PlanEntry) (events_max : ℕ) (channels : List ℕ) → RunInvariant (opened plan events_max channels) }
+    ensures stepped { (step : Turn) (r r' : Run) → RunInvariant r → Steps step r r' → RunInvariant r' }
+    ensures ran { (steps : List Turn) (r r' : Run) → RunInvariant r → Runs steps r r' → RunInvariant r' }
 
     // It is cut between any two steps, and goes on behind its last one.
     ensures cut { (xs ys : List Turn) (r r' : Run) → Runs (xs ++ ys) r r' → (between : Run) × Runs xs r between × Runs ys between r' }
@@ -28,7 +31,7 @@ pub fn run_rules()
         Steps (chunk conn xs now) r between → Steps (chunk conn ys now) between r' → Steps (chunk conn (xs ++ ys) now) r r' }
 
     // Each connection keeps to its channel.
-    ensures kept { (r : Run) → KeepsItsWord r → KeepsTo (map (λ c. c.channel) r.connections) r.history.entries }
+    ensures kept { (r : Run) → RunInvariant r → KeepsTo (map (λ c. c.channel) r.connections) r.history.entries }
 
     // Conversely, each legal history in which every connection keeps to its channel follows from the steps made of it.
     ensures reached { (h : History) (channels : List ℕ) → IsLegal h → KeepsTo channels h.entries →

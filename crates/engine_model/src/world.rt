@@ -2,17 +2,18 @@
 
 ghost use Rattle.std.specs.Prelude.{◌≡◌, ◌<◌, ◌≤◌, All, IfOk, length, map};
 ghost use Rattle.std.specs.Arc.{arc_value};
-ghost use Rattle.engine_model.specs.Promise.{KeepsItsWord};
-ghost use Rattle.engine_model.specs.Run.{ended_at, opened, output_of, silent};
+ghost use Rattle.engine_model.specs.Promise.{RunInvariant};
+ghost use Rattle.engine_model.specs.Run.{silent};
+ghost use Rattle.engine_model.specs.inner.Run.{ended_at, opened, output_of};
 ghost use Rattle.engine_model.specs.Steps.{Runs, Steps};
 ghost use Rattle.event_log.specs.Event.{cancel, deploy, settle, take};
 ghost use Rattle.engine_model.specs.Turn.{chunk, event, prune};
-ghost use Rattle.engine_model.specs.View.{IsOpen, connection_of, turn_by, with_folded};
+ghost use Rattle.engine_model.specs.inner.View.{IsOpen, connection_of, turn_by, with_folded};
 
 use crate::connection::Connected;
 use crate::step::Step;
-use book_core::{Book, EVENTS_MAX, Letter};
-use dest_queue::{Addressed, Outcome};
+use book_core::{Book, EVENTS_MAX, Outbound};
+use dest_queue::{Outcome, Queued};
 use event_log::Ticket;
 use hl7_head::Moment;
 use plan_text::Plan;
@@ -25,16 +26,16 @@ use std::sync::Arc;
 /// The whole engine on one thread: a book, and connections, numbered from 0. It holds the streams and the answers of
 /// all connections for its whole life.
 #[derive(Drop)]
-pub struct World<S: RowStore<Addressed<Letter>>> {
+pub struct World<S: RowStore<Queued<Outbound>>> {
     alloc: Global,
     book: Book<S>,
     connections: Vec<Connected>,
 }
 
-impl<S: RowStore<Addressed<Letter>>> Model for World<S> {
-    ghost use Rattle.engine_model.specs.Coding.{run_code};
+impl<S: RowStore<Queued<Outbound>>> Model for World<S> {
+    ghost use Rattle.engine_model.specs.inner.Coding.{run_code};
     ghost use Rattle.engine_model.specs.Run.{Run};
-    ghost use Rattle.engine_model.specs.View.{IsWorld, run_of};
+    ghost use Rattle.engine_model.specs.inner.View.{IsWorld, run_of};
 
     ghost Value = { Run };
 
@@ -45,7 +46,7 @@ impl<S: RowStore<Addressed<Letter>>> Model for World<S> {
     ghost invariant = { λ w. IsWorld w.book w.connections.items };
 }
 
-impl<S: RowStore<Addressed<Letter>>> World<S> {
+impl<S: RowStore<Queued<Outbound>>> World<S> {
     /// A world with nothing booked yet, and a connection on each of these channels, on which nothing was received
     /// yet. The book may hold `events_max` entries, and its keys are hashed by `hasher`.
     ///
@@ -101,7 +102,7 @@ impl<S: RowStore<Addressed<Letter>>> World<S> {
 
     /// What holds of every world, whatever the steps and their order.
     pub fn promise(&self)
-        ensures { KeepsItsWord self.now }
+        ensures { RunInvariant self.now }
     {
         let _ = &self.book;
     }

@@ -1,8 +1,8 @@
 //! A run in which one request for memory may be refused, as `rt try --test --fail-alloc N` refuses the Nth. Whichever it is,
 //! what connections were sent are whole acknowledgments of what was booked, and the other connection gets all of its own.
 
-use book_core::{EVENTS_MAX, Letter};
-use dest_queue::Addressed;
+use book_core::{EVENTS_MAX, Outbound};
+use dest_queue::Queued;
 use engine_model::{Step, World};
 use event_log::Entry;
 use hl7_head::Moment;
@@ -44,7 +44,7 @@ const DUES: [Due; 2] = [
     },
 ];
 
-type Engine = World<RecordList<Addressed<Letter>>>;
+type Engine = World<RecordList<Queued<Outbound>>>;
 
 /// The steps by which each message comes on its connection, in pieces that alternate.
 fn pieces(alloc: Global, now: Moment) -> Option<Vec<Step>> {

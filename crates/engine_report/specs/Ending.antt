@@ -4,7 +4,7 @@ use Rattle.clap.specs.Words.{kind_of}
 use Rattle.clap.specs.declared.error.Error.{Error}
 use Rattle.clap.specs.declared.error.kind.ErrorKind.TheVariants as kind
 use Rattle.plan_text.specs.Entries.{PlanEntry}
-use Rattle.plan_text.specs.declared.fault.FaultName.TheVariants as name
+use Rattle.plan_text.specs.declared.fault.PlanFaultKind.TheVariants as name
 use Rattle.plan_text.specs.declared.fault.PlanFault.{PlanFault}
 use Rattle.engine_report.specs.declared.fault.Fault.{Fault}
 use Rattle.engine_report.specs.declared.fault.Fault.TheVariants as fault
@@ -22,10 +22,10 @@ status_of (fault.Audit _) = 4
 status_of _ = 3
 
 -- the fault that is reported where serving ends otherwise than at the reader's end
-abbrev pub fault_at : ServeEnd → Fault
-fault_at end.WriteFault = fault.Write
-fault_at end.NoMemory = fault.Memory
-fault_at _ = fault.Read
+abbrev pub fault_of_end : ServeEnd → Fault
+fault_of_end end.WriteFault = fault.Write
+fault_of_end end.NoMemory = fault.Memory
+fault_of_end _ = fault.Read
 
 -- the fault of the words of the command line that were not taken: memory, exactly where the parser lacked it
 pub record IsFaultOfWords (error : Error) (told : Fault) : Type 0 where

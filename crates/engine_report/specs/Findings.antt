@@ -1,12 +1,12 @@
 -- What is wrong with the receipts of the connections, and how a run ends.
-use Rattle.std.specs.Prelude.{◌≡◌, ℕ, ◌++◌, ◌⊎◌, List, [], ◌∷◌, Option, None, Some, Result, Ok, Err, All, map, string_bytes, slice_get, if◌then◌else◌, nat_lt}
+use Rattle.std.specs.Prelude.{◌≡◌, ℕ, ◌++◌, ◌⊎◌, List, [], ◌∷◌, Option, None, Some, Result, Ok, Err, All, map, if◌then◌else◌, nat_lt}
 use Rattle.std.specs.Global.{Vec}
 use Rattle.std.specs.List.{filter_map, flat_map, zip}
 use Rattle.std.specs.List.Sorted.{IsPermutation, IsStrictlyIncreasing}
 use Rattle.plan_text.specs.Entries.{ChannelEntry}
 use Rattle.book_core.specs.declared.receipt.Receipt.{Receipt}
 use Rattle.book_lock.specs.Auditing.{IsFirstFault, receipts_due, unfolded}
-use Rattle.book_lock.specs.Rises.{Held}
+use Rattle.book_lock.specs.Rises.{SharedBook}
 use Rattle.book_lock.specs.declared.receipt_audit.AuditFault.{AuditFault}
 use Rattle.book_lock.specs.declared.receipt_audit.AuditFault.TheVariants as audit
 use Rattle.conn_worker.specs.declared.report.ServeReport.{ServeReport}
@@ -35,22 +35,12 @@ IsRising r = IsStrictlyIncreasing (map (λ x. x.entry) r.receipts.items)
 
 -- what is wrong with the receipts of the connections: without a closed book, that shares of it are missing; else what the
 -- audit found first; else that those of a connection are out of order; else nothing
-abbrev pub IsFinding : Option Held → List Served → Option Finding → Type 0
+abbrev pub IsFinding : Option SharedBook → List Served → Option Finding → Type 0
 IsFinding None served found = found ≡ Some finding.SharesMissing
 IsFinding (Some closed) served None = IsPermutation (unfolded closed (receipts_in served)) (receipts_due closed) × All IsRising served
 IsFinding (Some closed) served (Some finding.OutOfOrder) =
     IsPermutation (unfolded closed (receipts_in served)) (receipts_due closed) × (All IsRising served → ⊥)
 IsFinding (Some closed) served (Some found) = (first : AuditFault) × IsFirstFault closed (receipts_in served) first × (found ≡ finding_of first)
-
--- the channel that a fault of listening names
-abbrev pub listening : Fault → Option (List ℕ)
-listening (fault.Listen name) = Some (string_bytes name)
-listening _ = None
-
--- a fault that names a channel of these
-abbrev pub NamesChannel : List ChannelEntry → Fault → Type 0
-NamesChannel channels f =
-    (place : ℕ) × (channel : ChannelEntry) × (slice_get channels place ≡ Some channel) × (listening f ≡ Some channel.name)
 
 -- the name of a channel whose door counted a fault
 abbrev pub failed_channel : ChannelEntry × ℕ → Option (List ℕ)
@@ -72,7 +62,7 @@ last_told before (f ∷ fs) = last_told (Err f) fs
 
 -- how a run ends: what is wrong with the receipts is reported last, before that the doors that failed, and before
 -- these that the statistics couldn't be written
-pub record Concludes (closed : Option Held) (served : List Served) (failed : List Fault) (result : Result (Unit {0}) Fault) : Type 0 where
+pub record Concludes (closed : Option SharedBook) (served : List Served) (failed : List Fault) (result : Result (Unit {0}) Fault) : Type 0 where
   pub found : Option Finding
   pub is_found : IsFinding closed served found
   pub written : Result (Unit {0}) Fault

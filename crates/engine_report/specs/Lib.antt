@@ -1,3 +1,4 @@
 pub mod Ending
 pub mod Findings
 pub mod Lines
+pub mod inner

@@ -4,25 +4,25 @@ use Rattle.std.specs.Fmt.{decimal}
 use Rattle.plan_text.specs.Entries.{PlanEntry}
 use Rattle.stat_count.specs.Statistics.{Statistics, channel_at, destination_at}
 use Rattle.event_log.specs.Counting.{counted}
-use Rattle.book_lock.specs.Rises.{Held}
+use Rattle.book_lock.specs.Rises.{SharedBook}
 use Rattle.stat_count.specs.declared.ChannelCounts.{ChannelCounts}
 use Rattle.stat_count.specs.declared.DestinationCounts.{DestinationCounts}
 
 -- a word and its number, after a space each
-abbrev pub numbered : List ℕ → ℕ → List ℕ
-numbered word number = codes " " ++ word ++ codes " " ++ decimal number
+abbrev pub word_and_number : List ℕ → ℕ → List ℕ
+word_and_number word number = codes " " ++ word ++ codes " " ++ decimal number
 
 -- a channel and its counters
 unfoldable pub channel_line : List ℕ → ChannelCounts → List ℕ
 channel_line name c =
-    codes "channel " ++ name ++ numbered (codes "received") c.received ++ numbered (codes "filtered") c.filtered
-    ++ numbered (codes "accepted") c.accepted ++ numbered (codes "refused") c.refused ++ numbered (codes "repeats") c.repeats ++ codes "\n"
+    codes "channel " ++ name ++ word_and_number (codes "received") c.received ++ word_and_number (codes "filtered") c.filtered
+    ++ word_and_number (codes "accepted") c.accepted ++ word_and_number (codes "refused") c.refused ++ word_and_number (codes "repeats") c.repeats ++ codes "\n"
 
 -- a destination and its counters
 unfoldable pub destination_line : List ℕ → DestinationCounts → List ℕ
 destination_line name d =
-    codes "destination " ++ name ++ numbered (codes "waiting") d.waiting ++ numbered (codes "inflight") d.inflight
-    ++ numbered (codes "delivered") d.delivered ++ numbered (codes "failed") d.failed ++ numbered (codes "attempts") d.attempts ++ codes "\n"
+    codes "destination " ++ name ++ word_and_number (codes "waiting") d.waiting ++ word_and_number (codes "inflight") d.inflight
+    ++ word_and_number (codes "delivered") d.delivered ++ word_and_number (codes "failed") d.failed ++ word_and_number (codes "attempts") d.attempts ++ codes "\n"
 
 -- a line for each item, by its index and what it is
 abbrev pub lines_from : {X : Type 0} → (ℕ → X → List ℕ) → ℕ → List X → List ℕ
@@ -42,6 +42,6 @@ abbrev pub statistics_lines : PlanEntry → Statistics → List ℕ
 statistics_lines plan counts = channel_lines plan counts ++ destination_lines plan counts
 
 -- those of a closed book, and none where there is none
-abbrev pub lines_of_closed : PlanEntry → Option Held → List ℕ
+abbrev pub lines_of_closed : PlanEntry → Option SharedBook → List ℕ
 lines_of_closed plan None = []
 lines_of_closed plan (Some closed) = statistics_lines plan (counted closed.book)

@@ -5,13 +5,15 @@ ghost use Rattle.book_core.specs.declared.receipt.Receipt.{Receipt};
 ghost use Rattle.conn_core.specs.Booking.{Books};
 ghost use Rattle.conn_worker.specs.Faults.{Rose};
 ghost use Rattle.conn_worker.specs.Serving.{Serves};
-ghost use Rattle.engine_report.specs.Ending.{fault_at};
+ghost use Rattle.engine_report.specs.Ending.{fault_of_end};
 
 use crate::fault::Fault;
-use book_core::{Book, Letter};
-use conn_core::Line;
-use conn_worker::{Clock, Counted, ServeEnd, ServeReport, TURNS_MAX, Unkept, serve_within};
-use dest_queue::Addressed;
+use book_core::{Book, Outbound};
+use conn_core::ConnectionId;
+use conn_worker::{
+    Clock, Counted, DiscardReceipts, ServeEnd, ServeReport, TURNS_MAX, serve_within,
+};
+use dest_queue::Queued;
 use row_store::RowStore;
 use std::alloc::Global;
 use std::io::{Read, Write};
@@ -27,13 +29,13 @@ const CHANNEL: u32 = 0;
 ///
 /// It ends at the reader's end, at a fault of the reader or the writer, where memory is refused, or after
 /// [`TURNS_MAX`] reads or events. The moments of the replies are the clock's.
-pub fn answer_stream<S: RowStore<Addressed<Letter>>, R: Read, W: Write, C: Clock>(
+pub fn answer_stream<S: RowStore<Queued<Outbound>>, R: Read, W: Write, C: Clock>(
     alloc: Global,
     book: &mut Book<S>,
     reader: &mut Counted<R>,
     writer: &mut Counted<W>,
     clock: &mut C,
-) -> ServeReport<Unkept>
+) -> ServeReport<DiscardReceipts>
     // The messages read, their answers, and what was written. Their receipts, which are not kept, are the book's new
     // entries.
     ensures served { (receipts : List Receipt) × Books book.old book.new receipts
@@ -48,7 +50,7 @@ pub fn answer_stream<S: RowStore<Addressed<Letter>>, R: Read, W: Write, C: Clock
     ensures flushed { result.end ≡ ServeEnd.End → writer.old.unflushed ≡ false → writer.new.unflushed ≡ false }
 {
     book.plan().rules();
-    let line = Line {
+    let line = ConnectionId {
         alloc,
         conn: CONNECTION,
         channel: CHANNEL,
@@ -63,7 +65,7 @@ pub fn answer_stream<S: RowStore<Addressed<Letter>>, R: Read, W: Write, C: Clock
 /// The fault of any other end than the reader's.
 pub fn outcome<'a>(end: ServeEnd) -> Result<(), Fault<'a>>
     ensures success { IsOk result ↔ end ≡ ServeEnd.End }
-    ensures fault { IfErr result (λ fault. fault ≡ fault_at end) }
+    ensures fault { IfErr result (λ fault. fault ≡ fault_of_end end) }
 {
     match end {
         ServeEnd::End => Ok(()),

@@ -5,7 +5,7 @@ ghost use Rattle.engine_report.specs.Ending.{status_of};
 
 use clap::error::ErrorKind;
 use plan_notes::ShownFault;
-use plan_text::{FaultName, PlanFault};
+use plan_text::{PlanFault, PlanFaultKind};
 use std::alloc::AllocError;
 use thiserror::Error;
 
@@ -110,7 +110,7 @@ impl From<PlanFault> for Fault<'_> {
     ghost from_gives = { IsFaultOfPlan };
 
     fn from(fault: PlanFault) -> Self {
-        if fault.name == FaultName::NoMemory {
+        if fault.name == PlanFaultKind::NoMemory {
             Fault::Memory
         } else {
             Fault::Plan(fault)

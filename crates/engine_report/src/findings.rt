@@ -5,10 +5,10 @@ ghost use Rattle.std.specs.Option.{option_copied};
 ghost use Rattle.engine_report.specs.Findings.{IsFinding, IsRising, audit_faults, finding_of, receipts_in};
 
 use crate::fault::{Fault, Finding};
-use book_core::{Letter, Receipt};
+use book_core::{Outbound, Receipt};
 use book_lock::{AuditFault, Closed, audit, rising};
 use conn_worker::ServeReport;
-use dest_queue::Addressed;
+use dest_queue::Queued;
 use row_store::RowStore;
 use std::alloc::{AllocError, Global};
 
@@ -53,7 +53,7 @@ fn finding_of(fault: AuditFault) -> Finding
 /// # Errors
 ///
 /// Where memory is refused.
-pub fn find<S: RowStore<Addressed<Letter>>>(
+pub fn find<S: RowStore<Queued<Outbound>>>(
     alloc: Global,
     closed: Option<&Closed<S>>,
     served: Vec<ServeReport>,

@@ -1,7 +1,8 @@
 //! The channels that couldn't listen to the end.
 
 ghost use Rattle.std.specs.Prelude.{◌≡◌, ◌++◌, ◌∷◌, [], Some, IsErr, OnOk, map};
-ghost use Rattle.engine_report.specs.Findings.{failed_channels, listening};
+ghost use Rattle.engine_report.specs.Findings.{failed_channels};
+ghost use Rattle.engine_report.specs.inner.Findings.{listening};
 
 use crate::fault::Fault;
 use plan_text::Channel;

@@ -4,7 +4,7 @@ ghost use Rattle.std.specs.Prelude.{[], IsErrAnd, IsUtf8};
 ghost use Rattle.engine_report.specs.Ending.{IsFaultOfPlan, TellsRead};
 ghost use Rattle.plan_text.specs.Document.{plan_in};
 ghost use Rattle.plan_text.specs.Fault.{fault_at};
-ghost use Rattle.plan_text.specs.declared.fault.FaultName.TheVariants as name;
+ghost use Rattle.plan_text.specs.declared.fault.PlanFaultKind.TheVariants as name;
 
 use crate::fault::Fault;
 use plan_notes::{Line, fault_notes};

@@ -340,7 +340,7 @@ fn parse<'a>(alloc: Global, words: &'a [String]) -> Result<ArgMatches<'a>, Error
 ///
 /// The text to be printed: the help, or what is wrong and what the program takes. Where memory isn't
 /// refused, it is returned exactly for the words that have a fault, and is of that fault's kind.
-pub fn ask<'a>(alloc: Global, words: &'a [String]) -> Result<Request<'a>, Error>
+pub fn parse_args<'a>(alloc: Global, words: &'a [String]) -> Result<Request<'a>, Error>
     ensures stored_run { length words.now ≤ 1 → result ≡ Ok without_words }
     ensures limits { IfOk result IsWithinLimits }
     ensures written { IfOk result (λ request. Asks request (map string_bytes words.entry.now)) }

@@ -3,4 +3,4 @@
 
 mod command_line;
 
-pub use command_line::{Request, ask};
+pub use command_line::{Request, parse_args};

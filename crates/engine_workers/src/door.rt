@@ -25,7 +25,7 @@ pub trait Incoming: Read {
 pub trait Door {
     ghost use Rattle.std.specs.Prelude.{◌≡◌, ℕ};
     ghost use Rattle.conn_worker.specs.Faults.{with_fault};
-    ghost use Rattle.engine_workers.specs.Doors.{is_device_fault};
+    ghost use Rattle.engine_workers.specs.inner.Doors.{is_device_fault};
 
     /// What a connection is read by.
     type Reader: Incoming + Drop;

@@ -39,7 +39,7 @@ pub struct Half<'a, H> {
 }
 
 /// Whether a call was interrupted, so that it is to be made again.
-pub fn is_interruption(error: &io::Error) -> bool {
+pub(crate) fn is_interruption(error: &io::Error) -> bool {
     matches!(error.kind(), ErrorKind::Interrupted)
 }
 
@@ -53,7 +53,7 @@ fn is_timeout(error: &io::Error) -> bool {
 /// # Errors
 ///
 /// Where the system refuses it.
-pub fn bound_writes(stream: &TcpStream) -> io::Result<()> {
+pub(crate) fn bound_writes(stream: &TcpStream) -> io::Result<()> {
     stream.set_write_timeout(Some(Duration::from_secs(WRITE_WAIT)))
 }
 

@@ -1,13 +1,13 @@
 //! Opening the doors of the channels, and serving the connections that come.
 
 use crate::door::{Door, DoorFault, Incoming};
-use crate::loan::Loan;
-use crate::seat::Seat;
-use crate::site::Site;
-use book_core::Letter;
-use book_lock::Opening;
+use crate::loan::TakeCell;
+use crate::seat::ConnectionSlot;
+use crate::site::Context;
+use book_core::Outbound;
+use book_lock::ArrivalLedger;
 use conn_worker::{Clock, Counted, ServeEnd, ServeReport, serve};
-use dest_queue::Addressed;
+use dest_queue::Queued;
 use log::{Log, info, warn};
 use row_store::RowStore;
 use std::io::Write;
@@ -50,19 +50,19 @@ fn is_ended_here(end: ServeEnd) -> bool {
 
 /// Serves the connection of a seat, and leaves the report there.
 fn serve_seat<
-    A: Opening,
+    A: ArrivalLedger,
     T: Ledger,
     U: Ledger,
-    S: RowStore<Addressed<Letter>>,
+    S: RowStore<Queued<Outbound>>,
     C: Clock + Copy,
     H: Wait + Log,
     R: Incoming + Drop,
     W: Write + Drop,
->(site: &Site<'_, A, T, U, S, C, H>, place: &Loan<Seat<A>>, reader: R, writer: W) {
+>(site: &Context<'_, A, T, U, S, C, H>, place: &TakeCell<ConnectionSlot<A>>, reader: R, writer: W) {
     let Some(seat) = place.take(site.rt) else {
         return;
     };
-    let Seat {
+    let ConnectionSlot {
         connection,
         channel,
         mut desk,
@@ -88,7 +88,7 @@ fn serve_seat<
     log_end(site.rt, site.channel_name(channel), connection, &report);
     place.give_back(
         site.rt,
-        Seat {
+        ConnectionSlot {
             connection,
             channel,
             before,
@@ -103,19 +103,19 @@ fn start_serving<
     's,
     'x: 's,
     E: 's,
-    A: Opening + Sync + 's,
+    A: ArrivalLedger + Send + Sync + 's,
     T: Ledger + Sync + 's,
     U: Ledger + Sync + 's,
-    S: RowStore<Addressed<Letter>> + Send + 's,
+    S: RowStore<Queued<Outbound>> + Send + 's,
     C: Clock + Copy + Sync + 's,
     H: Wait + Log + Sync + 's,
     R: Incoming + Send + Drop + 's,
     W: Write + Send + Drop + 's,
 >(
     scope: &Scope<'s, E>,
-    site: &'s Site<'x, A, T, U, S, C, H>,
+    site: &'s Context<'x, A, T, U, S, C, H>,
     channel: u32,
-    place: &'s Loan<Seat<A>>,
+    place: &'s TakeCell<ConnectionSlot<A>>,
     reader: R,
     writer: W,
 ) -> bool {
@@ -135,10 +135,10 @@ fn admit<
     's,
     'x: 's,
     E: 's,
-    A: Opening + Sync + 's,
+    A: ArrivalLedger + Send + Sync + 's,
     T: Ledger + Sync + 's,
     U: Ledger + Sync + 's,
-    S: RowStore<Addressed<Letter>> + Send + 's,
+    S: RowStore<Queued<Outbound>> + Send + 's,
     C: Clock + Copy + Sync + 's,
     H: Wait + Log + Sync + 's,
     R: Incoming + Send + Drop + 's,
@@ -146,10 +146,10 @@ fn admit<
     D: Door<Reader = R, Writer = W>,
 >(
     scope: &Scope<'s, E>,
-    site: &'s Site<'x, A, T, U, S, C, H>,
+    site: &'s Context<'x, A, T, U, S, C, H>,
     channel: u32,
     door: &mut D,
-    place: &'s Loan<Seat<A>>,
+    place: &'s TakeCell<ConnectionSlot<A>>,
 ) -> bool {
     if site.is_stopped() {
         return false;
@@ -182,10 +182,10 @@ fn admit_all<
     's,
     'x: 's,
     E: 's,
-    A: Opening + Sync + 's,
+    A: ArrivalLedger + Send + Sync + 's,
     T: Ledger + Sync + 's,
     U: Ledger + Sync + 's,
-    S: RowStore<Addressed<Letter>> + Send + 's,
+    S: RowStore<Queued<Outbound>> + Send + 's,
     C: Clock + Copy + Sync + 's,
     H: Wait + Log + Sync + 's,
     R: Incoming + Send + Drop + 's,
@@ -193,9 +193,9 @@ fn admit_all<
     D: Door<Reader = R, Writer = W>,
 >(
     scope: &Scope<'s, E>,
-    site: &'s Site<'x, A, T, U, S, C, H>,
+    site: &'s Context<'x, A, T, U, S, C, H>,
     channel: u32,
-    seats: &'s [Loan<Seat<A>>],
+    seats: &'s [TakeCell<ConnectionSlot<A>>],
     door: &mut D,
 ) {
     for (before, place) in seats.iter().enumerate() {
@@ -217,16 +217,21 @@ fn admit_all<
 fn open_all<
     'y,
     'x: 'y,
-    A: Opening + Sync,
+    A: ArrivalLedger + Send + Sync,
     T: Ledger + Sync,
     U: Ledger + Sync,
-    S: RowStore<Addressed<Letter>> + Send,
+    S: RowStore<Queued<Outbound>> + Send,
     C: Clock + Copy + Sync,
     H: Wait + Threads + Log + Sync,
     R: Incoming + Send + Drop,
     W: Write + Send + Drop,
     D: Door<Reader = R, Writer = W>,
->(site: &'y Site<'x, A, T, U, S, C, H>, channel: u32, seats: &'y [Loan<Seat<A>>], door: &'y mut D) {
+>(
+    site: &'y Context<'x, A, T, U, S, C, H>,
+    channel: u32,
+    seats: &'y [TakeCell<ConnectionSlot<A>>],
+    door: &'y mut D,
+) {
     thread::scope(
         thread::scope_env(),
         site.rt,
@@ -236,16 +241,16 @@ fn open_all<
 
 /// Takes a channel's door, and opens it for all seats of the channel.
 fn work_door<
-    A: Opening + Sync,
+    A: ArrivalLedger + Send + Sync,
     T: Ledger + Sync,
     U: Ledger + Sync,
-    S: RowStore<Addressed<Letter>> + Send,
+    S: RowStore<Queued<Outbound>> + Send,
     C: Clock + Copy + Sync,
     H: Wait + Threads + Log + Sync,
     R: Incoming + Send + Drop,
     W: Write + Send + Drop,
     D: Door<Reader = R, Writer = W> + Drop,
->(site: &Site<'_, A, T, U, S, C, H>, inlet: &Inlet<A, D>) {
+>(site: &Context<'_, A, T, U, S, C, H>, inlet: &ChannelWork<A, D>) {
     let Some(mut door) = inlet.door.take(site.rt) else {
         return;
     };
@@ -255,10 +260,10 @@ fn work_door<
 
 /// The index of a channel in the plan, its door, and the seats of the connections that it is opened for.
 #[derive(Drop)]
-pub struct Inlet<A: Opening, D> {
+pub struct ChannelWork<A: ArrivalLedger, D> {
     pub channel: u32,
-    pub door: Loan<D>,
-    pub seats: Vec<Loan<Seat<A>>>,
+    pub door: TakeCell<D>,
+    pub seats: Vec<TakeCell<ConnectionSlot<A>>>,
 }
 
 /// Starts a thread that opens a channel's door. Whether it was started.
@@ -266,16 +271,20 @@ fn start_opening<
     's,
     'x: 's,
     E: 's,
-    A: Opening + Sync + 's,
+    A: ArrivalLedger + Send + Sync + 's,
     T: Ledger + Sync + 's,
     U: Ledger + Sync + 's,
-    S: RowStore<Addressed<Letter>> + Send + 's,
+    S: RowStore<Queued<Outbound>> + Send + 's,
     C: Clock + Copy + Sync + 's,
     H: Wait + Threads + Log + Sync + 's,
     R: Incoming + Send + Drop + 's,
     W: Write + Send + Drop + 's,
     D: Door<Reader = R, Writer = W> + Send + Drop + 's,
->(scope: &Scope<'s, E>, site: &'s Site<'x, A, T, U, S, C, H>, inlet: &'s Inlet<A, D>) -> bool {
+>(
+    scope: &Scope<'s, E>,
+    site: &'s Context<'x, A, T, U, S, C, H>,
+    inlet: &'s ChannelWork<A, D>,
+) -> bool {
     let started = scope.spawn(move || work_door(site, inlet)).is_ok();
     if !started {
         site.stop();
@@ -289,16 +298,16 @@ fn start_opening_all<
     's,
     'x: 's,
     E: 's,
-    A: Opening + Sync + 's,
+    A: ArrivalLedger + Send + Sync + 's,
     T: Ledger + Sync + 's,
     U: Ledger + Sync + 's,
-    S: RowStore<Addressed<Letter>> + Send + 's,
+    S: RowStore<Queued<Outbound>> + Send + 's,
     C: Clock + Copy + Sync + 's,
     H: Wait + Threads + Log + Sync + 's,
     R: Incoming + Send + Drop + 's,
     W: Write + Send + Drop + 's,
     D: Door<Reader = R, Writer = W> + Send + Drop + 's,
->(scope: &Scope<'s, E>, site: &'s Site<'x, A, T, U, S, C, H>, inlets: &'s [Inlet<A, D>]) {
+>(scope: &Scope<'s, E>, site: &'s Context<'x, A, T, U, S, C, H>, inlets: &'s [ChannelWork<A, D>]) {
     for inlet in inlets {
         if site.is_stopped() || !start_opening(scope, site, inlet) {
             break;
@@ -307,19 +316,19 @@ fn start_opening_all<
 }
 
 /// Opens the doors of all channels, each on a thread of its own. It returns once all accepted connections are served.
-pub fn open_doors<
+pub(crate) fn open_doors<
     'y,
     'x: 'y,
-    A: Opening + Sync,
+    A: ArrivalLedger + Send + Sync,
     T: Ledger + Sync,
     U: Ledger + Sync,
-    S: RowStore<Addressed<Letter>> + Send,
+    S: RowStore<Queued<Outbound>> + Send,
     C: Clock + Copy + Sync,
     H: Wait + Threads + Log + Sync,
     R: Incoming + Send + Drop,
     W: Write + Send + Drop,
     D: Door<Reader = R, Writer = W> + Send + Drop,
->(site: &'y Site<'x, A, T, U, S, C, H>, inlets: &'y [Inlet<A, D>]) {
+>(site: &'y Context<'x, A, T, U, S, C, H>, inlets: &'y [ChannelWork<A, D>]) {
     thread::scope(
         thread::scope_env(),
         site.rt,

@@ -28,7 +28,7 @@ const NO_BUFFERS: i32 = 105;
 
 /// Whether an accept failed for one connection alone, or for lack of what the system may have again in a moment:
 /// descriptors, buffers or memory.
-pub fn is_passing(error: &io::Error) -> bool {
+pub(crate) fn is_passing(error: &io::Error) -> bool {
     match error.kind() {
         ErrorKind::ConnectionAborted
         | ErrorKind::ConnectionReset
@@ -51,7 +51,7 @@ pub fn is_passing(error: &io::Error) -> bool {
 /// # Errors
 ///
 /// Where the listener refuses one, or is interrupted each of the times that it is called.
-pub fn accept_once(listener: &TcpListener) -> io::Result<(TcpStream, SocketAddr)> {
+pub(crate) fn accept_once(listener: &TcpListener) -> io::Result<(TcpStream, SocketAddr)> {
     for _ in 0..INTERRUPTIONS_MAX {
         match listener.accept() {
             Err(error) if is_interruption(&error) => {}

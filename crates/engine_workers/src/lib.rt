@@ -23,7 +23,7 @@ mod workers;
 
 pub use door::{Door, DoorFault, Incoming};
 pub use half::Half;
-pub use outlet::{Outlet, stations_and_reports};
-pub use seat::{Seat, desks_and_reports};
+pub use outlet::{DestinationWork, stations_and_reports};
+pub use seat::{ConnectionSlot, desks_and_reports};
 pub use tcp_door::TcpDoor;
-pub use workers::{Staff, Understaffed, Worked, run_workers};
+pub use workers::{Finished, StartError, Workers, run_workers};

@@ -5,14 +5,14 @@ use std::sync::{Mutex, Wait};
 /// A value that a worker takes, works with, and puts back. The lock is held while it changes hands, and not in between.
 /// Contracts know of the value what its type says, and not whether someone has it.
 #[derive(Drop)]
-pub struct Loan<X> {
+pub struct TakeCell<X> {
     value: Mutex<Option<X>>,
 }
 
-impl<X> Loan<X> {
+impl<X> TakeCell<X> {
     /// A value that nobody has taken.
     pub fn new(value: X) -> Self {
-        Loan {
+        TakeCell {
             value: Mutex::new(Some(value)),
         }
     }
@@ -24,12 +24,12 @@ impl<X> Loan<X> {
 
     /// The value, unless someone has it still.
     pub fn into_inner(self) -> Option<X> {
-        let Loan { value } = self;
+        let TakeCell { value } = self;
         value.into_inner()
     }
 }
 
-impl<X: Drop> Loan<X> {
+impl<X: Drop> TakeCell<X> {
     /// Puts the value back. One that was there is dropped.
     pub fn give_back<H: Wait>(&self, rt: &H, value: X) {
         *self.value.lock(rt) = Some(value);

@@ -5,14 +5,14 @@ ghost use Rattle.std.specs.List.{filter_map};
 ghost use Rattle.std.specs.Option.{ForSome};
 
 use crate::door::{Door, Incoming};
-use crate::inlet::{Inlet, open_doors};
-use crate::loan::Loan;
-use crate::site::Site;
-use book_core::Letter;
-use book_lock::{Opening, Station};
+use crate::inlet::{ChannelWork, open_doors};
+use crate::loan::TakeCell;
+use crate::site::Context;
+use book_core::Outbound;
+use book_lock::{ArrivalLedger, Station};
 use conn_worker::Clock;
 use delivery_worker::{DeliverReport, Link, deliver};
-use dest_queue::Addressed;
+use dest_queue::Queued;
 use log::{Log, warn};
 use row_store::RowStore;
 use std::alloc::{AllocError, Global};
@@ -26,23 +26,23 @@ use std::{thread, time};
 /// settlements, how many takes the station had counted before, and the outcome of delivering, once it ended. The
 /// report is of this station: the station has counted as many takes since as the report has attempts.
 #[derive(Drop)]
-pub struct Outlet<T: Ledger, U: Ledger, L> {
+pub struct DestinationWork<A: ArrivalLedger, T: Ledger, U: Ledger, L> {
     pub destination: u32,
     pub link: L,
     pub before: u64,
-    pub station: Station<T, U>,
+    pub station: Station<A, T, U>,
     pub report: Option<DeliverReport>,
-    ghost counted: { ForSome report (λ r. station.takes ≡ before + r.taken) },
+    ghost counted: { ForSome report (λ r. station.counts.takes ≡ before + r.taken) },
 }
 
-impl<T: Ledger, U: Ledger, L> Outlet<T, U, L> {
+impl<A: ArrivalLedger, T: Ledger, U: Ledger, L> DestinationWork<A, T, U, L> {
     /// An outlet by which nothing was delivered yet.
-    pub fn new(destination: u32, link: L, station: Station<T, U>) -> Self
+    pub fn new(destination: u32, link: L, station: Station<A, T, U>) -> Self
         ensures destination { result.destination ≡ destination }
         ensures link { result.link ≡ link }
         ensures station { result.station ≡ station }
     {
-        Outlet {
+        DestinationWork {
             destination,
             link,
             before: station.taken(),
@@ -53,15 +53,15 @@ impl<T: Ledger, U: Ledger, L> Outlet<T, U, L> {
 }
 
 /// Adds the station of an outlet to others, and its report, if it has one. The link is dropped.
-fn add_outlet<T: Ledger, U: Ledger, L: Drop>(
-    stations: &mut Vec<Station<T, U>>,
+fn add_outlet<A: ArrivalLedger, T: Ledger, U: Ledger, L: Drop>(
+    stations: &mut Vec<Station<A, T, U>>,
     reports: &mut Vec<DeliverReport>,
-    outlet: Outlet<T, U, L>,
+    outlet: DestinationWork<A, T, U, L>,
 ) -> Result<(), AllocError>
     ensures stations { OnOk result (stations.new.items ≡ stations.old.items ++ outlet.station ∷ []) }
     ensures reports { OnOk result (reports.new.items ≡ reports.old.items ++ filter_map (λ o. o.report) (outlet ∷ [])) }
 {
-    let Outlet {
+    let DestinationWork {
         station,
         report,
         ..
@@ -80,10 +80,10 @@ fn add_outlet<T: Ledger, U: Ledger, L: Drop>(
 ///
 /// Where memory is refused.
 #[tactic(auto, using(crate::proofs::Parts::map_more, crate::proofs::Parts::filter_map_more))]
-pub fn stations_and_reports<T: Ledger, U: Ledger, L: Drop>(
+pub fn stations_and_reports<A: ArrivalLedger, T: Ledger, U: Ledger, L: Drop>(
     alloc: Global,
-    outlets: Vec<Outlet<T, U, L>>,
-) -> Result<(Vec<Station<T, U>>, Vec<DeliverReport>), AllocError>
+    outlets: Vec<DestinationWork<A, T, U, L>>,
+) -> Result<(Vec<Station<A, T, U>>, Vec<DeliverReport>), AllocError>
     ensures stations { IfOk result (λ r. r.0.items ≡ map (λ o. o.station) outlets.items) }
     ensures reports { IfOk result (λ r. r.1.items ≡ filter_map (λ o. o.report) outlets.items) }
 {
@@ -96,18 +96,18 @@ pub fn stations_and_reports<T: Ledger, U: Ledger, L: Drop>(
 
 /// Delivers the messages of a destination, and leaves the report with it.
 fn deliver_all<
-    A: Opening,
+    A: ArrivalLedger,
     T: Ledger,
     U: Ledger,
-    S: RowStore<Addressed<Letter>>,
+    S: RowStore<Queued<Outbound>>,
     C: Clock + Copy,
     H: Wait + time::Clock + Log,
     L: Link + Drop,
->(site: &Site<'_, A, T, U, S, C, H>, place: &Loan<Outlet<T, U, L>>) {
+>(site: &Context<'_, A, T, U, S, C, H>, place: &TakeCell<DestinationWork<A, T, U, L>>) {
     let Some(outlet) = place.take(site.rt) else {
         return;
     };
-    let Outlet {
+    let DestinationWork {
         destination,
         mut link,
         mut station,
@@ -127,7 +127,7 @@ fn deliver_all<
     );
     place.give_back(
         site.rt,
-        Outlet {
+        DestinationWork {
             destination,
             link,
             before,
@@ -142,18 +142,18 @@ fn start_delivering<
     's,
     'x: 's,
     E: 's,
-    A: Opening + Sync + 's,
+    A: ArrivalLedger + Send + Sync + 's,
     T: Ledger + Sync + 's,
     U: Ledger + Sync + 's,
-    S: RowStore<Addressed<Letter>> + Send + 's,
+    S: RowStore<Queued<Outbound>> + Send + 's,
     C: Clock + Copy + Sync + 's,
     H: Wait + time::Clock + Log + Sync + 's,
     L: Link + Send + Drop + 's,
 >(
     scope: &Scope<'s, E>,
-    site: &'s Site<'x, A, T, U, S, C, H>,
+    site: &'s Context<'x, A, T, U, S, C, H>,
     destination: u32,
-    outlet: &'s Loan<Outlet<T, U, L>>,
+    outlet: &'s TakeCell<DestinationWork<A, T, U, L>>,
 ) -> bool {
     let started = scope.spawn(move || deliver_all(site, outlet)).is_ok();
     if !started {
@@ -168,17 +168,17 @@ fn start_delivering_all<
     's,
     'x: 's,
     E: 's,
-    A: Opening + Sync + 's,
+    A: ArrivalLedger + Send + Sync + 's,
     T: Ledger + Sync + 's,
     U: Ledger + Sync + 's,
-    S: RowStore<Addressed<Letter>> + Send + 's,
+    S: RowStore<Queued<Outbound>> + Send + 's,
     C: Clock + Copy + Sync + 's,
     H: Wait + time::Clock + Log + Sync + 's,
     L: Link + Send + Drop + 's,
 >(
     scope: &Scope<'s, E>,
-    site: &'s Site<'x, A, T, U, S, C, H>,
-    outlets: &'s [Loan<Outlet<T, U, L>>],
+    site: &'s Context<'x, A, T, U, S, C, H>,
+    outlets: &'s [TakeCell<DestinationWork<A, T, U, L>>],
 ) {
     for (destination, outlet) in (0..u32::MAX).zip(outlets) {
         if !start_delivering(scope, site, destination, outlet) {
@@ -189,13 +189,13 @@ fn start_delivering_all<
 
 /// Delivers to all destinations, each on a thread of its own, while the doors of all channels are opened. Once the last
 /// connection is served, it is noted that no arrival will follow. It returns once the queues are empty.
-pub fn work_all<
+pub(crate) fn work_all<
     'y,
     'x: 'y,
-    A: Opening + Sync,
+    A: ArrivalLedger + Send + Sync,
     T: Ledger + Sync,
     U: Ledger + Sync,
-    S: RowStore<Addressed<Letter>> + Send,
+    S: RowStore<Queued<Outbound>> + Send,
     C: Clock + Copy + Sync,
     H: Wait + Threads + time::Clock + Log + Sync,
     R: Incoming + Send + Drop,
@@ -203,9 +203,9 @@ pub fn work_all<
     D: Door<Reader = R, Writer = W> + Send + Drop,
     L: Link + Send + Drop,
 >(
-    site: &'y Site<'x, A, T, U, S, C, H>,
-    inlets: &'y [Inlet<A, D>],
-    outlets: &'y [Loan<Outlet<T, U, L>>],
+    site: &'y Context<'x, A, T, U, S, C, H>,
+    inlets: &'y [ChannelWork<A, D>],
+    outlets: &'y [TakeCell<DestinationWork<A, T, U, L>>],
 ) {
     thread::scope(thread::scope_env(), site.rt, |scope| {
         start_delivering_all(scope, &*site, outlets);

@@ -4,7 +4,7 @@ ghost use Rattle.std.specs.Prelude.{◌≡◌, ◌+◌, ◌<◌, ◌++◌, ◌�
 ghost use Rattle.std.specs.List.{filter_map};
 ghost use Rattle.std.specs.Option.{ForSome};
 
-use book_lock::{Desk, Opening};
+use book_lock::{ArrivalLedger, Desk};
 use conn_worker::ServeReport;
 use std::alloc::{AllocError, Global};
 
@@ -12,17 +12,17 @@ use std::alloc::{AllocError, Global};
 /// at, how many arrivals the desk had counted before, and the outcome of serving the connection, once it was served.
 /// The report is of this desk: the desk has counted as many arrivals since as the report has receipts.
 #[derive(Drop)]
-pub struct Seat<A: Opening> {
+pub struct ConnectionSlot<A: ArrivalLedger> {
     pub connection: u32,
     pub channel: u32,
     pub before: u64,
     pub desk: Desk<A>,
     pub report: Option<ServeReport>,
     ghost known: { channel < A.channels },
-    ghost counted: { ForSome report (λ r. desk ≡ before + vec_len r.receipts) },
+    ghost counted: { ForSome report (λ r. desk.made ≡ before + vec_len r.receipts) },
 }
 
-impl<A: Opening> Seat<A> {
+impl<A: ArrivalLedger> ConnectionSlot<A> {
     /// The seat of a connection that was not served yet.
     pub fn new(connection: u32, channel: u32, desk: Desk<A>) -> Self
         requires { channel < A.channels }
@@ -30,7 +30,7 @@ impl<A: Opening> Seat<A> {
         ensures channel { result.channel ≡ channel }
         ensures desk { result.desk ≡ desk }
     {
-        Seat {
+        ConnectionSlot {
             connection,
             channel,
             before: desk.made(),
@@ -41,15 +41,15 @@ impl<A: Opening> Seat<A> {
 }
 
 /// Adds the desk of a seat to others, and its report, if it has one.
-fn add_seat<A: Opening>(
+fn add_seat<A: ArrivalLedger>(
     desks: &mut Vec<Desk<A>>,
     reports: &mut Vec<ServeReport>,
-    seat: Seat<A>,
+    seat: ConnectionSlot<A>,
 ) -> Result<(), AllocError>
     ensures desks { OnOk result (desks.new.items ≡ desks.old.items ++ seat.desk ∷ []) }
     ensures reports { OnOk result (reports.new.items ≡ reports.old.items ++ filter_map (λ s. s.report) (seat ∷ [])) }
 {
-    let Seat { desk, report, .. } = seat;
+    let ConnectionSlot { desk, report, .. } = seat;
     desks.push(desk)?;
     if let Some(report) = report {
         reports.push(report)?;
@@ -63,9 +63,9 @@ fn add_seat<A: Opening>(
 ///
 /// Where memory is refused.
 #[tactic(auto, using(crate::proofs::Parts::map_more, crate::proofs::Parts::filter_map_more))]
-pub fn desks_and_reports<A: Opening>(
+pub fn desks_and_reports<A: ArrivalLedger>(
     alloc: Global,
-    seats: Vec<Seat<A>>,
+    seats: Vec<ConnectionSlot<A>>,
 ) -> Result<(Vec<Desk<A>>, Vec<ServeReport>), AllocError>
     ensures desks { IfOk result (λ r. r.0.items ≡ map (λ s. s.desk) seats.items) }
     ensures reports { IfOk result (λ r. r.1.items ≡ filter_map (λ s. s.report) seats.items) }

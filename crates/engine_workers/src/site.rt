@@ -1,8 +1,8 @@
 //! What all workers share.
 
-use book_core::Letter;
-use book_lock::{Opening, Shared};
-use dest_queue::Addressed;
+use book_core::Outbound;
+use book_lock::{ArrivalLedger, Shared};
+use dest_queue::Queued;
 use plan_text::Plan;
 use row_store::RowStore;
 use std::alloc::Global;
@@ -12,7 +12,15 @@ use std::sync::ledger::Ledger;
 /// What all workers share: the runtime, the book, the plan, which names channels and destinations in the log, the clock that
 /// each has a copy of, and whether a thread or memory was refused, after which no further worker is started.
 #[derive(Drop)]
-pub struct Site<'x, A: Opening, T: Ledger, U: Ledger, S: RowStore<Addressed<Letter>>, C, H> {
+pub struct Context<
+    'x,
+    A: ArrivalLedger,
+    T: Ledger,
+    U: Ledger,
+    S: RowStore<Queued<Outbound>>,
+    C,
+    H,
+> {
     pub rt: &'x H,
     pub alloc: Global,
     pub shared: &'x Shared<A, T, U, S>,
@@ -21,7 +29,7 @@ pub struct Site<'x, A: Opening, T: Ledger, U: Ledger, S: RowStore<Addressed<Lett
     stopped: AtomicBool,
 }
 
-impl<'x, A: Opening, T: Ledger, U: Ledger, S: RowStore<Addressed<Letter>>, C, H> Site<
+impl<'x, A: ArrivalLedger, T: Ledger, U: Ledger, S: RowStore<Queued<Outbound>>, C, H> Context<
     'x,
     A,
     T,
@@ -38,7 +46,7 @@ impl<'x, A: Opening, T: Ledger, U: Ledger, S: RowStore<Addressed<Letter>>, C, H>
         plan: &'x Plan,
         clock: C,
     ) -> Self {
-        Site {
+        Context {
             rt,
             alloc,
             shared,

@@ -3,16 +3,16 @@
 ghost use Rattle.std.specs.Prelude.{◌≡◌, ◌<◌};
 
 use crate::door::{Door, Incoming};
-use crate::inlet::Inlet;
-use crate::loan::Loan;
-use crate::outlet::{Outlet, work_all};
-use crate::seat::Seat;
-use crate::site::Site;
-use book_core::Letter;
-use book_lock::{Desk, Opening, Shared, Station};
+use crate::inlet::ChannelWork;
+use crate::loan::TakeCell;
+use crate::outlet::{DestinationWork, work_all};
+use crate::seat::ConnectionSlot;
+use crate::site::Context;
+use book_core::Outbound;
+use book_lock::{ArrivalLedger, Desk, Shared, Station};
 use conn_worker::Clock;
 use delivery_worker::Link;
-use dest_queue::Addressed;
+use dest_queue::Queued;
 use log::Log;
 use plan_text::Plan;
 use row_store::RowStore;
@@ -27,55 +27,55 @@ use thiserror::Error;
 /// Not all workers could be started, because memory or a thread was refused. Those that were started have ended.
 #[derive(Clone, Copy, Debug, PartialEq, Eq, Error)]
 #[error("not all workers could be started")]
-pub struct Understaffed;
+pub struct StartError;
 
-impl From<AllocError> for Understaffed {
+impl From<AllocError> for StartError {
     fn from(_: AllocError) -> Self {
-        Understaffed
+        StartError
     }
 }
 
 /// What the workers work with: a desk for each connection, a door for each channel, and for each destination a station and
 /// a link.
 #[derive(Drop)]
-pub struct Staff<A: Opening, T: Ledger, U: Ledger, D, L> {
+pub struct Workers<A: ArrivalLedger, T: Ledger, U: Ledger, D, L> {
     /// The desks of the connections, those of the first channel's first.
     pub desks: Vec<Desk<A>>,
     /// The doors, in the order of the plan's channels.
     pub doors: Vec<D>,
     /// The stations, in the order of the plan's destinations.
-    pub stations: Vec<Station<T, U>>,
+    pub stations: Vec<Station<A, T, U>>,
     /// The links, in the order of the plan's destinations.
     pub links: Vec<L>,
 }
 
 /// The result of the work: what the workers worked with, each report with the desk or the station that it is of.
 #[derive(Drop)]
-pub struct Worked<A: Opening, T: Ledger, U: Ledger, D, L> {
+pub struct Finished<A: ArrivalLedger, T: Ledger, U: Ledger, D, L> {
     /// The seats, in the order of the numbers of the connections.
-    pub seats: Vec<Seat<A>>,
+    pub seats: Vec<ConnectionSlot<A>>,
     /// The doors, in the order of the plan's channels.
     pub doors: Vec<D>,
     /// The outlets, in the order of the plan's destinations.
-    pub outlets: Vec<Outlet<T, U, L>>,
+    pub outlets: Vec<DestinationWork<A, T, U, L>>,
 }
 
 /// Where the workers work.
 #[derive(Drop)]
-struct Posts<A: Opening, T: Ledger, U: Ledger, D, L> {
+struct Work<A: ArrivalLedger, T: Ledger, U: Ledger, D, L> {
     /// The inlets, in the order of the plan's channels.
-    inlets: Vec<Inlet<A, D>>,
+    inlets: Vec<ChannelWork<A, D>>,
     /// The outlets, in the order of the plan's destinations.
-    outlets: Vec<Loan<Outlet<T, U, L>>>,
+    outlets: Vec<TakeCell<DestinationWork<A, T, U, L>>>,
 }
 
 /// The seats of a channel's connections, at the next desks.
-fn seats_at<A: Opening>(
+fn seats_at<A: ArrivalLedger>(
     alloc: Global,
     desks: &mut vec::IntoIter<Desk<A>>,
     channel: u32,
     accept: u32,
-) -> Result<Vec<Loan<Seat<A>>>, AllocError>
+) -> Result<Vec<TakeCell<ConnectionSlot<A>>>, AllocError>
     requires { channel < A.channels }
 {
     let first = channel.saturating_mul(accept);
@@ -84,19 +84,19 @@ fn seats_at<A: Opening>(
         let Some(desk) = desks.next() else {
             break;
         };
-        seats.push(Loan::new(Seat::new(first.saturating_add(k), channel, desk)))?;
+        seats.push(TakeCell::new(ConnectionSlot::new(first.saturating_add(k), channel, desk)))?;
     }
     Ok(seats)
 }
 
 /// The inlets of the channels, each with the seats of its connections.
-fn inlets_of<A: Opening, D: Drop>(
+fn inlets_of<A: ArrivalLedger, D: Drop>(
     alloc: Global,
     channels: u32,
     accept: u32,
     desks: Vec<Desk<A>>,
     doors: Vec<D>,
-) -> Result<Vec<Inlet<A, D>>, AllocError>
+) -> Result<Vec<ChannelWork<A, D>>, AllocError>
     requires { channels ≡ A.channels }
 {
     let mut desks = desks.into_iter();
@@ -107,9 +107,9 @@ fn inlets_of<A: Opening, D: Drop>(
             break;
         };
         let seats = seats_at(alloc, &mut desks, channel, accept)?;
-        inlets.push(Inlet {
+        inlets.push(ChannelWork {
             channel,
-            door: Loan::new(door),
+            door: TakeCell::new(door),
             seats,
         })?;
     }
@@ -117,28 +117,28 @@ fn inlets_of<A: Opening, D: Drop>(
 }
 
 /// The outlets of the destinations.
-fn outlets_of<T: Ledger, U: Ledger, L: Drop>(
+fn outlets_of<A: ArrivalLedger, T: Ledger, U: Ledger, L: Drop>(
     alloc: Global,
-    stations: Vec<Station<T, U>>,
+    stations: Vec<Station<A, T, U>>,
     links: Vec<L>,
-) -> Result<Vec<Loan<Outlet<T, U, L>>>, AllocError> {
+) -> Result<Vec<TakeCell<DestinationWork<A, T, U, L>>>, AllocError> {
     let mut outlets = Vec::new(alloc);
     for ((station, link), destination) in stations.into_iter().zip(links).zip(0..u32::MAX) {
-        outlets.push(Loan::new(Outlet::new(destination, link, station)))?;
+        outlets.push(TakeCell::new(DestinationWork::new(destination, link, station)))?;
     }
     Ok(outlets)
 }
 
 /// The posts of a staff.
-fn posts_of<A: Opening, T: Ledger, U: Ledger, D: Drop, L: Drop>(
+fn posts_of<A: ArrivalLedger, T: Ledger, U: Ledger, D: Drop, L: Drop>(
     alloc: Global,
     channels: u32,
     accept: u32,
-    staff: Staff<A, T, U, D, L>,
-) -> Result<Posts<A, T, U, D, L>, AllocError>
+    staff: Workers<A, T, U, D, L>,
+) -> Result<Work<A, T, U, D, L>, AllocError>
     requires { channels ≡ A.channels }
 {
-    let Staff {
+    let Workers {
         desks,
         doors,
         stations,
@@ -146,14 +146,14 @@ fn posts_of<A: Opening, T: Ledger, U: Ledger, D: Drop, L: Drop>(
     } = staff;
     let inlets = inlets_of(alloc, channels, accept, desks, doors)?;
     let outlets = outlets_of(alloc, stations, links)?;
-    Ok(Posts { inlets, outlets })
+    Ok(Work { inlets, outlets })
 }
 
 /// Takes in the door of a channel, and the seats of its connections.
-fn take_inlet<A: Opening, D: Drop>(
-    seats: &mut Vec<Seat<A>>,
+fn take_inlet<A: ArrivalLedger, D: Drop>(
+    seats: &mut Vec<ConnectionSlot<A>>,
     doors: &mut Vec<D>,
-    inlet: Inlet<A, D>,
+    inlet: ChannelWork<A, D>,
 ) -> Result<(), AllocError> {
     if let Some(door) = inlet.door.into_inner() {
         doors.push(door)?;
@@ -167,10 +167,10 @@ fn take_inlet<A: Opening, D: Drop>(
 }
 
 /// Takes in what delivered to all destinations.
-fn outlets_back<T: Ledger, U: Ledger, L: Drop>(
+fn outlets_back<A: ArrivalLedger, T: Ledger, U: Ledger, L: Drop>(
     alloc: Global,
-    places: Vec<Loan<Outlet<T, U, L>>>,
-) -> Result<Vec<Outlet<T, U, L>>, AllocError> {
+    places: Vec<TakeCell<DestinationWork<A, T, U, L>>>,
+) -> Result<Vec<DestinationWork<A, T, U, L>>, AllocError> {
     let mut outlets = Vec::new(alloc);
     for place in places {
         if let Some(outlet) = place.into_inner() {
@@ -181,17 +181,17 @@ fn outlets_back<T: Ledger, U: Ledger, L: Drop>(
 }
 
 /// The result of the work at these posts.
-fn gather<A: Opening, T: Ledger, U: Ledger, D: Drop, L: Drop>(
+fn gather<A: ArrivalLedger, T: Ledger, U: Ledger, D: Drop, L: Drop>(
     alloc: Global,
-    posts: Posts<A, T, U, D, L>,
-) -> Result<Worked<A, T, U, D, L>, AllocError> {
-    let Posts { inlets, outlets } = posts;
+    posts: Work<A, T, U, D, L>,
+) -> Result<Finished<A, T, U, D, L>, AllocError> {
+    let Work { inlets, outlets } = posts;
     let (mut seats, mut doors) = (Vec::new(alloc), Vec::new(alloc));
     for inlet in inlets {
         take_inlet(&mut seats, &mut doors, inlet)?;
     }
     let outlets = outlets_back(alloc, outlets)?;
-    Ok(Worked {
+    Ok(Finished {
         seats,
         doors,
         outlets,
@@ -200,10 +200,10 @@ fn gather<A: Opening, T: Ledger, U: Ledger, D: Drop, L: Drop>(
 
 /// Has each worker work at its post. Whether all could be started.
 fn work_at<
-    A: Opening + Sync,
+    A: ArrivalLedger + Send + Sync,
     T: Ledger + Sync,
     U: Ledger + Sync,
-    S: RowStore<Addressed<Letter>> + Send,
+    S: RowStore<Queued<Outbound>> + Send,
     C: Clock + Copy + Sync,
     H: Wait + Threads + time::Clock + Log + Sync,
     R: Incoming + Send + Drop,
@@ -215,10 +215,10 @@ fn work_at<
     alloc: Global,
     shared: &Shared<A, T, U, S>,
     plan: &Plan,
-    posts: &Posts<A, T, U, D, L>,
+    posts: &Work<A, T, U, D, L>,
     clock: C,
 ) -> bool {
-    let site = Site::new(rt, alloc, shared, plan, clock);
+    let site = Context::new(rt, alloc, shared, plan, clock);
     work_all(&site, &posts.inlets, &posts.outlets);
     !site.is_stopped()
 }
@@ -240,10 +240,10 @@ fn work_at<
 /// Where memory or a thread is refused, no further worker is started. Those that were started work to their end, and what
 /// all worked with is dropped.
 pub fn run_workers<
-    A: Opening + Sync,
+    A: ArrivalLedger + Send + Sync,
     T: Ledger + Sync,
     U: Ledger + Sync,
-    S: RowStore<Addressed<Letter>> + Send,
+    S: RowStore<Queued<Outbound>> + Send,
     C: Clock + Copy + Sync,
     H: Wait + Threads + time::Clock + Log + Sync,
     R: Incoming + Send + Drop,
@@ -254,14 +254,14 @@ pub fn run_workers<
     rt: &H,
     alloc: Global,
     shared: &Shared<A, T, U, S>,
-    staff: Staff<A, T, U, D, L>,
+    staff: Workers<A, T, U, D, L>,
     accept: u32,
     clock: C,
-) -> Result<Worked<A, T, U, D, L>, Understaffed> {
+) -> Result<Finished<A, T, U, D, L>, StartError> {
     let plan = shared.plan(rt)?;
     let posts = posts_of(alloc, plan.channels(), accept, staff)?;
     if !work_at(rt, alloc, shared, &plan, &posts, clock) {
-        return Err(Understaffed);
+        return Err(StartError);
     }
     Ok(gather(alloc, posts)?)
 }

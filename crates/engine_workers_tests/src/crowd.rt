@@ -37,7 +37,7 @@ fn push_message(stream: &mut Vec<u8>, sender: u32, number: u32) -> Result<(), Al
 }
 
 /// All messages of a sender, each with a control id of its own.
-pub fn stream_of(alloc: Global, sender: u32) -> Result<Vec<u8>, AllocError> {
+pub(crate) fn stream_of(alloc: Global, sender: u32) -> Result<Vec<u8>, AllocError> {
     let mut stream = Vec::new(alloc);
     for number in 0..MESSAGES {
         push_message(&mut stream, sender, number)?;
@@ -47,7 +47,7 @@ pub fn stream_of(alloc: Global, sender: u32) -> Result<Vec<u8>, AllocError> {
 
 /// The acknowledgments of all messages of a sender, over the connection with its number, by a clock
 /// that is at the first moment.
-pub fn replies_to(alloc: Global, sender: u32) -> Result<Vec<u8>, AllocError> {
+pub(crate) fn replies_to(alloc: Global, sender: u32) -> Result<Vec<u8>, AllocError> {
     let mut replies = Vec::new(alloc);
     for number in 0..MESSAGES {
         let (nth, id) = (number.saturating_add(1), number.saturating_add(100));
@@ -133,7 +133,7 @@ pub struct Agreeing {
 }
 
 /// The acceptance of the message of a block. None where the block is no such message, or memory is refused.
-pub fn acceptance(alloc: Global, block: &[u8]) -> Option<Vec<u8>> {
+pub(crate) fn acceptance(alloc: Global, block: &[u8]) -> Option<Vec<u8>> {
     let behind = block.strip_prefix(BEFORE_ID.as_bytes())?;
     let (id, rest) = behind.split_at_checked(ID_LEN)?;
     if rest != BEHIND_ID.as_bytes() {

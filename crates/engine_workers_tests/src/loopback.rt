@@ -8,10 +8,11 @@ ghost use Rattle.event_log.specs.Counting.{counted};
 use crate::crowd::{BLOCK, MESSAGES, acceptance, replies_to, stream_of};
 use crate::many::{Ended, Rows, close, is_right};
 use book_core::{Book, EVENTS_MAX};
-use book_lock::{Opening, Shared};
+use book_lock::{ArrivalLedger, LogEntry, Shared};
 use conn_worker::{Still, nearest};
 use delivery_worker::TcpLink;
-use engine_workers::{Staff, TcpDoor, run_workers};
+use engine_workers::{TcpDoor, Workers, run_workers};
+use ghost_log::BlankLog;
 use log::Log;
 use plan_text::{Destination, Plan};
 use std::alloc::Global;
@@ -148,7 +149,7 @@ fn links_of<'a, H: Net<Listener = TcpListener, Stream = TcpStream> + Clock + Log
 /// memory or a thread is refused, or something is missing at the end.
 fn run<
     'a,
-    A: Opening + Send + Sync,
+    A: ArrivalLedger + Send + Sync,
     T: Ledger + Send + Sync,
     U: Ledger + Send + Sync,
     H: Wait + Threads + Clock + Log + Sync + Net<Listener = TcpListener, Stream = TcpStream>,
@@ -156,12 +157,15 @@ fn run<
     rt: &'a H,
     alloc: Global,
     book: Book<Rows>,
+    log: BlankLog<LogEntry>,
     arrivals: Blank,
     takes: Blank,
     settlements: Blank,
     doors: Vec<TcpDoor<'a, H>>,
     links: Vec<TcpLink<'a, H, &'a Destination>>,
 ) -> Option<Ended>
+    requires opening { book ≡ A.opening }
+    requires log { log.table.shared.table_id ≡ A.table }
     requires counts { counted book ≡ A.counts }
     requires first { next_place book ≡ A.first }
     requires channels { length (plan_in_force book).channels ≡ A.channels }
@@ -169,9 +173,9 @@ fn run<
     requires takes { (takes.name ≡ T.name) × (takes.parts ≡ T.parts) × (T.parts ≡ 3) }
     requires settlements { (settlements.name ≡ U.name) × (settlements.parts ≡ U.parts) × (U.parts ≡ 3) }
 {
-    let opened = Shared::<A, T, U, Rows>::new(alloc, book, 2, 2, arrivals, takes, settlements);
+    let opened = Shared::<A, T, U, Rows>::new(alloc, book, 2, 2, log, arrivals, takes, settlements);
     let (shared, desks, stations) = opened.ok()?;
-    let staff = Staff {
+    let staff = Workers {
         desks,
         doors,
         stations,
@@ -196,10 +200,12 @@ fn run_on<
     let links = links_of(rt, alloc, plan)?;
     let mut doors = Vec::new(alloc);
     doors.push(door).ok()?;
+    let log = BlankLog::new(alloc).ok()?;
     run::<Brand, Brand, Brand, H>(
         rt,
         alloc,
         book?,
+        log,
         Blank::new(3),
         Blank::new(3),
         Blank::new(3),

@@ -5,14 +5,15 @@ ghost use Rattle.event_log.specs.History.{next_place, plan_in_force};
 ghost use Rattle.event_log.specs.Counting.{counted};
 
 use crate::crowd::{Agreeing, Entrance, MESSAGES, stream_of};
-use book_core::{Book, EVENTS_MAX, Letter, Receipt};
-use book_lock::{Closed, Desk, Opening, Shared, audit, rising};
+use book_core::{Book, EVENTS_MAX, Outbound, Receipt};
+use book_lock::{ArrivalLedger, Closed, Desk, LogEntry, Shared, audit, rising};
 use conn_worker::{ServeEnd, ServeReport, Still, nearest};
 use delivery_worker::{DeliverEnd, DeliverReport};
-use dest_queue::Addressed;
+use dest_queue::Queued;
 use engine_workers::{
-    Staff, Understaffed, Worked, desks_and_reports, run_workers, stations_and_reports,
+    Finished, StartError, Workers, desks_and_reports, run_workers, stations_and_reports,
 };
+use ghost_log::BlankLog;
 use log::Log;
 use plan_text::Plan;
 use record_list::RecordList;
@@ -27,7 +28,7 @@ use std::thread::Threads;
 use std::time;
 
 /// The rows of the books.
-pub type Rows = RecordList<Addressed<Letter>>;
+pub type Rows = RecordList<Queued<Outbound>>;
 
 /// A channel whose messages all go to both of two destinations.
 const PLAN: &str =
@@ -74,7 +75,7 @@ pub struct Ended {
 }
 
 /// What is shown at two desks.
-fn shown_at<A: Opening, T: Ledger, U: Ledger, H: Wait>(
+fn shown_at<A: ArrivalLedger, T: Ledger, U: Ledger, H: Wait>(
     rt: &H,
     shared: &Shared<A, T, U, Rows>,
     desks: &mut [Desk<A>],
@@ -85,13 +86,13 @@ fn shown_at<A: Opening, T: Ledger, U: Ledger, H: Wait>(
 }
 
 /// Takes the book out of its lock, once the workers have ended. None where a share is missing.
-pub fn close<A: Opening, T: Ledger, U: Ledger, H: Wait, D: Drop, L: Drop>(
+pub(crate) fn close<A: ArrivalLedger, T: Ledger, U: Ledger, H: Wait, D: Drop, L: Drop>(
     rt: &H,
     alloc: Global,
     shared: Shared<A, T, U, Rows>,
-    worked: Worked<A, T, U, D, L>,
+    worked: Finished<A, T, U, D, L>,
 ) -> Option<Ended> {
-    let Worked { seats, outlets, .. } = worked;
+    let Finished { seats, outlets, .. } = worked;
     let (mut desks, served) = desks_and_reports(alloc, seats).ok()?;
     let (stations, delivered) = stations_and_reports(alloc, outlets).ok()?;
     let shown = shown_at(rt, &shared, &mut desks)?;
@@ -108,7 +109,7 @@ pub fn close<A: Opening, T: Ledger, U: Ledger, H: Wait, D: Drop, L: Drop>(
 /// the door, or something is missing at the end.
 fn run<
     'a,
-    A: Opening + Send + Sync,
+    A: ArrivalLedger + Send + Sync,
     T: Ledger + Send + Sync,
     U: Ledger + Send + Sync,
     H: Wait + Threads + time::Clock + Log + Sync,
@@ -116,12 +117,15 @@ fn run<
     rt: &H,
     alloc: Global,
     book: Book<Rows>,
+    log: BlankLog<LogEntry>,
     arrivals: Blank,
     takes: Blank,
     settlements: Blank,
     doors: Vec<Entrance<'a>>,
     links: Vec<Agreeing>,
-) -> Option<Result<Ended, Understaffed>>
+) -> Option<Result<Ended, StartError>>
+    requires opening { book ≡ A.opening }
+    requires log { log.table.shared.table_id ≡ A.table }
     requires counts { counted book ≡ A.counts }
     requires first { next_place book ≡ A.first }
     requires channels { length (plan_in_force book).channels ≡ A.channels }
@@ -129,9 +133,9 @@ fn run<
     requires takes { (takes.name ≡ T.name) × (takes.parts ≡ T.parts) × (T.parts ≡ 3) }
     requires settlements { (settlements.name ≡ U.name) × (settlements.parts ≡ U.parts) × (U.parts ≡ 3) }
 {
-    let opened = Shared::<A, T, U, Rows>::new(alloc, book, 2, 2, arrivals, takes, settlements);
+    let opened = Shared::<A, T, U, Rows>::new(alloc, book, 2, 2, log, arrivals, takes, settlements);
     let (shared, desks, stations) = opened.ok()?;
-    let staff = Staff {
+    let staff = Workers {
         desks,
         doors,
         stations,
@@ -150,12 +154,14 @@ fn run_on<H: Wait + Threads + time::Clock + Log + Sync>(
     alloc: Global,
     streams: &[Vec<u8>],
     book: Option<Book<Rows>>,
-) -> Option<Result<Ended, Understaffed>> {
+) -> Option<Result<Ended, StartError>> {
     let (doors, links) = (doors_of(alloc, streams)?, links_of(alloc)?);
+    let log = BlankLog::new(alloc).ok()?;
     run::<Brand, Brand, Brand, H>(
         rt,
         alloc,
         book?,
+        log,
         Blank::new(3),
         Blank::new(3),
         Blank::new(3),
@@ -220,7 +226,7 @@ fn counts_all(shown: &Shown, closed: &Closed<Rows>) -> bool {
 }
 
 /// Whether a run comes out as it is to.
-pub fn is_right(alloc: Global, ended: Ended) -> bool {
+pub(crate) fn is_right(alloc: Global, ended: Ended) -> bool {
     let Ended {
         shown,
         closed,

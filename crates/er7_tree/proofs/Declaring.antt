@@ -3,7 +3,8 @@ use Rattle.std.proofs.Common.{◌≡◌, subst, not, ℕ, ◌<◌, ◌≤◌, �
 use Rattle.std.proofs.lemmas.Bool.{and_parts, and_from, and_left, and_right, le-leb, lt-leb, cond-true, cond-false}
 use Rattle.std.proofs.lemmas.List.{take_rest}
 use Rattle.std.specs.List.{list_all, before_first}
-use Rattle.er7_tree.specs.Delims.{Delims, lacks, all_distinct, are_delimiters, delims_of, declared_by, AreDelims}
+use Rattle.er7_tree.specs.Delims.{Delims, lacks, all_distinct, are_delimiters, delims_of, declared_by}
+use Rattle.er7_tree.specs.inner.Delims.{AreDelims}
 
 declares : (header : List ℕ) → 4 ≤ length header → delims_of header ≡ declared_by (get_or header 3 0) (before_first (λ b. nat_eq b (get_or header 3 0)) (drop 4 header))
 declares [] long = absurd (omega arith)

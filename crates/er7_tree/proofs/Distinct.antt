@@ -3,7 +3,8 @@ use Rattle.std.proofs.Common.{◌≡◌, ℕ, Bool, true, false, not, List, [], 
 use Rattle.std.proofs.lemmas.Bool.{and_parts, and_right, cases_Bool, false≢true, ne_eqb, eq-eqb}
 use Rattle.std.specs.Char.{is_ascii_graphic, is_ascii_alphanumeric}
 use Rattle.std.specs.List.{list_all}
-use Rattle.er7_tree.specs.Delims.{Delims, AreDelims, is_delimiter, delimiters, all_distinct, lacks}
+use Rattle.er7_tree.specs.Delims.{Delims, is_delimiter, all_distinct, lacks}
+use Rattle.er7_tree.specs.inner.Delims.{AreDelims, delimiters}
 
 pub not_true : (x : Bool) → not x ≡ true → x ≡ false
 not_true true is = absurd (false≢true is)

@@ -4,11 +4,15 @@ use Rattle.std.proofs.lemmas.Bool.{and_parts, and_right, cases_Bool, eqb-true, l
 use Rattle.std.proofs.lemmas.List.{get_or_past}
 use Rattle.std.specs.List.{list_all, filter}
 use Rattle.er7_tree.specs.declared.refusal.Refusal.TheVariants.{BadPath, NoSuchSegment}
-use Rattle.er7_tree.specs.Delims.{Delims, AreDelims, lacks}
-use Rattle.er7_tree.specs.Tree.{Tree, IsMessage, is_name, has_name, is_header}
-use Rattle.er7_tree.specs.Path.{Place, is_path, is_fixed, same_level, are_apart, raw, segment_at, levels, piece_in, part_of, field_at}
+use Rattle.er7_tree.specs.Delims.{Delims, lacks}
+use Rattle.er7_tree.specs.inner.Delims.{AreDelims}
+use Rattle.er7_tree.specs.Tree.{Tree, is_name, has_name, is_header}
+use Rattle.er7_tree.specs.inner.Tree.{IsMessage}
+use Rattle.er7_tree.specs.Path.{Place, is_path, is_fixed, same_level, raw, segment_at, levels, piece_in, part_of, field_at}
+use Rattle.er7_tree.specs.inner.Path.{are_apart}
 use Rattle.er7_tree.specs.Pieces.{split, piece_at}
-use Rattle.er7_tree.specs.Escape.{escape, controls, reserved}
+use Rattle.er7_tree.specs.Escape.{escape, controls}
+use Rattle.er7_tree.specs.inner.Escape.{reserved}
 use Rattle.er7_tree.specs.Edit
 use Rattle.er7_tree.specs.Edit.{with_piece, put_piece, has_segment, has, has_in, field_levels}
 use Rattle.er7_tree.proofs.EditedFields.{Fits}

@@ -4,10 +4,13 @@ use Rattle.std.proofs.lemmas.Bool.{and_parts, and_from, and_left, and_right, cas
 use Rattle.std.specs.List.{list_all, filter, starts_with}
 use Rattle.er7_tree.specs.declared.path.Part.{Part}
 use Rattle.er7_tree.specs.declared.path.Part.TheVariants.{Whole, Repetition, Component, Subcomponent}
-use Rattle.er7_tree.specs.Delims.{Delims, AreDelims, is_delimiter, delims_of, declared_by, are_delimiters, lacks, all_distinct}
+use Rattle.er7_tree.specs.Delims.{Delims, is_delimiter, delims_of, declared_by, are_delimiters, lacks, all_distinct}
+use Rattle.er7_tree.specs.inner.Delims.{AreDelims}
 use Rattle.er7_tree.specs.Pieces.{split, join, piece_at}
-use Rattle.er7_tree.specs.Tree.{Tree, IsMessage, is_name, has_name, is_header, is_body, first_of}
-use Rattle.er7_tree.specs.Path.{Place, is_path, is_fixed, is_number, numbers, field_place, field_at, segment_at, levels, piece_in, part_of, raw, holds, are_apart}
+use Rattle.er7_tree.specs.Tree.{Tree, is_name, has_name, is_header, is_body, first_of}
+use Rattle.er7_tree.specs.inner.Tree.{IsMessage}
+use Rattle.er7_tree.specs.Path.{Place, is_path, is_fixed, is_number, part_numbers, field_place, field_at, segment_at, levels, piece_in, part_of, raw}
+use Rattle.er7_tree.specs.inner.Path.{holds, are_apart}
 use Rattle.er7_tree.specs.Edit.{put_in, put_field, change_segment, with_piece, has_segment}
 use Rattle.er7_tree.proofs.Distinct.{five, not_true, list_all_at}
 use Rattle.er7_tree.proofs.EditedFields.{Fits, separators, lacks-put_in, own-put_in, piece_in-put_in, piece_in-put_in-other, parting}
@@ -93,15 +96,15 @@ record Path_parts (p : Place) : Type 0 where
   named : is_name p.segment ≡ true
   occurrence : 1 ≤ p.occurrence
   field : 1 ≤ p.field
-  inner : list_all is_number (numbers p.part) ≡ true
+  inner : list_all is_number (part_numbers p.part) ≡ true
 
 path_parts : (p : Place) → is_path p ≡ true → Path_parts p
 path_parts p path =
     let front = (and_parts _ _ path).0 in
     let front = (and_parts _ _ front).0 in
-    let parts = and_parts (is_name p.segment) (list_all is_number (p.occurrence ∷ p.field ∷ numbers p.part)) front in
-    let first = and_parts (is_number p.occurrence) (list_all is_number (p.field ∷ numbers p.part)) parts.1 in
-    let second = and_parts (is_number p.field) (list_all is_number (numbers p.part)) first.1 in
+    let parts = and_parts (is_name p.segment) (list_all is_number (p.occurrence ∷ p.field ∷ part_numbers p.part)) front in
+    let first = and_parts (is_number p.occurrence) (list_all is_number (p.field ∷ part_numbers p.part)) parts.1 in
+    let second = and_parts (is_number p.field) (list_all is_number (part_numbers p.part)) first.1 in
     record {
       named = parts.0;
       occurrence = leb-true 1 p.occurrence (and_parts (nat_le 1 p.occurrence) (nat_le p.occurrence 999) first.0).0;
@@ -157,7 +160,7 @@ places_differ : (header : Bool) (m n : ℕ) → 1 ≤ m → 1 ≤ n → m ≢ n 
 places_differ true m n some some_too differ equal = differ (omega arith)
 places_differ false m n some some_too differ equal = differ (omega arith)
 
-few_numbers : (part : Part) → length (numbers part) ≤ 3
+few_numbers : (part : Part) → length (part_numbers part) ≤ 3
 few_numbers Whole = omega arith
 few_numbers (Repetition r) = omega arith
 few_numbers (Component r c) = omega arith
@@ -342,12 +345,12 @@ module _ (d : Delims) (good : AreDelims d) (p : Place) (path : is_path p ≡ tru
       found_new p.part segment is named ∙ piece_in-put_in ((d.field, field_place segment p.field) ∷ levels d p.part) piece segment distinct fits
 
   -- another part of that field that is apart is what it was
-  pub part_of-part : (part : Part) (segment : List ℕ) → list_all is_number (numbers part) ≡ true → is_led d segment ≡ true → has_name p.segment segment ≡ true
-      → starts_with nat_eq (numbers p.part) (numbers part) ≡ false → starts_with nat_eq (numbers part) (numbers p.part) ≡ false
+  pub part_of-part : (part : Part) (segment : List ℕ) → list_all is_number (part_numbers part) ≡ true → is_led d segment ≡ true → has_name p.segment segment ≡ true
+      → starts_with nat_eq (part_numbers p.part) (part_numbers part) ≡ false → starts_with nat_eq (part_numbers part) (part_numbers p.part) ≡ false
       → part_of d part (field_at d p.field (put_field d p piece segment)) ≡ part_of d part (field_at d p.field segment)
   part_of-part part segment good_numbers is named no_first no_second =
       let place = field_place segment p.field in
-      let ways = parting (d.repetition ∷ d.component ∷ d.subcomponent ∷ []) (numbers p.part) (numbers part) (few_numbers p.part) (few_numbers part) parts.inner good_numbers no_first no_second in
+      let ways = parting (d.repetition ∷ d.component ∷ d.subcomponent ∷ []) (part_numbers p.part) (part_numbers part) (few_numbers p.part) (few_numbers part) parts.inner good_numbers no_first no_second in
       found_new part segment is named
       ∙ piece_in-put_in-other ((d.field, place) ∷ levels d p.part) ((d.field, place) ∷ levels d part) piece segment distinct fits (refl, inr (refl, ways))
       ∙ sym (found part segment is named)
@@ -387,11 +390,11 @@ filtered test good (suc i) (segment ∷ segments) all within =
     ]
 
 -- at one field of one segment a place holds another where its part does
-holds-part : (p q : Place) → q.segment ≡ p.segment → q.occurrence ≡ p.occurrence → q.field ≡ p.field → holds p q ≡ starts_with nat_eq (numbers q.part) (numbers p.part)
+holds-part : (p q : Place) → q.segment ≡ p.segment → q.occurrence ≡ p.occurrence → q.field ≡ p.field → holds p q ≡ starts_with nat_eq (part_numbers q.part) (part_numbers p.part)
 holds-part p q segment occurrence field =
     rw (segment, occurrence, field)
-    (starts_with-front p.segment (p.occurrence ∷ p.field ∷ numbers q.part) (p.occurrence ∷ p.field ∷ numbers p.part)
-    ∙ starts_with-front (p.occurrence ∷ p.field ∷ []) (numbers q.part) (numbers p.part))
+    (starts_with-front p.segment (p.occurrence ∷ p.field ∷ part_numbers q.part) (p.occurrence ∷ p.field ∷ part_numbers p.part)
+    ∙ starts_with-front (p.occurrence ∷ p.field ∷ []) (part_numbers q.part) (part_numbers p.part))
 
 -- a message with another piece at a path whose segment is there
 module _ (t : Tree) (whole : IsMessage t) (p : Place) (path : is_path p ≡ true) (free : is_fixed p ≡ false) (piece : List ℕ)

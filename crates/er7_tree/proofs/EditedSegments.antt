@@ -3,7 +3,8 @@ use Rattle.std.proofs.Common.{◌≡◌, ℕ, suc, ◌+◌, ◌-◌, ◌≤◌, 
 use Rattle.std.proofs.lemmas.Bool.{and_parts, cases_Bool, eqb-true, eq-eqb, false≢true}
 use Rattle.std.specs.Char.{is_ascii_uppercase, is_ascii_digit, is_ascii_alphanumeric}
 use Rattle.std.specs.List.{before_first, onto_first, position_or_len}
-use Rattle.er7_tree.specs.Delims.{Delims, AreDelims, delims_of, declared_by, lacks, are_delimiters}
+use Rattle.er7_tree.specs.Delims.{Delims, delims_of, declared_by, lacks, are_delimiters}
+use Rattle.er7_tree.specs.inner.Delims.{AreDelims}
 use Rattle.er7_tree.specs.Pieces.{split, join, put_after}
 use Rattle.er7_tree.specs.Tree.{is_name, has_name, is_header, is_body, is_named, ends_by}
 use Rattle.er7_tree.specs.Edit.{put_in}

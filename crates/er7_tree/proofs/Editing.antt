@@ -7,10 +7,13 @@ use Rattle.er7_tree.specs.declared.refusal.Refusal.{Refusal}
 use Rattle.er7_tree.specs.declared.refusal.Refusal.TheVariants.{NoSuchSegment}
 use Rattle.er7_tree.specs.declared.path.Part.{Part}
 use Rattle.er7_tree.specs.declared.path.Part.TheVariants.{Whole, Repetition, Component, Subcomponent}
-use Rattle.er7_tree.specs.Delims.{Delims, AreDelims, lacks}
-use Rattle.er7_tree.specs.Tree.{Tree, IsMessage, IsOccurrence, has_name}
+use Rattle.er7_tree.specs.Delims.{Delims, lacks}
+use Rattle.er7_tree.specs.inner.Delims.{AreDelims}
+use Rattle.er7_tree.specs.Tree.{Tree, has_name}
+use Rattle.er7_tree.specs.inner.Tree.{IsMessage, IsOccurrence}
 use Rattle.er7_tree.specs.Path.{Place, is_path, is_fixed, same_level, levels, segment_at, piece_in, raw}
-use Rattle.er7_tree.specs.Escape.{escape, controls, reserved}
+use Rattle.er7_tree.specs.Escape.{escape, controls}
+use Rattle.er7_tree.specs.inner.Escape.{reserved}
 use Rattle.er7_tree.specs.Edit
 use Rattle.er7_tree.specs.Edit.{put_field, with_piece, has_segment, change_segment, field_levels, has_in}
 use Rattle.er7_tree.proofs.EditedFields.{Fits, fits-piece_in}

@@ -3,7 +3,8 @@ use Rattle.std.proofs.Common.{◌≡◌, ℕ, List, ◌∷◌, [], true, refl, a
 use Rattle.er7_tree.specs.Delims.{Delims}
 use Rattle.er7_tree.specs.Path.{field_at, header_place, raw, segment_at}
 use Rattle.er7_tree.specs.Pieces.{piece_at, split}
-use Rattle.er7_tree.specs.Tree.{Tree, IsMessage, first_of, is_header}
+use Rattle.er7_tree.specs.Tree.{Tree, first_of, is_header}
+use Rattle.er7_tree.specs.inner.Tree.{IsMessage}
 use Rattle.er7_tree.proofs.EditedSegments.{Heads, header_heads}
 use Rattle.er7_tree.proofs.Messages.{delims_are}
 

@@ -8,7 +8,8 @@ use Rattle.er7_tree.specs.declared.path.Part.TheVariants.{Whole, Repetition, Com
 use Rattle.er7_tree.specs.Delims.{Delims, lacks}
 use Rattle.er7_tree.specs.Path.{Place, raw, part_of, field_at, field_place, segment_at}
 use Rattle.er7_tree.specs.Pieces.{split, piece_at}
-use Rattle.er7_tree.specs.Tree.{Tree, IsMessage, is_header, has_name, first_of, written}
+use Rattle.er7_tree.specs.Tree.{Tree, is_header, has_name, first_of, written}
+use Rattle.er7_tree.specs.inner.Tree.{IsMessage}
 use Rattle.er7_tree.proofs.Declaring.{declared_field}
 use Rattle.er7_tree.proofs.Messages.{split_lacks, filter_lacks}
 

@@ -4,10 +4,12 @@ use Rattle.std.proofs.lemmas.Bool.{cases_Bool, and_parts, and_from, leb-true}
 use Rattle.std.specs.List.{list_all, onto_first, filter}
 use Rattle.std.specs.Option.{ok_or}
 use Rattle.er7_tree.specs.declared.refusal.Refusal.TheVariants.{NoHeader, BadDelimiters, TooManySegments}
-use Rattle.er7_tree.specs.Delims.{Delims, delims_of, lacks, AreDelims}
+use Rattle.er7_tree.specs.Delims.{Delims, delims_of, lacks}
+use Rattle.er7_tree.specs.inner.Delims.{AreDelims}
 use Rattle.er7_tree.specs.Pieces.{split, is_empty}
 use Rattle.er7_tree.proofs.Declaring.{declares_good}
-use Rattle.er7_tree.specs.Tree.{Tree, IsMessage, is_header, is_body, first_of, bad_name_place, unless_bad, checked, tree_of, tree, segments_of, without_line_feed, without_line_feeds, ◌>>=◌}
+use Rattle.er7_tree.specs.Tree.{Tree, is_header, is_body, first_of, bad_name_place, unless_bad, checked_tree, tree_of, tree, segments_of, without_line_feed, without_line_feeds, ◌>>=◌}
+use Rattle.er7_tree.specs.inner.Tree.{IsMessage}
 
 -- no bad name was found
 all_named : (d : Delims) (place : ℕ) (segments : List (List ℕ)) → bad_name_place place d segments ≡ None → list_all (is_body d) segments ≡ true
@@ -26,7 +28,7 @@ unless_same : (t read : Tree) (bad : Option ℕ) → unless_bad t bad ≡ Ok rea
 unless_same t read None is = cc
 unless_same t read (Some place) is = cc
 
-checked_parts : (t read : Tree) → checked t ≡ Ok read → (length t.segments ≤ 4096) × (list_all (is_body t.delims) (drop 1 t.segments) ≡ true) × (t ≡ read)
+checked_parts : (t read : Tree) → checked_tree t ≡ Ok read → (length t.segments ≤ 4096) × (list_all (is_body t.delims) (drop 1 t.segments) ≡ true) × (t ≡ read)
 checked_parts t read is =
     elim (cases_Bool (nat_le (length t.segments) 4096)) [
       | inl few ↦
@@ -40,14 +42,14 @@ checked_parts t read is =
 
 -- segments without a carriage return, checked
 checked_is : (t read : Tree) → is_header (first_of t.segments) ≡ true → delims_of (first_of t.segments) ≡ Some t.delims → list_all (lacks 13) t.segments ≡ true
-    → checked t ≡ Ok read → IsMessage read
+    → checked_tree t ≡ Ok read → IsMessage read
 checked_is t read header declared unbroken is =
     let parts = checked_parts t read is in
     let whole : IsMessage t = record { header = header; declared = declared; named = parts.1; few = parts.0; unbroken = unbroken } in
     subst IsMessage parts.2 whole
 
 declared_is : (segments : List (List ℕ)) (found : Option Delims) (read : Tree) → is_header (first_of segments) ≡ true → delims_of (first_of segments) ≡ found → list_all (lacks 13) segments ≡ true
-    → (ok_or found BadDelimiters >>= λ delims. checked (record { delims = delims; segments = segments })) ≡ Ok read → IsMessage read
+    → (ok_or found BadDelimiters >>= λ delims. checked_tree (record { delims = delims; segments = segments })) ≡ Ok read → IsMessage read
 declared_is segments None read header found unbroken is = cc
 declared_is segments (Some d) read header found unbroken is = checked_is (record { delims = d; segments = segments }) read header found unbroken is
 
@@ -139,7 +141,7 @@ delims_are t whole = declares_good (first_of t.segments) t.delims whole.declared
 
 -- and its segments are those of the text
 segments_same : (segments : List (List ℕ)) (found : Option Delims) (read : Tree)
-    → (ok_or found BadDelimiters >>= λ delims. checked (record { delims = delims; segments = segments })) ≡ Ok read → read.segments ≡ segments
+    → (ok_or found BadDelimiters >>= λ delims. checked_tree (record { delims = delims; segments = segments })) ≡ Ok read → read.segments ≡ segments
 segments_same segments None read is = cc
 segments_same segments (Some d) read is = sym (ap (λ (t : Tree). t.segments) (checked_parts (record { delims = d; segments = segments }) read is).2)
 

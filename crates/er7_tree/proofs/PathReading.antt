@@ -7,7 +7,7 @@ use Rattle.std.proofs.lemmas.Int.Digits.{digits_value_more}
 use Rattle.std.specs.Char.{is_ascii_digit, digit_value}
 use Rattle.std.specs.List.{list_all, starts_with, onto_first}
 use Rattle.std.specs.Str.Parse.{digits_value}
-use Rattle.er7_tree.specs.Path.{number, closed_number, indexed, inner_part, part_from, field_of, place_of, checked, path_of_pieces, path_of}
+use Rattle.er7_tree.specs.Path.{number, closed_number, indexed, inner_part, part_from, field_of, place_by, checked_path, path_of_pieces, path_of}
 use Rattle.er7_tree.specs.declared.path.Part.{Part}
 use Rattle.er7_tree.specs.Pieces.{split}
 use Rattle.er7_tree.proofs.Escaping.{some_piece}
@@ -82,7 +82,7 @@ part_inner repetition text = part_some repetition (split 46 text) (some_piece 46
 -- a name and a field
 pub path_parts : (text name rest field : List ℕ) (after : Option (Bor (List ℕ))) (named : List ℕ × Option ℕ) (read : ℕ × Part)
     → split 45 text ≡ name ∷ split 45 rest → MatchOption after (split 45 rest ≡ field ∷ []) (λ r. split 45 rest ≡ field ∷ split 45 r.now) → is_some after ≡ false
-    → indexed (split 91 name) ≡ Some named → Some read ≡ field_of (split 46 field) → checked (place_of named read) ≡ path_of text
+    → indexed (split 91 name) ≡ Some named → Some read ≡ field_of (split 46 field) → checked_path (place_by named read) ≡ path_of text
 path_parts text name rest field None named read is cut none is_named is_read = rw (is, cut, is_named, ← is_read) refl
 path_parts text name rest field (Some more) named read is cut none is_named is_read = absurd (false≢true (sym none))
 

@@ -4,11 +4,12 @@ use Rattle.std.proofs.lemmas.Bool.{cases_Bool, false≢true, eqb-true, eq-eqb, n
 use Rattle.std.proofs.lemmas.List.{get_or-map, get_or-drop, drop-set-lt, drop-drop, take_more, take_more_set, length-map, get_or_past, map-append}
 use Rattle.std.specs.List.{filter, find}
 use Rattle.er7_tree.specs.declared.segments.Span.{Span}
-use Rattle.er7_tree.specs.Spans.{InOrder, covered}
+use Rattle.er7_tree.specs.inner.Spans.{InOrder, covered}
 use Rattle.er7_tree.specs.Edit.{change_segment}
 use Rattle.er7_tree.specs.Path.{segment_at}
 use Rattle.er7_tree.proofs.Spanning.{covered_kept, covered_added, in_order_push, in_order_to}
-use Rattle.er7_tree.specs.Tree.{has_name, IsOccurrence}
+use Rattle.er7_tree.specs.Tree.{has_name}
+use Rattle.er7_tree.specs.inner.Tree.{IsOccurrence}
 
 -- one more element is tested
 module _ {X : Type 0} (p : X → Bool) where

@@ -5,7 +5,8 @@ use Rattle.std.specs.Char.{is_ascii_uppercase, is_ascii_digit}
 use Rattle.std.specs.List.{list_all, filter}
 use Rattle.er7_tree.specs.Delims.{Delims, lacks}
 use Rattle.er7_tree.specs.Pieces.{split, is_empty}
-use Rattle.er7_tree.specs.Tree.{Tree, IsMessage, is_name, is_named, ends_by, is_header, is_body, first_of, bad_name_place, tree_of, tree, segments_of, without_line_feed, without_line_feeds, written, text_of}
+use Rattle.er7_tree.specs.Tree.{Tree, is_name, is_named, ends_by, is_header, is_body, first_of, bad_name_place, tree_of, tree, segments_of, without_line_feed, without_line_feeds, written, text_of}
+use Rattle.er7_tree.specs.inner.Tree.{IsMessage}
 use Rattle.er7_tree.proofs.Segmenting.{segments_behind}
 
 -- a segment before a carriage return is the first piece

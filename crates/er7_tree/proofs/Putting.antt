@@ -1,7 +1,8 @@
 -- Another piece in a text.
 use Rattle.std.proofs.Common.{◌≡◌, ℕ, zero, suc, ◌+◌, ◌-◌, ◌<◌, List, [], ◌∷◌, ◌++◌, length, Option, Some, None, get_or, refl, sym, ap, ◌∙◌, MatchOption, arith, append_assoc, Bor}
 use Rattle.std.proofs.lemmas.List.Splits.{join_with_byte-slice_split}
-use Rattle.er7_tree.specs.Pieces.{split, join, put, put_after, piece_at, pieces_left}
+use Rattle.er7_tree.specs.Pieces.{split, join, put, put_after, piece_at}
+use Rattle.er7_tree.specs.inner.Pieces.{pieces_left}
 use Rattle.er7_tree.proofs.Escaping.{some_piece}
 
 -- a piece before others that are not none

@@ -8,9 +8,11 @@ use Rattle.std.proofs.lemmas.List.Quantifiers.{position-Some}
 use Rattle.std.proofs.lemmas.List.Sums.{fails_before_first}
 use Rattle.std.specs.Char.{is_ascii_alphanumeric}
 use Rattle.std.specs.List.{onto_first, list_all, position, position_or_len}
-use Rattle.er7_tree.specs.Delims.{Delims, AreDelims, is_delimiter, lacks}
+use Rattle.er7_tree.specs.Delims.{Delims, is_delimiter, lacks}
+use Rattle.er7_tree.specs.inner.Delims.{AreDelims}
 use Rattle.er7_tree.specs.Pieces.{split}
-use Rattle.er7_tree.specs.Escape.{plain, plain_pieces, meaning, sequence, letters, special, controls, bare_or_digits, escaped, escape, reserved}
+use Rattle.er7_tree.specs.Escape.{plain, plain_pieces, meaning, sequence, letters, controls, bare_or_digits, escaped, escape}
+use Rattle.er7_tree.specs.inner.Escape.{special, reserved}
 use Rattle.er7_tree.proofs.Distinct.{apart, no_word, not_true, five}
 use Rattle.er7_tree.proofs.Escaping.{some_piece, closed}
 

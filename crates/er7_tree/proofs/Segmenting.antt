@@ -2,8 +2,8 @@
 use Rattle.std.proofs.Common.{◌≡◌, ℕ, zero, suc, ◌+◌, ◌-◌, ◌<◌, not, List, [], ◌∷◌, length, take, drop, get_or, map, refl, sym, ap, ◌∙◌, arith, add-one, drop-cons, length-take, length-drop, add-zero}
 use Rattle.std.proofs.lemmas.Bool.{eqb-true, eq-eqb, cases_lt}
 use Rattle.std.proofs.Common.{◌≤◌, false, inl, inr, subst, nat_eq}
-use Rattle.lane_scan.specs.Scan.{AreAhead, IsNowhere}
-use Rattle.er7_tree.specs.Spans.{IsNear}
+use Rattle.lane_scan.specs.inner.Scan.{AreAhead, IsNowhere}
+use Rattle.er7_tree.specs.inner.Spans.{IsNear}
 use Rattle.std.proofs.lemmas.List.{take_rest, drop-drop, get_or-drop, drop_all}
 use Rattle.std.specs.List.{filter, slice_range}
 use Rattle.memchr.specs.Find.{Passes, is_byte, Nowhere}

@@ -6,7 +6,7 @@ use Rattle.std.proofs.Math.Seq.{drop-append_seam}
 use Rattle.std.proofs.lemmas.List.Folds.{drop_split}
 use Rattle.std.specs.List.{filter, flat_map}
 use Rattle.er7_tree.specs.declared.segments.Span.{Span}
-use Rattle.er7_tree.specs.Spans.{covered, IsBetween, InOrder}
+use Rattle.er7_tree.specs.inner.Spans.{covered, IsBetween, InOrder}
 use Rattle.er7_tree.specs.Tree.{ended}
 
 -- each stands between the two places

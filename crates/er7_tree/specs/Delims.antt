@@ -1,5 +1,5 @@
 -- The delimiters of a message: the field separator of MSH-1 and the encoding characters of MSH-2 (HL7 v2.5.1, 2.5.4, 2.15.9.1 and 2.15.9.2).
-use Rattle.std.specs.Prelude.{◌≡◌, ℕ, Bool, true, not, ◌&&◌, ◌||◌, ◌==◌, List, [], ◌∷◌, length, nat_le, Option, None, Some, if◌then◌else◌, codes}
+use Rattle.std.specs.Prelude.{ℕ, Bool, true, not, ◌&&◌, ◌||◌, ◌==◌, List, [], ◌∷◌, length, nat_le, Option, None, Some, if◌then◌else◌, codes}
 use Rattle.std.specs.Char.{is_ascii_graphic, is_ascii_alphanumeric}
 use Rattle.std.specs.List.{list_all, list_any, before_first}
 
@@ -31,14 +31,6 @@ all_distinct (b ∷ bs) = lacks b bs && all_distinct bs
 -- characters that may be declared together
 abbrev pub are_delimiters : List ℕ → Bool
 are_delimiters bs = list_all is_delimiter bs && all_distinct bs
-
--- the delimiters in the order of MSH-1 and MSH-2
-abbrev pub delimiters : Delims → List ℕ
-delimiters d = d.field ∷ d.component ∷ d.repetition ∷ d.escape ∷ d.subcomponent ∷ []
-
--- five that may be declared
-pub record AreDelims (d : Delims) : Type 0 where
-  pub declared : are_delimiters (delimiters d) ≡ true
 
 -- what a field separator and encoding characters declare; a fifth encoding character is kept and has no meaning
 abbrev pub declared_by : ℕ → List ℕ → Option Delims

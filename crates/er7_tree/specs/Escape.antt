@@ -1,5 +1,5 @@
 -- Escape sequences.
-use Rattle.std.specs.Prelude.{ℕ, ◌+◌, ◌-◌, ◌*◌, ◌/◌, ◌%◌, ◌&&◌, ◌==◌, nat_le, List, [], ◌∷◌, ◌++◌, map, option_map, slice_index, Option, None, Some, if◌then◌else◌, unwrap_or, codes}
+use Rattle.std.specs.Prelude.{ℕ, ◌+◌, ◌-◌, ◌*◌, ◌/◌, ◌%◌, ◌&&◌, ◌==◌, nat_le, List, [], ◌∷◌, ◌++◌, option_map, slice_index, Option, None, Some, if◌then◌else◌, unwrap_or, codes}
 use Rattle.std.specs.Char.{is_ascii_digit}
 use Rattle.std.specs.List.{find, flat_map, zip}
 use Rattle.std.specs.Option.{option_map_or}
@@ -67,10 +67,6 @@ plain d text = plain_pieces d (split d.escape text)
 abbrev pub controls : List ℕ
 controls = 13 ∷ 11 ∷ 28 ∷ 10 ∷ []
 
--- the bytes that are not written as they are
-abbrev pub special : Delims → List ℕ
-special d = map (λ entry. entry.1) (letters d) ++ controls
-
 abbrev pub hex_digit : ℕ → ℕ
 hex_digit n = slice_index (codes "0123456789ABCDEF") n
 
@@ -85,7 +81,3 @@ escaped d b = option_map_or (λ letter. sequence d (letter ∷ [])) (letter_for 
 -- how bytes are written
 abbrev pub escape : Delims → List ℕ → List ℕ
 escape d value = flat_map (escaped d) value
-
--- what an escaped text never holds: the separators and the control bytes
-abbrev pub reserved : Delims → List ℕ
-reserved d = d.field ∷ d.component ∷ d.repetition ∷ d.subcomponent ∷ controls

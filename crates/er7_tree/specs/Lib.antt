@@ -1,8 +1,7 @@
-pub mod Code
 pub mod Delims
 pub mod Edit
 pub mod Escape
 pub mod Path
 pub mod Pieces
-pub mod Spans
 pub mod Tree
+pub mod inner

@@ -1,5 +1,5 @@
 -- Paths to pieces of a message, and the pieces.
-use Rattle.std.specs.Prelude.{ℕ, ◌+◌, Bool, true, false, not, ◌&&◌, ◌||◌, ◌==◌, nat_eq, nat_le, List, [], ◌∷◌, ◌++◌, Option, None, Some, option_and_then, if◌then◌else◌, unwrap_or, codes}
+use Rattle.std.specs.Prelude.{ℕ, ◌+◌, Bool, true, false, not, ◌&&◌, ◌||◌, ◌==◌, nat_eq, nat_le, List, [], ◌∷◌, Option, None, Some, option_and_then, if◌then◌else◌, unwrap_or, codes}
 use Rattle.std.specs.Bool.{then_some}
 use Rattle.std.specs.List.{list_all, filter, starts_with, zip}
 use Rattle.std.specs.Option.{option_map_or}
@@ -33,11 +33,11 @@ field_at d field segment =
     else piece_at (field_place segment field) (split d.field segment)
 
 -- the numbers of a part, from the outside in
-abbrev pub numbers : Part → List ℕ
-numbers Whole = []
-numbers (Repetition r) = r ∷ []
-numbers (Component r c) = r ∷ c ∷ []
-numbers (Subcomponent r c s) = r ∷ c ∷ s ∷ []
+abbrev pub part_numbers : Part → List ℕ
+part_numbers Whole = []
+part_numbers (Repetition r) = r ∷ []
+part_numbers (Component r c) = r ∷ c ∷ []
+part_numbers (Subcomponent r c s) = r ∷ c ∷ s ∷ []
 
 -- the piece that is found by cutting at a separator and taking the nth piece, and so on inwards
 abbrev pub piece_in : List (ℕ × ℕ) → List ℕ → List ℕ
@@ -46,7 +46,7 @@ piece_in ((separator, n) ∷ levels) text = piece_in levels (piece_at n (split s
 
 -- the separators and numbers by which a part is found in its field
 abbrev pub levels : Delims → Part → List (ℕ × ℕ)
-levels d part = zip (d.repetition ∷ d.component ∷ d.subcomponent ∷ []) (numbers part)
+levels d part = zip (d.repetition ∷ d.component ∷ d.subcomponent ∷ []) (part_numbers part)
 
 -- a part of a field
 abbrev pub part_of : Delims → Part → List ℕ → List ℕ
@@ -89,21 +89,9 @@ is_whole _ = false
 abbrev pub is_path : Place → Bool
 is_path p =
     is_name p.segment
-    && list_all is_number (p.occurrence ∷ p.field ∷ numbers p.part)
+    && list_all is_number (p.occurrence ∷ p.field ∷ part_numbers p.part)
     && (not (is_header p.segment) || p.occurrence == 1)
     && (not (is_fixed p) || is_whole p.part)
-
--- what a place says, from the outside in
-abbrev pub address : Place → List ℕ
-address p = p.segment ++ p.occurrence ∷ p.field ∷ numbers p.part
-
--- the piece at one place holds the piece at the other, or both are one
-abbrev pub holds : Place → Place → Bool
-holds p q = starts_with nat_eq (address q) (address p)
-
--- neither piece holds the other
-abbrev pub are_apart : Place → Place → Bool
-are_apart p q = not (holds p q) && not (holds q p)
 
 -- one step after another, where each may refuse the text
 infixl 10 ◌>>=◌
@@ -148,19 +136,19 @@ field_of (first ∷ parts) = do
   Some (field, part)
 
 -- the place, where a path may name it
-abbrev pub checked : Place → Option Place
-checked p = then_some (is_path p) p
+abbrev pub checked_path : Place → Option Place
+checked_path p = then_some (is_path p) p
 
 -- a name with its occurrence, and a field with its part
-abbrev pub place_of : List ℕ × Option ℕ → ℕ × Part → Place
-place_of name field = record { segment = name.0; occurrence = unwrap_or name.1 1; field = field.0; part = field.1 }
+abbrev pub place_by : List ℕ × Option ℕ → ℕ × Part → Place
+place_by name field = record { segment = name.0; occurrence = unwrap_or name.1 1; field = field.0; part = field.1 }
 
 -- NAME[n] and F[r].C.S, cut at the hyphen
 abbrev pub path_of_pieces : List (List ℕ) → Option Place
 path_of_pieces (name ∷ field ∷ []) = do
   name ← indexed (split 91 name)
   field ← field_of (split 46 field)
-  checked (place_of name field)
+  checked_path (place_by name field)
 path_of_pieces _ = None
 
 -- what a path says, of the form NAME[n]-F[r].C.S

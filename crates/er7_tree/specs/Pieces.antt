@@ -1,6 +1,5 @@
 -- Pieces of a text between separators.
-use Rattle.std.specs.Prelude.{ℕ, zero, suc, ◌-◌, Bool, true, false, ◌&&◌, ◌==◌, List, [], ◌∷◌, slice_index_or, Option, None, Some}
-use Rattle.std.specs.Borrow.{Bor}
+use Rattle.std.specs.Prelude.{ℕ, zero, suc, ◌-◌, Bool, true, false, ◌&&◌, ◌==◌, List, [], ◌∷◌, slice_index_or}
 use Rattle.std.specs.List.{slice_split, join_with_byte}
 
 -- the pieces between the separators, one more than there are separators
@@ -10,11 +9,6 @@ split separator text = slice_split (λ b. b == separator) text
 -- the pieces, with a separator between each two
 abbrev pub join : ℕ → List (List ℕ) → List ℕ
 join separator pieces = join_with_byte separator pieces
-
--- the pieces of a text that is left, where one is
-abbrev pub pieces_left : ℕ → Option (Bor (List ℕ)) → List (List ℕ)
-pieces_left separator None = []
-pieces_left separator (Some rest) = split separator rest.now
 
 -- the nth piece, counted from 1; one that isn't there is empty
 abbrev pub piece_at : ℕ → List (List ℕ) → List ℕ

@@ -1,16 +1,16 @@
 -- Messages as lists of segments (HL7 v2.5.1, 2.5.2 and 2.5.4).
-use Rattle.std.specs.Prelude.{◌≡◌, ◌≤◌, ◌<◌, ℕ, ◌-◌, Bool, true, false, not, ◌&&◌, ◌||◌, ◌==◌, nat_eq, nat_le, List, [], ◌∷◌, ◌++◌, length, take, drop, map, slice_index_or, Option, None, Some, Result, Ok, Err, if◌then◌else◌, IsOk, codes}
+use Rattle.std.specs.Prelude.{ℕ, Bool, true, false, not, ◌&&◌, ◌||◌, ◌==◌, nat_eq, nat_le, List, [], ◌∷◌, ◌++◌, length, drop, map, Option, None, Some, Result, Ok, Err, if◌then◌else◌, codes}
 use Rattle.std.specs.Char.{is_ascii_uppercase, is_ascii_digit}
-use Rattle.std.specs.List.{filter, flat_map, starts_with, list_all, position_from}
+use Rattle.std.specs.List.{filter, flat_map, starts_with, position_from}
 use Rattle.std.specs.Option.{ok_or}
 use Rattle.er7_tree.specs.declared.refusal.Refusal.{Refusal}
-use Rattle.er7_tree.specs.declared.refusal.Refusal.TheVariants.{NoHeader, BadDelimiters, BadSegmentName, TooManySegments, NoMemory}
+use Rattle.er7_tree.specs.declared.refusal.Refusal.TheVariants.{NoHeader, BadDelimiters, BadSegmentName, TooManySegments}
 use Rattle.er7_tree.specs.Pieces.{split, is_empty}
-use Rattle.er7_tree.specs.Delims.{Delims, delims_of, lacks}
+use Rattle.er7_tree.specs.Delims.{Delims, delims_of}
 
 -- the byte that ends segments, and the one of which one is dropped behind it
-abbrev pub carriage_return : ℕ
-carriage_return = 13
+abbrev pub segment_end : ℕ
+segment_end = 13
 
 abbrev pub line_feed : ℕ
 line_feed = 10
@@ -36,7 +36,7 @@ without_line_feeds (first ∷ others) = first ∷ map without_line_feed others
 
 -- the segments of a text: its pieces between carriage returns that aren't empty
 abbrev pub segments_of : List ℕ → List (List ℕ)
-segments_of text = filter (λ piece. not (is_empty piece)) (without_line_feeds (split carriage_return text))
+segments_of text = filter (λ piece. not (is_empty piece)) (without_line_feeds (split segment_end text))
 
 -- a segment's name: three characters, a capital letter and then capital letters or digits
 abbrev pub is_name : List ℕ → Bool
@@ -71,30 +71,15 @@ abbrev pub first_of : List (List ℕ) → List ℕ
 first_of [] = []
 first_of (first ∷ _) = first
 
--- the index of the nth segment of a name: it has that name, and so have n - 1 of those before it
-pub record IsOccurrence (name : List ℕ) (n : ℕ) (segments : List (List ℕ)) (place : ℕ) : Type 0 where
-  pub within : place < length segments
-  pub named : has_name name (slice_index_or segments place []) ≡ true
-  pub before : length (filter (has_name name) (take place segments)) ≡ n - 1
-
--- What reading gives and edits keep: the first segment is the one header and declares the delimiters, the others have good names,
--- there are not too many, and none holds the byte that ends segments.
-pub record IsMessage (t : Tree) : Type 0 where
-  pub header : is_header (first_of t.segments) ≡ true
-  pub declared : delims_of (first_of t.segments) ≡ Some t.delims
-  pub named : list_all (is_body t.delims) (drop 1 t.segments) ≡ true
-  pub few : length t.segments ≤ segments_max
-  pub unbroken : list_all (lacks carriage_return) t.segments ≡ true
-
--- what follows an answer; a refusal stays
+-- a result, and then what follows from its value; a refusal ends it
 infixl 10 ◌>>=◌
-abbrev pub ◌>>=◌ : {A B : Type 0} → Result A Refusal → (A → Result B Refusal) → Result B Refusal
+abbrev pub ◌>>=◌ : {A B E : Type 0} → Result A E → (A → Result B E) → Result B E
 (Ok x) >>= f = f x
 (Err e) >>= f = Err e
 
 -- the header, which is the first segment
-abbrev pub header_of : List (List ℕ) → Result (List ℕ) Refusal
-header_of segments = if is_header (first_of segments) then Ok (first_of segments) else Err NoHeader
+abbrev pub header_segment : List (List ℕ) → Result (List ℕ) Refusal
+header_segment segments = if is_header (first_of segments) then Ok (first_of segments) else Err NoHeader
 
 -- the index of the first segment that may not follow the header, where they are numbered from this index on
 abbrev pub bad_name_place : ℕ → Delims → List (List ℕ) → Option ℕ
@@ -106,17 +91,17 @@ unless_bad t None = Ok t
 unless_bad t (Some place) = Err (BadSegmentName place)
 
 -- the message, where it has not too many segments and each but the first, the header, may follow it; indices count from 1
-abbrev pub checked : Tree → Result Tree Refusal
-checked t =
+abbrev pub checked_tree : Tree → Result Tree Refusal
+checked_tree t =
     if nat_le (length t.segments) segments_max then unless_bad t (bad_name_place 2 t.delims (drop 1 t.segments))
     else Err TooManySegments
 
 -- the message of these segments, or the first refusal: no header, bad delimiters, too many segments, the first bad name
 abbrev pub tree_of : List (List ℕ) → Result Tree Refusal
 tree_of segments = do
-  header ← header_of segments
+  header ← header_segment segments
   delims ← ok_or (delims_of header) BadDelimiters
-  checked (record { delims = delims; segments = segments })
+  checked_tree (record { delims = delims; segments = segments })
 
 -- the message that a text says
 abbrev pub tree : List ℕ → Result Tree Refusal
@@ -124,7 +109,7 @@ tree text = tree_of (segments_of text)
 
 -- a segment as it is written
 abbrev pub ended : List ℕ → List ℕ
-ended segment = segment ++ carriage_return ∷ []
+ended segment = segment ++ segment_end ∷ []
 
 -- segments as they are written, one after another
 abbrev pub written : List (List ℕ) → List ℕ
@@ -133,9 +118,3 @@ written segments = flat_map ended segments
 -- the text of a message
 abbrev pub text_of : Tree → List ℕ
 text_of t = written t.segments
-
--- What was answered is this answer; out of memory is answered only where there would have been a value.
-abbrev pub Gives : {X : Type 0} → Result X Refusal → Result X Refusal → Type 0
-Gives (Ok x) answer = answer ≡ Ok x
-Gives (Err NoMemory) answer = IsOk answer
-Gives (Err e) answer = answer ≡ Err e

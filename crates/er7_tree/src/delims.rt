@@ -1,8 +1,8 @@
 //! The delimiters that a header declares. A value of them is made by reading a header and in no other way, so whoever holds
 //! one knows that no two are the same and that none is a letter: an escape sequence can be distinguished from text.
 
-ghost use Rattle.std.specs.Prelude.{IsTrue, true, ◌≡◌, ◌≤◌, ◌∷◌, IfSome, length};
-ghost use Rattle.std.specs.List.{list_all};
+ghost use Rattle.std.specs.Prelude.{IsTrue, true, ◌≡◌, ◌==◌, ◌≤◌, ◌∷◌, IfSome, length};
+ghost use Rattle.std.specs.List.{before_first, list_all};
 ghost use Rattle.er7_tree.specs.Delims.{is_delimiter, has_other_use, all_distinct, are_delimiters, lacks};
 
 use crate::pieces::cut;
@@ -24,7 +24,8 @@ pub struct Delims {
 }
 
 impl Model for Delims {
-    ghost use Rattle.er7_tree.specs.Delims.{Delims, AreDelims};
+    ghost use Rattle.er7_tree.specs.Delims.{Delims};
+    ghost use Rattle.er7_tree.specs.inner.Delims.{AreDelims};
 
     ghost Value = { Delims };
 
@@ -95,8 +96,26 @@ fn may_be_declared(field: u8, characters: &[u8]) -> bool
         && all_distinct(characters)
 }
 
+/// The encoding characters, which are the bytes before the first field separator.
+///
+/// Nearly every header declares four. Where the fifth byte is the separator, it is found without a search, which saves some 50
+/// instructions.
+#[inline]
+fn characters_of(rest: &[u8], field: u8) -> &[u8]
+    ensures { result.now ≡ before_first (λ b. b == field) rest.now }
+{
+    if let [a, b, c, d, end, ..] = rest {
+        let four = *a != field && *b != field && *c != field && *d != field;
+        if four && *end == field {
+            return &rest[..4];
+        }
+    }
+    cut(rest, field).0
+}
+
 impl Delims {
-    ghost use Rattle.er7_tree.specs.Delims.{delims_of, AreDelims};
+    ghost use Rattle.er7_tree.specs.Delims.{delims_of};
+    ghost use Rattle.er7_tree.specs.inner.Delims.{AreDelims};
     ghost use Rattle.std.specs.Prelude.{[]};
 
     /// What a header segment declares: MSH-1 is its fourth byte, and MSH-2 reaches to the next field separator or to the
@@ -108,7 +127,7 @@ impl Delims {
         let [_, _, _, field, rest @ ..] = header else {
             return None;
         };
-        let (characters, _) = cut(rest, *field);
+        let characters = characters_of(rest, *field);
         let [component, repetition, escape, subcomponent, extra @ ..] = characters else {
             return None;
         };

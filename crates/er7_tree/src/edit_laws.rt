@@ -6,8 +6,10 @@ ghost use Rattle.std.specs.List.{list_all};
 ghost use Rattle.er7_tree.specs.Delims.{lacks};
 ghost use Rattle.er7_tree.specs.Edit.{clear, copy, remove_segments, set};
 ghost use Rattle.er7_tree.specs.Escape.{controls, escape};
-ghost use Rattle.er7_tree.specs.Path.{Place, are_apart, is_path, raw, value};
-ghost use Rattle.er7_tree.specs.Tree.{IsMessage, Tree, has_name};
+ghost use Rattle.er7_tree.specs.Path.{Place, is_path, raw, value};
+ghost use Rattle.er7_tree.specs.inner.Path.{are_apart};
+ghost use Rattle.er7_tree.specs.Tree.{Tree, has_name};
+ghost use Rattle.er7_tree.specs.inner.Tree.{IsMessage};
 
 /// An edited message is a message again, with the same delimiters: so it can be printed and read, and is the same again.
 pub fn edits_keep_messages()

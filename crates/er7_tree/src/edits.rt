@@ -4,7 +4,7 @@
 ghost use Rattle.std.specs.Prelude.{◌≡◌, Err, IfErr, IfOk, IsErrOf, Ok, OnErr, OnOk, true};
 ghost use Rattle.er7_tree.specs.Edit.{clear, copy, field_levels, has, has_in, put_field, remove_segments, set, with_piece};
 ghost use Rattle.er7_tree.specs.Path.{is_path};
-ghost use Rattle.er7_tree.specs.Tree.{Gives, IsMessage, IsOccurrence};
+ghost use Rattle.er7_tree.specs.inner.Tree.{Gives, IsMessage, IsOccurrence};
 
 use crate::delims::Delims;
 use crate::escapes::escape;

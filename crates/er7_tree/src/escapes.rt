@@ -2,8 +2,10 @@
 
 ghost use Rattle.std.specs.Prelude.{◌≡◌, ◌++◌, IfOk, OnOk, IsSome, [], unwrap_or, is_some, IfSome, ◌<◌, not, true, false};
 ghost use Rattle.std.specs.List.{list_all, position};
-ghost use Rattle.er7_tree.specs.Delims.{AreDelims, lacks};
-ghost use Rattle.er7_tree.specs.Escape.{plain, meaning, letters, meant_by, letter_for, letter_meaning, special, hex_digit, escaped, sequence, hex_value, hex_bytes, reserved, escape as escape_of};
+ghost use Rattle.er7_tree.specs.Delims.{lacks};
+ghost use Rattle.er7_tree.specs.inner.Delims.{AreDelims};
+ghost use Rattle.er7_tree.specs.Escape.{plain, meaning, letters, meant_by, letter_for, letter_meaning, hex_digit, escaped, sequence, hex_value, hex_bytes, escape as escape_of};
+ghost use Rattle.er7_tree.specs.inner.Escape.{special, reserved};
 
 use crate::delims::{Delims, lacks};
 use crate::pieces::cut;

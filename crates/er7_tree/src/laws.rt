@@ -5,7 +5,8 @@ ghost use Rattle.std.specs.Prelude.{◌≡◌, ◌≢◌, ℕ, List, Ok, codes, 
 ghost use Rattle.std.specs.List.{list_all};
 ghost use Rattle.er7_tree.specs.Delims.{lacks};
 ghost use Rattle.er7_tree.specs.Path.{Place, raw};
-ghost use Rattle.er7_tree.specs.Tree.{Tree, IsMessage, carriage_return, segments_of, text_of, tree, written};
+ghost use Rattle.er7_tree.specs.Tree.{Tree, segment_end, segments_of, text_of, tree, written};
+ghost use Rattle.er7_tree.specs.inner.Tree.{IsMessage};
 
 use crate::segments::MSH;
 
@@ -31,7 +32,7 @@ pub fn lacking_rules()
 
     // Printing adds the carriage returns alone.
     ensures printed { (b : ℕ) (t : Tree) →
-        b ≢ carriage_return → list_all (lacks b) t.segments ≡ true → lacks b (text_of t) ≡ true }
+        b ≢ segment_end → list_all (lacks b) t.segments ≡ true → lacks b (text_of t) ≡ true }
 {}
 
 /// The name of the header segment is that of the definitions.

@@ -1,20 +1,21 @@
 //! A message is kept as one text and the spans of its segments in it, so that reading copies the text at most once and a piece
 //! is a part of that text. Nothing below a segment is kept: a piece is found when it is requested.
 
-ghost use Rattle.std.specs.Prelude.{◌≡◌, ◌<◌, ◌≤◌, ◌-◌, IfOk, IfSome, IfNone, IsTrue, MatchResult, None, Ok, OnOk, OnErr, Some, codes, filter, length, map, not, slice_get, slice_set, true, false};
+ghost use Rattle.std.specs.Prelude.{◌≡◌, ◌<◌, ◌≤◌, ◌-◌, IfOk, IfSome, IfNone, IsTrue, MatchResult, None, Ok, OnOk, OnErr, Some, codes, filter, length, map, not, slice_get, slice_set, take, true, false};
 ghost use Rattle.std.specs.List.{find, flat_map};
 ghost use Rattle.std.specs.Option.{option_copied};
 ghost use Rattle.er7_tree.specs.Path.{header_place, raw, segment_at, value};
 ghost use Rattle.std.specs.Arc.{arc_value};
-ghost use Rattle.er7_tree.specs.Spans.{covered, spanned, InOrder, IsBetween};
-ghost use Rattle.er7_tree.specs.Tree.{Gives, IsMessage, IsOccurrence, ended, has_name, is_header, is_name, text_of, tree};
+ghost use Rattle.er7_tree.specs.inner.Spans.{covered, spanned, InOrder, IsBetween};
+ghost use Rattle.er7_tree.specs.Tree.{ended, has_name, is_header, is_name, text_of, tree};
+ghost use Rattle.er7_tree.specs.inner.Tree.{Gives, IsMessage, IsOccurrence};
 
 use crate::delims::Delims;
 use crate::escapes::unescape;
 use crate::path::{Part, Path};
 use crate::pieces::{part_of, piece};
 use crate::refusal::Refusal;
-use crate::segments::{MSH, Span, field_place, is_header};
+use crate::segments::{MSH, Span, Spans, field_place, is_header};
 use crate::text_walk::{read_header, read_spans};
 use fixed_numbers::CARRIAGE_RETURN;
 use std::alloc::{AllocError, Global};
@@ -29,12 +30,12 @@ use std::sync::Arc;
 pub struct Message {
     delims: Delims,
     text: Arc<Vec<u8>>,
-    spans: Vec<Span>,
+    spans: Spans,
 }
 
 impl Model for Message {
     ghost use Rattle.std.specs.Arc.{arc_value};
-    ghost use Rattle.er7_tree.specs.Spans.{AreSpans, spanned};
+    ghost use Rattle.er7_tree.specs.inner.Spans.{AreSpans, spanned};
     ghost use Rattle.er7_tree.specs.Tree.{Tree};
 
     ghost Value = { Tree };
@@ -62,10 +63,10 @@ fn find_place(text: &[u8], spans: &[Span], name: &[u8], n: u32) -> Option<usize>
     None
 }
 
-/// Drops the spans of segments of that name.
-fn drop_named(text: &[u8], spans: &mut Vec<Span>, name: &[u8])
-    requires { InOrder 0 (length text.now) spans.old.items }
-    ensures { spans.new.items ≡ filter (λ span. not (has_name name.now (covered text.now span))) spans.old.items }
+/// Moves the spans of segments of other names to the front, in order, and returns how many they are.
+fn keep_others(text: &[u8], spans: &mut [Span], name: &[u8]) -> usize
+    requires { InOrder 0 (length text.now) spans.old }
+    ensures { take result spans.new ≡ filter (λ span. not (has_name name.now (covered text.now span))) spans.old }
 {
     let mut kept = 0;
     for place in 0..spans.len() {
@@ -75,6 +76,15 @@ fn drop_named(text: &[u8], spans: &mut Vec<Span>, name: &[u8])
             kept += 1;
         }
     }
+    kept
+}
+
+/// Drops the spans of segments of that name.
+fn drop_named(text: &[u8], spans: &mut Spans, name: &[u8])
+    requires { InOrder 0 (length text.now) spans.old.items }
+    ensures { spans.new.items ≡ filter (λ span. not (has_name name.now (covered text.now span))) spans.old.items }
+{
+    let kept = keep_others(text, spans.as_mut_slice(), name);
     spans.truncate(kept);
 }
 
@@ -108,7 +118,7 @@ fn are_printed(text: &[u8], spans: &[Span]) -> bool
 }
 
 /// The delimiters that a text declares, and the spans of its segments.
-fn spans_of(alloc: Global, text: &[u8]) -> Result<(Delims, Vec<Span>), Refusal>
+fn spans_of(alloc: Global, text: &[u8]) -> Result<(Delims, Spans), Refusal>
     ensures value { MatchResult result
         (λ read. tree text.now ≡ Ok (spanned read.0 text.now read.1.items))
         (λ refusal. Gives (Err refusal) (tree text.now)) }
@@ -127,13 +137,13 @@ fn with_segment(
     spans: &[Span],
     place: usize,
     new: &[u8],
-) -> Result<(Vec<u8>, Vec<Span>), AllocError>
+) -> Result<(Vec<u8>, Spans), AllocError>
     requires { InOrder 0 (length text.now) spans.now }
     ensures covered { IfOk result (λ made. map (covered made.0.items) made.1.items ≡ slice_set (map (covered text.now) spans.now) place new.now) }
     ensures in_order { IfOk result (λ made. InOrder 0 (length made.0.items) made.1.items) }
 {
     let mut changed = Vec::with_capacity(alloc, text.len() + new.len())?;
-    let mut moved = Vec::with_capacity(alloc, spans.len())?;
+    let mut moved = Spans::new(alloc);
     for (index, span) in spans.iter().enumerate() {
         let segment = if index == place { new } else { span.of(text) };
         let start = changed.len();
@@ -240,7 +250,8 @@ impl Message {
         requires { place < length self.now.segments }
         ensures { slice_get self.now.segments place ≡ Some result.now }
     {
-        self.spans[place].of(self.text.as_slice())
+        let spans = self.spans.as_slice();
+        spans[place].of(self.text.as_slice())
     }
 
     /// Replaces the segment at an index.
@@ -345,7 +356,7 @@ impl Clone for Message {
     /// The same message, with spans of its own: the text is shared until one of the two is changed.
     fn clone(&self) -> Result<Message, AllocError> {
         let text = Arc::try_clone(&self.text)?;
-        let spans = Vec::from_slice(self.allocator(), &self.spans)?;
+        let spans = Spans::from_slice(self.allocator(), self.spans.as_slice())?;
         Ok(Message {
             delims: self.delims,
             text,

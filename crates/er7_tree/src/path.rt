@@ -4,8 +4,9 @@ ghost use Rattle.std.specs.Prelude.{◌≡◌, ◌∷◌, [], IfSome, IsTrue, �
 ghost use Rattle.std.specs.Bool.{then_some};
 ghost use Rattle.std.specs.List.{list_all};
 ghost use Rattle.std.specs.Option.{ok_or};
-ghost use Rattle.er7_tree.specs.Path.{is_number, numbers, is_fixed, is_path, same_level, checked, number, closed_number, indexed, inner_part, part_from, field_of, path_of};
-ghost use Rattle.er7_tree.specs.Pieces.{split, pieces_left};
+ghost use Rattle.er7_tree.specs.Path.{is_number, part_numbers, is_fixed, is_path, same_level, checked_path, number, closed_number, indexed, inner_part, part_from, field_of, path_of};
+ghost use Rattle.er7_tree.specs.Pieces.{split};
+ghost use Rattle.er7_tree.specs.inner.Pieces.{pieces_left};
 
 use crate::pieces::cut;
 use crate::refusal::Refusal;
@@ -105,7 +106,7 @@ fn indexed(text: &[u8]) -> Option<(&[u8], Option<u32>)>
 /// A component or subcomponent of a repetition, as written behind a field's dot.
 fn inner_part(repetition: u32, text: &[u8]) -> Option<Part>
     requires { is_number repetition ≡ true }
-    ensures in_range { IfSome result (λ part. list_all is_number (numbers part) ≡ true) }
+    ensures in_range { IfSome result (λ part. list_all is_number (part_numbers part) ≡ true) }
     ensures value { result ≡ inner_part repetition (split 46 text.now) }
 {
     let (component, rest) = cut(text, b'.');
@@ -124,7 +125,7 @@ fn inner_part(repetition: u32, text: &[u8]) -> Option<Part>
 /// The part that a repetition in brackets, and what follows a field's dot, name.
 fn part_from(repetition: Option<u32>, parts: Option<&[u8]>) -> Option<Part>
     requires { is_number (unwrap_or repetition 1) ≡ true }
-    ensures in_range { IfSome result (λ part. list_all is_number (numbers part) ≡ true) }
+    ensures in_range { IfSome result (λ part. list_all is_number (part_numbers part) ≡ true) }
     ensures value { result ≡ part_from repetition (pieces_left 46 parts.entry) }
 {
     match (repetition, parts) {
@@ -136,7 +137,7 @@ fn part_from(repetition: Option<u32>, parts: Option<&[u8]>) -> Option<Part>
 
 /// The field and the part that `F[r].C.S` names.
 fn field_of(text: &[u8]) -> Option<(u32, Part)>
-    ensures in_range { IfSome result (λ read. list_all is_number (read.0 ∷ numbers read.1) ≡ true) }
+    ensures in_range { IfSome result (λ read. list_all is_number (read.0 ∷ part_numbers read.1) ≡ true) }
     ensures value { result ≡ field_of (split 46 text.now) }
 {
     let (first, parts) = cut(text, b'.');
@@ -148,8 +149,8 @@ fn field_of(text: &[u8]) -> Option<(u32, Part)>
 
 /// The path, where its segment has a name and the rules for MSH are kept.
 fn checked(name: &[u8], occurrence: u32, field: u32, part: Part) -> Option<Path>
-    requires { list_all is_number (occurrence ∷ field ∷ numbers part) ≡ true }
-    ensures { result ≡ checked (record { segment = name.now; occurrence = occurrence; field = field; part = part }) }
+    requires { list_all is_number (occurrence ∷ field ∷ part_numbers part) ≡ true }
+    ensures { result ≡ checked_path (record { segment = name.now; occurrence = occurrence; field = field; part = part }) }
 {
     let [a, b, c] = name else {
         return None;

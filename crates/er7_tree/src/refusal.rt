@@ -31,7 +31,7 @@ pub enum Refusal {
 
 impl Refusal {
     ghost use Rattle.std.specs.Prelude.{◌≡◌};
-    ghost use Rattle.er7_tree.specs.Code.{code_of};
+    ghost use Rattle.er7_tree.specs.inner.Code.{code_of};
 
     /// The number of the refusal, 1 to 7, as it is given where no name can be.
     pub fn code(&self) -> u32

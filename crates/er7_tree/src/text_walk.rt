@@ -1,19 +1,17 @@
 //! Reading a text: first its header, which declares the delimiters, and then all segments in one walk.
 
 ghost use Rattle.std.specs.Prelude.{◌≡◌, ◌∷◌, ◌≤◌, drop, length, true, Ok, IfOk, MatchResult};
-ghost use Rattle.lane_scan.specs.Scan.{AreAhead};
-ghost use Rattle.er7_tree.specs.Spans.{covered, spanned, IsBetween, IsNear, InOrder};
-ghost use Rattle.er7_tree.specs.Tree.{Gives, carriage_return, checked, segments_of, tree};
+ghost use Rattle.lane_scan.specs.inner.Scan.{AreAhead};
+ghost use Rattle.er7_tree.specs.inner.Spans.{covered, spanned, IsBetween, IsNear, InOrder};
+ghost use Rattle.er7_tree.specs.Tree.{segment_end, checked_tree, segments_of, tree};
+ghost use Rattle.er7_tree.specs.inner.Tree.{Gives};
 
 use crate::delims::Delims;
 use crate::refusal::Refusal;
-use crate::segments::{Span, is_body, is_header, next_span};
+use crate::segments::{Span, Spans, is_body, is_header, next_span};
 use fixed_numbers::MAX_SEGMENTS;
 use lane_scan::Ahead;
 use std::alloc::Global;
-
-/// Room for the spans of a usual message, made at once.
-const USUAL_SEGMENTS: usize = 16;
 
 /// The header of a text, the delimiters that it declares, and the search for the ends of the segments behind it.
 ///
@@ -22,11 +20,11 @@ const USUAL_SEGMENTS: usize = 16;
 /// The first refusal of the text, as [`Message::parse`](crate::Message::parse) orders them.
 pub fn read_header(text: &[u8]) -> Result<(Span, Delims, Ahead), Refusal>
     ensures value { MatchResult result
-        (λ read. tree text.now ≡ checked (record { delims = read.1; segments = segments_of text.now }))
+        (λ read. tree text.now ≡ checked_tree (record { delims = read.1; segments = segments_of text.now }))
         (λ refusal. Gives (Err refusal) (tree text.now)) }
     ensures first { IfOk result (λ read. segments_of text.now ≡ covered text.now read.0 ∷ segments_of (drop read.0.end text.now)) }
     ensures between { IfOk result (λ read. IsBetween 0 (length text.now) read.0) }
-    ensures ends { IfOk result (λ read. AreAhead carriage_return text.now read.2.at read.2.end read.2.bits) }
+    ensures ends { IfOk result (λ read. AreAhead segment_end text.now read.2.at read.2.end read.2.bits) }
     ensures near { IfOk result (λ read. IsNear text.now read.0.end read.2.at) }
 {
     let mut ends = Ahead::from(0);
@@ -52,18 +50,18 @@ pub fn read_spans(
     header: Span,
     delims: Delims,
     ends: Ahead,
-) -> Result<Vec<Span>, Refusal>
+) -> Result<Spans, Refusal>
     requires first { segments_of text.now ≡ covered text.now header ∷ segments_of (drop header.end text.now) }
     requires between { IsBetween 0 (length text.now) header }
-    requires ends { AreAhead carriage_return text.now ends.at ends.end ends.bits }
+    requires ends { AreAhead segment_end text.now ends.at ends.end ends.bits }
     requires near { IsNear text.now header.end ends.at }
     ensures value { MatchResult result
-        (λ spans. checked (record { delims = delims; segments = segments_of text.now }) ≡ Ok (spanned delims text.now spans.items))
-        (λ refusal. Gives (Err refusal) (checked (record { delims = delims; segments = segments_of text.now }))) }
+        (λ spans. checked_tree (record { delims = delims; segments = segments_of text.now }) ≡ Ok (spanned delims text.now spans.items))
+        (λ refusal. Gives (Err refusal) (checked_tree (record { delims = delims; segments = segments_of text.now }))) }
     ensures in_order { IfOk result (λ spans. InOrder 0 (length text.now) spans.items) }
 {
-    let mut spans = Vec::new(alloc);
-    let mut kept = spans.reserve(USUAL_SEGMENTS).is_ok() && spans.push(header).is_ok();
+    let mut spans = Spans::new(alloc);
+    let mut kept = spans.push(header).is_ok();
     let mut bad = None;
     let mut place = 1;
     let mut at = header.end;

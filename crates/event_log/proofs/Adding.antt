@@ -8,12 +8,13 @@ use Rattle.std.proofs.lemmas.List.Elements.{All-head, All-tail}
 use Rattle.std.proofs.lemmas.List.Sums.{sum_by-cons}
 use Rattle.plan_text.specs.Entries.{PlanEntry}
 use Rattle.judge_core.specs.declared.delivery.Delivery.{Delivery}
-use Rattle.judge_core.specs.Delivering.{AreDeliveries, destinations_of}
+use Rattle.judge_core.specs.Delivering.{destinations_of}
+use Rattle.judge_core.specs.inner.Delivering.{AreDeliveries}
 use Rattle.dest_queue.specs.declared.SlotState.{SlotState}
 use Rattle.dest_queue.specs.declared.SlotState.TheVariants.{Waiting}
 use Rattle.event_log.specs.History.{names}
 use Rattle.event_log.specs.Answers.{attempts_max}
-use Rattle.event_log.specs.Room.{is_in_flight, message_total, own_owed, slot_owed}
+use Rattle.event_log.specs.Room.{is_in_flight, message_total, committed_by_new, slot_owed}
 use Rattle.event_log.proofs.Totals.{sum-alike, sum-changed}
 
 -- the slots of a message that has just come: each waits for its first attempt
@@ -59,7 +60,7 @@ fresh-total weight (x ∷ deliveries) within once =
     (sum_by-cons (λ y. weight y.destination (Waiting 0 0)) x deliveries ∙ ap (λ w. w + sum_by (λ y. weight y.destination (Waiting 0 0)) deliveries) is)
 
 -- what deliveries owe, one by one, is what their destinations owe
-own-owed : (plan : PlanEntry) (deliveries : List Delivery) → sum_by (λ x. slot_owed (attempts_max plan x.destination) (Waiting 0 0)) deliveries ≡ own_owed plan (destinations_of deliveries)
+own-owed : (plan : PlanEntry) (deliveries : List Delivery) → sum_by (λ x. slot_owed (attempts_max plan x.destination) (Waiting 0 0)) deliveries ≡ committed_by_new plan (destinations_of deliveries)
 own-owed plan [] = refl
 own-owed plan (x ∷ deliveries) =
     let rest = own-owed plan deliveries in
@@ -72,7 +73,7 @@ own-owed plan (x ∷ deliveries) =
 
 -- the slots of a new message owe what the message owes
 pub fresh-owed : (plan : PlanEntry) (deliveries : List Delivery) → AreDeliveries deliveries
-    → message_total (λ d. slot_owed (attempts_max plan d)) (λ d. cond (names d deliveries) (Some (Waiting 0 0)) None) ≡ own_owed plan (destinations_of deliveries)
+    → message_total (λ d. slot_owed (attempts_max plan d)) (λ d. cond (names d deliveries) (Some (Waiting 0 0)) None) ≡ committed_by_new plan (destinations_of deliveries)
 fresh-owed plan deliveries good = fresh-total (λ d. slot_owed (attempts_max plan d)) deliveries good.within good.once ∙ own-owed plan deliveries
 
 -- no attempt of a new message is under way

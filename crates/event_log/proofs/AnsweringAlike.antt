@@ -5,7 +5,7 @@ use Rattle.std.specs.List.{range_with_len}
 use Rattle.std.specs.Option.{option_map_or}
 use Rattle.judge_core.specs.Judging.{verdict as decided, is_bookable, key_of}
 use Rattle.dest_queue.specs.declared.Outcome.{Outcome}
-use Rattle.dest_queue.specs.States.{is_live, is_waiting, settle_answer as slot_answer}
+use Rattle.dest_queue.specs.States.{is_live, is_waiting, slot_answer}
 use Rattle.plan_text.specs.Entries.{PlanEntry}
 use Rattle.event_log.specs.declared.entry.Ticket.{Ticket}
 use Rattle.event_log.specs.declared.entry.Told.TheVariants as told
@@ -24,7 +24,7 @@ use Rattle.event_log.specs.Answers.{arrival_answer, attempts_max, cancel_answer,
 use Rattle.event_log.specs.Deployment.{deploy_answer, is_lost, same_channels, stays}
 use Rattle.event_log.specs.Event as event
 use Rattle.event_log.specs.Event.{Event}
-use Rattle.event_log.specs.Room.{exceeds}
+use Rattle.event_log.specs.Room.{is_over_limit}
 use Rattle.event_log.proofs.Events.{arrival_by, deployment_by}
 use Rattle.event_log.proofs.Reading.{front-lives}
 
@@ -124,8 +124,8 @@ module _ (aside : Aside) (h k : History) (alike : IsAlike aside h k) where
 
   deployment-alike : (plan : PlanEntry) → IsMet aside h k (event.deploy plan) → event.answer k (event.deploy plan) ≡ event.answer h (event.deploy plan)
   deployment-alike plan met =
-      ap (λ o. deployment_by o (exceeds k 0)) (deploy-alike plan)
-      ∙ by (deploy_answer h plan) (exceeds h 0) (exceeds k 0) met.room (λ none. met.its_room (deploy-alike plan ∙ none))
+      ap (λ o. deployment_by o (is_over_limit k 0)) (deploy-alike plan)
+      ∙ by (deploy_answer h plan) (is_over_limit h 0) (is_over_limit k 0) met.room (λ none. met.its_room (deploy-alike plan ∙ none))
     where
       by : (o : Option DeployRefusal) (past its_past : Bool) → (o ≡ None → past ≡ false) → (o ≡ None → its_past ≡ false) → deployment_by o its_past ≡ deployment_by o past
       by None past its_past room its_room = ap (deployment_by None) (its_room refl ∙ sym (room refl))

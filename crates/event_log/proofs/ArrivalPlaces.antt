@@ -10,9 +10,10 @@ use Rattle.event_log.specs.declared.entry.Entry.TheVariants.{Arrival, Take, Sett
 use Rattle.event_log.specs.declared.entry.Told.{Told}
 use Rattle.event_log.specs.declared.entry.Told.TheVariants as told
 use Rattle.event_log.specs.Answers.{is_kept}
-use Rattle.event_log.specs.Folding.{arrival_place, arrivals, folded, is_forgotten, prune_answer, recalled}
-use Rattle.event_log.specs.History.{History, Remembered, is_arrival_of, is_numbered, message_count, next_place}
-use Rattle.event_log.specs.Legal.{IsSound}
+use Rattle.event_log.specs.Folding.{arrival_place, known_arrivals, folded, is_forgotten, prune_answer, recalled}
+use Rattle.event_log.specs.History.{History, Remembered, is_numbered, message_count, next_place}
+use Rattle.event_log.specs.inner.History.{is_arrival_of}
+use Rattle.event_log.specs.inner.Legal.{IsSound}
 use Rattle.event_log.proofs.ForgottenPlaces.{goes-before}
 use Rattle.event_log.proofs.Recalling.{arrivals-are, find-map, is_of, recalled_all, renewed}
 use Rattle.event_log.proofs.RecallingKeys.{Rising, arrivals-rise, further, position-cons}
@@ -126,15 +127,15 @@ filter-same p q (r ∷ rs) same = let here = same.0 in let rest = filter-same p 
 
 module _ (h : History) (sound : IsSound h) (bound : ℕ) (may : prune_answer h bound ≡ None) where
   -- each arrival is forgotten where it stands before that of the first message that isn't
-  pub forgotten-before : AllByRecursion (λ r. is_forgotten h bound r ≡ nat_lt r.place (arrival_place h bound)) (arrivals h)
+  pub forgotten-before : AllByRecursion (λ r. is_forgotten h bound r ≡ nat_lt r.place (arrival_place h bound)) (known_arrivals h)
   forgotten-before =
-      all-follow (λ r. find (λ y. y.place == r.place) (arrivals h) ≡ Some r) (λ r. is_forgotten h bound r ≡ nat_lt r.place (arrival_place h bound))
-      (λ r found. goes-before h sound bound may (λ y. y.place == r.place) r found) (arrivals h) (by-place 0 (arrivals h) (arrivals-rise h sound))
+      all-follow (λ r. find (λ y. y.place == r.place) (known_arrivals h) ≡ Some r) (λ r. is_forgotten h bound r ≡ nat_lt r.place (arrival_place h bound))
+      (λ r found. goes-before h sound bound may (λ y. y.place == r.place) r found) (known_arrivals h) (by-place 0 (known_arrivals h) (arrivals-rise h sound))
 
   -- so what is remembered are the arrivals from that place on
-  pub folded-from : (folded bound h).remembered ≡ filter (λ r. not (nat_lt r.place (arrival_place h bound))) (arrivals h)
+  pub folded-from : (folded bound h).remembered ≡ filter (λ r. not (nat_lt r.place (arrival_place h bound))) (known_arrivals h)
   folded-from =
-      filter-same (λ r. not (is_forgotten h bound r)) (λ r. not (nat_lt r.place (arrival_place h bound))) (arrivals h)
+      filter-same (λ r. not (is_forgotten h bound r)) (λ r. not (nat_lt r.place (arrival_place h bound))) (known_arrivals h)
       (all-follow (λ r. is_forgotten h bound r ≡ nat_lt r.place (arrival_place h bound))
       (λ r. not (is_forgotten h bound r) ≡ not (nat_lt r.place (arrival_place h bound)))
-      (λ r same. ap not same) (arrivals h) forgotten-before)
+      (λ r same. ap not same) (known_arrivals h) forgotten-before)

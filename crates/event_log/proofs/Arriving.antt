@@ -10,7 +10,8 @@ use Rattle.plan_text.specs.Entries.{PlanEntry, DestinationEntry, IsDestination, 
 use Rattle.judge_core.specs.declared.delivery.Delivery.{Delivery}
 use Rattle.judge_core.specs.declared.judged.Verdict.{Verdict}
 use Rattle.judge_core.specs.declared.judged.Verdict.TheVariants as verdict
-use Rattle.judge_core.specs.Delivering.{AreDeliveries, destinations_of}
+use Rattle.judge_core.specs.Delivering.{destinations_of}
+use Rattle.judge_core.specs.inner.Delivering.{AreDeliveries}
 use Rattle.judge_core.specs.Judging.{verdict as decided, deliveries_of, is_bookable, key_of}
 use Rattle.judge_core.proofs.Verdicts.{deliveries-verdict, lead-named}
 use Rattle.dest_queue.specs.declared.SlotState.{SlotState}
@@ -20,8 +21,9 @@ use Rattle.event_log.specs.declared.entry.Told.{Told}
 use Rattle.event_log.specs.declared.entry.Told.TheVariants as told
 use Rattle.event_log.specs.History.{History, accepted, accepted_by, accepted_under, deliveries, followed_by, message_count, names, plan_in_force, slot, state}
 use Rattle.event_log.specs.Answers.{arrival_answer, attempts_max, brings_at, known, told_by}
-use Rattle.event_log.specs.Room.{in_flight, is_full, is_in_flight, message_total, owed, own, own_owed, slot_owed, slots_added, total}
-use Rattle.event_log.specs.Legal.{IsSound, IsWithin}
+use Rattle.event_log.specs.Room.{is_full, is_in_flight, message_total, owed, own, committed_by_new, slot_owed, slots_added, total}
+use Rattle.event_log.specs.inner.Room.{in_flight}
+use Rattle.event_log.specs.inner.Legal.{IsSound, IsWithin}
 use Rattle.event_log.proofs.Adding.{fresh, fresh-in_flight, fresh-owed}
 use Rattle.event_log.proofs.Events.{Arrivable, arrivable-follows}
 use Rattle.event_log.proofs.Following.{accepted-followed_by, accepted-kept, deliveries-same, funext, known-followed_by, legal-followed_by, message-newest, message-older, message_count-longer, message_count-same, plan-kept, slot-same, state-followed_by}
@@ -87,8 +89,8 @@ room-left count more bound old new own enough longer owes =
 
 module _ (h : History) (sound : IsSound h) (conn channel : ℕ) (raw : List ℕ) (reply : Told) (may : Arrivable h channel raw reply) where
   -- it owes what its slots owe
-  own-is : own h channel raw ≡ own_owed (plan_in_force h) (slots_added (plan_in_force h) channel raw reply)
-  own-is = ap (λ o. option_map_or (λ told. own_owed (plan_in_force h) (slots_added (plan_in_force h) channel raw told)) o 0) may.answered
+  own-is : own h channel raw ≡ committed_by_new (plan_in_force h) (slots_added (plan_in_force h) channel raw reply)
+  own-is = ap (λ o. option_map_or (λ told. committed_by_new (plan_in_force h) (slots_added (plan_in_force h) channel raw told)) o 0) may.answered
 
   -- the entry and what it owes fit
   room-after : owed (followed_by h (Arrival conn channel raw reply)) ≡ owed h + own h channel raw → length (h.entries ++ Arrival conn channel raw reply ∷ []) + owed (followed_by h (Arrival conn channel raw reply)) ≤ h.opening.events_max
@@ -158,7 +160,7 @@ module _ (h : History) (sound : IsSound h) (conn channel : ℕ) (raw : List ℕ)
     -- as much is owed as before
     owed-kept : owed (followed_by h (Arrival conn channel raw reply)) ≡ owed h + own h channel raw
     owed-kept =
-        let own-none : own h channel raw ≡ 0 = own-is ∙ ap (own_owed (plan_in_force h)) nothing in
+        let own-none : own h channel raw ≡ 0 = own-is ∙ ap (committed_by_new (plan_in_force h)) nothing in
         owed-after ∙ total-kept (λ d. slot_owed (attempts_max (plan_in_force h) d)) ∙ rw own-none (sym (add-zero (owed h)))
 
     -- such an arrival leaves all slots as they are
@@ -222,7 +224,7 @@ module _ (h : History) (sound : IsSound h) (conn channel : ℕ) (raw : List ℕ)
     owed-more : owed (followed_by h (Arrival conn channel raw reply)) ≡ owed h + own h channel raw
     owed-more =
         owed-after ∙ total-more (λ d. slot_owed (attempts_max (plan_in_force h) d))
-        ∙ ap (λ t. owed h + t) (fresh-owed (plan_in_force h) (deliveries_of (decided (plan_in_force h) channel raw)) new-goes ∙ sym (own-is ∙ ap (own_owed (plan_in_force h)) adds))
+        ∙ ap (λ t. owed h + t) (fresh-owed (plan_in_force h) (deliveries_of (decided (plan_in_force h) channel raw)) new-goes ∙ sym (own-is ∙ ap (committed_by_new (plan_in_force h)) adds))
 
     -- no attempt comes under way
     flight-more : in_flight (followed_by h (Arrival conn channel raw reply)) ≡ in_flight h

@@ -8,17 +8,20 @@ use Rattle.std.proofs.lemmas.List.{get_or-replicate}
 use Rattle.std.proofs.lemmas.List.Elements.{All-head, All-nil, All-replicate, All-tail}
 use Rattle.plan_text.specs.Entries.{PlanEntry, IsPlan}
 use Rattle.judge_core.specs.declared.delivery.Delivery.{Delivery}
-use Rattle.judge_core.specs.Delivering.{AreDeliveries, destinations_of}
+use Rattle.judge_core.specs.Delivering.{destinations_of}
+use Rattle.judge_core.specs.inner.Delivering.{AreDeliveries}
 use Rattle.dest_queue.specs.declared.SlotState.{SlotState}
 use Rattle.dest_queue.specs.declared.SlotState.TheVariants.{Waiting}
 use Rattle.dest_queue.specs.declared.slots.Slot.{Slot}
 use Rattle.dest_queue.specs.Slots.{state_at}
-use Rattle.stat_count.specs.Statistics.{destination_at, empty, no_arrivals, no_slots, slots_of}
+use Rattle.stat_count.specs.Statistics.{destination_at, no_arrivals, no_slots}
+use Rattle.stat_count.specs.inner.Statistics.{empty, slots_of}
 use Rattle.event_log.specs.declared.entry.Told.{Told}
 use Rattle.event_log.specs.declared.entry.Told.TheVariants as told
-use Rattle.event_log.specs.History.{Opening, Remembered, begun, blank, deliveries, first_state, is_numbered, message_at, message_of, names, number_of, number_told, opened_by, remembered_as, slot}
+use Rattle.event_log.specs.History.{Snapshot, Remembered, begun, deliveries, first_state, is_numbered, message_at, accepted_of, names, number_told, remembered_as, slot}
+use Rattle.event_log.specs.inner.History.{blank, number_of, snapshot_after}
 use Rattle.event_log.specs.Answers.{attempts_max}
-use Rattle.event_log.specs.Legal.{AreForgotten, IsGoodOpening, IsMemory, IsSound, IsWithin}
+use Rattle.event_log.specs.inner.Legal.{AreForgotten, IsGoodOpening, IsMemory, IsSound, IsWithin}
 use Rattle.event_log.proofs.Reading.{opened-owed}
 
 -- no delivery at all
@@ -61,7 +64,7 @@ number-all P (x ∷ rs) n r all is = elim (is_numbered n x.told) as (λ b. is_nu
     rest (Some k) all = All-tail P k (filter_map number_of rs) all
 
 -- a message to come is not remembered
-pub remembered-beyond : (o : Opening) → IsGoodOpening o → (n : ℕ) → o.messages ≤ n → remembered_as o n ≡ None
+pub remembered-beyond : (o : Snapshot) → IsGoodOpening o → (n : ℕ) → o.messages ≤ n → remembered_as o n ≡ None
 remembered-beyond o good n beyond = by (remembered_as o n) refl
   where
     by : (found : Option Remembered) → remembered_as o n ≡ found → found ≡ None
@@ -83,20 +86,20 @@ state-there P (x ∷ slots) d all here = elim (eqb_tells x.destination d) [
 ]
 
 -- the message that is remembered at an opening, if there is one
-message-begun : (o : Opening) (n : ℕ) → message_at (begun o) n ≡ cond (nat_lt n o.messages) (option_map message_of (remembered_as o n)) None
-message-begun o n = elim (nat_lt n o.messages) as (λ b. cond b (option_map message_of (remembered_as o n)) (slice_get [] (n - o.messages)) ≡ cond b (option_map message_of (remembered_as o n)) None) [ true ↦ refl | false ↦ refl ]
+message-begun : (o : Snapshot) (n : ℕ) → message_at (begun o) n ≡ cond (nat_lt n o.messages) (option_map accepted_of (remembered_as o n)) None
+message-begun o n = elim (nat_lt n o.messages) as (λ b. cond b (option_map accepted_of (remembered_as o n)) (slice_get [] (n - o.messages)) ≡ cond b (option_map accepted_of (remembered_as o n)) None) [ true ↦ refl | false ↦ refl ]
 
 -- what each remembered message has, each message of a history of which nothing is booked since has
-each-begun : (P : List Delivery → Type 0) (o : Opening) → IsGoodOpening o → ((r : Remembered) → IsMemory o.plan r → P r.deliveries) → P [] → (n : ℕ) → P (deliveries (begun o) n)
+each-begun : (P : List Delivery → Type 0) (o : Snapshot) → IsGoodOpening o → ((r : Remembered) → IsMemory o.plan r → P r.deliveries) → P [] → (n : ℕ) → P (deliveries (begun o) n)
 each-begun P o good each none n = subst (λ m. P (option_map_or (λ m. m.deliveries) m [])) (sym (message-begun o n)) (by (nat_lt n o.messages) (remembered_as o n) refl)
   where
-    by : (b : Bool) (found : Option Remembered) → remembered_as o n ≡ found → P (option_map_or (λ m. m.deliveries) (cond b (option_map message_of found) None) [])
+    by : (b : Bool) (found : Option Remembered) → remembered_as o n ≡ found → P (option_map_or (λ m. m.deliveries) (cond b (option_map accepted_of found) None) [])
     by false found is = none
     by true None is = none
     by true (Some r) is = each r (find-all (IsMemory o.plan) (λ r. is_numbered n r.told) o.remembered r good.memories is)
 
 -- each slot that is remembered is within the attempts of the plan
-slot-begun : (o : Opening) → IsGoodOpening o → (n d : ℕ) → IfSome (slot (begun o) n d) (IsWithin (attempts_max o.plan d))
+slot-begun : (o : Snapshot) → IsGoodOpening o → (n d : ℕ) → IfSome (slot (begun o) n d) (IsWithin (attempts_max o.plan d))
 slot-begun o good n d =
     subst (λ m. IfSome (cond (names d (option_map_or (λ m. m.deliveries) m [])) (Some (first_state o n d)) None) (IsWithin (attempts_max o.plan d))) (sym (message-begun o n))
     (by (nat_lt n o.messages) (remembered_as o n) refl)
@@ -113,14 +116,14 @@ slot-begun o good n d =
     one r memory false named = tt
 
     by : (b : Bool) (found : Option Remembered) → remembered_as o n ≡ found
-        → IfSome (cond (names d (option_map_or (λ m. m.deliveries) (cond b (option_map message_of found) None) []))
+        → IfSome (cond (names d (option_map_or (λ m. m.deliveries) (cond b (option_map accepted_of found) None) []))
         (Some (option_map_or (λ r. option_map_or (λ s. s) (state_at d r.slots) (Waiting 0 0)) found (Waiting 0 0))) None) (IsWithin (attempts_max o.plan d))
     by false found is = tt
     by true None is = tt
     by true (Some r) is = one r (find-all (IsMemory o.plan) (λ r. is_numbered n r.told) o.remembered r good.memories is) (names d r.deliveries) refl
 
 -- a history of which nothing is booked since a good opening is sound
-pub begun-sound : (o : Opening) → IsGoodOpening o → IsSound (begun o)
+pub begun-sound : (o : Snapshot) → IsGoodOpening o → IsSound (begun o)
 begun-sound o good = record {
   opening = good;
   plan = good.plan;
@@ -171,5 +174,5 @@ blank-good plan events_max good = record {
 }
 
 -- a history of which nothing is booked is sound
-pub opened-sound : (plan : PlanEntry) (events_max : ℕ) → IsPlan plan → IsSound (opened_by plan events_max)
+pub opened-sound : (plan : PlanEntry) (events_max : ℕ) → IsPlan plan → IsSound (snapshot_after plan events_max)
 opened-sound plan events_max good = begun-sound (blank plan events_max) (blank-good plan events_max good)

@@ -8,7 +8,7 @@ use Rattle.std.proofs.lemmas.Bool.{cases_lt, cases_eq}
 use Rattle.std.proofs.lemmas.Bool.Decides.{nat_tests}
 use Rattle.std.proofs.lemmas.List.Sums.{sum_by-cons}
 use Rattle.plan_text.specs.Entries.{IsPlan}
-use Rattle.judge_core.specs.Delivering.{AreDeliveries}
+use Rattle.judge_core.specs.inner.Delivering.{AreDeliveries}
 use Rattle.dest_queue.specs.declared.SlotState.{SlotState}
 use Rattle.dest_queue.specs.declared.SlotState.TheVariants.{Waiting, InFlight, Delivered, Failed}
 use Rattle.dest_queue.specs.declared.FailCause.TheVariants.{Cancelled}
@@ -18,8 +18,9 @@ use Rattle.event_log.specs.declared.refusal.CancelRefusal.{CancelRefusal}
 use Rattle.event_log.specs.declared.refusal.CancelRefusal.TheVariants.{NoSuchMessage, NothingWaiting}
 use Rattle.event_log.specs.History.{History, accepted, deliveries, followed_by, message_at, message_count, names, plan_in_force, slot, state}
 use Rattle.event_log.specs.Answers.{attempts_max, cancel_answer, mask_where, waits}
-use Rattle.event_log.specs.Room.{in_flight, is_in_flight, message_total, owed, slot_owed, total}
-use Rattle.event_log.specs.Legal.{IsSound, IsWithin}
+use Rattle.event_log.specs.Room.{is_in_flight, message_total, owed, slot_owed, total}
+use Rattle.event_log.specs.inner.Room.{in_flight}
+use Rattle.event_log.specs.inner.Legal.{IsSound, IsWithin}
 use Rattle.event_log.proofs.Following.{accepted-kept, known-kept, legal-followed_by, message_count-same, deliveries-same, plan-kept, slot-same, state-followed_by}
 use Rattle.event_log.proofs.Masks.{mask_where-bits, mask_where-beyond}
 use Rattle.event_log.proofs.Reading.{message-exists, slot-outside}

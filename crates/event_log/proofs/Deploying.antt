@@ -8,7 +8,7 @@ use Rattle.std.specs.Str.{bytes_eq}
 use Rattle.std.proofs.lemmas.Bool.{cases_eq}
 use Rattle.std.proofs.lemmas.Bool.Decides.{nat_tests}
 use Rattle.plan_text.specs.Entries.{ChannelEntry, DestinationEntry, IsPlan, PlanEntry}
-use Rattle.judge_core.specs.Delivering.{AreDeliveries}
+use Rattle.judge_core.specs.inner.Delivering.{AreDeliveries}
 use Rattle.dest_queue.specs.declared.SlotState.{SlotState}
 use Rattle.dest_queue.specs.declared.SlotState.TheVariants.{Waiting, InFlight, Delivered, Failed}
 use Rattle.dest_queue.specs.States.{is_live}
@@ -17,8 +17,9 @@ use Rattle.event_log.specs.declared.refusal.DeployRefusal.TheVariants.{ChannelsD
 use Rattle.event_log.specs.History.{History, accepted, deliveries, followed_by, is_queued, message_count, names, plan_in_force, queue, slot, state}
 use Rattle.event_log.specs.Answers.{attempts_max}
 use Rattle.event_log.specs.Deployment.{deploy_answer, deployments, first_lost, is_lost, same_channels, same_name, stays}
-use Rattle.event_log.specs.Legal.{IsSound, IsWithin}
-use Rattle.event_log.specs.Room.{in_flight, is_in_flight, message_total, owed, slot_owed, total}
+use Rattle.event_log.specs.inner.Legal.{IsSound, IsWithin}
+use Rattle.event_log.specs.Room.{is_in_flight, message_total, owed, slot_owed, total}
+use Rattle.event_log.specs.inner.Room.{in_flight}
 use Rattle.event_log.proofs.Events.{Deployable, deployable-follows}
 use Rattle.event_log.proofs.Following.{accepted-kept, deliveries-same, known-kept, legal-followed_by, message_count-same, plan-followed_by, slot-same, state-followed_by}
 use Rattle.event_log.proofs.Reading.{slot-exists, slot-inside}

@@ -18,7 +18,7 @@ use Rattle.event_log.specs.Answers.{arrival_answer, front_answer, take_answer}
 use Rattle.event_log.specs.Deployment.{deploy_answer}
 use Rattle.event_log.specs.Event.{ArriveRefusal, IsPossible, Does, Event, Refusal, Reply, after, answer, arrive, cancel, deploy, entry_of, event_of, full, next, no_message, settle, take}
 use Rattle.event_log.specs.Legal.{MayFollow}
-use Rattle.event_log.specs.Room.{exceeds, is_full}
+use Rattle.event_log.specs.Room.{is_over_limit, is_full}
 
 -- ---- an arrival, by its room and its answer
 
@@ -53,25 +53,25 @@ arrival-told h conn channel raw told is = by (is_full h channel raw) (arrival_an
 abbrev pub deployment_by : Option DeployRefusal → Bool → Result (Unit {0}) DeployRefusal
 deployment_by refusal past = option_map_or (λ e. Err e) refusal (cond past (Err deploy_refusal.Full) (Ok tt))
 
-pub deployment-answered : (h : History) (plan : PlanEntry) → deploy_answer h plan ≡ None → exceeds h 0 ≡ false → answer h (deploy plan) ≡ Ok tt
-deployment-answered h plan none room = ap (λ o. deployment_by o (exceeds h 0)) none ∙ ap (deployment_by None) room
+pub deployment-answered : (h : History) (plan : PlanEntry) → deploy_answer h plan ≡ None → is_over_limit h 0 ≡ false → answer h (deploy plan) ≡ Ok tt
+deployment-answered h plan none room = ap (λ o. deployment_by o (is_over_limit h 0)) none ∙ ap (deployment_by None) room
 
-pub deployment-full : (h : History) (plan : PlanEntry) → deploy_answer h plan ≡ None → exceeds h 0 ≡ true → answer h (deploy plan) ≡ Err deploy_refusal.Full
-deployment-full h plan none past = ap (λ o. deployment_by o (exceeds h 0)) none ∙ ap (deployment_by None) past
+pub deployment-full : (h : History) (plan : PlanEntry) → deploy_answer h plan ≡ None → is_over_limit h 0 ≡ true → answer h (deploy plan) ≡ Err deploy_refusal.Full
+deployment-full h plan none past = ap (λ o. deployment_by o (is_over_limit h 0)) none ∙ ap (deployment_by None) past
 
 pub deployment-refused : (h : History) (plan : PlanEntry) (e : DeployRefusal) → deploy_answer h plan ≡ Some e → answer h (deploy plan) ≡ Err e
-deployment-refused h plan e some = ap (λ o. deployment_by o (exceeds h 0)) some
+deployment-refused h plan e some = ap (λ o. deployment_by o (is_over_limit h 0)) some
 
 -- what follows of a deployment that is answered
 pub deployment-allowed : (h : History) (plan : PlanEntry) (done : Unit {0}) → answer h (deploy plan) ≡ Ok done → deploy_answer h plan ≡ None
 deployment-allowed h plan done is = by (deploy_answer h plan) is
   where
-    by : (o : Option DeployRefusal) → deployment_by o (exceeds h 0) ≡ Ok done → o ≡ None
+    by : (o : Option DeployRefusal) → deployment_by o (is_over_limit h 0) ≡ Ok done → o ≡ None
     by None e = refl
     by (Some x) e = absurd cc
 
-pub deployment-room : (h : History) (plan : PlanEntry) (done : Unit {0}) → answer h (deploy plan) ≡ Ok done → exceeds h 0 ≡ false
-deployment-room h plan done is = by (deploy_answer h plan) (exceeds h 0) is
+pub deployment-room : (h : History) (plan : PlanEntry) (done : Unit {0}) → answer h (deploy plan) ≡ Ok done → is_over_limit h 0 ≡ false
+deployment-room h plan done is = by (deploy_answer h plan) (is_over_limit h 0) is
   where
     by : (o : Option DeployRefusal) (b : Bool) → deployment_by o b ≡ Ok done → b ≡ false
     by (Some x) b e = absurd cc
@@ -118,7 +118,7 @@ arrivable-follows h conn channel raw reply may = record { possible = may.fits; r
 pub record Deployable (h : History) (plan : PlanEntry) : Type 0 where
   pub good : IsPlan plan
   pub allowed : deploy_answer h plan ≡ None
-  pub room : exceeds h 0 ≡ false
+  pub room : is_over_limit h 0 ≡ false
 
 pub deployable : (h : History) (plan : PlanEntry) → MayFollow h (entry.Deploy plan) → Deployable h plan
 deployable h plan may = record { good = may.possible; allowed = deployment-allowed h plan tt may.replied; room = deployment-room h plan tt may.replied }

@@ -8,7 +8,8 @@ use Rattle.event_log.specs.declared.entry.Entry.{Entry}
 use Rattle.event_log.specs.declared.entry.Entry.TheVariants.{Arrival, Take, Settle, Cancel, Deploy}
 use Rattle.event_log.specs.History.{History, followed_by, next_place}
 use Rattle.event_log.specs.Answers.{cancel_answer, settle_answer, take_answer}
-use Rattle.event_log.specs.Legal.{IsGoodOpening, IsLegal, IsSound, MayFollow}
+use Rattle.event_log.specs.Legal.{IsLegal, MayFollow}
+use Rattle.event_log.specs.inner.Legal.{IsGoodOpening, IsSound}
 use Rattle.event_log.specs.Room.{owed}
 use Rattle.event_log.proofs.Arriving.{arrival-step}
 use Rattle.event_log.proofs.Cancelling.{cancel-owes, cancel-step}

@@ -22,10 +22,10 @@ use Rattle.event_log.specs.declared.refusal.PruneRefusal.TheVariants.{NoSuchMess
 use Rattle.event_log.specs.Alike.{IsAlike, forgotten_by}
 use Rattle.event_log.specs.Answers.{brings, brings_at, has_key, is_kept, keeps, known}
 use Rattle.event_log.specs.Counting.{channel_counts, destination_before, destination_counts, is_delivered, is_failed, slot_count}
-use Rattle.event_log.specs.Folding.{arrivals, folded, forgotten, forgotten_at, forgotten_count, goes_with, is_forgotten, is_live_message, prune_answer, pruned, recalled, told_deliveries, told_slots}
+use Rattle.event_log.specs.Folding.{known_arrivals, folded, forgotten, forgotten_at, forgotten_count, goes_with, is_forgotten, is_live_message, prune_answer, pruned, recalled, told_deliveries, told_slots}
 use Rattle.std.specs.Str.{bytes_eq}
-use Rattle.event_log.specs.History.{Accepted, History, Remembered, deliveries, entry_at, is_numbered, is_queued, message_at, message_count, message_of, names, next_place, queue, remembered_as, slot, state}
-use Rattle.event_log.specs.Legal.{IsSound}
+use Rattle.event_log.specs.History.{Accepted, History, Remembered, deliveries, entry_at, is_numbered, is_queued, message_at, message_count, accepted_of, names, next_place, queue, remembered_as, slot, state}
+use Rattle.event_log.specs.inner.Legal.{IsSound}
 use Rattle.event_log.specs.Room.{is_in_flight}
 use Rattle.event_log.proofs.OneMore.{count-range, filter-range, lt-tells}
 use Rattle.event_log.proofs.Reading.{message-beyond, slot-outside}
@@ -111,7 +111,7 @@ pub all-append : (Q : Remembered → Type 0) (xs ys : List Remembered) → AllBy
 all-append Q [] ys all more = more
 all-append Q (x ∷ xs) ys all more = (all.0, all-append Q xs ys all.1 more)
 
-renewed-all : (h : History) → AllByRecursion (IsRenewed h) (arrivals h)
+renewed-all : (h : History) → AllByRecursion (IsRenewed h) (known_arrivals h)
 renewed-all h =
     subst (AllByRecursion (IsRenewed h)) (sym (arrivals-are h))
     (all-append (IsRenewed h) (map (renewed h) h.opening.remembered) (recalled_all h h.opening.places h.entries) (renewed-map h h.opening.remembered) (renewed-entries h h.opening.places h.entries))
@@ -183,33 +183,33 @@ module _ (h : History) (sound : IsSound h) (bound : ℕ) (may : prune_answer h b
   goes : (n : ℕ) (r : Remembered) → is_of n r ≡ true → is_forgotten h bound r ≡ nat_lt n bound
   goes n r is = ap (goes_with h bound r.place) (numbered-told n r.told is)
 
-  pub remains-of : (n : ℕ) → bound ≤ n → remembered_as (folded bound h) n ≡ find (is_of n) (arrivals h)
+  pub remains-of : (n : ℕ) → bound ≤ n → remembered_as (folded bound h) n ≡ find (is_of n) (known_arrivals h)
   remains-of n from =
       let no : nat_lt n bound ≡ false = grind (arith, nat_tests) in
-      find-kept (is_of n) (λ r. not (is_forgotten h bound r)) (λ r is. ap not (goes n r is ∙ no)) (arrivals h)
+      find-kept (is_of n) (λ r. not (is_forgotten h bound r)) (λ r is. ap not (goes n r is ∙ no)) (known_arrivals h)
 
   gone-of : (n : ℕ) → n < bound → remembered_as (folded bound h) n ≡ None
   gone-of n below =
       let yes : nat_lt n bound ≡ true = grind (arith, nat_tests) in
-      find-dropped (is_of n) (λ r. not (is_forgotten h bound r)) (λ r is. ap not (goes n r is ∙ yes)) (arrivals h)
+      find-dropped (is_of n) (λ r. not (is_forgotten h bound r)) (λ r is. ap not (goes n r is ∙ yes)) (known_arrivals h)
 
   -- an arrival that is found is that of its message
-  found-deliveries : (n : ℕ) (r : Remembered) → find (is_of n) (arrivals h) ≡ Some r → r.deliveries ≡ deliveries h n
+  found-deliveries : (n : ℕ) (r : Remembered) → find (is_of n) (known_arrivals h) ≡ Some r → r.deliveries ≡ deliveries h n
   found-deliveries n r is =
-      let own = found-holds (is_of n) (IsRenewed h) (arrivals h) r (renewed-all h) is in
-      let number = numbered-told n r.told (found-passes (is_of n) (arrivals h) r is) in
+      let own = found-holds (is_of n) (IsRenewed h) (known_arrivals h) r (renewed-all h) is in
+      let number = numbered-told n r.told (found-passes (is_of n) (known_arrivals h) r is) in
       sym (ap (λ x. x.deliveries) own) ∙ ap (told_deliveries h) number
 
-  found-slots : (n : ℕ) (r : Remembered) → find (is_of n) (arrivals h) ≡ Some r → r.slots ≡ map (λ x. record { destination = x.destination; state = state h n x.destination }) (deliveries h n)
+  found-slots : (n : ℕ) (r : Remembered) → find (is_of n) (known_arrivals h) ≡ Some r → r.slots ≡ map (λ x. record { destination = x.destination; state = state h n x.destination }) (deliveries h n)
   found-slots n r is =
-      let own = found-holds (is_of n) (IsRenewed h) (arrivals h) r (renewed-all h) is in
-      let number = numbered-told n r.told (found-passes (is_of n) (arrivals h) r is) in
+      let own = found-holds (is_of n) (IsRenewed h) (known_arrivals h) r (renewed-all h) is in
+      let number = numbered-told n r.told (found-passes (is_of n) (known_arrivals h) r is) in
       sym (ap (λ x. x.slots) own) ∙ ap (told_slots h) number
 
-  pub found-message : (n : ℕ) → option_map message_of (find (is_of n) (arrivals h)) ≡ message_at h n
-  found-message n = by (find (is_of n) (arrivals h)) (message_at h n) refl refl (recalled-message h sound n)
+  pub found-message : (n : ℕ) → option_map accepted_of (find (is_of n) (known_arrivals h)) ≡ message_at h n
+  found-message n = by (find (is_of n) (known_arrivals h)) (message_at h n) refl refl (recalled-message h sound n)
     where
-      by : (o : Option Remembered) (q : Option Accepted) → find (is_of n) (arrivals h) ≡ o → message_at h n ≡ q → option_map what_came o ≡ option_map what_is q → option_map message_of o ≡ q
+      by : (o : Option Remembered) (q : Option Accepted) → find (is_of n) (known_arrivals h) ≡ o → message_at h n ≡ q → option_map what_came o ≡ option_map what_is q → option_map accepted_of o ≡ q
       by None None found there same = refl
       by None (Some m) found there same = absurd cc
       by (Some r) None found there same = absurd cc
@@ -221,7 +221,7 @@ module _ (h : History) (sound : IsSound h) (bound : ℕ) (may : prune_answer h b
   -- a message that isn't forgotten is as it was
   pub message-kept : (n : ℕ) → bound ≤ n → message_at (pruned bound h) n ≡ message_at h n
   message-kept n from = elim (lt-tells n (message_count h)) [
-    | inl w ↦ rw w.0 (ap (option_map message_of) (remains-of n from) ∙ found-message n)
+    | inl w ↦ rw w.0 (ap (option_map accepted_of) (remains-of n from) ∙ found-message n)
     | inr w ↦ rw w.0 (sym (message-beyond h n w.1))
   ]
 
@@ -229,22 +229,22 @@ module _ (h : History) (sound : IsSound h) (bound : ℕ) (may : prune_answer h b
   message-gone n below =
       let enough = few in
       let before : nat_lt n (message_count h) ≡ true = grind (arith, nat_tests) in
-      ap (λ b. cond b (option_map message_of (remembered_as (folded bound h) n)) (slice_get [] (n - message_count h))) before ∙ ap (option_map message_of) (gone-of n below)
+      ap (λ b. cond b (option_map accepted_of (remembered_as (folded bound h) n)) (slice_get [] (n - message_count h))) before ∙ ap (option_map accepted_of) (gone-of n below)
 
   -- so is its slot
   pub slot-kept : (n d : ℕ) → bound ≤ n → slot (pruned bound h) n d ≡ slot h n d
   slot-kept n d from =
       ap (λ o. cond (names d (option_map_or (λ m. m.deliveries) o [])) (Some (state (pruned bound h) n d)) None) (message-kept n from)
       ∙ cond-same (names d (deliveries h n)) (state (pruned bound h) n d) (state h n d)
-      (λ named. ap (λ o. option_map_or (λ r. option_map_or (λ s. s) (state_at d r.slots) (Waiting 0 0)) o (Waiting 0 0)) (remains-of n from) ∙ by (find (is_of n) (arrivals h)) refl named)
+      (λ named. ap (λ o. option_map_or (λ r. option_map_or (λ s. s) (state_at d r.slots) (Waiting 0 0)) o (Waiting 0 0)) (remains-of n from) ∙ by (find (is_of n) (known_arrivals h)) refl named)
     where
-      by : (o : Option Remembered) → find (is_of n) (arrivals h) ≡ o → names d (deliveries h n) ≡ true
+      by : (o : Option Remembered) → find (is_of n) (known_arrivals h) ≡ o → names d (deliveries h n) ≡ true
           → option_map_or (λ r. option_map_or (λ s. s) (state_at d r.slots) (Waiting 0 0)) o (Waiting 0 0) ≡ state h n d
       by (Some r) found named =
           ap (λ slots. option_map_or (λ s. s) (state_at d slots) (Waiting 0 0)) (found-slots n r found)
           ∙ ap (λ o. option_map_or (λ s. s) o (Waiting 0 0)) (state-named (state h n) d (deliveries h n) named)
       by None found named =
-          let none : message_at h n ≡ None = sym (found-message n) ∙ ap (option_map message_of) found in
+          let none : message_at h n ≡ None = sym (found-message n) ∙ ap (option_map accepted_of) found in
           let unnamed : names d (deliveries h n) ≡ false = ap (λ o. names d (option_map_or (λ m. m.deliveries) o [])) none in
           absurd cc
 
@@ -330,22 +330,22 @@ module _ (h : History) (sound : IsSound h) (bound : ℕ) (may : prune_answer h b
       rw since (slice_get_past h.entries (place - h.opening.places) (omega arith))
 
   key-same : (key : List ℕ) → (forgotten_by bound h).keys key ≡ false → known (pruned bound h) key ≡ known h key
-  key-same key apart = some (option_map (λ r. r.place) (find (has_key key) (filter (λ r. not (is_forgotten h bound r)) (arrivals h)))) ∙ (ap (option_map (λ r. r.place)) (find-remaining (has_key key) (is_forgotten h bound) (arrivals h) apart) ∙ sym (known-arrivals h key))
+  key-same key apart = some (option_map (λ r. r.place) (find (has_key key) (filter (λ r. not (is_forgotten h bound r)) (known_arrivals h)))) ∙ (ap (option_map (λ r. r.place)) (find-remaining (has_key key) (is_forgotten h bound) (known_arrivals h) apart) ∙ sym (known-arrivals h key))
     where
       some : (o : Option ℕ) → option_map_or (λ place. Some place) o (option_map (λ k. next_place h + k) (position (keeps key) [])) ≡ o
       some None = refl
       some (Some place) = refl
 
   bytes-same : (key raw : List ℕ) (place : ℕ) → (forgotten_by bound h).keys key ≡ false → known h key ≡ Some place → brings_at (pruned bound h) raw place ≡ brings_at h raw place
-  bytes-same key raw place apart is = by (find (has_key key) (arrivals h)) refl (sym (known-arrivals h key) ∙ is)
+  bytes-same key raw place apart is = by (find (has_key key) (known_arrivals h)) refl (sym (known-arrivals h key) ∙ is)
     where
-      by : (o : Option Remembered) → find (has_key key) (arrivals h) ≡ o → option_map (λ r. r.place) o ≡ Some place → brings_at (pruned bound h) raw place ≡ brings_at h raw place
+      by : (o : Option Remembered) → find (has_key key) (known_arrivals h) ≡ o → option_map (λ r. r.place) o ≡ Some place → brings_at (pruned bound h) raw place ≡ brings_at h raw place
       by None found at = absurd cc
       by (Some r) found at =
           let same : r.place ≡ place = cc in
-          let kept = filter (λ r. not (is_forgotten h bound r)) (arrivals h) in
+          let kept = filter (λ r. not (is_forgotten h bound r)) (known_arrivals h) in
           subst (λ p. brings_at (pruned bound h) raw p ≡ brings_at h raw p) same
-          ((λ i. found-brought (has_key key) raw 0 kept r (rising-filter (λ r. not (is_forgotten h bound r)) 0 (arrivals h) (arrivals-rise h sound)) (find-remaining (has_key key) (is_forgotten h bound) (arrivals h) apart ∙ found) i
+          ((λ i. found-brought (has_key key) raw 0 kept r (rising-filter (λ r. not (is_forgotten h bound r)) 0 (known_arrivals h) (arrivals-rise h sound)) (find-remaining (has_key key) (is_forgotten h bound) (known_arrivals h) apart ∙ found) i
           || option_map_or (brings raw) (none-held r.place i) false)
           ∙ (or-none (bytes_eq raw r.raw) ∙ sym (brings-arrival h sound key raw r found)))
 

@@ -4,15 +4,17 @@ use Rattle.std.specs.Prelude.{All, count_by}
 use Rattle.std.specs.List.{range_with_len}
 use Rattle.std.proofs.lemmas.List.FromFn.{get_or-map-range_with_len, length-map-range_with_len}
 use Rattle.std.proofs.lemmas.List.Sums.{count_by-le-length, sum_by-cons}
-use Rattle.stat_count.specs.Statistics.{no_arrivals, no_slots, slots_of}
+use Rattle.stat_count.specs.Statistics.{no_arrivals, no_slots}
+use Rattle.stat_count.specs.inner.Statistics.{slots_of}
 use Rattle.event_log.specs.declared.entry.Entry.{Entry}
 use Rattle.event_log.specs.declared.entry.Entry.TheVariants.{Arrival, Take, Settle, Cancel, Deploy}
 use Rattle.event_log.specs.declared.entry.Told.{Told}
 use Rattle.event_log.specs.declared.entry.Told.TheVariants as told
 use Rattle.event_log.specs.Counting.{channel_counts, destination_counts, is_accepted, is_delivered, is_filtered, is_refused, is_repeat, is_take_at, is_told}
 use Rattle.event_log.specs.Folding.{forgotten, forgotten_at, prune_answer, pruned}
-use Rattle.event_log.specs.History.{History, forgotten_messages, next_place}
-use Rattle.event_log.specs.Legal.{AreForgotten, IsSound}
+use Rattle.event_log.specs.History.{History, next_place}
+use Rattle.event_log.specs.inner.History.{forgotten_messages}
+use Rattle.event_log.specs.inner.Legal.{AreForgotten, IsSound}
 use Rattle.event_log.proofs.FoldedAlike.{slots-split}
 use Rattle.event_log.proofs.FoldedGood.{accepted-few, prunings-left}
 use Rattle.event_log.proofs.Forgetting.{gone-after, gone-few}

@@ -10,8 +10,9 @@ use Rattle.event_log.specs.declared.entry.Entry.{Entry}
 use Rattle.event_log.specs.declared.refusal.PruneRefusal.TheVariants.{NoSuchMessage, StillLive, TooMany}
 use Rattle.event_log.specs.Counting.{destination_counts}
 use Rattle.event_log.specs.Folding.{folded, forgotten, is_live_message, prune_answer, pruned}
-use Rattle.event_log.specs.History.{Accepted, History, accepted_by, accepted_from, forgotten_messages, message_count, next_place, plan_after}
-use Rattle.event_log.specs.Legal.{AreForgotten, IsGoodOpening, IsSound}
+use Rattle.event_log.specs.History.{Accepted, History, accepted_by, accepted_from, message_count, next_place, plan_after}
+use Rattle.event_log.specs.inner.History.{forgotten_messages}
+use Rattle.event_log.specs.inner.Legal.{AreForgotten, IsGoodOpening, IsSound}
 use Rattle.event_log.proofs.FoldedAlike.{destination-same}
 use Rattle.event_log.proofs.Forgetting.{in-turn-folded}
 use Rattle.event_log.proofs.Memories.{folded-memories, folded-owed, folded-places}

@@ -14,9 +14,10 @@ use Rattle.event_log.specs.declared.entry.Entry.{Entry}
 use Rattle.event_log.specs.declared.entry.Told.TheVariants as told
 use Rattle.event_log.specs.declared.entry.Entry.TheVariants.{Arrival, Take, Settle, Cancel, Deploy}
 use Rattle.plan_text.specs.Entries.{PlanEntry}
-use Rattle.event_log.specs.History.{Accepted, History, Opening, accepted, accepted_by, accepted_from, before, deliveries, deployed, deployed_by, entry_at, first_state, followed_by, last_from, message_at, message_count, message_of, named, names, next_place, numbers, plan_after, plan_in_force, remaining, remembered_as, slot, state, state_by}
+use Rattle.event_log.specs.History.{Accepted, History, Snapshot, accepted, accepted_by, accepted_from, before, deliveries, deployed, deployed_by, entry_at, first_state, followed_by, last_from, message_at, message_count, accepted_of, names, next_place, numbers, plan_after, plan_in_force, remaining, remembered_as, slot, state, state_by}
+use Rattle.event_log.specs.inner.History.{named}
 use Rattle.event_log.specs.Answers.{keeps, known, known_before}
-use Rattle.event_log.specs.Counting.{is_acceptance}
+use Rattle.event_log.specs.inner.Counting.{is_acceptance}
 use Rattle.event_log.specs.Deployment.{deployments}
 use Rattle.event_log.specs.Legal.{IsLegal, MayFollow}
 use Rattle.event_log.proofs.Masks.{range-push}
@@ -255,8 +256,8 @@ module _ (h h' : History) (opening : h'.opening ≡ h.opening) (same : accepted 
   -- each of them
   pub message-same : (n : ℕ) → message_at h' n ≡ message_at h n
   message-same n =
-      ap (λ o. if nat_lt n o.messages then option_map message_of (remembered_as o n) else slice_get (accepted h') (n - o.messages)) opening
-      ∙ ap (λ ms. if nat_lt n h.opening.messages then option_map message_of (remembered_as h.opening n) else slice_get ms (n - h.opening.messages)) same
+      ap (λ o. if nat_lt n o.messages then option_map accepted_of (remembered_as o n) else slice_get (accepted h') (n - o.messages)) opening
+      ∙ ap (λ ms. if nat_lt n h.opening.messages then option_map accepted_of (remembered_as h.opening n) else slice_get ms (n - h.opening.messages)) same
 
   -- those that are not forgotten
   pub remaining-same : remaining h' ≡ remaining h
@@ -314,20 +315,20 @@ module _ (h h' : History) (opening : h'.opening ≡ h.opening) (m : Accepted) (l
       ∙ omega (arith, length-append (accepted h) (m ∷ [])))
 
   -- message n, with these messages since the opening
-  abbrev since : ℕ → Opening → List Accepted → Option Accepted
-  since n o ms = if nat_lt n o.messages then option_map message_of (remembered_as o n) else slice_get ms (n - o.messages)
+  abbrev since : ℕ → Snapshot → List Accepted → Option Accepted
+  since n o ms = if nat_lt n o.messages then option_map accepted_of (remembered_as o n) else slice_get ms (n - o.messages)
 
   -- the others are as they were
   pub message-older : (n : ℕ) → n ≢ message_count h → message_at h' n ≡ message_at h n
   message-older n apart =
       ap (λ o. since n o (accepted h')) opening ∙ (ap (since n h.opening) longer
-      ∙ other-message h.opening.messages n (option_map message_of (remembered_as h.opening n)) (accepted h) m apart)
+      ∙ other-message h.opening.messages n (option_map accepted_of (remembered_as h.opening n)) (accepted h) m apart)
 
   -- the new one has the next number
   pub message-newest : message_at h' (message_count h) ≡ Some m
   message-newest =
       ap (λ o. since (message_count h) o (accepted h')) opening ∙ (ap (since (message_count h) h.opening) longer
-      ∙ new-message h.opening.messages (message_count h) (option_map message_of (remembered_as h.opening (message_count h))) (accepted h) m refl)
+      ∙ new-message h.opening.messages (message_count h) (option_map accepted_of (remembered_as h.opening (message_count h))) (accepted h) m refl)
 
   -- it is not forgotten
   pub remaining-longer : remaining h' ≡ remaining h ++ message_count h ∷ []

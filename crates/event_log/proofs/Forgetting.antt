@@ -10,8 +10,9 @@ use Rattle.dest_queue.specs.declared.SlotState.{SlotState}
 use Rattle.dest_queue.specs.declared.SlotState.TheVariants.{Waiting, InFlight, Delivered, Failed}
 use Rattle.event_log.specs.Counting.{is_delivered, is_failed}
 use Rattle.event_log.specs.Folding.{forgotten_count, prune_answer, pruned}
-use Rattle.event_log.specs.History.{Accepted, History, accepted, begun, forgotten_messages, message_at, message_count, names, numbers, slot, state}
-use Rattle.event_log.specs.Legal.{IsSound}
+use Rattle.event_log.specs.History.{Accepted, History, accepted, begun, message_at, message_count, names, numbers, slot, state}
+use Rattle.event_log.specs.inner.History.{forgotten_messages}
+use Rattle.event_log.specs.inner.Legal.{IsSound}
 use Rattle.event_log.proofs.FoldedAlike.{count-split, few, message-gone, message-kept, range-split, same-count}
 use Rattle.event_log.proofs.OneMore.{count-range, lt-tells}
 

@@ -11,9 +11,10 @@ use Rattle.judge_core.specs.Judging.{key_of}
 use Rattle.event_log.specs.declared.entry.Told.{Told}
 use Rattle.event_log.specs.declared.entry.Told.TheVariants as told
 use Rattle.event_log.specs.Answers.{has_key, is_kept, known}
-use Rattle.event_log.specs.Folding.{arrival_place, arrivals, goes_with, is_forgotten, prune_answer, pruned}
-use Rattle.event_log.specs.History.{History, Remembered, message_at, message_count, message_of, next_place, number_of, plan_in_force}
-use Rattle.event_log.specs.Legal.{IsMemory, IsSound}
+use Rattle.event_log.specs.Folding.{arrival_place, known_arrivals, goes_with, is_forgotten, prune_answer, pruned}
+use Rattle.event_log.specs.History.{History, Remembered, message_at, message_count, accepted_of, next_place, plan_in_force}
+use Rattle.event_log.specs.inner.History.{number_of}
+use Rattle.event_log.specs.inner.Legal.{IsMemory, IsSound}
 use Rattle.event_log.proofs.FoldedAlike.{found-holds, found-message, found-passes, numbered-told}
 use Rattle.event_log.proofs.Forgetting.{in-turn}
 use Rattle.event_log.proofs.Memories.{arrivals-good}
@@ -100,48 +101,48 @@ also-found p q (x ∷ rs) r is passes = by (p x) (q x) refl (λ e. also-found p 
     by true false at rest e = let same : x ≡ r = cc in let no = ap q same in absurd cc
     by false false at rest e = rest e
 
-module _ (h : History) (sound : IsSound h) (bound : ℕ) (may : prune_answer h bound ≡ None) (p : Remembered → Bool) (r : Remembered) (found : find p (arrivals h) ≡ Some r) where
-  is-there : (o : Option Remembered) (n : ℕ) → find (is_of n) (arrivals h) ≡ o → is_some (message_at h n) ≡ is_some o
-  is-there o n is = ap is_some (sym (found-message h sound bound may n)) ∙ (ap (λ x. is_some (option_map message_of x)) is ∙ by o)
+module _ (h : History) (sound : IsSound h) (bound : ℕ) (may : prune_answer h bound ≡ None) (p : Remembered → Bool) (r : Remembered) (found : find p (known_arrivals h) ≡ Some r) where
+  is-there : (o : Option Remembered) (n : ℕ) → find (is_of n) (known_arrivals h) ≡ o → is_some (message_at h n) ≡ is_some o
+  is-there o n is = ap is_some (sym (found-message h sound bound may n)) ∙ (ap (λ x. is_some (option_map accepted_of x)) is ∙ by o)
     where
-      by : (o : Option Remembered) → is_some (option_map message_of o) ≡ is_some o
+      by : (o : Option Remembered) → is_some (option_map accepted_of o) ≡ is_some o
       by None = refl
       by (Some x) = refl
 
   accepted-goes : (n : ℕ) → r.told ≡ told.Accepted n → nat_lt n bound ≡ nat_lt r.place (arrival_place h bound)
-  accepted-goes n told = by (find (is_of bound) (arrivals h)) refl
+  accepted-goes n told = by (find (is_of bound) (known_arrivals h)) refl
     where
       between : (0 ≤ n) × (n < message_count h)
-      between = number-between p 0 (message_count h) (arrivals h) r n (arrivals-climb h sound bound) found told
+      between = number-between p 0 (message_count h) (known_arrivals h) r n (arrivals-climb h sound bound) found told
 
       own : is_of n r ≡ true
       own = let same : (n == n) ≡ true = grind (arith, nat_tests) in rw told same
 
-      gone : find (is_of bound) (arrivals h) ≡ None → bound < message_count h → nat_lt n bound ≡ false
+      gone : find (is_of bound) (known_arrivals h) ≡ None → bound < message_count h → nat_lt n bound ≡ false
       gone none less = elim (lt-tells n bound) [
         | inl w ↦
             let low = w.1 in
-            let here : is_some (message_at h n) ≡ true = is-there (find (is_of n) (arrivals h)) n refl ∙ also-found p (is_of n) (arrivals h) r found own in
+            let here : is_some (message_at h n) ≡ true = is-there (find (is_of n) (known_arrivals h)) n refl ∙ also-found p (is_of n) (known_arrivals h) r found own in
             let there = in-turn h sound n bound (omega arith) less here in
             let missing = is-there None bound none in absurd cc
         | inr w ↦ w.0
       ]
 
-      by : (o : Option Remembered) → find (is_of bound) (arrivals h) ≡ o → nat_lt n bound ≡ nat_lt r.place (option_map_or (λ r. r.place) o (cond (nat_lt bound (message_count h)) 0 (next_place h)))
-      by (Some b) is = ordered p bound 0 0 (message_count h) (arrivals h) r b n (arrivals-rise h sound) (arrivals-climb h sound bound) found told is
+      by : (o : Option Remembered) → find (is_of bound) (known_arrivals h) ≡ o → nat_lt n bound ≡ nat_lt r.place (option_map_or (λ r. r.place) o (cond (nat_lt bound (message_count h)) 0 (next_place h)))
+      by (Some b) is = ordered p bound 0 0 (message_count h) (known_arrivals h) r b n (arrivals-rise h sound) (arrivals-climb h sound bound) found told is
       by None is = elim (lt-tells bound (message_count h)) [
         | inl w ↦ let never : nat_lt r.place 0 ≡ false = grind (arith, nat_tests) in rw w.0 (gone is w.1 ∙ sym never)
         | inr w ↦
             let all = w.1 in
             let less = between.1 in
-            let within = found-holds p (λ r. r.place < next_place h) (arrivals h) r (arrivals-within h sound) found in
+            let within = found-holds p (λ r. r.place < next_place h) (known_arrivals h) r (arrivals-within h sound) found in
             let yes : nat_lt n bound ≡ true = grind (arith, nat_tests) in
             let before : nat_lt r.place (next_place h) ≡ true = grind (arith, nat_tests) in rw w.0 (yes ∙ sym before)
       ]
 
   -- an arrival is forgotten where it stands before that of the first message that isn't
   pub goes-before : is_forgotten h bound r ≡ nat_lt r.place (arrival_place h bound)
-  goes-before = by r.told refl (found-holds p (IsMemory (plan_in_force h)) (arrivals h) r (arrivals-good h sound) found).kept
+  goes-before = by r.told refl (found-holds p (IsMemory (plan_in_force h)) (known_arrivals h) r (arrivals-good h sound) found).kept
     where
       by : (t : Told) → r.told ≡ t → is_kept r.told ≡ true → is_forgotten h bound r ≡ nat_lt r.place (arrival_place h bound)
       by (told.Accepted n) is kept = ap (goes_with h bound r.place) is ∙ accepted-goes n is
@@ -182,9 +183,9 @@ find-own key keep (r ∷ rs) apart = by (has_key key r) (keep r) refl refl (find
 pub known-pruned : (h : History) → IsSound h → (bound : ℕ) → prune_answer h bound ≡ None → (key : List ℕ)
     → known (pruned bound h) key ≡ option_and_then (λ place. cond (nat_le (arrival_place h bound) place) (Some place) None) (known h key)
 known-pruned h sound bound may key =
-    first (option_map (λ r. r.place) (find (has_key key) (filter (λ r. not (is_forgotten h bound r)) (arrivals h))))
-    ∙ (ap (option_map (λ r. r.place)) (find-own key (λ r. not (is_forgotten h bound r)) (arrivals h) (arrivals-apart h sound))
-    ∙ (by (find (has_key key) (arrivals h)) refl ∙ ap (option_and_then (λ place. cond (nat_le (arrival_place h bound) place) (Some place) None)) (sym (known-arrivals h key))))
+    first (option_map (λ r. r.place) (find (has_key key) (filter (λ r. not (is_forgotten h bound r)) (known_arrivals h))))
+    ∙ (ap (option_map (λ r. r.place)) (find-own key (λ r. not (is_forgotten h bound r)) (known_arrivals h) (arrivals-apart h sound))
+    ∙ (by (find (has_key key) (known_arrivals h)) refl ∙ ap (option_and_then (λ place. cond (nat_le (arrival_place h bound) place) (Some place) None)) (sym (known-arrivals h key))))
   where
     first : (o : Option ℕ) → option_map_or (λ place. Some place) o None ≡ o
     first None = refl
@@ -196,7 +197,7 @@ known-pruned h sound bound may key =
       | inr w ↦ let more = w.1 in let yes : nat_le a b ≡ true = grind (arith, nat_tests) in rw w.0 (sym yes)
     ]
 
-    by : (o : Option Remembered) → find (has_key key) (arrivals h) ≡ o
+    by : (o : Option Remembered) → find (has_key key) (known_arrivals h) ≡ o
         → option_map (λ r. r.place) (option_and_then (λ r. cond (not (is_forgotten h bound r)) (Some r) None) o)
         ≡ option_and_then (λ place. cond (nat_le (arrival_place h bound) place) (Some place) None) (option_map (λ r. r.place) o)
     by None is = refl

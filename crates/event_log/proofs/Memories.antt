@@ -9,7 +9,8 @@ use Rattle.std.proofs.lemmas.List.Elements.{All-from_recursion, recursion_from_A
 use Rattle.mllp_frame.specs.Framing.{IsBlockData}
 use Rattle.plan_text.specs.Entries.{PlanEntry}
 use Rattle.judge_core.specs.declared.delivery.Delivery.{Delivery}
-use Rattle.judge_core.specs.Delivering.{AreDeliveries, destinations_of}
+use Rattle.judge_core.specs.Delivering.{destinations_of}
+use Rattle.judge_core.specs.inner.Delivering.{AreDeliveries}
 use Rattle.dest_queue.specs.declared.SlotState.{SlotState}
 use Rattle.dest_queue.specs.declared.SlotState.TheVariants.{Waiting, InFlight, Delivered, Failed}
 use Rattle.dest_queue.specs.States.{is_live}
@@ -19,9 +20,10 @@ use Rattle.event_log.specs.declared.entry.Entry.TheVariants.{Arrival, Take, Sett
 use Rattle.event_log.specs.declared.entry.Told.{Told}
 use Rattle.event_log.specs.declared.entry.Told.TheVariants as told
 use Rattle.event_log.specs.Answers.{attempts_max, is_kept}
-use Rattle.event_log.specs.Folding.{arrivals, folded, is_forgotten, prune_answer, pruned, recalled, told_deliveries, told_slots}
+use Rattle.event_log.specs.Folding.{known_arrivals, folded, is_forgotten, prune_answer, pruned, recalled, told_deliveries, told_slots}
 use Rattle.event_log.specs.History.{History, Remembered, deliveries, message_count, names, plan_in_force, slot, state}
-use Rattle.event_log.specs.Legal.{IsMemory, IsSound, IsWithin, MayFollow}
+use Rattle.event_log.specs.Legal.{MayFollow}
+use Rattle.event_log.specs.inner.Legal.{IsMemory, IsSound, IsWithin}
 use Rattle.event_log.specs.Room.{message_total, owed, slot_owed, total}
 use Rattle.event_log.proofs.Beginning.{no-deliveries}
 use Rattle.event_log.proofs.FoldedAlike.{all-append, quiet, same-count, slot-gone, slot-kept}
@@ -132,7 +134,7 @@ module _ (h : History) (sound : IsSound h) where
   memories-since a (Deploy plan ∷ es) all = memories-since (a + 1) es all.1
 
   -- each arrival that is kept can be remembered
-  pub arrivals-good : AllByRecursion (IsMemory (plan_in_force h)) (arrivals h)
+  pub arrivals-good : AllByRecursion (IsMemory (plan_in_force h)) (known_arrivals h)
   arrivals-good =
       subst (AllByRecursion (IsMemory (plan_in_force h))) (sym (arrivals-are h))
       (all-append (IsMemory (plan_in_force h)) (map (renewed h) h.opening.remembered) (recalled_all h h.opening.places h.entries)
@@ -141,10 +143,10 @@ module _ (h : History) (sound : IsSound h) where
 
   pub folded-memories : (bound : ℕ) → All (IsMemory (plan_in_force h)) (folded bound h).remembered
   folded-memories bound =
-      All-from_recursion (IsMemory (plan_in_force h)) (folded bound h).remembered (all-filter (IsMemory (plan_in_force h)) (λ r. not (is_forgotten h bound r)) (arrivals h) arrivals-good)
+      All-from_recursion (IsMemory (plan_in_force h)) (folded bound h).remembered (all-filter (IsMemory (plan_in_force h)) (λ r. not (is_forgotten h bound r)) (known_arrivals h) arrivals-good)
 
   pub folded-places : (bound : ℕ) → IsStrictlyIncreasing (map (λ r. r.place) (folded bound h).remembered)
-  folded-places bound = increasing 0 (folded bound h).remembered (rising-filter (λ r. not (is_forgotten h bound r)) 0 (arrivals h) (arrivals-rise h sound))
+  folded-places bound = increasing 0 (folded bound h).remembered (rising-filter (λ r. not (is_forgotten h bound r)) 0 (known_arrivals h) (arrivals-rise h sound))
 
 -- ---- room
 

@@ -9,16 +9,17 @@ use Rattle.std.proofs.lemmas.List.Elements.{All-from_recursion, filter_map-appen
 use Rattle.std.proofs.lemmas.List.Kept.{AllPairs-filter}
 use Rattle.std.proofs.lemmas.List.Quantifiers.{all_pairs_push}
 use Rattle.hl7_head.specs.declared.ack.Cause.TheVariants.{IdReused}
-use Rattle.plan_text.specs.Same.{text_laws}
+use Rattle.plan_text.specs.inner.Same.{text_laws}
 use Rattle.judge_core.specs.Judging.{verdict as decided, is_bookable, key_of}
 use Rattle.event_log.specs.declared.entry.Entry.{Entry}
 use Rattle.event_log.specs.declared.entry.Entry.TheVariants.{Arrival, Take, Settle, Cancel, Deploy}
 use Rattle.event_log.specs.declared.entry.Told.{Told}
 use Rattle.event_log.specs.declared.entry.Told.TheVariants as told
 use Rattle.event_log.specs.Answers.{arrival_answer, brings_at, has_key, is_kept, known, told_again, told_by}
-use Rattle.event_log.specs.Folding.{arrivals, folded, is_forgotten, recalled}
+use Rattle.event_log.specs.Folding.{known_arrivals, folded, is_forgotten, recalled}
 use Rattle.event_log.specs.History.{History, Remembered, begun, followed_by, message_count, plan_in_force}
-use Rattle.event_log.specs.Legal.{IsLegal, IsSound, MayFollow}
+use Rattle.event_log.specs.Legal.{IsLegal, MayFollow}
+use Rattle.event_log.specs.inner.Legal.{IsSound}
 use Rattle.event_log.proofs.Events.{arrival-told}
 use Rattle.event_log.proofs.Following.{follows-since, take-below, take-whole}
 use Rattle.event_log.proofs.Recalling.{arrivals-are, with_more, get-after, recalled_all, renewed}
@@ -63,7 +64,7 @@ keys-entries h a (Cancel number mask ∷ es) = keys-entries h (a + 1) es
 keys-entries h a (Deploy plan ∷ es) = keys-entries h (a + 1) es
 
 -- they are those of the arrivals that are kept
-keys-of : (h : History) → map own_key (arrivals h) ≡ seen h
+keys-of : (h : History) → map own_key (known_arrivals h) ≡ seen h
 keys-of h =
     ap (map own_key) (arrivals-are h)
     ∙ (map-append (map (renewed h) h.opening.remembered) (recalled_all h h.opening.places h.entries)
@@ -96,8 +97,8 @@ unfound key (r ∷ rs) is = by (has_key key r) refl is (λ e. unfound key rs e)
 fresh-key : (h : History) (channel : ℕ) (raw : List ℕ) → known h (key_of channel raw) ≡ None → All (λ k. bytes_eq k (key_of channel raw) ≡ false) (seen h)
 fresh-key h channel raw none =
     subst (All (λ k. bytes_eq k (key_of channel raw) ≡ false)) (keys-of h)
-    (All-from_recursion (λ k. bytes_eq k (key_of channel raw) ≡ false) (map own_key (arrivals h)) (unfound (key_of channel raw) (arrivals h)
-    (by (find (has_key (key_of channel raw)) (arrivals h)) (sym (known-arrivals h (key_of channel raw)) ∙ none))))
+    (All-from_recursion (λ k. bytes_eq k (key_of channel raw) ≡ false) (map own_key (known_arrivals h)) (unfound (key_of channel raw) (known_arrivals h)
+    (by (find (has_key (key_of channel raw)) (known_arrivals h)) (sym (known-arrivals h (key_of channel raw)) ∙ none))))
   where
     by : (o : Option Remembered) → option_map (λ r. r.place) o ≡ None → o ≡ None
     by None is = refl
@@ -151,13 +152,13 @@ module _ (h : History) (sound : IsSound h) where
       let earlier : i < length h.opening.remembered = omega arith in
       (λ t. bytes_eq (get_or-map own_key h.opening.remembered i dummy d earlier t) (get_or-map own_key h.opening.remembered j dummy d later t)) ∙ sound.opening.keys i j dummy before later
 
-  pub arrivals-apart : AllPairs (λ r s. has_key (key_of r.channel r.raw) s ≡ false) (arrivals h)
+  pub arrivals-apart : AllPairs (λ r s. has_key (key_of r.channel r.raw) s ≡ false) (known_arrivals h)
   arrivals-apart i j d before inside =
-      let all : AreApart (map own_key (arrivals h)) = subst AreApart (sym (keys-of h)) (apart-on (begun h.opening) h.entries sound.legal (subst AreApart (sym (append-nil (map own_key h.opening.remembered))) apart-before)) in
-      let many = length-map (arrivals h) own_key in
-      let low : j < length (map own_key (arrivals h)) = omega arith in
-      let earlier : i < length (arrivals h) = omega arith in
-      (λ t. bytes_eq (sym (get_or-map own_key (arrivals h) i d (own_key d) earlier) t) (sym (get_or-map own_key (arrivals h) j d (own_key d) inside) t)) ∙ all i j (own_key d) before low
+      let all : AreApart (map own_key (known_arrivals h)) = subst AreApart (sym (keys-of h)) (apart-on (begun h.opening) h.entries sound.legal (subst AreApart (sym (append-nil (map own_key h.opening.remembered))) apart-before)) in
+      let many = length-map (known_arrivals h) own_key in
+      let low : j < length (map own_key (known_arrivals h)) = omega arith in
+      let earlier : i < length (known_arrivals h) = omega arith in
+      (λ t. bytes_eq (sym (get_or-map own_key (known_arrivals h) i d (own_key d) earlier) t) (sym (get_or-map own_key (known_arrivals h) j d (own_key d) inside) t)) ∙ all i j (own_key d) before low
 
   pub folded-keys : (bound : ℕ) → AllPairs (λ r s. has_key (key_of r.channel r.raw) s ≡ false) (folded bound h).remembered
-  folded-keys bound = AllPairs-filter (λ r s. has_key (key_of r.channel r.raw) s ≡ false) (λ r. not (is_forgotten h bound r)) (arrivals h) arrivals-apart
+  folded-keys bound = AllPairs-filter (λ r s. has_key (key_of r.channel r.raw) s ≡ false) (λ r. not (is_forgotten h bound r)) (known_arrivals h) arrivals-apart

@@ -8,9 +8,10 @@ use Rattle.plan_text.specs.Entries.{PlanEntry}
 use Rattle.event_log.specs.declared.entry.Entry.{Entry}
 use Rattle.event_log.specs.declared.entry.Entry.TheVariants.{Arrival, Take, Settle, Cancel, Deploy}
 use Rattle.event_log.specs.declared.entry.Told.TheVariants as told
-use Rattle.event_log.specs.Folding.{arrivals, folded, is_forgotten}
-use Rattle.event_log.specs.History.{History, Remembered, accepted_from, message_count, number_of}
-use Rattle.event_log.specs.Legal.{IsSound}
+use Rattle.event_log.specs.Folding.{known_arrivals, folded, is_forgotten}
+use Rattle.event_log.specs.History.{History, Remembered, accepted_from, message_count}
+use Rattle.event_log.specs.inner.History.{number_of}
+use Rattle.event_log.specs.inner.Legal.{IsSound}
 use Rattle.event_log.proofs.Recalling.{Numbered, arrivals-are, less-zero, numbered-legal, recalled_all, renewed}
 
 -- numbers rise, from a lowest on and below a bound
@@ -92,7 +93,7 @@ climbing-filter keep low high (r ∷ rs) climb = by (keep r) (number_of r) refl 
 
 module _ (h : History) (sound : IsSound h) (bound : ℕ) where
   -- those of all arrivals that are kept
-  pub arrivals-climb : Climbing 0 (message_count h) (filter_map number_of (arrivals h))
+  pub arrivals-climb : Climbing 0 (message_count h) (filter_map number_of (known_arrivals h))
   arrivals-climb =
       subst (Climbing 0 (message_count h))
       (sym (ap (filter_map number_of) (arrivals-are h)
@@ -104,7 +105,7 @@ module _ (h : History) (sound : IsSound h) (bound : ℕ) where
       (climbing-entries h h.opening.messages h.opening.places h.opening.plan h.entries (numbered-legal h sound.legal)))
 
   pub climbing : Climbing 0 (message_count h) (filter_map number_of (folded bound h).remembered)
-  climbing = climbing-filter (λ r. not (is_forgotten h bound r)) 0 (message_count h) (arrivals h) arrivals-climb
+  climbing = climbing-filter (λ r. not (is_forgotten h bound r)) 0 (message_count h) (known_arrivals h) arrivals-climb
 
   pub folded-numbers : IsStrictlyIncreasing (filter_map number_of (folded bound h).remembered)
   folded-numbers = climbing-rises 0 (message_count h) (filter_map number_of (folded bound h).remembered) climbing

@@ -3,7 +3,8 @@ use Rattle.std.proofs.Common.{◌≡◌, ℕ, ◌+◌, ◌<◌, ◌≤◌, true,
 use Rattle.std.specs.Prelude.{slice_get}
 use Rattle.std.specs.Cmp.Lexicographic.{pointwise}
 use Rattle.plan_text.specs.Entries.{ChannelEntry}
-use Rattle.event_log.specs.Deployment.{same_at, same_name}
+use Rattle.event_log.specs.Deployment.{same_name}
+use Rattle.event_log.specs.inner.Deployment.{same_at}
 
 -- what is left of them is alike where the next are, and the rest
 next-alike : (xs ys : List ChannelEntry) (i : ℕ) → length xs ≡ length ys → i < length xs

@@ -12,7 +12,7 @@ use Rattle.dest_queue.specs.States.{is_live}
 use Rattle.stat_count.specs.declared.ChannelCounts.{ChannelCounts}
 use Rattle.event_log.specs.declared.entry.Told.{Told}
 use Rattle.event_log.specs.declared.entry.Entry.{Entry}
-use Rattle.event_log.specs.History.{Accepted, History, accepted, accepted_by, deliveries, deployed, deployed_by, entry_at, followed_by, is_queued, message_at, message_count, message_of, names, next_place, numbers, plan_in_force, queue, remembered_as, slot, state, state_by}
+use Rattle.event_log.specs.History.{Accepted, History, accepted, accepted_by, deliveries, deployed, deployed_by, entry_at, followed_by, is_queued, message_at, message_count, accepted_of, names, next_place, numbers, plan_in_force, queue, remembered_as, slot, state, state_by}
 use Rattle.event_log.specs.Counting.{channel_before, channel_counts, is_accepted, is_filtered, is_refused, is_repeat, is_told, slot_count, told_count}
 use Rattle.event_log.specs.Deployment.{deployments}
 use Rattle.event_log.proofs.Following.{accepted-followed_by, deployed-followed_by, state-followed_by}
@@ -181,8 +181,8 @@ count-followed_by h e =
 -- message n is that which the entry brings, or as it was
 pub message-followed_by : (h : History) (e : Entry) (n : ℕ) → message_at (followed_by h e) n ≡ cond (n == message_count h) (accepted_by (plan_in_force h) e) (message_at h n)
 message-followed_by h e n =
-    ap (λ ms. cond (nat_lt n h.opening.messages) (option_map message_of (remembered_as h.opening n)) (slice_get ms (n - h.opening.messages))) (accepted-followed_by h e)
-    ∙ get-since (option_map message_of (remembered_as h.opening n)) (accepted h) (accepted_by (plan_in_force h) e) h.opening.messages n
+    ap (λ ms. cond (nat_lt n h.opening.messages) (option_map accepted_of (remembered_as h.opening n)) (slice_get ms (n - h.opening.messages))) (accepted-followed_by h e)
+    ∙ get-since (option_map accepted_of (remembered_as h.opening n)) (accepted h) (accepted_by (plan_in_force h) e) h.opening.messages n
 
 -- an entry that brings no message leaves as many
 pub count-unmoved : (h : History) (e : Entry) → accepted_by (plan_in_force h) e ≡ None → message_count (followed_by h e) ≡ message_count h

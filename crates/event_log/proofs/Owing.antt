@@ -12,7 +12,7 @@ use Rattle.plan_text.specs.Entries.{PlanEntry}
 use Rattle.judge_core.specs.declared.delivery.Delivery.{Delivery}
 use Rattle.judge_core.specs.Delivering.{destinations_of}
 use Rattle.event_log.specs.Answers.{attempts_max}
-use Rattle.event_log.specs.Room.{own_owed}
+use Rattle.event_log.specs.Room.{committed_by_new}
 
 -- destinations are apart where their deliveries are
 once-apart : (deliveries : List Delivery) → AllPairs (λ x y. x.destination ≢ y.destination) deliveries → AllPairs (λ d e. d ≢ e) (destinations_of deliveries)
@@ -39,8 +39,8 @@ few-deliveries deliveries within once =
     omega (arith, length-map deliveries (λ (x : Delivery). x.destination))
 
 -- one more delivery owes its part
-pub own_owed-more : (plan : PlanEntry) (deliveries : List Delivery) (i : ℕ) (x : Delivery) → i < length deliveries → x ≡ get_or deliveries i x
-    → own_owed plan (destinations_of (take (i + 1) deliveries)) ≡ own_owed plan (destinations_of (take i deliveries)) + (2 * attempts_max plan x.destination + 1)
-own_owed-more plan deliveries i x inside is =
-    ap (own_owed plan) (map_more (λ y. y.destination) deliveries i x inside ∙ ap (λ y. destinations_of (take i deliveries) ++ y.destination ∷ []) (sym is))
+pub committed_by_new-more : (plan : PlanEntry) (deliveries : List Delivery) (i : ℕ) (x : Delivery) → i < length deliveries → x ≡ get_or deliveries i x
+    → committed_by_new plan (destinations_of (take (i + 1) deliveries)) ≡ committed_by_new plan (destinations_of (take i deliveries)) + (2 * attempts_max plan x.destination + 1)
+committed_by_new-more plan deliveries i x inside is =
+    ap (committed_by_new plan) (map_more (λ y. y.destination) deliveries i x inside ∙ ap (λ y. destinations_of (take i deliveries) ++ y.destination ∷ []) (sym is))
     ∙ sum_by_push (λ d. 2 * attempts_max plan d + 1) (destinations_of (take i deliveries)) x.destination

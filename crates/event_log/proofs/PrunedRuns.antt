@@ -10,9 +10,9 @@ use Rattle.event_log.specs.declared.entry.Entry.{Entry}
 use Rattle.event_log.specs.declared.entry.Entry.TheVariants.{Arrival, Take, Settle, Cancel, Deploy}
 use Rattle.event_log.specs.Alike.{forgotten_by}
 use Rattle.event_log.specs.Answers.{is_kept}
-use Rattle.event_log.specs.Folding.{arrivals, folded, is_forgotten, prune_answer, pruned, recalled}
+use Rattle.event_log.specs.Folding.{known_arrivals, folded, is_forgotten, prune_answer, pruned, recalled}
 use Rattle.event_log.specs.History.{History, Remembered, message_count, next_place, remembered_as, state}
-use Rattle.event_log.specs.Legal.{IsSound}
+use Rattle.event_log.specs.inner.Legal.{IsSound}
 use Rattle.event_log.proofs.FoldedAlike.{all-append, pruned-alike, remains-of, same-count, few}
 use Rattle.event_log.proofs.Reading.{message-beyond}
 use Rattle.event_log.proofs.Recalling.{arrivals-are, is_of, recalled-message, recalled_all, renewed, what_came, what_is}
@@ -45,7 +45,7 @@ within-entries h a high (Settle outcome ticket now state ∷ es) less = within-e
 within-entries h a high (Cancel number mask ∷ es) less = within-entries h (a + 1) high es (omega arith)
 within-entries h a high (Deploy plan ∷ es) less = within-entries h (a + 1) high es (omega arith)
 
-pub arrivals-within : (h : History) → IsSound h → AllByRecursion (λ r. r.place < next_place h) (arrivals h)
+pub arrivals-within : (h : History) → IsSound h → AllByRecursion (λ r. r.place < next_place h) (known_arrivals h)
 arrivals-within h sound =
     subst (AllByRecursion (λ r. r.place < next_place h)) (sym (arrivals-are h))
     (all-append (λ r. r.place < next_place h) (map (renewed h) h.opening.remembered) (recalled_all h h.opening.places h.entries)
@@ -53,14 +53,14 @@ arrivals-within h sound =
     (within-entries h h.opening.places (next_place h) h.entries (omega arith)))
 
 module _ (h : History) (sound : IsSound h) (bound : ℕ) (may : prune_answer h bound ≡ None) where
-  pub remaining-within : AllByRecursion (λ r. r.place < next_place h) (filter (λ r. not (is_forgotten h bound r)) (arrivals h))
-  remaining-within = all-filter (λ r. r.place < next_place h) (λ r. not (is_forgotten h bound r)) (arrivals h) (arrivals-within h sound)
+  pub remaining-within : AllByRecursion (λ r. r.place < next_place h) (filter (λ r. not (is_forgotten h bound r)) (known_arrivals h))
+  remaining-within = all-filter (λ r. r.place < next_place h) (λ r. not (is_forgotten h bound r)) (known_arrivals h) (arrivals-within h sound)
 
   -- no message to come is remembered
   pub unremembered : (n : ℕ) → message_count h ≤ n → remembered_as (folded bound h) n ≡ None
   unremembered n beyond =
       let enough = few h sound bound may in
-      remains-of h sound bound may n (omega arith) ∙ by (find (is_of n) (arrivals h)) (recalled-message h sound n ∙ ap (option_map what_is) (message-beyond h n beyond))
+      remains-of h sound bound may n (omega arith) ∙ by (find (is_of n) (known_arrivals h)) (recalled-message h sound n ∙ ap (option_map what_is) (message-beyond h n beyond))
     where
       by : (o : Option Remembered) → option_map what_came o ≡ None → o ≡ None
       by None is = refl

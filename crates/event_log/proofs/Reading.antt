@@ -13,10 +13,12 @@ use Rattle.plan_text.specs.Entries.{PlanEntry}
 use Rattle.judge_core.specs.declared.delivery.Delivery.{Delivery}
 use Rattle.dest_queue.specs.declared.SlotState.{SlotState}
 use Rattle.dest_queue.specs.States.{is_live}
-use Rattle.event_log.specs.History.{History, accepted, deliveries, is_queued, message_at, message_count, names, numbers, opened_by, queue, slot, state}
+use Rattle.event_log.specs.History.{History, accepted, deliveries, is_queued, message_at, message_count, names, numbers, queue, slot, state}
+use Rattle.event_log.specs.inner.History.{snapshot_after}
 use Rattle.event_log.specs.Answers.{known}
-use Rattle.event_log.specs.Room.{in_flight, owed, total}
-use Rattle.event_log.specs.Legal.{IsSound}
+use Rattle.event_log.specs.Room.{owed, total}
+use Rattle.event_log.specs.inner.Room.{in_flight}
+use Rattle.event_log.specs.inner.Legal.{IsSound}
 
 -- one number is below another, or it is not
 below-or-not : (a b : ℕ) → (a < b) ⊎ (b ≤ a)
@@ -109,15 +111,15 @@ pub queue-rises : (h : History) (d : ℕ) → IsStrictlyIncreasing (queue h d)
 queue-rises h d = IsStrictlyIncreasing-filter (is_queued h d) (numbers h) (range-rises 0 (message_count h))
 
 -- nothing is owed at first
-pub opened-owed : (plan : PlanEntry) (events_max : ℕ) → owed (opened_by plan events_max) ≡ 0
+pub opened-owed : (plan : PlanEntry) (events_max : ℕ) → owed (snapshot_after plan events_max) ≡ 0
 unfolding total
 opened-owed plan events_max = refl
 
 -- nothing is under way at first
-pub opened-in_flight : (plan : PlanEntry) (events_max : ℕ) → in_flight (opened_by plan events_max) ≡ 0
+pub opened-in_flight : (plan : PlanEntry) (events_max : ℕ) → in_flight (snapshot_after plan events_max) ≡ 0
 unfolding total
 opened-in_flight plan events_max = refl
 
 -- no key is known at first
-pub opened-known : (plan : PlanEntry) (events_max : ℕ) (key : List ℕ) → known (opened_by plan events_max) key ≡ None
+pub opened-known : (plan : PlanEntry) (events_max : ℕ) (key : List ℕ) → known (snapshot_after plan events_max) key ≡ None
 opened-known plan events_max key = refl

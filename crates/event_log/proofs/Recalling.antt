@@ -17,9 +17,11 @@ use Rattle.event_log.specs.declared.entry.Entry.TheVariants.{Arrival, Take, Sett
 use Rattle.event_log.specs.declared.entry.Told.{Told}
 use Rattle.event_log.specs.declared.entry.Told.TheVariants as told
 use Rattle.event_log.specs.Answers.{arrival_answer, brings_at, known, told_again, told_by}
-use Rattle.event_log.specs.Folding.{arrivals, recalled, recalled_from}
-use Rattle.event_log.specs.History.{Accepted, History, Remembered, accepted_by, accepted_from, begun, entry_at, followed_by, is_numbered, message_at, message_count, message_of, number_of, number_told, plan_after, plan_in_force, remembered_as}
-use Rattle.event_log.specs.Legal.{IsLegal, IsSound, MayFollow}
+use Rattle.event_log.specs.Folding.{known_arrivals, recalled, recalled_from}
+use Rattle.event_log.specs.History.{Accepted, History, Remembered, accepted_by, accepted_from, begun, entry_at, followed_by, is_numbered, message_at, message_count, accepted_of, number_told, plan_after, plan_in_force, remembered_as}
+use Rattle.event_log.specs.inner.History.{number_of}
+use Rattle.event_log.specs.Legal.{IsLegal, MayFollow}
+use Rattle.event_log.specs.inner.Legal.{IsSound}
 use Rattle.event_log.proofs.Events.{arrival-told}
 use Rattle.event_log.proofs.Following.{entry-since, follows-since, plan-followed_by, take-below, take-whole}
 use Rattle.event_log.proofs.OneMore.{count-followed_by, lt-tells}
@@ -44,7 +46,7 @@ recalled-range h a (e ∷ es) f same =
 abbrev pub renewed : History → Remembered → Remembered
 renewed h r = recalled h r.place r.channel r.raw r.told
 
-pub arrivals-are : (h : History) → arrivals h ≡ map (renewed h) h.opening.remembered ++ recalled_all h h.opening.places h.entries
+pub arrivals-are : (h : History) → known_arrivals h ≡ map (renewed h) h.opening.remembered ++ recalled_all h h.opening.places h.entries
 arrivals-are h =
     ap (λ rs. map (renewed h) h.opening.remembered ++ rs)
     (recalled-range h h.opening.places h.entries (λ place. option_and_then (recalled_from h place) (entry_at h place))
@@ -213,7 +215,7 @@ remembered-past n messages (r ∷ rs) past within = by r.told within (λ rest. r
     by (told.Repeat place) within rest = rest within
 
 -- the arrival of message n is kept where there is the message, with its channel and its bytes
-pub recalled-message : (h : History) → IsSound h → (n : ℕ) → option_map what_came (find (is_of n) (arrivals h)) ≡ option_map what_is (message_at h n)
+pub recalled-message : (h : History) → IsSound h → (n : ℕ) → option_map what_came (find (is_of n) (known_arrivals h)) ≡ option_map what_is (message_at h n)
 recalled-message h sound n =
     ap (option_map what_came)
     (ap (find (is_of n)) (arrivals-are h)
@@ -226,6 +228,6 @@ recalled-message h sound n =
           (find-numbered h n h.opening.messages h.opening.places h.opening.plan h.entries (numbered-legal h sound.legal) w.1)
     ]
   where
-    by : (o : Option Remembered) → option_map what_came (option_or (option_map (renewed h) o) None) ≡ option_map what_is (option_map message_of o)
+    by : (o : Option Remembered) → option_map what_came (option_or (option_map (renewed h) o) None) ≡ option_map what_is (option_map accepted_of o)
     by None = refl
     by (Some r) = refl

@@ -13,9 +13,9 @@ use Rattle.event_log.specs.declared.entry.Entry.{Entry}
 use Rattle.event_log.specs.declared.entry.Entry.TheVariants.{Arrival, Take, Settle, Cancel, Deploy}
 use Rattle.event_log.specs.declared.entry.Told.{Told}
 use Rattle.event_log.specs.Answers.{brings, brings_at, brought_before, has_key, is_kept, keeps, known}
-use Rattle.event_log.specs.Folding.{arrivals, recalled, recalled_from}
+use Rattle.event_log.specs.Folding.{known_arrivals, recalled, recalled_from}
 use Rattle.event_log.specs.History.{History, Remembered, entry_at}
-use Rattle.event_log.specs.Legal.{IsSound}
+use Rattle.event_log.specs.inner.Legal.{IsSound}
 use Rattle.event_log.proofs.Following.{entry-since}
 use Rattle.event_log.proofs.OneMore.{lt-tells}
 use Rattle.event_log.proofs.Recalling.{arrivals-are, find-map, recalled_all, renewed}
@@ -65,7 +65,7 @@ find-key h key a (Cancel number mask ∷ es) = find-key h key (a + 1) es ∙ (fu
 find-key h key a (Deploy plan ∷ es) = find-key h key (a + 1) es ∙ (further a (position (keeps key) es) ∙ ap (option_map (λ k. a + k)) (sym (position-cons (keeps key) (Deploy plan) es)))
 
 -- a key is known at the place of the arrival that has it
-pub known-arrivals : (h : History) (key : List ℕ) → known h key ≡ option_map (λ r. r.place) (find (has_key key) (arrivals h))
+pub known-arrivals : (h : History) (key : List ℕ) → known h key ≡ option_map (λ r. r.place) (find (has_key key) (known_arrivals h))
 known-arrivals h key =
     by (find (has_key key) h.opening.remembered) (find-key h key h.opening.places h.entries)
     ∙ ap (option_map (λ r. r.place))
@@ -149,7 +149,7 @@ within-renewed h mid [] within = tt
 within-renewed h mid (r ∷ rs) within = (within.0, within-renewed h mid rs within.1)
 
 -- those that a sound history keeps
-pub arrivals-rise : (h : History) → IsSound h → Rising 0 (arrivals h)
+pub arrivals-rise : (h : History) → IsSound h → Rising 0 (known_arrivals h)
 arrivals-rise h sound =
     subst (Rising 0) (sym (arrivals-are h))
     (rising-append 0 h.opening.places (map (renewed h) h.opening.remembered) (recalled_all h h.opening.places h.entries) (omega arith)
@@ -229,7 +229,7 @@ found-at h p a (e ∷ es) r is = by e (λ f. later e (found-at h p (a + 1) es r 
     by (Deploy plan) rest is = rest is
 
 -- the bytes at the place of an arrival that a sound history keeps
-pub brings-arrival : (h : History) → IsSound h → (key raw : List ℕ) (r : Remembered) → find (has_key key) (arrivals h) ≡ Some r → brings_at h raw r.place ≡ bytes_eq raw r.raw
+pub brings-arrival : (h : History) → IsSound h → (key raw : List ℕ) (r : Remembered) → find (has_key key) (known_arrivals h) ≡ Some r → brings_at h raw r.place ≡ bytes_eq raw r.raw
 brings-arrival h sound key raw r is =
     by (find (has_key key) h.opening.remembered) refl
     (sym (ap (find (has_key key)) (arrivals-are h)

@@ -18,8 +18,9 @@ use Rattle.event_log.specs.declared.entry.Told.TheVariants as told
 use Rattle.event_log.specs.Answers.{is_kept}
 use Rattle.event_log.specs.Counting.{slot_count}
 use Rattle.event_log.specs.Folding.{folded, pruned}
-use Rattle.event_log.specs.History.{History, Opening, Remembered, begun, is_numbered, message_of, names, number_of, number_told, plan_in_force, slot}
-use Rattle.event_log.specs.Legal.{IsMemory, IsSound}
+use Rattle.event_log.specs.History.{History, Snapshot, Remembered, begun, is_numbered, accepted_of, names, number_told, plan_in_force, slot}
+use Rattle.event_log.specs.inner.History.{number_of}
+use Rattle.event_log.specs.inner.Legal.{IsMemory, IsSound}
 use Rattle.event_log.proofs.FoldedAlike.{count-none}
 use Rattle.event_log.proofs.Memories.{folded-memories}
 use Rattle.event_log.proofs.MemoryNumbers.{Climbing, climbing}
@@ -63,14 +64,14 @@ found-memory plan n (x ∷ rs) r all found = by (is_of n x) found (λ e. found-m
     by true is rest = let same : x ≡ r = cc in subst HasSlots same all.0.slots
     by false is rest = rest is
 
-slot-remembered : (o : Opening) (plan : PlanEntry) → AllByRecursion (IsMemory plan) o.remembered → (n d : ℕ) → n < o.messages
+slot-remembered : (o : Snapshot) (plan : PlanEntry) → AllByRecursion (IsMemory plan) o.remembered → (n d : ℕ) → n < o.messages
     → slot (begun o) n d ≡ remembered_slot o.remembered d n
 slot-remembered o plan all n d below =
     let earlier : nat_lt n o.messages ≡ true = grind (arith, nat_tests) in
     rw earlier (by (find (is_of n) o.remembered) refl)
   where
     by : (q : Option Remembered) → find (is_of n) o.remembered ≡ q
-        → cond (names d (option_map_or (λ m. m.deliveries) (option_map message_of q) []))
+        → cond (names d (option_map_or (λ m. m.deliveries) (option_map accepted_of q) []))
         (Some (option_map_or (λ r. option_map_or (λ s. s) (state_at d r.slots) (Waiting 0 0)) q (Waiting 0 0))) None
         ≡ option_and_then (λ r. state_at d r.slots) q
     by None found = refl
@@ -160,7 +161,7 @@ module _ (plan : PlanEntry) (d : ℕ) (so : SlotState → Bool) where
           omega (arith, changed, rest, here, none, more)
 
   -- as many messages of an opening have a slot that is so as it remembers
-  pub count-remembered : (o : Opening) → AllByRecursion (IsMemory plan) o.remembered → Climbing 0 o.messages (filter_map number_of o.remembered)
+  pub count-remembered : (o : Snapshot) → AllByRecursion (IsMemory plan) o.remembered → Climbing 0 o.messages (filter_map number_of o.remembered)
       → slot_count (begun o) d so ≡ remembered_count o.remembered d so
   count-remembered o all climb =
       let many : o.messages + 0 ≡ o.messages = omega arith in

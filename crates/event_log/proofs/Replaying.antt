@@ -16,9 +16,10 @@ use Rattle.judge_core.specs.Judging.{verdict as decided, deliveries_of, is_booka
 use Rattle.event_log.specs.declared.entry.Told.TheVariants as told
 use Rattle.event_log.specs.declared.entry.Entry.{Entry}
 use Rattle.event_log.specs.declared.entry.Entry.TheVariants.{Arrival, Take, Settle, Cancel, Deploy}
-use Rattle.event_log.specs.History.{Accepted, History, Remembered, accepted, accepted_by, accepted_from, accepted_under, before, deployed_by, entry_at, last_from, message_at, message_count, message_of, next_place, plan_after, plan_in_force, remembered_as}
+use Rattle.event_log.specs.History.{Accepted, History, Remembered, accepted, accepted_by, accepted_from, accepted_under, before, deployed_by, entry_at, last_from, message_at, message_count, accepted_of, next_place, plan_after, plan_in_force, remembered_as}
 use Rattle.event_log.specs.Answers.{arrival_answer, brings, brings_at, brought_before, has_key, is_first, keeps, known, known_before, told_by}
-use Rattle.event_log.specs.Legal.{HasArrival, IsGoodOpening, IsLegal, IsRemembered}
+use Rattle.event_log.specs.Legal.{HasArrival, IsLegal, IsRemembered}
+use Rattle.event_log.specs.inner.Legal.{IsGoodOpening}
 use Rattle.event_log.proofs.Arriving.{accepted-number}
 use Rattle.event_log.proofs.Events.{arrival-told}
 use Rattle.event_log.proofs.Following.{accepted-kept, entry-held, entry-since, follows-since, last-after}
@@ -189,14 +190,14 @@ arrived-by plan (Cancel number mask) m is = absurd cc
 arrived-by plan (Deploy next) m is = absurd cc
 
 -- a message that is remembered
-remembered-is : (h : History) (n : ℕ) (m : Accepted) (o : Option Remembered) → remembered_as h.opening n ≡ o → option_map message_of o ≡ Some m → IsRemembered h n m
+remembered-is : (h : History) (n : ℕ) (m : Accepted) (o : Option Remembered) → remembered_as h.opening n ≡ o → option_map accepted_of o ≡ Some m → IsRemembered h n m
 remembered-is h n m None found is = absurd cc
-remembered-is h n m (Some r) found is = record { arrival = r; found = found; is = sym (same_Some (message_of r) m is) }
+remembered-is h n m (Some r) found is = record { arrival = r; found = found; is = sym (same_Some (accepted_of r) m is) }
 
 -- message n has its arrival, told Accepted n, or is remembered
 pub message-arrived : (h : History) → IsLegal h → (n : ℕ) (m : Accepted) → message_at h n ≡ Some m → HasArrival h n m ⊎ IsRemembered h n m
 message-arrived h legal n m got =
-    elim (nat_lt n h.opening.messages) as (λ b. nat_lt n h.opening.messages ≡ b → cond b (option_map message_of (remembered_as h.opening n)) (slice_get (accepted h) (n - h.opening.messages)) ≡ Some m → HasArrival h n m ⊎ IsRemembered h n m) [
+    elim (nat_lt n h.opening.messages) as (λ b. nat_lt n h.opening.messages ≡ b → cond b (option_map accepted_of (remembered_as h.opening n)) (slice_get (accepted h) (n - h.opening.messages)) ≡ Some m → HasArrival h n m ⊎ IsRemembered h n m) [
       | true ↦ λ before is. inr (remembered-is h n m (remembered_as h.opening n) refl is)
       | false ↦ λ since is. inl (arrived since is)
     ] refl got

@@ -20,14 +20,14 @@ take-before : {A : Type 0} (xs ys : List A) → take (length xs) (xs ++ ys) ≡ 
 take-before xs ys = take-below xs ys (length xs) (omega arith) ∙ take-whole xs
 
 -- a history with these entries more
-abbrev continued : History → List Entry → History
-continued h es = record { opening = h.opening; entries = h.entries ++ es }
+abbrev of_snapshot : History → List Entry → History
+of_snapshot h es = record { opening = h.opening; entries = h.entries ++ es }
 
 -- the run over the events of the entries that follow gives them
-run-again : (h : History) (es : List Entry) → IsLegal (continued h es) → run h (map event_of es) ≡ continued h es
+run-again : (h : History) (es : List Entry) → IsLegal (of_snapshot h es) → run h (map event_of es) ≡ of_snapshot h es
 run-again h [] legal = ap (λ xs. record { opening = h.opening; entries = xs }) (sym (append-nil h.entries))
 run-again h (e ∷ es) legal =
-    let may : MayFollow h e = subst (λ xs. MayFollow (record { opening = h.opening; entries = xs }) e) (take-before h.entries (e ∷ es)) (follows-since (continued h (e ∷ es)) legal (length h.entries) e (get-after h.entries es e)) in
+    let may : MayFollow h e = subst (λ xs. MayFollow (record { opening = h.opening; entries = xs }) e) (take-before h.entries (e ∷ es)) (follows-since (of_snapshot h (e ∷ es)) legal (length h.entries) e (get-after h.entries es e)) in
     let joined : h.entries ++ e ∷ [] ++ es ≡ h.entries ++ (e ∷ es) = append_assoc h.entries (e ∷ []) es in
     ap (λ x. run x (map event_of es)) (next-again h e may)
     ∙ (run-again (followed_by h e) es (subst (λ xs. IsLegal (record { opening = h.opening; entries = xs })) (sym joined) legal)

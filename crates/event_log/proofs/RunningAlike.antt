@@ -10,7 +10,7 @@ use Rattle.dest_queue.specs.declared.SlotState.{SlotState}
 use Rattle.dest_queue.specs.declared.SlotState.TheVariants.{Waiting, InFlight, Delivered, Failed}
 use Rattle.dest_queue.specs.declared.FailCause.TheVariants.{Cancelled}
 use Rattle.dest_queue.specs.declared.Outcome.{Outcome}
-use Rattle.dest_queue.specs.States.{is_live, settle_answer as slot_answer}
+use Rattle.dest_queue.specs.States.{is_live, slot_answer}
 use Rattle.event_log.specs.declared.entry.Entry.{Entry}
 use Rattle.event_log.specs.declared.entry.Entry.TheVariants.{Arrival, Take, Settle, Cancel, Deploy}
 use Rattle.event_log.specs.declared.entry.Ticket.{Ticket}
@@ -18,7 +18,7 @@ use Rattle.event_log.specs.declared.refusal.CancelRefusal.TheVariants.{NoSuchMes
 use Rattle.event_log.specs.History.{History, Remembered, followed_by, is_for, is_queued, message_at, next_place, plan_in_force, queue, slot, state_by}
 use Rattle.event_log.specs.Alike.{AllReplyAlike, AreMet, Aside, IsAlike, IsMet}
 use Rattle.event_log.specs.Answers.{arrival_answer, attempts_max, cancel_answer, has_key, interval, keeps, known, known_before, mask_where, settle_answer, take_answer, waits}
-use Rattle.event_log.specs.Legal.{IsSound}
+use Rattle.event_log.specs.inner.Legal.{IsSound}
 use Rattle.event_log.specs.Event as event
 use Rattle.event_log.specs.Event.{Event, Refusal, Reply, after, entry_of, next, run}
 use Rattle.event_log.proofs.AnsweringAlike.{answers-alike, front-outside, taken}

@@ -8,13 +8,14 @@ use Rattle.dest_queue.specs.declared.FailCause.TheVariants.{Exhausted}
 use Rattle.dest_queue.specs.declared.Outcome.{Outcome}
 use Rattle.dest_queue.specs.declared.Outcome.TheVariants as outcomes
 use Rattle.dest_queue.specs.declared.SettleRefusal.TheVariants.{NotInFlight}
-use Rattle.dest_queue.specs.States.{state_after, settle_answer as slot_answer}
+use Rattle.dest_queue.specs.States.{state_after, slot_answer}
 use Rattle.event_log.specs.declared.entry.Ticket.{Ticket}
 use Rattle.event_log.specs.declared.entry.Entry.TheVariants.{Settle}
 use Rattle.event_log.specs.History.{History, followed_by, is_for, plan_in_force, slot, state}
 use Rattle.event_log.specs.Answers.{attempts_max, interval, settle_answer}
-use Rattle.event_log.specs.Room.{in_flight, is_in_flight, slot_owed}
-use Rattle.event_log.specs.Legal.{IsSound, IsWithin}
+use Rattle.event_log.specs.Room.{is_in_flight, slot_owed}
+use Rattle.event_log.specs.inner.Room.{in_flight}
+use Rattle.event_log.specs.inner.Legal.{IsSound, IsWithin}
 use Rattle.event_log.proofs.Following.{state-followed_by}
 use Rattle.event_log.proofs.Reading.{slot-exists}
 use Rattle.event_log.proofs.Steps.{SettleStep}

@@ -16,8 +16,9 @@ use Rattle.event_log.specs.declared.entry.Entry.{Entry}
 use Rattle.event_log.specs.declared.entry.Entry.TheVariants.{Arrival, Take, Settle, Cancel, Deploy}
 use Rattle.event_log.specs.History.{History, accepted, accepted_by, followed_by, is_for, message_count, next_place, plan_in_force, queue, slot, state}
 use Rattle.event_log.specs.Answers.{attempts_max, interval, keeps, known, mask_where, waits}
-use Rattle.event_log.specs.Room.{in_flight, is_in_flight, message_total, owed, own, slot_owed}
-use Rattle.event_log.specs.Legal.{IsSound}
+use Rattle.event_log.specs.Room.{is_in_flight, message_total, owed, own, slot_owed}
+use Rattle.event_log.specs.inner.Room.{in_flight}
+use Rattle.event_log.specs.inner.Legal.{IsSound}
 
 -- an entry that is no arrival brings no message, and no key
 pub record BringsNothing (h : History) (e : Entry) : Type 0 where

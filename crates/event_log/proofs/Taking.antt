@@ -9,8 +9,9 @@ use Rattle.event_log.specs.declared.entry.Entry.TheVariants.{Take}
 use Rattle.event_log.specs.declared.refusal.TakeRefusal.TheVariants.{Idle, NotDue}
 use Rattle.event_log.specs.History.{History, followed_by, is_for, plan_in_force, queue, slot, state}
 use Rattle.event_log.specs.Answers.{attempts_max, front_answer, take_answer}
-use Rattle.event_log.specs.Room.{in_flight, is_in_flight, owed}
-use Rattle.event_log.specs.Legal.{IsSound, IsWithin}
+use Rattle.event_log.specs.Room.{is_in_flight, owed}
+use Rattle.event_log.specs.inner.Room.{in_flight}
+use Rattle.event_log.specs.inner.Legal.{IsSound, IsWithin}
 use Rattle.event_log.proofs.Following.{state-followed_by}
 use Rattle.event_log.proofs.Reading.{slot-exists}
 use Rattle.event_log.proofs.Steps.{TakeStep}

@@ -11,7 +11,8 @@ use Rattle.plan_text.specs.Entries.{PlanEntry}
 use Rattle.event_log.specs.declared.entry.Entry.{Entry}
 use Rattle.event_log.specs.History.{History, accepted, accepted_by, accepted_from, message_count, next_place, numbers, plan_after, plan_in_force, slot}
 use Rattle.event_log.specs.Answers.{attempts_max}
-use Rattle.event_log.specs.Room.{in_flight, is_in_flight, message_total, owed, slot_owed, total}
+use Rattle.event_log.specs.Room.{is_in_flight, message_total, owed, slot_owed, total}
+use Rattle.event_log.specs.inner.Room.{in_flight}
 use Rattle.event_log.proofs.Following.{funext}
 
 -- a sum over numbers of which each is alike

@@ -5,14 +5,15 @@ use Rattle.std.specs.Option.{option_map_or}
 use Rattle.std.proofs.lemmas.Bool.{eq-eqb}
 use Rattle.std.proofs.lemmas.Bool.Decides.{eqb_tells}
 use Rattle.plan_text.specs.Entries.{IsPlan}
-use Rattle.judge_core.specs.Delivering.{AreDeliveries}
+use Rattle.judge_core.specs.inner.Delivering.{AreDeliveries}
 use Rattle.dest_queue.specs.declared.SlotState.{SlotState}
 use Rattle.event_log.specs.declared.entry.Ticket.{Ticket}
 use Rattle.event_log.specs.declared.entry.Entry.{Entry}
 use Rattle.event_log.specs.History.{History, accepted, accepted_by, deliveries, deployed_by, followed_by, is_for, message_count, names, plan_in_force, slot, state, state_by}
 use Rattle.event_log.specs.Answers.{attempts_max, keeps}
 use Rattle.event_log.specs.Room.{message_total, owed, slot_owed, total}
-use Rattle.event_log.specs.Legal.{IsSound, IsWithin, MayFollow}
+use Rattle.event_log.specs.Legal.{MayFollow}
+use Rattle.event_log.specs.inner.Legal.{IsSound, IsWithin}
 use Rattle.event_log.proofs.Following.{accepted-kept, known-kept, legal-followed_by, message_count-same, deliveries-same, plan-kept, slot-same, state-followed_by}
 use Rattle.event_log.proofs.Reading.{slot-exists, slot-inside, slot-state}
 use Rattle.event_log.proofs.Steps.{BringsNothing}

@@ -2,18 +2,18 @@
 use Rattle.std.proofs.Common.{◌≡◌, Bool, true, false, not, [], ◌∷◌, ◌++◌, get_or, Ok, refl, arith}
 use Rattle.std.proofs.lemmas.List.Sums.{AllPass-from_list_all}
 use Rattle.mllp_frame.specs.Framing.{IsBlockData, is_framing}
-use Rattle.plan_text.specs.BuiltIn.{built_in}
+use Rattle.plan_text.specs.inner.BuiltIn.{built_in}
 use Rattle.judge_core.specs.Judging.{verdict, header_fault, key_of}
 use Rattle.dest_queue.specs.declared.SlotState.TheVariants.{Waiting, Failed}
 use Rattle.dest_queue.specs.declared.FailCause.TheVariants.{Exhausted}
 use Rattle.dest_queue.specs.declared.Outcome.TheVariants.{Again}
 use Rattle.event_log.specs.declared.entry.Told.TheVariants.{Accepted}
 use Rattle.event_log.specs.declared.entry.Entry.TheVariants.{Arrival, Take, Settle}
-use Rattle.event_log.specs.History.{history_of, opened_by}
+use Rattle.event_log.specs.inner.History.{history_of, snapshot_after}
 use Rattle.event_log.specs.Answers.{arrival_answer, settle_answer, take_answer}
 use Rattle.event_log.specs.Legal.{IsLegal}
 use Rattle.event_log.specs.Room.{is_full, total}
-use Rattle.event_log.specs.Rows.{attempt, came, exhausted, first, is_accepted, first_attempt, first_retry, second_attempt, third_failed, last_taken, taken, tried, waits}
+use Rattle.event_log.specs.inner.Rows.{attempt, came, exhausted, first, is_accepted, first_attempt, first_retry, second_attempt, third_failed, last_taken, taken, tried, waits}
 use Rattle.event_log.proofs.Events.{arrival-answered}
 use Rattle.event_log.proofs.Following.{legal-followed_by, legal-since}
 
@@ -26,14 +26,14 @@ fits = record { plain = λ k d inside. clear (is_framing (get_or first k d)) (Al
     clear false t = refl
 
 -- it has room
-has-room : is_full (opened_by built_in 20) 0 first ≡ false
+has-room : is_full (snapshot_after built_in 20) 0 first ≡ false
 unfolding arrival_answer verdict header_fault key_of is_full total
 has-room = refl
 
 legal-came : IsLegal (history_of built_in 20 came)
 legal-came =
-    legal-followed_by (opened_by built_in 20) (Arrival 0 0 first (Accepted 0)) (legal-since (opened_by built_in 20) (λ k e got. absurd cc))
-    (record { possible = fits; replied = arrival-answered (opened_by built_in 20) 0 0 first (Accepted 0) has-room is_accepted })
+    legal-followed_by (snapshot_after built_in 20) (Arrival 0 0 first (Accepted 0)) (legal-since (snapshot_after built_in 20) (λ k e got. absurd cc))
+    (record { possible = fits; replied = arrival-answered (snapshot_after built_in 20) 0 0 first (Accepted 0) has-room is_accepted })
 
 legal-taken : IsLegal (history_of built_in 20 taken)
 legal-taken = legal-followed_by (history_of built_in 20 came) (Take (attempt 1) 0) legal-came (record { possible = tt; replied = first_attempt })

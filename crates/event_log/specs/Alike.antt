@@ -7,9 +7,9 @@ use Rattle.event_log.specs.History.{History, control_id, entry_at, is_queued, me
 use Rattle.event_log.specs.Answers.{brings_at, has_key, known, take_answer}
 use Rattle.event_log.specs.Counting.{channel_counts, destination_counts}
 use Rattle.event_log.specs.Deployment.{deploy_answer, deployments}
-use Rattle.event_log.specs.Folding.{arrivals, is_forgotten}
+use Rattle.event_log.specs.Folding.{known_arrivals, is_forgotten}
 use Rattle.event_log.specs.Event.{Event, answer, arrive, cancel, deploy, next, settle, take}
-use Rattle.event_log.specs.Room.{exceeds, is_full}
+use Rattle.event_log.specs.Room.{is_over_limit, is_full}
 
 -- messages, keys and indices that are left aside
 pub record Aside : Type 0 where
@@ -21,7 +21,7 @@ pub record Aside : Type 0 where
 abbrev pub forgotten_by : ℕ → History → Aside
 forgotten_by bound h = record {
   messages = λ n. nat_lt n bound;
-  keys = λ key. list_any (λ r. has_key key r && is_forgotten h bound r) (arrivals h);
+  keys = λ key. list_any (λ r. has_key key r && is_forgotten h bound r) (known_arrivals h);
   places = λ place. nat_lt place (next_place h);
 }
 
@@ -62,7 +62,7 @@ Fits h (arrive conn channel raw) = is_full h channel raw ≡ false
 Fits h (take d now) = Unit {0}
 Fits h (settle ticket outcome now) = Unit {0}
 Fits h (cancel number) = Unit {0}
-Fits h (deploy plan) = deploy_answer h plan ≡ None → exceeds h 0 ≡ false
+Fits h (deploy plan) = deploy_answer h plan ≡ None → is_over_limit h 0 ≡ false
 
 -- an event that names nothing aside and for which both histories have room
 pub record IsMet (aside : Aside) (h k : History) (e : Event) : Type 0 where

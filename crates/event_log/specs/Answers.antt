@@ -12,7 +12,7 @@ use Rattle.dest_queue.specs.declared.SlotState.{SlotState}
 use Rattle.dest_queue.specs.declared.SlotState.TheVariants.{Waiting, InFlight, Delivered, Failed}
 use Rattle.dest_queue.specs.declared.Outcome.{Outcome}
 use Rattle.dest_queue.specs.declared.SettleRefusal.{SettleRefusal}
-use Rattle.dest_queue.specs.States.{is_waiting, settle_answer as slot_answer}
+use Rattle.dest_queue.specs.States.{is_waiting, slot_answer}
 use Rattle.event_log.specs.declared.entry.Ticket.{Ticket}
 use Rattle.event_log.specs.declared.entry.Told.{Told}
 use Rattle.event_log.specs.declared.entry.Told.TheVariants as told
@@ -20,11 +20,9 @@ use Rattle.event_log.specs.declared.entry.Entry.{Entry}
 use Rattle.event_log.specs.declared.entry.Entry.TheVariants.{Arrival, Take, Settle, Cancel, Deploy}
 use Rattle.event_log.specs.declared.refusal.TakeRefusal.{TakeRefusal}
 use Rattle.event_log.specs.declared.refusal.TakeRefusal.TheVariants.{Idle, InFlightNow, NotDue}
-use Rattle.event_log.specs.declared.refusal.TakeRefusal.TheVariants as take_refusal
 use Rattle.event_log.specs.declared.refusal.CancelRefusal.{CancelRefusal}
 use Rattle.event_log.specs.declared.refusal.CancelRefusal.TheVariants.{NoSuchMessage, NothingWaiting}
-use Rattle.event_log.specs.declared.refusal.CancelRefusal.TheVariants as cancel_refusal
-use Rattle.event_log.specs.History.{History, Opening, Remembered, entry_at, message_at, message_count, plan_in_force, queue, slot}
+use Rattle.event_log.specs.History.{History, Snapshot, Remembered, entry_at, message_at, message_count, plan_in_force, queue, slot}
 
 -- whether a message is kept by its key: it was accepted or filtered
 abbrev pub is_kept : Told → Bool
@@ -46,7 +44,7 @@ abbrev pub has_key : List ℕ → Remembered → Bool
 has_key key r = bytes_eq key (key_of r.channel r.raw)
 
 -- the index of the remembered arrival with this key
-abbrev pub known_before : Opening → List ℕ → Option ℕ
+abbrev pub known_before : Snapshot → List ℕ → Option ℕ
 known_before opening key = option_map (λ r. r.place) (find (has_key key) opening.remembered)
 
 -- the index of the arrival with this key, if one was accepted or filtered and isn't forgotten
@@ -108,13 +106,6 @@ front_answer d now n (Some Delivered) = Err Idle
 front_answer d now n (Some (Failed cause)) = Err Idle
 front_answer d now n None = Err Idle
 
--- the number of a refusal to take
-abbrev pub take_refusal_code : TakeRefusal → ℕ
-take_refusal_code Idle = 1
-take_refusal_code (InFlightNow number) = 2
-take_refusal_code (NotDue due) = 3
-take_refusal_code take_refusal.NoMemory = 4
-
 -- the answer to a take at d
 abbrev pub take_answer : History → ℕ → ℕ → Result Ticket TakeRefusal
 take_answer h d now = option_map_or (λ n. front_answer d now n (slot h n d)) (slice_get (queue h d) 0) (Err Idle)
@@ -140,12 +131,6 @@ waits h n d = option_map_or is_waiting (slot h n d) false
 -- the destinations that a test names, as a mask: bit d is set where it names d
 unfoldable pub mask_where : (ℕ → Bool) → ℕ
 mask_where test = sum_by (λ d. if test d then 2 ^ d else 0) (range_with_len 0 32)
-
--- the number of a refusal to cancel
-abbrev pub cancel_refusal_code : CancelRefusal → ℕ
-cancel_refusal_code NoSuchMessage = 1
-cancel_refusal_code NothingWaiting = 2
-cancel_refusal_code cancel_refusal.NoMemory = 3
 
 -- the answer to a cancellation
 abbrev pub cancel_answer : History → ℕ → Result ℕ CancelRefusal

@@ -39,14 +39,6 @@ is_repeat told.Filtered = false
 is_repeat (told.Refused cause) = false
 is_repeat (told.Repeat place) = true
 
--- whether an entry is the arrival of an accepted message
-abbrev pub is_acceptance : Entry → Bool
-is_acceptance (Arrival conn channel raw told) = is_accepted told
-is_acceptance (Take ticket now) = false
-is_acceptance (Settle outcome ticket now state) = false
-is_acceptance (Cancel number mask) = false
-is_acceptance (Deploy plan) = false
-
 -- whether an entry is an arrival on the channel with such an answer
 abbrev pub is_told : ℕ → (Told → Bool) → Entry → Bool
 is_told c so (Arrival conn channel raw told) = (channel == c) && so told

@@ -7,16 +7,7 @@ use Rattle.std.specs.Str.{bytes_eq}
 use Rattle.plan_text.specs.Entries.{ChannelEntry, DestinationEntry, PlanEntry}
 use Rattle.event_log.specs.declared.refusal.DeployRefusal.{DeployRefusal}
 use Rattle.event_log.specs.declared.refusal.DeployRefusal.TheVariants.{ChannelsDiffer, DestinationInUse, TooMany}
-use Rattle.event_log.specs.declared.refusal.DeployRefusal.TheVariants as deploy_refusal
 use Rattle.event_log.specs.History.{History, deployed, plan_in_force, queue}
-
--- the number of a refusal to deploy
-abbrev pub deploy_refusal_code : DeployRefusal → ℕ
-deploy_refusal_code (DestinationInUse d) = 1
-deploy_refusal_code TooMany = 2
-deploy_refusal_code ChannelsDiffer = 3
-deploy_refusal_code deploy_refusal.Full = 4
-deploy_refusal_code deploy_refusal.NoMemory = 5
 
 -- how many plans were deployed in all
 abbrev pub deployments : History → ℕ
@@ -24,12 +15,6 @@ deployments h = h.opening.deployments + length (deployed h)
 
 abbrev pub same_name : ChannelEntry → ChannelEntry → Bool
 same_name old new = bytes_eq old.name new.name
-
--- whether there are two channels, and they have the same name
-abbrev pub same_at : Option ChannelEntry → Option ChannelEntry → Bool
-same_at (Some old) (Some new) = same_name old new
-same_at (Some old) None = false
-same_at None new = false
 
 -- whether two plans have channels of the same names, in the same order
 abbrev pub same_channels : PlanEntry → PlanEntry → Bool

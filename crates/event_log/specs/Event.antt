@@ -19,7 +19,7 @@ use Rattle.event_log.specs.declared.refusal.TakeRefusal.TheVariants as take_refu
 use Rattle.event_log.specs.History.{History, followed_by}
 use Rattle.event_log.specs.Answers.{arrival_answer, cancel_answer, settle_answer, take_answer}
 use Rattle.event_log.specs.Deployment.{deploy_answer}
-use Rattle.event_log.specs.Room.{exceeds, is_full}
+use Rattle.event_log.specs.Room.{is_over_limit, is_full}
 
 -- What may happen: a text arrives over a connection on a channel; the first message of a destination's queue is taken at
 -- a moment; an attempt is settled with its outcome at a moment; a message is cancelled; a plan is deployed.
@@ -63,7 +63,7 @@ answer h (take d now) = take_answer h d now
 answer h (settle ticket outcome now) = settle_answer h ticket outcome now
 answer h (cancel number) = cancel_answer h number
 answer h (deploy plan) =
-    option_map_or (λ refusal. Err refusal) (deploy_answer h plan) (if exceeds h 0 then Err deploy_refusal.Full else Ok tt)
+    option_map_or (λ refusal. Err refusal) (deploy_answer h plan) (if is_over_limit h 0 then Err deploy_refusal.Full else Ok tt)
 
 -- the entry that is booked for an event with its reply
 abbrev pub entry_of : (e : Event) → Reply e → Entry
@@ -149,7 +149,3 @@ MemoryIsLast e old result = IfErr result (λ refusal. IsOutOfMemory e refusal �
 abbrev pub result_map : {T U E : Type 0} → (T → U) → Result T E → Result U E
 result_map f (Ok x) = Ok (f x)
 result_map f (Err e) = Err e
-
-abbrev pub result_map_err : {T E F : Type 0} → (E → F) → Result T E → Result T F
-result_map_err f (Ok x) = Ok x
-result_map_err f (Err e) = Err (f e)

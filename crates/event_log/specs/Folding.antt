@@ -13,20 +13,10 @@ use Rattle.event_log.specs.declared.entry.Entry.{Entry}
 use Rattle.event_log.specs.declared.entry.Entry.TheVariants.{Arrival, Take, Settle, Cancel, Deploy}
 use Rattle.event_log.specs.declared.refusal.PruneRefusal.{PruneRefusal}
 use Rattle.event_log.specs.declared.refusal.PruneRefusal.TheVariants.{NoSuchMessage, StillLive, TooMany}
-use Rattle.event_log.specs.declared.refusal.PruneRefusal.TheVariants as prune_refusal
-use Rattle.event_log.specs.History.{History, Opening, Remembered, begun, deliveries, entry_at, is_numbered, is_queued, message_count, next_place, number_told, plan_in_force, slot, state}
+use Rattle.event_log.specs.History.{History, Snapshot, Remembered, begun, deliveries, entry_at, is_numbered, is_queued, message_count, next_place, number_told, plan_in_force, slot, state}
 use Rattle.event_log.specs.Answers.{is_kept}
 use Rattle.event_log.specs.Deployment.{deployments}
 use Rattle.event_log.specs.Counting.{channel_counts, destination_before, destination_counts, is_delivered, is_failed}
-
--- ---- whether a history is pruned
-
--- the number of a refusal to prune
-abbrev pub prune_refusal_code : PruneRefusal → ℕ
-prune_refusal_code (StillLive number) = 1
-prune_refusal_code NoSuchMessage = 2
-prune_refusal_code TooMany = 3
-prune_refusal_code prune_refusal.NoMemory = 4
 
 -- whether message n is still to be delivered to one of the 32 destinations
 abbrev pub is_live_message : History → ℕ → Bool
@@ -65,8 +55,8 @@ recalled_from h place (Deploy plan) = None
 
 -- all arrivals answered Accepted or Filtered that are not forgotten yet, in order of index: those remembered at the
 -- opening, and those booked since
-abbrev pub arrivals : History → List Remembered
-arrivals h =
+abbrev pub known_arrivals : History → List Remembered
+known_arrivals h =
     map (λ r. recalled h r.place r.channel r.raw r.told) h.opening.remembered
     ++ filter_map (λ place. option_and_then (recalled_from h place) (entry_at h place)) (range_with_len h.opening.places (length h.entries))
 
@@ -76,7 +66,7 @@ arrivals h =
 -- all that arrived before it is forgotten too
 abbrev pub arrival_place : History → ℕ → ℕ
 arrival_place h n =
-    option_map_or (λ r. r.place) (find (λ r. is_numbered n r.told) (arrivals h)) (if nat_lt n (message_count h) then 0 else next_place h)
+    option_map_or (λ r. r.place) (find (λ r. is_numbered n r.told) (known_arrivals h)) (if nat_lt n (message_count h) then 0 else next_place h)
 
 -- whether an arrival with this answer is forgotten, where the messages below a bound are: an accepted one by its
 -- number, and a filtered one that arrived before the message of that number did
@@ -111,7 +101,7 @@ forgotten h bound =
 -- ---- what remains
 
 -- the opening that a history leaves where all its entries are folded, by what is counted of them and not remembered, and what is remembered
-abbrev pub closing : History → Statistics → List Remembered → Opening
+abbrev pub closing : History → Statistics → List Remembered → Snapshot
 closing h forgotten remembered = record {
   plan = plan_in_force h;
   events_max = h.opening.events_max;
@@ -124,8 +114,8 @@ closing h forgotten remembered = record {
 }
 
 -- the opening that remains where the messages below a bound are forgotten
-abbrev pub folded : ℕ → History → Opening
-folded bound h = closing h (forgotten h bound) (filter (λ r. not (is_forgotten h bound r)) (arrivals h))
+abbrev pub folded : ℕ → History → Snapshot
+folded bound h = closing h (forgotten h bound) (filter (λ r. not (is_forgotten h bound r)) (known_arrivals h))
 
 -- the history that goes on from it
 abbrev pub pruned : ℕ → History → History

@@ -1,12 +1,11 @@
 -- What was booked, and what it says: the messages, their slots and the queues.
-use Rattle.std.specs.Prelude.{ℕ, ◌+◌, ◌-◌, Bool, false, ◌&&◌, ◌==◌, nat_lt, if◌then◌else◌, List, [], ◌∷◌, ◌++◌, length, take, filter, find, slice_get, count_by, Option, None, Some, is_some}
+use Rattle.std.specs.Prelude.{ℕ, ◌+◌, ◌-◌, Bool, false, ◌&&◌, ◌==◌, nat_lt, if◌then◌else◌, List, [], ◌∷◌, ◌++◌, length, take, filter, find, slice_get, Option, None, Some, is_some}
 use Rattle.std.specs.List.{filter_map, cons_option, list_any, range_with_len}
-use Rattle.std.specs.Option.{is_none, option_map, option_map_or}
+use Rattle.std.specs.Option.{option_map, option_map_or}
 use Rattle.std.specs.Int.{bit_at}
 use Rattle.hl7_head.specs.Header.{header_of}
 use Rattle.plan_text.specs.Entries.{PlanEntry}
 use Rattle.judge_core.specs.declared.delivery.Delivery.{Delivery}
-use Rattle.judge_core.specs.Delivering.{destinations_of}
 use Rattle.judge_core.specs.Judging.{verdict as decided, deliveries_of}
 use Rattle.dest_queue.specs.declared.SlotState.{SlotState}
 use Rattle.dest_queue.specs.declared.SlotState.TheVariants.{Waiting, InFlight, Failed}
@@ -14,7 +13,7 @@ use Rattle.dest_queue.specs.declared.FailCause.TheVariants.{Cancelled}
 use Rattle.dest_queue.specs.declared.slots.Slot.{Slot}
 use Rattle.dest_queue.specs.Slots.{state_at}
 use Rattle.dest_queue.specs.States.{is_live}
-use Rattle.stat_count.specs.Statistics.{Statistics, empty}
+use Rattle.stat_count.specs.Statistics.{Statistics}
 use Rattle.event_log.specs.declared.entry.Ticket.{Ticket}
 use Rattle.event_log.specs.declared.entry.Told.{Told}
 use Rattle.event_log.specs.declared.entry.Told.TheVariants as told
@@ -34,7 +33,7 @@ pub record Remembered : Type 0 where
 -- what a book starts with, or goes on from: the plan in force there, and the most entries that the book may hold; how
 -- many entries were folded, messages accepted, plans deployed and prunings made before it; what is counted of what was
 -- folded and isn't remembered; and what is remembered, in its order
-pub record Opening : Type 0 where
+pub record Snapshot : Type 0 where
   pub plan : PlanEntry
   pub events_max : ℕ
   pub places : ℕ
@@ -46,37 +45,16 @@ pub record Opening : Type 0 where
 
 -- an opening, and all that was booked since, in its order
 pub record History : Type 0 where
-  pub opening : Opening
+  pub opening : Snapshot
   pub entries : List Entry
 
--- the opening of a book with this plan and bound, before which nothing was booked
-abbrev pub blank : PlanEntry → ℕ → Opening
-blank plan events_max = record {
-  plan = plan;
-  events_max = events_max;
-  places = 0;
-  messages = 0;
-  deployments = 0;
-  prunings = 0;
-  forgotten = empty;
-  remembered = [];
-}
-
 -- an opening, and what was booked since
-abbrev pub continued : Opening → List Entry → History
-continued opening entries = record { opening = opening; entries = entries }
+abbrev pub of_snapshot : Snapshot → List Entry → History
+of_snapshot opening entries = record { opening = opening; entries = entries }
 
 -- an opening, since which nothing was booked
-abbrev pub begun : Opening → History
-begun opening = continued opening []
-
--- the history of a book with this plan and bound
-abbrev pub history_of : PlanEntry → ℕ → List Entry → History
-history_of plan events_max entries = record { opening = blank plan events_max; entries = entries }
-
--- a history of which nothing is booked yet
-abbrev pub opened_by : PlanEntry → ℕ → History
-opened_by plan events_max = history_of plan events_max []
+abbrev pub begun : Snapshot → History
+begun opening = of_snapshot opening []
 
 -- the history with one more entry
 abbrev pub followed_by : History → Entry → History
@@ -167,30 +145,18 @@ is_numbered n told.Filtered = false
 is_numbered n (told.Refused cause) = false
 is_numbered n (told.Repeat place) = false
 
--- whether an entry is the arrival of message n
-abbrev pub is_arrival_of : ℕ → Entry → Bool
-is_arrival_of n (Arrival conn channel raw told) = is_numbered n told
-is_arrival_of n (Take ticket now) = false
-is_arrival_of n (Settle outcome ticket now state) = false
-is_arrival_of n (Cancel number mask) = false
-is_arrival_of n (Deploy plan) = false
-
--- the number of an arrival, if it was accepted
-abbrev pub number_of : Remembered → Option ℕ
-number_of r = number_told r.told
-
 -- the arrival of message n, where it is remembered
-abbrev pub remembered_as : Opening → ℕ → Option Remembered
+abbrev pub remembered_as : Snapshot → ℕ → Option Remembered
 remembered_as opening n = find (λ r. is_numbered n r.told) opening.remembered
 
 -- a message that is remembered
-abbrev pub message_of : Remembered → Accepted
-message_of r = record { channel = r.channel; raw = r.raw; deliveries = r.deliveries }
+abbrev pub accepted_of : Remembered → Accepted
+accepted_of r = record { channel = r.channel; raw = r.raw; deliveries = r.deliveries }
 
 -- message n: one that is remembered, or one accepted since the opening; a forgotten one is gone
 abbrev pub message_at : History → ℕ → Option Accepted
 message_at h n =
-    if nat_lt n h.opening.messages then option_map message_of (remembered_as h.opening n)
+    if nat_lt n h.opening.messages then option_map accepted_of (remembered_as h.opening n)
     else slice_get (accepted h) (n - h.opening.messages)
 
 -- the numbers of all messages that were accepted, in order
@@ -200,10 +166,6 @@ numbers h = range_with_len 0 (message_count h)
 -- the numbers of the messages that are not forgotten, in order
 abbrev pub remaining : History → List ℕ
 remaining h = filter (λ n. is_some (message_at h n)) (numbers h)
-
--- how many messages are forgotten
-abbrev pub forgotten_messages : History → ℕ
-forgotten_messages h = count_by (λ n. is_none (message_at h n)) (numbers h)
 
 -- where message n goes; nowhere where there is no such message
 abbrev pub deliveries : History → ℕ → List Delivery
@@ -220,10 +182,6 @@ control_id h n = option_map_or (λ m. control_id_of m.raw) (message_at h n) []
 -- the text that message n has for d
 abbrev pub payload : History → ℕ → ℕ → List ℕ
 payload h n d = option_map_or (λ x. x.payload) (find (λ x. x.destination == d) (deliveries h n)) []
-
--- the destinations that message n names
-abbrev pub named : History → ℕ → List ℕ
-named h n = destinations_of (deliveries h n)
 
 -- whether deliveries name d
 abbrev pub names : ℕ → List Delivery → Bool
@@ -242,7 +200,7 @@ state_by n d (Cancel number mask) = if (number == n) && (bit_at mask d == 1) the
 state_by n d (Deploy plan) = None
 
 -- the state of message n at d at the opening: as it is remembered, and else it waits for its first attempt
-abbrev pub first_state : Opening → ℕ → ℕ → SlotState
+abbrev pub first_state : Snapshot → ℕ → ℕ → SlotState
 first_state opening n d = option_map_or (λ r. option_map_or (λ s. s) (state_at d r.slots) (Waiting 0 0)) (remembered_as opening n) (Waiting 0 0)
 
 -- the state of message n at d as the last entry that touches it leaves it; before, as it is at the opening

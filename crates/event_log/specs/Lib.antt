@@ -1,4 +1,3 @@
-pub mod Kept
 pub mod History
 pub mod Answers
 pub mod Deployment
@@ -6,9 +5,7 @@ pub mod Room
 pub mod Counting
 pub mod Event
 pub mod Legal
-pub mod Coding
-pub mod Rows
 pub mod Replay
 pub mod Folding
 pub mod Alike
-pub mod PruningRows
+pub mod inner

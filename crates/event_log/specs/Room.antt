@@ -1,5 +1,5 @@
 -- The room that a history keeps for the deliveries of its messages.
-use Rattle.std.specs.Prelude.{ℕ, ◌+◌, ◌-◌, ◌*◌, Bool, true, false, nat_lt, if◌then◌else◌, List, [], length, sum_by, Option}
+use Rattle.std.specs.Prelude.{ℕ, ◌+◌, ◌-◌, ◌*◌, Bool, true, false, nat_lt, List, [], length, sum_by, Option}
 use Rattle.std.specs.List.{range_with_len}
 use Rattle.std.specs.Option.{option_map_or}
 use Rattle.plan_text.specs.Entries.{PlanEntry}
@@ -38,13 +38,9 @@ is_in_flight (InFlight attempt) = true
 is_in_flight Delivered = false
 is_in_flight (Failed cause) = false
 
--- how many attempts are under way
-abbrev pub in_flight : History → ℕ
-in_flight h = total (λ d state. if is_in_flight state then 1 else 0) h
-
 -- what a new message owes
-abbrev pub own_owed : PlanEntry → List ℕ → ℕ
-own_owed plan named = sum_by (λ d. 2 * attempts_max plan d + 1) named
+abbrev pub committed_by_new : PlanEntry → List ℕ → ℕ
+committed_by_new plan named = sum_by (λ d. 2 * attempts_max plan d + 1) named
 
 -- the destinations that an arrival adds slots at: those that it names, if it is accepted
 abbrev pub slots_added : PlanEntry → ℕ → List ℕ → Told → List ℕ
@@ -55,12 +51,12 @@ slots_added plan channel raw (told.Repeat place) = []
 
 -- what the slots of an arrival would owe
 abbrev pub own : History → ℕ → List ℕ → ℕ
-own h channel raw = option_map_or (λ told. own_owed (plan_in_force h) (slots_added (plan_in_force h) channel raw told)) (arrival_answer h channel raw) 0
+own h channel raw = option_map_or (λ told. committed_by_new (plan_in_force h) (slots_added (plan_in_force h) channel raw told)) (arrival_answer h channel raw) 0
 
 -- one more entry, whose own slots owe `own`, exceeds what the history may hold; folded entries take no room
-abbrev pub exceeds : History → ℕ → Bool
-exceeds h own = nat_lt h.opening.events_max (length h.entries + owed h + 1 + own)
+abbrev pub is_over_limit : History → ℕ → Bool
+is_over_limit h own = nat_lt h.opening.events_max (length h.entries + owed h + 1 + own)
 
 -- there is no room for an arrival
 unfoldable pub is_full : History → ℕ → List ℕ → Bool
-is_full h channel raw = exceeds h (own h channel raw)
+is_full h channel raw = is_over_limit h (own h channel raw)

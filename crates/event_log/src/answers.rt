@@ -2,10 +2,10 @@
 
 ghost use Rattle.std.specs.Prelude.{◌≡◌, ◌≢◌, ◌<◌, ◌≤◌, ◌*◌, IfSome, Some, true, All, AllPairs};
 ghost use Rattle.judge_core.specs.Delivering.{destinations_of};
-ghost use Rattle.judge_core.specs.Judging.{is_booked};
+ghost use Rattle.judge_core.specs.inner.Judging.{is_booked};
 ghost use Rattle.event_log.specs.Answers.{attempts_max, front_answer, interval, told_by};
-ghost use Rattle.event_log.specs.Legal.{IsWithin};
-ghost use Rattle.event_log.specs.Room.{own_owed};
+ghost use Rattle.event_log.specs.inner.Legal.{IsWithin};
+ghost use Rattle.event_log.specs.Room.{committed_by_new};
 
 use crate::entry::{Ticket, Told};
 use crate::refusal::TakeRefusal;
@@ -72,10 +72,10 @@ pub fn front_answer(
 }
 
 /// The entries that the new slots of a message owe.
-pub fn own_owed(plan: &Plan, deliveries: &[Delivery]) -> u32
+pub fn committed_by_new(plan: &Plan, deliveries: &[Delivery]) -> u32
     requires within { All (λ x. x.destination < 32) deliveries.now }
     requires once { AllPairs (λ x y. x.destination ≢ y.destination) deliveries.now }
-    ensures value { result ≡ own_owed plan.now (destinations_of deliveries.now) }
+    ensures value { result ≡ committed_by_new plan.now (destinations_of deliveries.now) }
     ensures bound { result ≤ 6432 }
 {
     let mut owed = 0;

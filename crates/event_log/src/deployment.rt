@@ -1,7 +1,8 @@
 //! Whether a plan may replace another, by what the two say.
 
 ghost use Rattle.std.specs.Prelude.{◌≡◌, slice_get};
-ghost use Rattle.event_log.specs.Deployment.{same_at, same_channels, stays};
+ghost use Rattle.event_log.specs.Deployment.{same_channels, stays};
+ghost use Rattle.event_log.specs.inner.Deployment.{same_at};
 
 use plan_text::Plan;
 

@@ -3,8 +3,9 @@
 ghost use Rattle.std.specs.Prelude.{◌≡◌, position};
 ghost use Rattle.std.specs.Arc.{arc_value};
 ghost use Rattle.event_log.specs.Answers.{brings};
-ghost use Rattle.event_log.specs.Counting.{is_acceptance};
-ghost use Rattle.event_log.specs.History.{is_arrival_of, is_numbered};
+ghost use Rattle.event_log.specs.inner.Counting.{is_acceptance};
+ghost use Rattle.event_log.specs.History.{is_numbered};
+ghost use Rattle.event_log.specs.inner.History.{is_arrival_of};
 
 use dest_queue::{Outcome, SlotState};
 use hl7_head::{Cause, Moment};
@@ -57,7 +58,7 @@ pub struct DeployedPlan {
 
 impl Model for DeployedPlan {
     ghost use Rattle.std.specs.Arc.{arc_value};
-    ghost use Rattle.plan_text.specs.Coding.{plan_code};
+    ghost use Rattle.plan_text.specs.inner.Coding.{plan_code};
     ghost use Rattle.plan_text.specs.Entries.{PlanEntry};
 
     ghost Value = { PlanEntry };

@@ -8,8 +8,9 @@ ghost use Rattle.event_log.specs.Alike.{AllReplyAlike, RepliesAlike, AreMet, Asi
 ghost use Rattle.event_log.specs.Answers.{has_key, known};
 ghost use Rattle.event_log.specs.Counting.{destination_counts};
 ghost use Rattle.event_log.specs.Folding.{arrival_place, folded, prune_answer, pruned};
-ghost use Rattle.event_log.specs.History.{History, message_count, number_of, plan_in_force};
-ghost use Rattle.event_log.specs.Legal.{IsGoodOpening, IsMemory, IsSound};
+ghost use Rattle.event_log.specs.History.{History, message_count, plan_in_force};
+ghost use Rattle.event_log.specs.inner.History.{number_of};
+ghost use Rattle.event_log.specs.inner.Legal.{IsGoodOpening, IsMemory, IsSound};
 ghost use Rattle.event_log.specs.Event.{Event, next, run};
 ghost use Rattle.event_log.specs.Room.{owed};
 

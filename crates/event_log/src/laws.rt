@@ -8,9 +8,11 @@ ghost use Rattle.dest_queue.specs.declared.Outcome.{Outcome};
 ghost use Rattle.event_log.specs.declared.entry.Ticket.{Ticket};
 ghost use Rattle.event_log.specs.declared.entry.Entry.{Entry};
 ghost use Rattle.event_log.specs.declared.entry.Entry.TheVariants.{Take, Settle, Cancel};
-ghost use Rattle.event_log.specs.History.{History, followed_by, next_place, opened_by};
+ghost use Rattle.event_log.specs.History.{History, followed_by, next_place};
+ghost use Rattle.event_log.specs.inner.History.{snapshot_after};
 ghost use Rattle.event_log.specs.Answers.{cancel_answer, keeps, known, known_before, settle_answer, take_answer};
-ghost use Rattle.event_log.specs.Legal.{IsGoodOpening, IsLegal, IsSound, MayFollow};
+ghost use Rattle.event_log.specs.Legal.{IsLegal, MayFollow};
+ghost use Rattle.event_log.specs.inner.Legal.{IsGoodOpening, IsSound};
 ghost use Rattle.event_log.specs.declared.entry.Told.{Told};
 ghost use Rattle.event_log.specs.declared.refusal.DeployRefusal.{DeployRefusal};
 ghost use Rattle.event_log.specs.declared.refusal.DeployRefusal.TheVariants as deploy_refusal;
@@ -18,7 +20,7 @@ ghost use Rattle.event_log.specs.Answers.{arrival_answer};
 ghost use Rattle.event_log.specs.Deployment.{deploy_answer};
 ghost use Rattle.event_log.specs.Event.{IsPossible, Does, Event, Refusal, Reply, answer, arrive, cancel, deploy, entry_of, event_of, full, next, settle, take};
 ghost use Rattle.event_log.specs.Replay.{replay};
-ghost use Rattle.event_log.specs.Room.{exceeds, is_full, owed};
+ghost use Rattle.event_log.specs.Room.{is_over_limit, is_full, owed};
 
 /// The laws of histories, for every plan, bound, entry and key.
 pub fn history_rules()
@@ -27,7 +29,7 @@ pub fn history_rules()
 
     // What a sequential engine gives from a good opening is sound; so it is at first, and with each entry that may follow.
     ensures sound { (h : History) → IsGoodOpening h.opening → IsLegal h → IsSound h }
-    ensures opened { (plan : PlanEntry) (events_max : ℕ) → IsPlan plan → IsSound (opened_by plan events_max) }
+    ensures opened { (plan : PlanEntry) (events_max : ℕ) → IsPlan plan → IsSound (snapshot_after plan events_max) }
     ensures followed { (h : History) (e : Entry) → IsSound h → MayFollow h e → IsSound (followed_by h e) }
 
     // A take, a settlement and a cancellation need no room beyond what is owed: none is ever refused for it.
@@ -65,9 +67,9 @@ pub fn event_rules()
         answer h (settle ticket outcome now) ≡ settle_answer h ticket outcome now }
     ensures cancelled { (h : History) (number : ℕ) → answer h (cancel number) ≡ cancel_answer h number }
     ensures deployed { (h : History) (plan : PlanEntry) →
-        deploy_answer h plan ≡ None → exceeds h 0 ≡ false → answer h (deploy plan) ≡ Ok tt }
+        deploy_answer h plan ≡ None → is_over_limit h 0 ≡ false → answer h (deploy plan) ≡ Ok tt }
     ensures deployed_full { (h : History) (plan : PlanEntry) →
-        deploy_answer h plan ≡ None → exceeds h 0 ≡ true → answer h (deploy plan) ≡ Err deploy_refusal.Full }
+        deploy_answer h plan ≡ None → is_over_limit h 0 ≡ true → answer h (deploy plan) ≡ Err deploy_refusal.Full }
     ensures not_deployed { (h : History) (plan : PlanEntry) (refusal : DeployRefusal) →
         deploy_answer h plan ≡ Some refusal → answer h (deploy plan) ≡ Err refusal }
 

@@ -6,11 +6,12 @@ ghost use Rattle.std.specs.List.Sorted.{IsStrictlyIncreasing};
 ghost use Rattle.event_log.specs.Answers.{brings_at};
 ghost use Rattle.event_log.specs.Deployment.{deployments};
 ghost use Rattle.event_log.specs.Folding.{arrival_place, closing};
-ghost use Rattle.event_log.specs.History.{begun, deployed_by, entry_at, followed_by, message_count, next_place, opened_by, plan_in_force};
-ghost use Rattle.event_log.specs.Room.{exceeds, owed, slot_owed};
+ghost use Rattle.event_log.specs.History.{begun, deployed_by, entry_at, followed_by, message_count, next_place, plan_in_force};
+ghost use Rattle.event_log.specs.inner.History.{snapshot_after};
+ghost use Rattle.event_log.specs.Room.{is_over_limit, owed, slot_owed};
 
 use crate::entry::{DeployedPlan, Entry, index_of_arrival};
-use crate::opening::{Opening, Remembered};
+use crate::opening::{Remembered, Snapshot};
 use dest_queue::{ATTEMPTS_MAX, SlotState};
 use fixed_numbers::{DEPLOYMENTS_MAX, EVENTS_MAX, PRUNINGS_MAX};
 use plan_text::Plan;
@@ -24,7 +25,7 @@ use std::sync::Arc;
 /// room that was made for more. The entries and those owed are together never more than the history may hold.
 #[derive(Drop)]
 pub struct Log {
-    opening: Opening,
+    opening: Snapshot,
     deployed: Option<Arc<Plan>>,
     deployments: u32,
     messages: u32,
@@ -37,22 +38,22 @@ impl Model for Log {
     ghost use Rattle.std.specs.Arc.{arc_value};
     ghost use Rattle.std.specs.Option.{option_map_or};
     ghost use Rattle.event_log.specs.Deployment.{deployments as deployments_of};
-    ghost use Rattle.event_log.specs.Kept.{Kept};
-    ghost use Rattle.event_log.specs.Coding.{kept_code};
-    ghost use Rattle.event_log.specs.History.{continued, message_count, plan_in_force};
+    ghost use Rattle.event_log.specs.inner.Kept.{Kept};
+    ghost use Rattle.event_log.specs.inner.Coding.{kept_code};
+    ghost use Rattle.event_log.specs.History.{of_snapshot, message_count, plan_in_force};
     ghost use Rattle.event_log.specs.Room.{owed as owed_by};
 
     ghost Value = { Kept };
 
     ghost coded = { kept_code };
 
-    ghost view = { λ l. record { history = continued l.opening l.entries.items; room = vec_capacity l.entries - vec_len l.entries } };
+    ghost view = { λ l. record { history = of_snapshot l.opening l.entries.items; room = vec_capacity l.entries - vec_len l.entries } };
 
     ghost invariant = { λ l. record {
-      plan_is : option_map_or (λ p. arc_value p) l.deployed l.opening.plan ≡ plan_in_force (continued l.opening l.entries.items);
-      deployments_are : l.deployments ≡ deployments_of (continued l.opening l.entries.items);
-      messages_are : l.messages ≡ message_count (continued l.opening l.entries.items);
-      owed_is : l.owed ≡ owed_by (continued l.opening l.entries.items);
+      plan_is : option_map_or (λ p. arc_value p) l.deployed l.opening.plan ≡ plan_in_force (of_snapshot l.opening l.entries.items);
+      deployments_are : l.deployments ≡ deployments_of (of_snapshot l.opening l.entries.items);
+      messages_are : l.messages ≡ message_count (of_snapshot l.opening l.entries.items);
+      owed_is : l.owed ≡ owed_by (of_snapshot l.opening l.entries.items);
       within : length l.entries.items + l.owed ≤ l.opening.events_max;
       few : l.opening.events_max ≤ 1000000;
       few_places : l.opening.places ≤ 1000000000;
@@ -76,10 +77,10 @@ impl Log {
     /// The history of a book of this plan that may hold `events_max` entries, with none booked yet.
     pub fn new(alloc: Global, plan: Arc<Plan>, events_max: u32) -> Log
         requires { events_max ≤ EVENTS_MAX }
-        ensures { result.history ≡ opened_by (arc_value plan) events_max }
+        ensures { result.history ≡ snapshot_after (arc_value plan) events_max }
     {
         Log {
-            opening: Opening::blank(alloc, plan, events_max),
+            opening: Snapshot::blank(alloc, plan, events_max),
             deployed: None,
             deployments: 0,
             messages: 0,
@@ -199,7 +200,7 @@ impl Log {
 
     /// Whether there is room for one more entry, whose own slots owe `own` entries.
     pub fn room(&self, own: u32) -> bool
-        ensures { result ≡ not (exceeds self.now.history own) }
+        ensures { result ≡ not (is_over_limit self.now.history own) }
     {
         let entries = self.entries.len() as u64;
         entries + u64::from(self.owed) + 1 + u64::from(own) <= u64::from(self.opening.events_max)
@@ -275,7 +276,7 @@ impl Log {
         ensures err { OnErr result (self.new ≡ self.old) }
     {
         let entries = Vec::with_capacity(*self.entries.allocator(), room)?;
-        self.opening.go_on(
+        self.opening.advance(
             self.deployed.take(),
             self.entries.len(),
             self.messages,

@@ -6,7 +6,8 @@ ghost use Rattle.std.specs.List.{HoldsAt, list_any};
 ghost use Rattle.std.specs.List.Sorted.{IsStrictlyIncreasing};
 ghost use Rattle.std.specs.Option.{option_map, option_map_or};
 ghost use Rattle.event_log.specs.Answers.{brought_before};
-ghost use Rattle.event_log.specs.History.{blank, is_numbered};
+ghost use Rattle.event_log.specs.History.{is_numbered};
+ghost use Rattle.event_log.specs.inner.History.{blank};
 
 use crate::entry::Told;
 use dest_queue::Slots;
@@ -32,7 +33,7 @@ pub struct Remembered {
 impl Model for Remembered {
     ghost use Rattle.std.specs.Prelude.{[]};
     ghost use Rattle.std.specs.Option.{option_map_or};
-    ghost use Rattle.event_log.specs.Coding.{remembered_code};
+    ghost use Rattle.event_log.specs.inner.Coding.{remembered_code};
     ghost use Rattle.event_log.specs.History.{Remembered as RememberedArrival};
 
     ghost Value = { RememberedArrival };
@@ -126,7 +127,7 @@ impl Remembered {
 /// folded, messages accepted, plans deployed and prunings made before it; what is counted of what was forgotten, and what is
 /// remembered, in order of index.
 #[derive(Drop)]
-pub struct Opening {
+pub struct Snapshot {
     pub(crate) plan: Arc<Plan>,
     pub(crate) events_max: u32,
     pub(crate) places: usize,
@@ -137,12 +138,12 @@ pub struct Opening {
     remembered: Vec<Remembered>,
 }
 
-impl Model for Opening {
+impl Model for Snapshot {
     ghost use Rattle.std.specs.Prelude.{map};
     ghost use Rattle.std.specs.Arc.{arc_value};
     ghost use Rattle.std.specs.List.Sorted.{IsStrictlyIncreasing};
-    ghost use Rattle.event_log.specs.Coding.{opening_code};
-    ghost use Rattle.event_log.specs.History.{Opening as HistoryOpening};
+    ghost use Rattle.event_log.specs.inner.Coding.{opening_code};
+    ghost use Rattle.event_log.specs.History.{Snapshot as HistoryOpening};
 
     ghost Value = { HistoryOpening };
 
@@ -172,12 +173,12 @@ fn index_of(remembered: &[Remembered], place: usize) -> Option<usize>
     remembered.binary_search_by_key(&place, |r| r.place()).ok()
 }
 
-impl Opening {
+impl Snapshot {
     /// The opening of a book of this plan and bound, before which nothing was booked.
-    pub(crate) fn blank(alloc: Global, plan: Arc<Plan>, events_max: u32) -> Opening
+    pub(crate) fn blank(alloc: Global, plan: Arc<Plan>, events_max: u32) -> Snapshot
         ensures { result ≡ blank (arc_value plan) events_max }
     {
-        Opening {
+        Snapshot {
             plan,
             events_max,
             places: 0,
@@ -218,7 +219,7 @@ impl Opening {
 
     /// Goes on from where this many more entries were folded: the plan that was deployed since, if one was; how many messages
     /// were accepted and plans deployed until there; what is counted and not remembered, and what is remembered.
-    pub(crate) fn go_on(
+    pub(crate) fn advance(
         &mut self,
         deployed: Option<Arc<Plan>>,
         entries: usize,

@@ -1,9 +1,9 @@
 //! Why an event was not booked.
 
 ghost use Rattle.std.specs.Prelude.{◌≡◌};
-ghost use Rattle.event_log.specs.Answers.{cancel_refusal_code, take_refusal_code};
-ghost use Rattle.event_log.specs.Deployment.{deploy_refusal_code};
-ghost use Rattle.event_log.specs.Folding.{prune_refusal_code};
+ghost use Rattle.event_log.specs.inner.Answers.{cancel_refusal_code, take_refusal_code};
+ghost use Rattle.event_log.specs.inner.Deployment.{deploy_refusal_code};
+ghost use Rattle.event_log.specs.inner.Folding.{prune_refusal_code};
 
 use std::alloc::AllocError;
 use thiserror::Error;

@@ -9,9 +9,9 @@ mod run;
 
 use crate::handle::Handle;
 use answer::answer;
-use book_core::{Book, Letter};
+use book_core::{Book, Outbound};
 use check::check;
-use dest_queue::Addressed;
+use dest_queue::Queued;
 use engine_report::{Fault, read_plan, warned_plan};
 use engine_words::Request;
 use plan_text::Plan;
@@ -21,7 +21,7 @@ use std::alloc::AllocError;
 use std::sync::Arc;
 
 /// The store of a book's rows: linked nodes.
-type EngineRows = RecordList<Addressed<Letter>>;
+type EngineRows = RecordList<Queued<Outbound>>;
 
 /// The book of the program.
 type EngineBook = Book<EngineRows>;
@@ -50,7 +50,7 @@ fn shared_plan<'a>(rt: &HostRuntime, path: Option<&'a str>) -> Result<Arc<Plan>,
 /// # Errors
 ///
 /// The first fault that was found.
-pub fn obey<'a, H: Handle + Eprint>(
+pub(crate) fn execute<'a, H: Handle + Eprint>(
     rt: &HostRuntime,
     handle: &H,
     request: &Request<'a>,

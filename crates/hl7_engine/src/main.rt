@@ -9,9 +9,9 @@ ghost use Rattle.engine_report.specs.Ending.{status_of};
 mod commands;
 mod handle;
 
-use commands::obey;
+use commands::execute;
 use engine_report::{Fault, open_standard};
-use engine_words::ask;
+use engine_words::parse_args;
 use handle::Handle;
 use std::env;
 use std::io::ErrorKind;
@@ -33,7 +33,7 @@ fn words_given<'a>(rt: &HostRuntime) -> Result<Vec<String>, Fault<'a>> {
 }
 
 /// Prints the help or the version that was requested, which is a success, or passes on what is wrong with the words.
-fn explain<'a>(rt: &HostRuntime, error: clap::Error) -> Result<(), Fault<'a>> {
+fn print_help<'a>(rt: &HostRuntime, error: clap::Error) -> Result<(), Fault<'a>> {
     if error.use_stderr() {
         Err(Fault::from(error))
     } else {
@@ -48,9 +48,9 @@ fn perform<'a, H: Handle + Eprint>(
     _sockets: Sockets,
     words: &'a [String],
 ) -> Result<(), Fault<'a>> {
-    match ask(rt.alloc(), words) {
-        Ok(request) => obey(rt, handle, &request),
-        Err(error) => explain(rt, error),
+    match parse_args(rt.alloc(), words) {
+        Ok(request) => execute(rt, handle, &request),
+        Err(error) => print_help(rt, error),
     }
 }
 

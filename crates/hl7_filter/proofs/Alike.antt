@@ -3,7 +3,7 @@ use Rattle.std.proofs.Common.{◌≡◌, ℕ, ◌≤◌, List, [], ◌∷◌, Bo
 use Rattle.std.specs.Bool.{Decides}
 use Rattle.std.proofs.lemmas.List.{drop_all}
 use Rattle.std.proofs.Math.Dec.{eqb-suc-zero}
-use Rattle.hl7_filter.specs.View.{conditions_view}
+use Rattle.hl7_filter.specs.inner.View.{conditions_view}
 use Rattle.hl7_filter.specs.declared.condition.Cond.{Cond}
 
 -- at the end of the first, they are the same exactly where nothing is left of the second

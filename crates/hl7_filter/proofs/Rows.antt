@@ -4,7 +4,8 @@ use Rattle.er7_tree.specs.declared.path.Part.{Part}
 use Rattle.er7_tree.specs.declared.path.Part.TheVariants.{Whole, Component}
 use Rattle.er7_tree.specs.Path.{Place}
 use Rattle.er7_tree.specs.Tree.{Tree}
-use Rattle.hl7_filter.specs.Condition.{equals, one_of, exists, starts, contains, all, any, negated, Conditions, no_conditions, condition, truth, levels, compares_unescaped}
+use Rattle.hl7_filter.specs.Condition.{equals, one_of, exists, starts, contains, all, any, negated, Conditions, no_conditions, condition, truth, nesting}
+use Rattle.hl7_filter.specs.inner.Condition.{compares_unescaped}
 
 -- PID-2 is empty, PID-6 the null value, PID-7 escaped, and PID-9 isn't there
 message : Tree
@@ -151,13 +152,13 @@ not_all : truth message (negated (all two)) ≡ true
 unfolding message
 not_all = refl
 
-one_level : levels (exists (field 3)) ≡ 1
+one_level : nesting (exists (field 3)) ≡ 1
 one_level = refl
 
-three_levels : levels (negated (all two)) ≡ 3
+three_levels : nesting (negated (all two)) ≡ 3
 three_levels = refl
 
-one_level_of_none : levels (any no_conditions) ≡ 1
+one_level_of_none : nesting (any no_conditions) ≡ 1
 one_level_of_none = refl
 
 two_compare_unescaped : compares_unescaped message (all two) ≡ true

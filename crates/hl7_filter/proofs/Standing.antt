@@ -10,7 +10,7 @@ use Rattle.std.proofs.Math.Seq.{drop-append_seam, take-append_seam}
 use Rattle.std.proofs.lemmas.Slice.Eq.{bytes_eq-Decides}
 use Rattle.memchr.specs.Find.{OccursAt, FindsNeedle, Nowhere}
 use Rattle.memchr.proofs.lemmas.MatchLemmas.{OccursAt-part, OccursAt-from_part, OccursAt-split}
-use Rattle.hl7_filter.specs.Condition.{stands_in}
+use Rattle.hl7_filter.specs.Condition.{occurs_in}
 
 -- a value begins with a text exactly where the text occurs at its start
 begins : (text value : List ℕ) → OccursAt value text 0 → starts_with nat_eq value text ≡ true
@@ -29,7 +29,7 @@ later text b bs k h = OccursAt-from_part bs text k (omega (arith, h.fits)) (Occu
 sooner : (text : List ℕ) (b : ℕ) (bs : List ℕ) (k : ℕ) → OccursAt bs text k → OccursAt (b ∷ bs) text (suc k)
 sooner text b bs k h = OccursAt-from_part (b ∷ bs) text (suc k) (omega (arith, h.fits)) (OccursAt-part bs text k h)
 
-found_first : (text value : List ℕ) → starts_with nat_eq value text ≡ true → stands_in text value ≡ true
+found_first : (text value : List ℕ) → starts_with nat_eq value text ≡ true → occurs_in text value ≡ true
 found_first text [] h = h
 found_first text (b ∷ bs) h = rw h refl
 
@@ -37,7 +37,7 @@ or_later : (x y : Bool) → y ≡ true → (x || y) ≡ true
 or_later true y h = refl
 or_later false y h = h
 
-pub found : (text value : List ℕ) (k : ℕ) → OccursAt value text k → stands_in text value ≡ true
+pub found : (text value : List ℕ) (k : ℕ) → OccursAt value text k → occurs_in text value ≡ true
 found text value zero h = found_first text value (begins text value h)
 found text [] (suc k) h = absurd (omega (arith, h.fits))
 found text (b ∷ bs) (suc k) h = or_later _ _ (found text bs k (later text b bs k h))
@@ -45,7 +45,7 @@ found text (b ∷ bs) (suc k) h = or_later _ _ (found text bs k (later text b bs
 not_first : (text value : List ℕ) → (OccursAt value text 0 → ⊥) → starts_with nat_eq value text ≡ false
 not_first text value none = elim (cases_Bool (starts_with nat_eq value text)) [ inl is ↦ absurd (none (occurs text value is)) | inr isnt ↦ isnt ]
 
-pub absent : (text value : List ℕ) → Nowhere (OccursAt value text) 0 (length value + 1) → stands_in text value ≡ false
+pub absent : (text value : List ℕ) → Nowhere (OccursAt value text) 0 (length value + 1) → occurs_in text value ≡ false
 absent text [] none = not_first text [] (none 0 (omega arith) (omega arith))
 absent text (b ∷ bs) none =
     rw (not_first text (b ∷ bs) (none 0 (omega arith) (omega arith)))
@@ -58,11 +58,11 @@ inside before text after =
     (ap (take (length text)) rest ∙ take-append_seam text after)
 
 -- what a search answers tells whether the text stands in the value
-pub finds : (text value : List ℕ) (at : Option ℕ) → FindsNeedle value text 0 at → is_some at ≡ stands_in text value
+pub finds : (text value : List ℕ) (at : Option ℕ) → FindsNeedle value text 0 at → is_some at ≡ occurs_in text value
 finds text value None none = sym (absent text value none)
 finds text value (Some k) h = sym (found text value k h.1)
 
-place_of : (text value : List ℕ) → stands_in text value ≡ true → (k : ℕ) × OccursAt value text k
+place_of : (text value : List ℕ) → occurs_in text value ≡ true → (k : ℕ) × OccursAt value text k
 place_of text [] h = (0, occurs text [] h)
 place_of text (b ∷ bs) h =
     elim (cases_Bool (starts_with nat_eq (b ∷ bs) text)) [
@@ -71,7 +71,7 @@ place_of text (b ∷ bs) h =
     ]
 
 -- a text stands in a value exactly where the value is something, the text and something
-pub stands_in-Decides : (text value : List ℕ) → Decides (stands_in text value) (HasSubslice value text)
+pub stands_in-Decides : (text value : List ℕ) → Decides (occurs_in text value) (HasSubslice value text)
 stands_in-Decides text value = (
   λ h. let k = place_of text value h in (
     take k.0 value,

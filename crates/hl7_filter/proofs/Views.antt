@@ -4,7 +4,7 @@ use Rattle.std.specs.declared.alloc.Global.{Global}
 use Rattle.std.specs.Bool.{Decides}
 use Rattle.er7_tree.specs.Path.{Place}
 use Rattle.hl7_filter.specs.Condition.{equals, one_of, starts}
-use Rattle.hl7_filter.specs.View.{view}
+use Rattle.hl7_filter.specs.inner.View.{view}
 use Rattle.hl7_filter.specs.declared.condition.Cond.{Equals, OneOf, Starts, the_lemmas}
 
 pub view-Equals : (path : Place) (text : List ℕ) → view (Equals path text) ≡ equals path text

@@ -2,7 +2,6 @@
 use Rattle.std.specs.Prelude.{ℕ, suc, max, List, [], ◌∷◌, Bool, true, false, not, ◌&&◌, ◌||◌, nat_eq}
 use Rattle.std.specs.List.{list_any, starts_with}
 use Rattle.std.specs.Str.{bytes_eq}
-use Rattle.er7_tree.specs.Delims.{lacks}
 use Rattle.er7_tree.specs.Path.{Place, raw, value}
 use Rattle.er7_tree.specs.Pieces.{is_vacant}
 use Rattle.er7_tree.specs.Tree.{Tree}
@@ -25,17 +24,13 @@ mutual
     condition : Condition → Conditions → Conditions
 
 -- the value contains the text
-abbrev pub stands_in : List ℕ → List ℕ → Bool
-stands_in text [] = starts_with nat_eq [] text
-stands_in text (b ∷ bs) = starts_with nat_eq (b ∷ bs) text || stands_in text bs
+abbrev pub occurs_in : List ℕ → List ℕ → Bool
+occurs_in text [] = starts_with nat_eq [] text
+occurs_in text (b ∷ bs) = starts_with nat_eq (b ∷ bs) text || occurs_in text bs
 
 -- the value is one of the texts
 abbrev pub is_one_of : List (List ℕ) → List ℕ → Bool
 is_one_of texts value = list_any (bytes_eq value) texts
-
--- nothing in the piece at a place is escaped, so that its raw bytes are its value
-abbrev pub is_unescaped : Tree → Place → Bool
-is_unescaped t place = lacks t.delims.escape (raw t place)
 
 -- whether a condition is true of a message
 abbrev mutual
@@ -44,7 +39,7 @@ abbrev mutual
   truth t (one_of place texts) = is_one_of texts (value t place)
   truth t (exists place) = not (is_vacant (raw t place))
   truth t (starts place text) = starts_with nat_eq (value t place) text
-  truth t (contains place text) = stands_in text (value t place)
+  truth t (contains place text) = occurs_in text (value t place)
   truth t (all conditions) = all_true t conditions
   truth t (any conditions) = any_true t conditions
   truth t (negated c) = not (truth t c)
@@ -57,30 +52,14 @@ abbrev mutual
   any_true t no_conditions = false
   any_true t (condition c cs) = truth t c || any_true t cs
 
--- nothing is escaped in the pieces whose values a condition compares
-abbrev mutual
-  pub compares_unescaped : Tree → Condition → Bool
-  compares_unescaped t (equals place text) = is_unescaped t place
-  compares_unescaped t (one_of place texts) = is_unescaped t place
-  compares_unescaped t (exists place) = true
-  compares_unescaped t (starts place text) = is_unescaped t place
-  compares_unescaped t (contains place text) = is_unescaped t place
-  compares_unescaped t (all conditions) = all_compare_unescaped t conditions
-  compares_unescaped t (any conditions) = all_compare_unescaped t conditions
-  compares_unescaped t (negated c) = compares_unescaped t c
-
-  pub all_compare_unescaped : Tree → Conditions → Bool
-  all_compare_unescaped t no_conditions = true
-  all_compare_unescaped t (condition c cs) = compares_unescaped t c && all_compare_unescaped t cs
-
 -- how deep conditions are nested: one that holds no other is one level
 abbrev mutual
-  pub levels : Condition → ℕ
-  levels (all conditions) = suc (most_levels conditions)
-  levels (any conditions) = suc (most_levels conditions)
-  levels (negated c) = suc (levels c)
-  levels _ = 1
+  pub nesting : Condition → ℕ
+  nesting (all conditions) = suc (most_levels conditions)
+  nesting (any conditions) = suc (most_levels conditions)
+  nesting (negated c) = suc (nesting c)
+  nesting _ = 1
 
   pub most_levels : Conditions → ℕ
   most_levels no_conditions = 0
-  most_levels (condition c cs) = max (levels c) (most_levels cs)
+  most_levels (condition c cs) = max (nesting c) (most_levels cs)

@@ -1,4 +1,3 @@
-pub mod ByView
 pub mod Condition
-pub mod Same
 pub mod View
+pub mod inner

@@ -2,10 +2,11 @@ ghost use Rattle.std.specs.Prelude.{◌≡◌, ◌↔◌, nat_le, IfOk, IsOk, Is
 ghost use Rattle.std.specs.Str.Iter.{HasSubslice};
 ghost use Rattle.std.specs.Cow.{cow_slice_items};
 ghost use Rattle.std.specs.Bool.{Decides};
-ghost use Rattle.hl7_filter.specs.Condition.{truth, all_true, any_true, stands_in, is_one_of, is_unescaped, compares_unescaped, all_compare_unescaped, levels, most_levels};
+ghost use Rattle.hl7_filter.specs.Condition.{truth, all_true, any_true, occurs_in, is_one_of, most_levels, nesting};
+ghost use Rattle.hl7_filter.specs.inner.Condition.{is_unescaped, compares_unescaped, all_compare_unescaped};
 ghost use Rattle.er7_tree.specs.Path.{value};
 ghost use Rattle.er7_tree.specs.Delims.{lacks};
-ghost use Rattle.hl7_filter.specs.View.{view, conditions_view};
+ghost use Rattle.hl7_filter.specs.inner.View.{view, conditions_view};
 
 use crate::text::Bytes;
 use er7_tree::{Message, Path, is_vacant};
@@ -61,7 +62,7 @@ pub fn value<'m>(message: &'m Message, path: &Path) -> Result<CowSlice<'m, u8>, 
 
 /// Whether the value contains the text.
 fn stands_in(text: &[u8], value: &[u8]) -> bool
-    ensures computed { result ≡ stands_in text.now value.now }
+    ensures computed { result ≡ occurs_in text.now value.now }
     ensures relation { IsTrue result ↔ HasSubslice value.now text.now }
 {
     memmem::find(value, text).is_some()
@@ -144,7 +145,7 @@ impl Cond {
     /// holds others has one more than the deepest of them.
     #[cycle(levels)]
     pub fn is_within(&self, levels_max: u32) -> bool
-        ensures { result ≡ nat_le (levels (view self.now)) levels_max }
+        ensures { result ≡ nat_le (nesting (view self.now)) levels_max }
     {
         if levels_max == 0 {
             return false;
@@ -199,7 +200,7 @@ impl Cond {
 }
 
 impl PartialEq for Cond {
-    ghost use Rattle.hl7_filter.specs.View.{same, same_laws};
+    ghost use Rattle.hl7_filter.specs.inner.View.{same, same_laws};
 
     ghost eq = { same };
 
@@ -211,7 +212,7 @@ impl PartialEq for Cond {
 }
 
 impl Eq for Cond {
-    ghost use Rattle.hl7_filter.specs.View.{same_equiv};
+    ghost use Rattle.hl7_filter.specs.inner.View.{same_equiv};
 
     ghost laws = { same_equiv };
 }

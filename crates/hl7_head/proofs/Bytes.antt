@@ -9,7 +9,8 @@ use Rattle.er7_tree.specs.Delims.{Delims, delims_of, declared_by, are_delimiters
 use Rattle.er7_tree.specs.Path.{segment_at, field_at, field_place, part_of}
 use Rattle.er7_tree.specs.declared.path.Part.TheVariants.{Component}
 use Rattle.er7_tree.specs.Pieces.{split, piece_at, is_empty}
-use Rattle.er7_tree.specs.Tree.{Tree, IsMessage, first_of, is_header, tree, segments_of, without_line_feed, without_line_feeds}
+use Rattle.er7_tree.specs.Tree.{Tree, first_of, is_header, tree, segments_of, without_line_feed, without_line_feeds}
+use Rattle.er7_tree.specs.inner.Tree.{IsMessage}
 use Rattle.er7_tree.proofs.Messages.{tree_is, tree_segments}
 use Rattle.hl7_head.specs.Header.{Msh, header, header_of, header_where}
 

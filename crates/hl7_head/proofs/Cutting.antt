@@ -8,9 +8,9 @@ use Rattle.std.specs.List.{position_or_len}
 use Rattle.er7_tree.specs.Pieces.{split, piece_at}
 use Rattle.memchr.specs.Find.{Passes, is_byte, Nowhere}
 use Rattle.er7_tree.specs.declared.segments.Span.{Span}
-use Rattle.er7_tree.specs.Spans.{covered, IsBetween}
-use Rattle.lane_scan.specs.Scan.{IsNext, IsNowhere}
-use Rattle.hl7_head.specs.Places.{ReadsFirst}
+use Rattle.er7_tree.specs.inner.Spans.{covered, IsBetween}
+use Rattle.lane_scan.specs.inner.Scan.{IsNext, IsNowhere}
+use Rattle.hl7_head.specs.inner.Places.{ReadsFirst}
 
 -- at a separator, a text is cut into the piece before it and the pieces after it
 split_at : (separator at : ℕ) (text : List ℕ) → at < length text → Passes (is_byte separator) text at → Nowhere (Passes (is_byte separator) text) 0 at
@@ -29,10 +29,10 @@ split_nowhere separator (b ∷ bs) none =
     let more = split_nowhere separator bs (λ k low high. none (suc k) (omega arith) (omega arith)) in
     rw (no, more) refl
 
-range_front : (text : List ℕ) (a at e : ℕ) → a + at ≤ e → take at (slice_range text a e) ≡ slice_range text a (a + at)
+pub range_front : (text : List ℕ) (a at e : ℕ) → a + at ≤ e → take at (slice_range text a e) ≡ slice_range text a (a + at)
 range_front text a at e le = let width : (a + at) - a ≡ at = omega arith in rw (width, take-take at (e - a) (drop a text) (omega arith)) refl
 
-range_back : (text : List ℕ) (a n e : ℕ) → a + n ≤ e → drop n (slice_range text a e) ≡ slice_range text (a + n) e
+pub range_back : (text : List ℕ) (a n e : ℕ) → a + n ≤ e → drop n (slice_range text a e) ≡ slice_range text (a + n) e
 range_back text a n e le =
     let width : e - a ≡ n + (e - (a + n)) = omega arith in
     rw width (drop-take n (e - (a + n)) (drop a text) ∙ ap (take (e - (a + n))) (drop-drop n a text))

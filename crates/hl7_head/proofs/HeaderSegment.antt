@@ -7,9 +7,9 @@ use Rattle.er7_tree.specs.Pieces.{split, piece_at}
 use Rattle.er7_tree.specs.Tree.{Tree, has_name, is_header}
 use Rattle.er7_tree.specs.declared.segments.Span.{Span}
 use Rattle.hl7_head.specs.Header.{header}
-use Rattle.er7_tree.specs.Spans.{covered}
-use Rattle.hl7_head.specs.Places.{AreFirstPieces}
-use Rattle.hl7_head.specs.Segment.{component_at, header_in}
+use Rattle.er7_tree.specs.inner.Spans.{covered}
+use Rattle.hl7_head.specs.inner.Places.{AreFirstPieces}
+use Rattle.hl7_head.specs.inner.Segment.{component_at, header_in}
 
 -- a field of a header segment, of whose pieces the name is the first and stands for MSH-1
 pub field_read : (d : Delims) (segment text : List ℕ) (spans : List Span) → is_header segment ≡ true

@@ -7,3 +7,5 @@ pub mod Fronts
 pub mod Bytes
 pub mod AckBytes
 pub mod ReadBack
+pub mod Runs
+pub mod IdRun

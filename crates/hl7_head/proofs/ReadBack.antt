@@ -10,7 +10,8 @@ use Rattle.er7_tree.specs.declared.refusal.Refusal.{Refusal}
 use Rattle.er7_tree.specs.Delims.{Delims, is_delimiter, lacks, delims_of, declared_by, are_delimiters}
 use Rattle.er7_tree.specs.Path.{field_at}
 use Rattle.er7_tree.specs.Pieces.{is_vacant, piece_at, split}
-use Rattle.er7_tree.specs.Tree.{Tree, IsMessage, ended, first_of, is_header, text_of, tree}
+use Rattle.er7_tree.specs.Tree.{Tree, ended, first_of, is_header, text_of, tree}
+use Rattle.er7_tree.specs.inner.Tree.{IsMessage}
 use Rattle.er7_tree.proofs.Distinct.{Five, five, no_word, not_true}
 use Rattle.er7_tree.proofs.Messages.{delims_are, split_lacks, split_own, tree_is}
 use Rattle.er7_tree.proofs.Printing.{reads_again}
@@ -22,9 +23,10 @@ use Rattle.hl7_head.specs.declared.ack.Cause.TheVariants.{UnsupportedType, Unsup
 use Rattle.hl7_head.specs.Ack.{ack, cause_text, code_text, fields_text, reply_answer, reply_header, reply_id, reply_mode, reply_type}
 use Rattle.hl7_head.specs.Calendar.{CivilDate, civil_date}
 use Rattle.hl7_head.specs.Header.{Msh, header, header_of, header_where}
-use Rattle.hl7_head.specs.Laws.{header_back, answer_back, msa_of, msa_where}
+use Rattle.hl7_head.specs.Laws.{msa_of, msa_where}
+use Rattle.hl7_head.specs.inner.Laws.{header_back, answer_back}
 use Rattle.hl7_head.specs.Msa.{msa}
-use Rattle.hl7_head.specs.Segment.{component_at, header_in}
+use Rattle.hl7_head.specs.inner.Segment.{component_at, header_in}
 use Rattle.hl7_head.specs.Stamp.{date_text, four_digits, stamp, time_text, two_digits}
 use Rattle.hl7_head.proofs.HeaderSegment.{header_by_segment}
 

@@ -35,20 +35,6 @@ cause_text NoMemory = codes "NoMemory"
 cause_text Full = codes "Full"
 cause_text PlanChanged = codes "PlanChanged"
 
--- the numbers of the causes
-abbrev pub cause_code : Cause → ℕ
-cause_code UnsupportedType = 1
-cause_code UnsupportedProcessing = 2
-cause_code UnsupportedVersion = 3
-cause_code MissingControlId = 4
-cause_code BadControlId = 5
-cause_code SourceTransform = 6
-cause_code RouteTransform = 7
-cause_code IdReused = 8
-cause_code NoMemory = 9
-cause_code Full = 10
-cause_code PlanChanged = 11
-
 -- fields, each after a separator
 abbrev pub fields_text : ℕ → List (List ℕ) → List ℕ
 fields_text separator fields = flat_map (λ field. separator ∷ field) fields

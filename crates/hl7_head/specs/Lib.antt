@@ -3,6 +3,5 @@ pub mod Calendar
 pub mod Header
 pub mod Laws
 pub mod Msa
-pub mod Places
-pub mod Segment
 pub mod Stamp
+pub mod inner

@@ -1,5 +1,6 @@
 ghost use Rattle.std.specs.Prelude.{◌≡◌};
-ghost use Rattle.hl7_head.specs.Ack.{cause_code, cause_text, code_text};
+ghost use Rattle.hl7_head.specs.Ack.{cause_text, code_text};
+ghost use Rattle.hl7_head.specs.inner.Ack.{cause_code};
 
 /// An acknowledgment code, MSA-1 (table 0008).
 #[derive(Clone, Copy, Debug, PartialEq, Eq)]
@@ -30,6 +31,20 @@ impl AckCode {
             AckCode::CA => b"CA",
             AckCode::CE => b"CE",
             AckCode::CR => b"CR",
+        }
+    }
+
+    /// The two letters of the code, which are those of [`AckCode::text`].
+    pub(crate) fn letters(self) -> [u8; 2]
+        ensures { result ≡ code_text self }
+    {
+        match self {
+            AckCode::AA => [b'A', b'A'],
+            AckCode::AE => [b'A', b'E'],
+            AckCode::AR => [b'A', b'R'],
+            AckCode::CA => [b'C', b'A'],
+            AckCode::CE => [b'C', b'E'],
+            AckCode::CR => [b'C', b'R'],
         }
     }
 }

@@ -1,6 +1,7 @@
 ghost use Rattle.std.specs.Prelude.{◌≡◌, IfOk, length};
 ghost use Rattle.std.specs.Arc.{arc_value};
-ghost use Rattle.er7_tree.specs.Spans.{covered, IsBetween};
+ghost use Rattle.er7_tree.specs.inner.Spans.{covered, IsBetween};
+ghost use Rattle.hl7_head.specs.inner.Places.{AreWithin, pieces_at};
 
 use crate::places::Places;
 use er7_tree::{Delims, Message, Span};
@@ -22,7 +23,7 @@ impl Model for Header {
     ghost use Rattle.std.specs.Prelude.{length};
     ghost use Rattle.hl7_head.specs.Header.{Msh};
     ghost use Rattle.std.specs.Arc.{arc_value};
-    ghost use Rattle.hl7_head.specs.Places.{AreWithin, pieces_at};
+    ghost use Rattle.hl7_head.specs.inner.Places.{AreWithin, pieces_at};
 
     ghost Value = { Msh };
 
@@ -63,6 +64,16 @@ impl Header {
     /// How many bytes the segment has.
     pub(crate) fn size(&self) -> usize {
         self.size
+    }
+
+    /// The text of the message, and the spans of the pieces in it.
+    ///
+    /// It exists for speed: pieces that stand side by side in the text are copied as one.
+    pub(crate) fn source(&self) -> (&[u8], &Places)
+        ensures pieces { pieces_at self.now.delims result.0.now result.1.now ≡ self.now }
+        ensures within { AreWithin (length result.0.now) result.1.now }
+    {
+        (self.text.as_slice(), &self.places)
     }
 
     /// MSH-2, the encoding characters, with the fifth where there is one.

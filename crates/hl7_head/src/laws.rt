@@ -1,8 +1,10 @@
 ghost use Rattle.std.specs.Prelude.{◌≡◌, ℕ, Bool, true, false, List, Some, All};
 ghost use Rattle.hl7_head.specs.Ack.{ack};
-ghost use Rattle.er7_tree.specs.Tree.{IsMessage, Tree, first_of};
+ghost use Rattle.er7_tree.specs.Tree.{Tree, first_of};
+ghost use Rattle.er7_tree.specs.inner.Tree.{IsMessage};
 ghost use Rattle.hl7_head.specs.Header.{Msh, header, header_of};
-ghost use Rattle.hl7_head.specs.Laws.{AreControl, answer_back, header_back, msa_of};
+ghost use Rattle.hl7_head.specs.Laws.{msa_of};
+ghost use Rattle.hl7_head.specs.inner.Laws.{AreControl, answer_back, header_back};
 
 use crate::ack::AckPart;
 use crate::moment::Moment;

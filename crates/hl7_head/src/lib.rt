@@ -9,6 +9,7 @@ mod moment;
 mod msa;
 mod places;
 mod reply;
+mod stamped_moment;
 mod time_stamp;
 
 pub use ack::{AckCode, AckPart, Cause};
@@ -17,5 +18,6 @@ pub use header::Header;
 pub use laws::{ack_adds_no_control, ack_reads_back, constant_rules};
 pub use moment::{Moment, MomentRange};
 pub use msa::Msa;
-pub use reply::{ack_text, append_ack};
+pub use reply::{ack_text, append_ack, append_stamped_ack};
+pub use stamped_moment::StampedMoment;
 pub use time_stamp::stamp;

@@ -1,10 +1,10 @@
 ghost use Rattle.std.specs.Prelude.{◌≡◌, ◌+◌, ◌<◌, true, length};
 ghost use Rattle.er7_tree.specs.Pieces.{split, piece_at};
 ghost use Rattle.er7_tree.specs.Tree.{is_header};
-ghost use Rattle.er7_tree.specs.Spans.{covered, IsBetween};
-ghost use Rattle.hl7_head.specs.Places.{AreFirstPieces, AreWithin, ReadsFirst, pieces_at};
-ghost use Rattle.hl7_head.specs.Segment.{header_in};
-ghost use Rattle.lane_scan.specs.Scan.{AreAhead};
+ghost use Rattle.er7_tree.specs.inner.Spans.{covered, IsBetween};
+ghost use Rattle.hl7_head.specs.inner.Places.{AreFirstPieces, AreWithin, ReadsFirst, pieces_at};
+ghost use Rattle.hl7_head.specs.inner.Segment.{header_in};
+ghost use Rattle.lane_scan.specs.inner.Scan.{AreAhead};
 
 use er7_tree::{Delims, Span};
 use lane_scan::Ahead;

@@ -30,11 +30,11 @@ pub fn stamp(moment: Moment) -> [u8; STAMP_BYTES]
     let seconds = moment.secs();
     let date = civil((seconds / SECONDS_PER_DAY) as u32);
     let time = (seconds % SECONDS_PER_DAY) as u32;
-    let year = date.year().unsigned_abs() as u32;
+    let year = date.year.unsigned_abs() as u32;
     let [year_1, year_2] = two_digits(year / 100);
     let [year_3, year_4] = two_digits(year % 100);
-    let [month_1, month_2] = two_digits(date.month().unsigned_abs() as u32);
-    let [day_1, day_2] = two_digits(date.day().unsigned_abs() as u32);
+    let [month_1, month_2] = two_digits(date.month as u32);
+    let [day_1, day_2] = two_digits(date.day as u32);
     let [hour_1, hour_2] = two_digits(time / SECONDS_PER_HOUR);
     let [minute_1, minute_2] = two_digits(time / SECONDS_PER_MINUTE % 60);
     let [second_1, second_2] = two_digits(time % SECONDS_PER_MINUTE);

@@ -2,15 +2,18 @@
 use Rattle.std.proofs.Common.{◌≡◌, ℕ, zero, suc, ◌+◌, Bool, true, false, not, ◌&&◌, ◌||◌, List, [], ◌∷◌, refl, sym, ap, ◌∙◌, subst, inl, inr, nat_eq, arith, IfOk, Contains}
 use Rattle.std.proofs.lemmas.Bool.{and_parts, cases_Bool, false≢true, ne_eqb}
 use Rattle.std.specs.List.{list_all}
-use Rattle.er7_tree.specs.Delims.{Delims, AreDelims, is_delimiter, lacks}
+use Rattle.er7_tree.specs.Delims.{Delims, is_delimiter, lacks}
+use Rattle.er7_tree.specs.inner.Delims.{AreDelims}
 use Rattle.er7_tree.specs.Edit as edit
-use Rattle.er7_tree.specs.Escape.{escape, controls, reserved}
+use Rattle.er7_tree.specs.Escape.{escape, controls}
+use Rattle.er7_tree.specs.inner.Escape.{reserved}
 use Rattle.er7_tree.specs.Path.{Place, raw, value, field_at, field_place, segment_at, is_fixed, same_level, levels}
-use Rattle.er7_tree.specs.Tree.{Tree, IsMessage, has_name, is_header, is_name}
+use Rattle.er7_tree.specs.Tree.{Tree, has_name, is_header, is_name}
+use Rattle.er7_tree.specs.inner.Tree.{IsMessage}
 use Rattle.er7_tree.proofs.Distinct.{five}
 use Rattle.er7_tree.proofs.Messages.{delims_are, filter_lacks}
 use Rattle.er7_tree.proofs.RoundTrip.{escape-reserved}
-use Rattle.hl7_transform.specs.Step.{Edit, set, copy, clear, lookup, remove, partner, made, change as change_by, changed_at, after_from, after}
+use Rattle.hl7_transform.specs.Step.{Edit, set, copy, clear, lookup, remove, partner, made, change as change_by, changed_at, after_from, after_steps}
 use Rattle.hl7_transform.proofs.Lacking.{all_lack, Keeps-put, Keeps-put_in, IsNoInner, others-levels, lacks-piece, lacks-piece_in, lacks-segment_at, lacks-change_segment}
 use Rattle.hl7_transform.proofs.Outcomes.{IfOk-made, IfOk-cond, at_cond, IfOk-changed_at, IfOk-then, IfOk-partner}
 
@@ -99,5 +102,5 @@ lacks-from place (step ∷ steps) t b good control all =
 
 -- steps bring in no control character
 pub lacks-after : (steps : List Edit) (t : Tree) (b : ℕ) → IsMessage t → Contains controls b → list_all (lacks b) t.segments ≡ true
-    → IfOk (after steps t) (λ new. list_all (lacks b) new.segments ≡ true)
+    → IfOk (after_steps steps t) (λ new. list_all (lacks b) new.segments ≡ true)
 lacks-after steps t b message control all = lacks-from 0 steps t b (delims_are t message) control all

@@ -2,12 +2,12 @@
 use Rattle.std.proofs.Common.{◌≡◌, ℕ, Bool, true, false, List, Option, Some, None, Result, Ok, Err, cond, IfOk, refl}
 use Rattle.std.specs.Option.{ok_or}
 use Rattle.er7_tree.specs.declared.refusal.Refusal.{Refusal}
-use Rattle.er7_tree.specs.Tree.{Tree}
+use Rattle.er7_tree.specs.Tree.{Tree, ◌>>=◌}
 use Rattle.hl7_transform.specs.declared.fault.StepFault.{StepFault}
 use Rattle.hl7_transform.specs.declared.fault.StepFault.TheVariants.{Stopped}
 use Rattle.hl7_transform.specs.declared.fault.StopCause.{StopCause}
 use Rattle.hl7_transform.specs.declared.fault.StopCause.TheVariants.{NotInTable}
-use Rattle.hl7_transform.specs.Step.{Edit, made, change, changed_at, ◌>>=◌}
+use Rattle.hl7_transform.specs.Step.{Edit, made, change, changed_at}
 use Rattle.std.specs.Result.{result_map_both}
 
 pub IfOk-cond : {E : Type 0} (b : Bool) (x y : Result Tree E) (P : Tree → Type 0) → IfOk x P → IfOk y P → IfOk (cond b x y) P

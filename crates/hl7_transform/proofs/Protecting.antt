@@ -4,15 +4,17 @@ use Rattle.std.proofs.lemmas.Bool.{and_parts, and_from, cases_Bool, false≢true
 use Rattle.std.specs.List.{list_all}
 use Rattle.er7_tree.specs.Edit as edit
 use Rattle.er7_tree.specs.Escape.{escape}
-use Rattle.er7_tree.specs.Path.{Place, raw, value, is_fixed, is_path, same_level, holds, are_apart}
-use Rattle.er7_tree.specs.Tree.{Tree, IsMessage, is_name, is_header}
+use Rattle.er7_tree.specs.Path.{Place, raw, value, is_fixed, is_path, same_level}
+use Rattle.er7_tree.specs.inner.Path.{holds, are_apart}
+use Rattle.er7_tree.specs.Tree.{Tree, is_name, is_header}
+use Rattle.er7_tree.specs.inner.Tree.{IsMessage}
 use Rattle.er7_tree.proofs.EditLaws.{set_puts, copy_puts, clear_puts, remove_gives, puts_apart, removed_apart}
 use Rattle.er7_tree.proofs.EditedMessages.{removed, is_path-name}
 use Rattle.er7_tree.proofs.Editing.{set_kept, copy_kept, clear_kept, fits-escape, fits-raw, fits-empty}
 use Rattle.er7_tree.proofs.Messages.{delims_are}
 use Rattle.hl7_transform.specs.Check.{is_protected, writable, may_stand}
-use Rattle.hl7_transform.specs.Rules.{KeepsProtected, names_paths}
-use Rattle.hl7_transform.specs.Step.{Edit, set, copy, clear, lookup, remove, partner, made, change, changed_at, after_from, after}
+use Rattle.hl7_transform.specs.inner.Rules.{KeepsProtected, names_paths}
+use Rattle.hl7_transform.specs.Step.{Edit, set, copy, clear, lookup, remove, partner, made, change, changed_at, after_from, after_steps}
 use Rattle.hl7_transform.proofs.Outcomes.{IfOk-by, IfOk-made, IfOk-changed_at, IfOk-then, IfOk-partner}
 
 -- a name is three bytes
@@ -125,5 +127,5 @@ kept-from place (step ∷ steps) start t so_far paths stand =
     (record { message = keeps.message; pieces = λ q path_q protected. keeps.pieces q path_q protected ∙ so_far.pieces q path_q protected }) path.1 stands.1)
 
 -- steps that may stand leave MSH-1, MSH-2 and MSH-10
-pub kept-after : (steps : List Edit) (t : Tree) → IsMessage t → list_all names_paths steps ≡ true → list_all may_stand steps ≡ true → IfOk (after steps t) (KeepsProtected t)
+pub kept-after : (steps : List Edit) (t : Tree) → IsMessage t → list_all names_paths steps ≡ true → list_all may_stand steps ≡ true → IfOk (after_steps steps t) (KeepsProtected t)
 kept-after steps t whole paths stand = kept-from 0 steps t t (record { message = whole; pieces = λ q _ _. refl }) paths stand

@@ -5,11 +5,11 @@ use Rattle.std.specs.Option.{ok_or}
 use Rattle.er7_tree.specs.Edit as edit
 use Rattle.er7_tree.specs.Escape.{escape}
 use Rattle.er7_tree.specs.Path.{Place, raw, value, is_fixed, same_level}
-use Rattle.er7_tree.specs.Tree.{Tree, is_name, is_header}
+use Rattle.er7_tree.specs.Tree.{Tree, is_name, is_header, ◌>>=◌}
 use Rattle.hl7_transform.specs.declared.fault.StopCause.TheVariants.{NoSuchSegment, NotInTable}
 use Rattle.hl7_transform.specs.Check.{writable, may_stand}
-use Rattle.hl7_transform.specs.Rules.{LacksSegment}
-use Rattle.hl7_transform.specs.Step.{Edit, set, copy, clear, lookup, remove, partner, made, change, ◌>>=◌}
+use Rattle.hl7_transform.specs.inner.Rules.{LacksSegment}
+use Rattle.hl7_transform.specs.Step.{Edit, set, copy, clear, lookup, remove, partner, made, change}
 use Rattle.hl7_transform.proofs.Protecting.{free_of, or_parts}
 
 -- a piece that isn't put wants a segment

@@ -8,7 +8,7 @@ use Rattle.hl7_transform.specs.declared.step_check.StepCheck.TheVariants.{BadPat
 use Rattle.hl7_transform.specs.declared.fault.StepFault.TheVariants.{Stopped}
 use Rattle.hl7_transform.specs.declared.fault.StopCause.TheVariants.{NoSuchSegment, NotInTable}
 use Rattle.hl7_transform.specs.Check.{check_step}
-use Rattle.hl7_transform.specs.Step.{set, copy, clear, lookup, remove, after}
+use Rattle.hl7_transform.specs.Step.{set, copy, clear, lookup, remove, after_steps}
 
 abbrev with_person : List (List ℕ) → Tree
 with_person others = record {
@@ -26,58 +26,58 @@ place segment field part = record { segment = segment; occurrence = 1; field = f
 abbrev pid : ℕ → Part → Place
 pid field part = place (codes "PID") field part
 
-copies_a_component : after (copy (pid 5 (Component 1 1)) (pid 5 (Component 1 2)) ∷ []) message ≡ Ok (with_person (codes "PID|1||77^^^H||DOE^DOE|\"\"" ∷ []))
+copies_a_component : after_steps (copy (pid 5 (Component 1 1)) (pid 5 (Component 1 2)) ∷ []) message ≡ Ok (with_person (codes "PID|1||77^^^H||DOE^DOE|\"\"" ∷ []))
 copies_a_component = refl
 
-copies_from_the_header : after (copy (place (codes "MSH") 10 Whole) (pid 2 Whole) ∷ []) message ≡ Ok (with_person (codes "PID|1|M1|77^^^H||DOE^J|\"\"" ∷ []))
+copies_from_the_header : after_steps (copy (place (codes "MSH") 10 Whole) (pid 2 Whole) ∷ []) message ≡ Ok (with_person (codes "PID|1|M1|77^^^H||DOE^J|\"\"" ∷ []))
 copies_from_the_header = refl
 
-copies_what_is_absent : after (copy (pid 9 Whole) (pid 3 Whole) ∷ []) message ≡ Ok (with_person (codes "PID|1||||DOE^J|\"\"" ∷ []))
+copies_what_is_absent : after_steps (copy (pid 9 Whole) (pid 3 Whole) ∷ []) message ≡ Ok (with_person (codes "PID|1||||DOE^J|\"\"" ∷ []))
 copies_what_is_absent = refl
 
-clears_nothing : after (clear (pid 9 Whole) ∷ []) message ≡ Ok message
+clears_nothing : after_steps (clear (pid 9 Whole) ∷ []) message ≡ Ok message
 clears_nothing = refl
 
-clears_in_no_segment : after (clear (place (codes "PV1") 2 Whole) ∷ []) message ≡ Ok message
+clears_in_no_segment : after_steps (clear (place (codes "PV1") 2 Whole) ∷ []) message ≡ Ok message
 clears_in_no_segment = refl
 
-clears_a_component : after (clear (pid 3 (Component 1 4)) ∷ []) message ≡ Ok (with_person (codes "PID|1||77^^^||DOE^J|\"\"" ∷ []))
+clears_a_component : after_steps (clear (pid 3 (Component 1 4)) ∷ []) message ≡ Ok (with_person (codes "PID|1||77^^^||DOE^J|\"\"" ∷ []))
 clears_a_component = refl
 
-removes_nothing : after (remove (codes "ZZZ") ∷ []) message ≡ Ok message
+removes_nothing : after_steps (remove (codes "ZZZ") ∷ []) message ≡ Ok message
 removes_nothing = refl
 
-removes_a_segment : after (remove (codes "PID") ∷ []) message ≡ Ok (with_person [])
+removes_a_segment : after_steps (remove (codes "PID") ∷ []) message ≡ Ok (with_person [])
 removes_a_segment = refl
 
-sets_an_escaped_text : after (set (pid 4 Whole) (codes "O&M") ∷ []) message ≡ Ok (with_person (codes "PID|1||77^^^H|O\\T\\M|DOE^J|\"\"" ∷ []))
+sets_an_escaped_text : after_steps (set (pid 4 Whole) (codes "O&M") ∷ []) message ≡ Ok (with_person (codes "PID|1||77^^^H|O\\T\\M|DOE^J|\"\"" ∷ []))
 sets_an_escaped_text = refl
 
-sets_what_is_absent : after (set (pid 8 Whole) (codes "F") ∷ []) message ≡ Ok (with_person (codes "PID|1||77^^^H||DOE^J|\"\"||F" ∷ []))
+sets_what_is_absent : after_steps (set (pid 8 Whole) (codes "F") ∷ []) message ≡ Ok (with_person (codes "PID|1||77^^^H||DOE^J|\"\"||F" ∷ []))
 sets_what_is_absent = refl
 
 abbrev sexes : List (List ℕ × List ℕ)
 sexes = (codes "1", codes "A") ∷ (codes "2", codes "B") ∷ []
 
-looks_up_a_partner : after (lookup (pid 1 Whole) sexes None ∷ []) message ≡ Ok (with_person (codes "PID|A||77^^^H||DOE^J|\"\"" ∷ []))
+looks_up_a_partner : after_steps (lookup (pid 1 Whole) sexes None ∷ []) message ≡ Ok (with_person (codes "PID|A||77^^^H||DOE^J|\"\"" ∷ []))
 looks_up_a_partner = refl
 
-looks_up_the_default : after (lookup (pid 5 (Component 1 2)) sexes (Some (codes "U")) ∷ []) message ≡ Ok (with_person (codes "PID|1||77^^^H||DOE^U|\"\"" ∷ []))
+looks_up_the_default : after_steps (lookup (pid 5 (Component 1 2)) sexes (Some (codes "U")) ∷ []) message ≡ Ok (with_person (codes "PID|1||77^^^H||DOE^U|\"\"" ∷ []))
 looks_up_the_default = refl
 
-not_in_the_table : after (lookup (pid 1 Whole) ((codes "2", codes "B") ∷ []) None ∷ []) message ≡ Err (Stopped 0 NotInTable)
+not_in_the_table : after_steps (lookup (pid 1 Whole) ((codes "2", codes "B") ∷ []) None ∷ []) message ≡ Err (Stopped 0 NotInTable)
 not_in_the_table = refl
 
-absent_in_the_table : after (lookup (place (codes "PV1") 2 Whole) (([], codes "O") ∷ []) None ∷ []) message ≡ Err (Stopped 0 NoSuchSegment)
+absent_in_the_table : after_steps (lookup (place (codes "PV1") 2 Whole) (([], codes "O") ∷ []) None ∷ []) message ≡ Err (Stopped 0 NoSuchSegment)
 absent_in_the_table = refl
 
-no_segment_for_the_second : after (clear (pid 3 Whole) ∷ set (place (codes "PV1") 2 Whole) (codes "I") ∷ []) message ≡ Err (Stopped 1 NoSuchSegment)
+no_segment_for_the_second : after_steps (clear (pid 3 Whole) ∷ set (place (codes "PV1") 2 Whole) (codes "I") ∷ []) message ≡ Err (Stopped 1 NoSuchSegment)
 no_segment_for_the_second = refl
 
-sees_the_step_before : after (set (pid 1 Whole) (codes "2") ∷ lookup (pid 1 Whole) sexes None ∷ []) message ≡ Ok (with_person (codes "PID|B||77^^^H||DOE^J|\"\"" ∷ []))
+sees_the_step_before : after_steps (set (pid 1 Whole) (codes "2") ∷ lookup (pid 1 Whole) sexes None ∷ []) message ≡ Ok (with_person (codes "PID|B||77^^^H||DOE^J|\"\"" ∷ []))
 sees_the_step_before = refl
 
-no_steps : after [] message ≡ Ok message
+no_steps : after_steps [] message ≡ Ok message
 no_steps = refl
 
 may_set : check_step (set (place (codes "MSH") 9 (Component 1 2)) (codes "A08")) ≡ Ok tt

@@ -7,9 +7,10 @@ use Rattle.er7_tree.specs.Tree.{Tree, is_name, is_header}
 use Rattle.hl7_transform.specs.declared.fault.StopCause.{StopCause}
 use Rattle.hl7_transform.specs.declared.fault.StepFault.TheVariants.{Stopped}
 use Rattle.hl7_transform.specs.declared.step.Step.{Step}
-use Rattle.hl7_transform.specs.Outcome.{Takes, stop_of}
-use Rattle.hl7_transform.specs.Step.{SomeWantsMemory, remove, made, wants_memory, after, after_from, change}
-use Rattle.hl7_transform.specs.View.{view, steps_view}
+use Rattle.hl7_transform.specs.inner.Outcome.{Takes, stop_of}
+use Rattle.hl7_transform.specs.Step.{remove, made, after_steps, after_from, change}
+use Rattle.hl7_transform.specs.inner.Step.{SomeWantsMemory, wants_memory}
+use Rattle.hl7_transform.specs.inner.View.{view, steps_view}
 
 stops : (place : ℕ) (step : Step) (steps : List Step) (t : Tree) (cause : StopCause) → change (view step) t ≡ Err cause
     → after_from place (steps_view (step ∷ steps)) t ≡ Err (Stopped place cause)
@@ -25,7 +26,7 @@ takes place step steps t new taken =
 -- The message so far: what is left of the steps makes of it what all make of the first message, and a step that is left and
 -- may want memory is one that is reached.
 pub record SoFar (steps : List Step) (first : Tree) (place : ℕ) (t : Tree) : Type 0 where
-  pub after_all : after (steps_view steps) first ≡ after_from place (steps_view (drop place steps)) t
+  pub after_all : after_steps (steps_view steps) first ≡ after_from place (steps_view (drop place steps)) t
   pub wants : SomeWantsMemory (steps_view (drop place steps)) t → SomeWantsMemory (steps_view steps) first
 
 next_step : (steps : List Step) (place : ℕ) (step : Step) → place < length steps → step ≡ get_or steps place step → drop place steps ≡ step ∷ drop (suc place) steps
@@ -33,7 +34,7 @@ next_step steps place step within here = drop-cons steps place step within ∙ a
 
 -- the step at a place can't be taken
 pub stopped_at : (steps : List Step) (place : ℕ) (step : Step) (first t : Tree) (cause : StopCause) → place < length steps → step ≡ get_or steps place step
-    → SoFar steps first place t → change (view step) t ≡ Err cause → after (steps_view steps) first ≡ Err (Stopped place cause)
+    → SoFar steps first place t → change (view step) t ≡ Err cause → after_steps (steps_view steps) first ≡ Err (Stopped place cause)
 stopped_at steps place step first t cause within here so_far stopped =
     so_far.after_all ∙ ap (λ left. after_from place (steps_view left) t) (next_step steps place step within here) ∙ stops place step (drop (suc place) steps) t cause stopped
 

@@ -6,8 +6,8 @@ use Rattle.std.specs.Cmp.Lexicographic.{pointwise}
 use Rattle.std.specs.Option.{option_eq}
 use Rattle.std.specs.Str.{bytes_eq}
 use Rattle.std.proofs.lemmas.Slice.Eq.{bytes_eq-Decides, slice_eq-Decides}
-use Rattle.hl7_transform.specs.Same.{same_pair, same_pair-Decides}
-use Rattle.hl7_transform.specs.View.{table_view}
+use Rattle.hl7_transform.specs.inner.Same.{same_pair, same_pair-Decides}
+use Rattle.hl7_transform.specs.inner.View.{table_view}
 use Rattle.hl7_transform.specs.declared.step.Pair.{Pair}
 
 -- what compares the pairs compares what the tables say

@@ -30,11 +30,6 @@ check_step (clear place) = writable place
 check_step (lookup place table default) = writable place
 check_step (remove name) = removable name
 
--- the numbers of these answers
-abbrev pub check_code : StepCheck → ℕ
-check_code BadPath = 1
-check_code ForbiddenWrite = 2
-
 -- a transformer may have the step
 abbrev pub may_stand : Edit → Bool
 may_stand step = is_ok (check_step step)

@@ -1,6 +1,3 @@
 pub mod Check
-pub mod Outcome
-pub mod Rules
-pub mod Same
 pub mod Step
-pub mod View
+pub mod inner

@@ -1,13 +1,12 @@
 -- The steps of a transformer, and the message after them.
-use Rattle.std.specs.Prelude.{◌≡◌, ◌⊎◌, ℕ, ◌+◌, Bool, true, false, not, ◌||◌, List, [], ◌∷◌, Option, option_map, find, Result, Ok, Err, is_ok, IsOkAnd}
+use Rattle.std.specs.Prelude.{ℕ, ◌+◌, List, [], ◌∷◌, Option, option_map, find, Result, Ok, Err}
 use Rattle.std.specs.Option.{ok_or, option_or}
 use Rattle.std.specs.Result.{result_map_both}
 use Rattle.std.specs.Str.{bytes_eq}
 use Rattle.er7_tree.specs.declared.refusal.Refusal.{Refusal}
 use Rattle.er7_tree.specs.Edit as edit
 use Rattle.er7_tree.specs.Path.{Place, value}
-use Rattle.er7_tree.specs.Tree.{Tree}
-use Rattle.hl7_filter.specs.Condition.{is_unescaped}
+use Rattle.er7_tree.specs.Tree.{Tree, ◌>>=◌}
 use Rattle.hl7_transform.specs.declared.fault.StepFault.{StepFault}
 use Rattle.hl7_transform.specs.declared.fault.StepFault.TheVariants.{Stopped}
 use Rattle.hl7_transform.specs.declared.fault.StopCause.{StopCause}
@@ -27,12 +26,6 @@ pub data Edit : Type 0 where
 abbrev pub partner : List (List ℕ × List ℕ) → Option (List ℕ) → List ℕ → Option (List ℕ)
 partner table default value = option_or (option_map (λ pair. pair.1) (find (λ pair. bytes_eq pair.0 value) table)) default
 
--- one answer after another, where each may be a refusal
-infixl 10 ◌>>=◌
-abbrev pub ◌>>=◌ : {A B E : Type 0} → Result A E → (A → Result B E) → Result B E
-(Ok x) >>= f = f x
-(Err e) >>= f = Err e
-
 -- an edit that a step makes; where a transformer may have the step, it is refused only where there is no segment to
 -- write to
 abbrev pub made : Result Tree Refusal → Result Tree StopCause
@@ -46,20 +39,6 @@ change (clear place) t = made (edit.clear t place)
 change (lookup place table default) t = ok_or (partner table default (value t place)) NotInTable >>= λ text. made (edit.set t place text)
 change (remove name) t = made (edit.remove_segments t name)
 
--- A step may request memory for the piece that it writes, so only where it can be taken: a clear only for a piece that is
--- there, a removal of segments never. A lookup reads a value first, which is copied only where the piece has an escape character.
-abbrev pub wants_memory : Edit → Tree → Bool
-wants_memory (set place text) t = is_ok (change (set place text) t)
-wants_memory (copy from to) t = is_ok (change (copy from to) t)
-wants_memory (clear place) t = edit.has t place
-wants_memory (lookup place table default) t = not (is_unescaped t place) || is_ok (change (lookup place table default) t)
-wants_memory (remove name) t = false
-
--- Some step that is reached may request memory: the first, or one of the others, after the first.
-abbrev pub SomeWantsMemory : List Edit → Tree → Type 0
-SomeWantsMemory [] t = ⊥
-SomeWantsMemory (step ∷ steps) t = (wants_memory step t ≡ true) ⊎ IsOkAnd (change step t) (SomeWantsMemory steps)
-
 -- a step at an index among the steps
 abbrev pub changed_at : ℕ → Edit → Tree → Result Tree StepFault
 changed_at place step t = result_map_both (λ t. t) (λ cause. Stopped place cause) (change step t)
@@ -71,5 +50,5 @@ after_from place (step ∷ steps) t = changed_at place step t >>= after_from (pl
 
 -- The message after steps, each of which sees the result of the one before, or the index, from 0, and the cause at
 -- which they stop.
-abbrev pub after : List Edit → Tree → Result Tree StepFault
-after steps t = after_from 0 steps t
+abbrev pub after_steps : List Edit → Tree → Result Tree StepFault
+after_steps steps t = after_from 0 steps t

@@ -2,11 +2,11 @@ ghost use Rattle.std.specs.Prelude.{◌≡◌, IfOk, IsOk, IsTrue};
 ghost use Rattle.std.specs.Option.{option_copied};
 ghost use Rattle.std.specs.List.{list_all};
 ghost use Rattle.er7_tree.specs.Path.{value};
-ghost use Rattle.hl7_filter.specs.Condition.{is_unescaped};
+ghost use Rattle.hl7_filter.specs.inner.Condition.{is_unescaped};
 ghost use Rattle.hl7_transform.specs.Check.{may_stand};
-ghost use Rattle.hl7_transform.specs.Outcome.{Gives, Takes};
+ghost use Rattle.hl7_transform.specs.inner.Outcome.{Gives, Takes};
 ghost use Rattle.hl7_transform.specs.Step.{partner};
-ghost use Rattle.hl7_transform.specs.View.{view, steps_view, table_view};
+ghost use Rattle.hl7_transform.specs.inner.View.{view, steps_view, table_view};
 
 use crate::fault::{StepFault, StopCause};
 use crate::step::{Pair, Step};

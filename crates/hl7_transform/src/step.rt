@@ -1,6 +1,6 @@
 ghost use Rattle.std.specs.Prelude.{◌≡◌};
 ghost use Rattle.std.specs.Bool.{Decides};
-ghost use Rattle.hl7_transform.specs.View.{view, table_view};
+ghost use Rattle.hl7_transform.specs.inner.View.{view, table_view};
 
 use er7_tree::Path;
 use hl7_filter::Bytes;
@@ -84,7 +84,7 @@ impl Step {
 }
 
 impl PartialEq for Step {
-    ghost use Rattle.hl7_transform.specs.View.{same, same_laws};
+    ghost use Rattle.hl7_transform.specs.inner.View.{same, same_laws};
 
     ghost eq = { same };
 
@@ -96,7 +96,7 @@ impl PartialEq for Step {
 }
 
 impl Eq for Step {
-    ghost use Rattle.hl7_transform.specs.View.{same_equiv};
+    ghost use Rattle.hl7_transform.specs.inner.View.{same_equiv};
 
     ghost laws = { same_equiv };
 }

@@ -1,7 +1,8 @@
 ghost use Rattle.std.specs.Prelude.{◌≡◌};
-ghost use Rattle.hl7_transform.specs.Check.{is_protected, writable, removable, check_step, check_code, may_stand};
+ghost use Rattle.hl7_transform.specs.Check.{is_protected, writable, removable, check_step, may_stand};
+ghost use Rattle.hl7_transform.specs.inner.Check.{check_code};
 ghost use Rattle.std.specs.List.{list_all};
-ghost use Rattle.hl7_transform.specs.View.{view, steps_view};
+ghost use Rattle.hl7_transform.specs.inner.View.{view, steps_view};
 
 use crate::step::Step;
 use er7_tree::{Path, is_header, is_name};

@@ -22,7 +22,7 @@ impl From<AllocError> for Stop {
 
 impl From<Refusal> for Stop {
     ghost use Rattle.std.specs.Prelude.{◌≡◌};
-    ghost use Rattle.hl7_transform.specs.Outcome.{stop_of};
+    ghost use Rattle.hl7_transform.specs.inner.Outcome.{stop_of};
 
     ghost from_gives = { λ refusal stop. stop ≡ stop_of refusal };
 

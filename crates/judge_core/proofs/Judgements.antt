@@ -8,13 +8,14 @@ use Rattle.er7_tree.specs.Tree.{Tree, tree}
 use Rattle.hl7_head.specs.declared.ack.Cause.TheVariants.{UnsupportedType, SourceTransform, RouteTransform}
 use Rattle.hl7_head.specs.Header.{Msh, header, header_of, header_where}
 use Rattle.hl7_transform.specs.declared.fault.StepFault.{StepFault}
-use Rattle.hl7_transform.specs.Step.{after}
+use Rattle.hl7_transform.specs.Step.{after_steps}
 use Rattle.std.specs.List.{list_any}
 use Rattle.plan_text.specs.Entries.{PlanEntry, ChannelEntry, RouteEntry}
 use Rattle.judge_core.specs.declared.delivery.Delivery.{Delivery}
-use Rattle.judge_core.specs.Delivering.{AreDeliveries}
+use Rattle.judge_core.specs.inner.Delivering.{AreDeliveries}
 use Rattle.judge_core.specs.declared.judged.Verdict.TheVariants.{Unreadable, Stray, Refuse, Filtered, Accept}
-use Rattle.judge_core.specs.Judging.{verdict, verdict_where, verdict_of, decided_by, header_fault, sent_to, deliveries_by, filtered_by, is_stopped, open_routes, passes, routed, stepped, is_acknowledgment, is_bookable, is_booked, key_of, key_by}
+use Rattle.judge_core.specs.Judging.{verdict, verdict_where, verdict_of, decided_by, header_fault, sent_to, deliveries_by, filtered_by, is_stopped, open_routes, passes, routed, stepped, is_acknowledgment, is_bookable, key_of, key_by}
+use Rattle.judge_core.specs.inner.Judging.{is_booked}
 
 -- a text that says nothing
 pub record SaysNothing (plan : PlanEntry) (channel : ℕ) (text : List ℕ) : Type 0 where
@@ -68,8 +69,8 @@ booked-stepped routes (Ok t) = booked-routed routes t
 
 booked-filtered : (channel : ChannelEntry) (t : Tree) → is_booked (filtered_by channel t) ≡ true
 booked-filtered channel t =
-    elim (passes t channel.filter) as (λ b. is_booked (cond b (stepped channel.routes (after channel.steps t)) Filtered) ≡ true)
-    [ true ↦ booked-stepped channel.routes (after channel.steps t) | false ↦ refl ]
+    elim (passes t channel.filter) as (λ b. is_booked (cond b (stepped channel.routes (after_steps channel.steps t)) Filtered) ≡ true)
+    [ true ↦ booked-stepped channel.routes (after_steps channel.steps t) | false ↦ refl ]
 
 booked-decided : (channel : ChannelEntry) (h : Msh) (t : Tree) → is_booked (decided_by channel h t) ≡ true
 booked-decided channel h t =
@@ -92,7 +93,7 @@ unfolding verdict
 booked-verdict plan channel text = booked-where (slice_get plan.channels channel) (tree text)
 
 -- a message that its channel lets pass goes on by the channel's steps
-pub verdict-stepped : (channel : ChannelEntry) (h : Msh) (t : Tree) → is_acknowledgment h ≡ false → header_fault channel h ≡ None → passes t channel.filter ≡ true → verdict_of (Some channel) h t ≡ stepped channel.routes (after channel.steps t)
+pub verdict-stepped : (channel : ChannelEntry) (h : Msh) (t : Tree) → is_acknowledgment h ≡ false → header_fault channel h ≡ None → passes t channel.filter ≡ true → verdict_of (Some channel) h t ≡ stepped channel.routes (after_steps channel.steps t)
 verdict-stepped channel h t new good lets = rw (new, good, lets) refl
 
 -- what the steps make of it goes on by the routes

@@ -6,11 +6,11 @@ use Rattle.std.proofs.lemmas.List.Elements.{All-nil, All-cons, All-head, All-tai
 use Rattle.std.proofs.lemmas.Result.{IfOk-at_ok}
 use Rattle.er7_tree.specs.Delims.{lacks}
 use Rattle.er7_tree.specs.Escape.{controls}
-use Rattle.er7_tree.specs.Tree.{Tree, tree, text_of}
+use Rattle.er7_tree.specs.Tree.{Tree, tree, text_of, ◌>>=◌}
 use Rattle.er7_tree.proofs.Messages.{tree_is, tree_segments, segments_lack}
 use Rattle.er7_tree.proofs.Lacking.{written_lacks}
 use Rattle.hl7_transform.specs.declared.fault.StepFault.TheVariants.{Stopped}
-use Rattle.hl7_transform.specs.Step.{Edit, after, after_from, change, ◌>>=◌}
+use Rattle.hl7_transform.specs.Step.{Edit, after_steps, after_from, change}
 use Rattle.hl7_transform.proofs.Controls.{lacks-after}
 use Rattle.std.specs.Result.{result_map_both}
 use Rattle.mllp_frame.specs.Framing.{IsData, is_framing}
@@ -58,13 +58,13 @@ taken-both p q (step ∷ first) second t between u e f =
     [ Ok v ↦ taken-both (p + 1) q first second v between u | Err cause ↦ λ e f. absurd cc ] e f
 
 -- a framing byte that a text lacks is in no message after steps
-printed-lacks : (b : ℕ) (text : List ℕ) (t u : Tree) (steps : List Edit) → Contains controls b → b ≢ 13 → tree text ≡ Ok t → after steps t ≡ Ok u → lacks b text ≡ true → lacks b (text_of u) ≡ true
+printed-lacks : (b : ℕ) (text : List ℕ) (t u : Tree) (steps : List Edit) → Contains controls b → b ≢ 13 → tree text ≡ Ok t → after_steps steps t ≡ Ok u → lacks b text ≡ true → lacks b (text_of u) ≡ true
 printed-lacks b text t u steps control other read done bare =
     let segments = subst (λ (ss : List (List ℕ)). list_all (lacks b) ss ≡ true) (sym (tree_segments text t read)) (segments_lack b text bare) in
     written_lacks b u.segments other (IfOk-at_ok (λ new. list_all (lacks b) new.segments ≡ true) done (lacks-after steps t b (tree_is text t read) control segments))
 
 -- a message after the steps of its channel and of a route can be framed
-pub printed_plain : (text : List ℕ) (t between u : Tree) (first second : List Edit) → tree text ≡ Ok t → IsData text → after first t ≡ Ok between → after second between ≡ Ok u → IsData (text_of u)
+pub printed_plain : (text : List ℕ) (t between u : Tree) (first second : List Edit) → tree text ≡ Ok t → IsData text → after_steps first t ≡ Ok between → after_steps second between ≡ Ok u → IsData (text_of u)
 printed_plain text t between u first second read plain e f =
     let done = taken-both 0 0 first second t between u e f in
     let bare = plain-lacks text plain in

@@ -3,7 +3,7 @@ use Rattle.std.proofs.Common.{◌≡◌, ◌≢◌, ℕ, ◌<◌, Bool, List, []
 use Rattle.std.specs.Prelude.{All, AllPairs, slice_get, IfOk, IsSome, is_some, option_copied, option_map}
 use Rattle.std.specs.List.{filter_map, cons_option}
 use Rattle.std.specs.Result.{result_ok}
-use Rattle.hl7_transform.specs.Step.{after}
+use Rattle.hl7_transform.specs.Step.{after_steps}
 use Rattle.std.specs.Borrow.{Bor}
 use Rattle.std.proofs.lemmas.List.Elements.{All-nil, All-cons, All-head, All-tail, All-map, All-get_or, All-filter}
 use Rattle.std.proofs.lemmas.List.Kept.{AllPairs-cons, AllPairs-filter}
@@ -12,7 +12,8 @@ use Rattle.er7_tree.specs.Tree.{Tree, tree, text_of}
 use Rattle.mllp_frame.specs.Framing.{IsData}
 use Rattle.plan_text.specs.Entries.{PlanEntry, ChannelEntry, RouteEntry, IsPlan, IsChannel}
 use Rattle.judge_core.specs.declared.delivery.Delivery.{Delivery}
-use Rattle.judge_core.specs.Delivering.{AreDeliveries, destinations_of}
+use Rattle.judge_core.specs.Delivering.{destinations_of}
+use Rattle.judge_core.specs.inner.Delivering.{AreDeliveries}
 use Rattle.judge_core.proofs.Printing.{printed_plain}
 use Rattle.judge_core.specs.Judging.{deliveries_by, delivery_by, open_routes, passes}
 
@@ -58,19 +59,19 @@ some-borrowed o xs k e inside = sym (some-copied o) ∙ (ap is_some e ∙ some-w
 pub record IsSentBy (t : Tree) (r : RouteEntry) (y : Delivery) : Type 0 where
   pub to : y.destination ≡ r.to
   pub new : Tree
-  pub made : after r.steps t ≡ Ok new
+  pub made : after_steps r.steps t ≡ Ok new
   pub text : y.payload ≡ text_of new
 
 pub sent-by : (t : Tree) (r : RouteEntry) (y : Delivery) → delivery_by t r ≡ Some y → IsSentBy t r y
 sent-by t r y =
-    elim (after r.steps t) as (λ a. after r.steps t ≡ a → option_map (λ u. record { destination = r.to; payload = text_of u }) (result_ok a) ≡ Some y → IsSentBy t r y) [
+    elim (after_steps r.steps t) as (λ a. after_steps r.steps t ≡ a → option_map (λ u. record { destination = r.to; payload = text_of u }) (result_ok a) ≡ Some y → IsSentBy t r y) [
       | Ok u ↦ λ made e. let is : record { destination = r.to; payload = text_of u } ≡ y = cc in
           record { to = ap (λ (x : Delivery). x.destination) (sym is); new = u; made = made; text = ap (λ (x : Delivery). x.payload) (sym is) }
       | Err stop ↦ λ made e. absurd cc
     ] refl
 
 -- the routes of a channel lead to at most 32 destinations, to each once
-pub routes_are_deliveries : (plan : PlanEntry) (place : ℕ) (channel : ChannelEntry) (t : Tree) → IsPlan plan → slice_get plan.channels place ≡ Some channel → ((r : RouteEntry) (u : Tree) → after r.steps t ≡ Ok u → IsData (text_of u)) → AreDeliveries (deliveries_by channel.routes t)
+pub routes_are_deliveries : (plan : PlanEntry) (place : ℕ) (channel : ChannelEntry) (t : Tree) → IsPlan plan → slice_get plan.channels place ≡ Some channel → ((r : RouteEntry) (u : Tree) → after_steps r.steps t ≡ Ok u → IsData (text_of u)) → AreDeliveries (deliveries_by channel.routes t)
 routes_are_deliveries plan place channel t rules found plain =
     let allowed : IsChannel plan.destinations channel = All-slice_get (IsChannel plan.destinations) plan.channels place channel found rules.each_channel in
     let few = rules.few_destinations in
@@ -99,9 +100,9 @@ pub allowed-channel : (plan : PlanEntry) (place : ℕ) (channel : ChannelEntry) 
 allowed-channel plan place channel rules found = All-slice_get (IsChannel plan.destinations) plan.channels place channel found rules.each_channel
 
 -- what a channel's steps make of a message goes to deliveries
-pub goes-after : (plan : PlanEntry) (place : ℕ) (channel : ChannelEntry) (text : List ℕ) (t : Tree) → IsPlan plan → slice_get plan.channels place ≡ Some channel → tree text ≡ Ok t → IsData text → IfOk (after channel.steps t) (λ u. AreDeliveries (deliveries_by channel.routes u))
+pub goes-after : (plan : PlanEntry) (place : ℕ) (channel : ChannelEntry) (text : List ℕ) (t : Tree) → IsPlan plan → slice_get plan.channels place ≡ Some channel → tree text ≡ Ok t → IsData text → IfOk (after_steps channel.steps t) (λ u. AreDeliveries (deliveries_by channel.routes u))
 goes-after plan place channel text t rules found read plain =
-    elim (after channel.steps t) as (λ r. after channel.steps t ≡ r → IfOk r (λ u. AreDeliveries (deliveries_by channel.routes u))) [
+    elim (after_steps channel.steps t) as (λ r. after_steps channel.steps t ≡ r → IfOk r (λ u. AreDeliveries (deliveries_by channel.routes u))) [
       | Ok u ↦ λ made. routes_are_deliveries plan place channel u rules found (λ r v sent. printed_plain text t u v channel.steps r.steps read plain made sent)
       | Err stop ↦ λ made. tt
     ] refl

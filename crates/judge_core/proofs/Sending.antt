@@ -7,7 +7,7 @@ use Rattle.std.proofs.lemmas.List.Elements.{filter_more, filter_map-append}
 use Rattle.std.proofs.lemmas.List.Folds.{list_any-append}
 use Rattle.er7_tree.specs.Tree.{Tree, text_of}
 use Rattle.hl7_transform.specs.declared.fault.StepFault.{StepFault}
-use Rattle.hl7_transform.specs.Step.{after}
+use Rattle.hl7_transform.specs.Step.{after_steps}
 use Rattle.plan_text.specs.Entries.{RouteEntry}
 use Rattle.judge_core.specs.declared.delivery.Delivery.{Delivery}
 use Rattle.judge_core.specs.Judging.{deliveries_by, delivery_by, is_stopped, open_routes, passes}
@@ -60,15 +60,15 @@ module _ (t : Tree) (routes : List RouteEntry) (i : ℕ) (r : RouteEntry) (insid
       ∙ ap (λ x. deliveries_by (take i routes) t ++ cons_option x []) e)
 
   -- a route that sends a text
-  pub stopped-send : passes t r.filter ≡ true → (text : List ℕ) → Some text ≡ option_map text_of (result_ok (after r.steps t)) → list_any (is_stopped t) (open_routes (take (i + 1) routes) t) ≡ list_any (is_stopped t) (open_routes (take i routes) t)
-  stopped-send lets text e = stopped-open lets false (sends t r text (after r.steps t) e).0 ∙ or-false (list_any (is_stopped t) (open_routes (take i routes) t))
+  pub stopped-send : passes t r.filter ≡ true → (text : List ℕ) → Some text ≡ option_map text_of (result_ok (after_steps r.steps t)) → list_any (is_stopped t) (open_routes (take (i + 1) routes) t) ≡ list_any (is_stopped t) (open_routes (take i routes) t)
+  stopped-send lets text e = stopped-open lets false (sends t r text (after_steps r.steps t) e).0 ∙ or-false (list_any (is_stopped t) (open_routes (take i routes) t))
 
-  pub all-send : passes t r.filter ≡ true → (text : List ℕ) → Some text ≡ option_map text_of (result_ok (after r.steps t)) → deliveries_by (take (i + 1) routes) t ≡ deliveries_by (take i routes) t ++ record { destination = r.to; payload = text } ∷ []
-  all-send lets text e = all-open lets (Some (record { destination = r.to; payload = text })) (sends t r text (after r.steps t) e).1
+  pub all-send : passes t r.filter ≡ true → (text : List ℕ) → Some text ≡ option_map text_of (result_ok (after_steps r.steps t)) → deliveries_by (take (i + 1) routes) t ≡ deliveries_by (take i routes) t ++ record { destination = r.to; payload = text } ∷ []
+  all-send lets text e = all-open lets (Some (record { destination = r.to; payload = text })) (sends t r text (after_steps r.steps t) e).1
 
   -- a route that stops
-  pub stopped-stop : passes t r.filter ≡ true → None ≡ option_map text_of (result_ok (after r.steps t)) → list_any (is_stopped t) (open_routes (take (i + 1) routes) t) ≡ true
-  stopped-stop lets e = stopped-open lets true (stops t r (after r.steps t) e).0 ∙ or-true (list_any (is_stopped t) (open_routes (take i routes) t))
+  pub stopped-stop : passes t r.filter ≡ true → None ≡ option_map text_of (result_ok (after_steps r.steps t)) → list_any (is_stopped t) (open_routes (take (i + 1) routes) t) ≡ true
+  stopped-stop lets e = stopped-open lets true (stops t r (after_steps r.steps t) e).0 ∙ or-true (list_any (is_stopped t) (open_routes (take i routes) t))
 
-  pub all-stop : passes t r.filter ≡ true → None ≡ option_map text_of (result_ok (after r.steps t)) → deliveries_by (take (i + 1) routes) t ≡ deliveries_by (take i routes) t
-  all-stop lets e = all-open lets None (stops t r (after r.steps t) e).1 ∙ append-nil (deliveries_by (take i routes) t)
+  pub all-stop : passes t r.filter ≡ true → None ≡ option_map text_of (result_ok (after_steps r.steps t)) → deliveries_by (take (i + 1) routes) t ≡ deliveries_by (take i routes) t
+  all-stop lets e = all-open lets None (stops t r (after_steps r.steps t) e).1 ∙ append-nil (deliveries_by (take i routes) t)

@@ -9,14 +9,16 @@ use Rattle.er7_tree.specs.Tree.{Tree, tree}
 use Rattle.hl7_head.specs.declared.ack.Cause.TheVariants.{UnsupportedType, RouteTransform}
 use Rattle.hl7_head.specs.Header.{Msh, header, header_of, header_where}
 use Rattle.hl7_transform.specs.declared.fault.StepFault.{StepFault}
-use Rattle.hl7_transform.specs.Step.{after}
+use Rattle.hl7_transform.specs.Step.{after_steps}
 use Rattle.std.specs.List.{list_any}
 use Rattle.plan_text.specs.Entries.{PlanEntry, ChannelEntry, RouteEntry, IsPlan}
 use Rattle.judge_core.specs.declared.delivery.Delivery.{Delivery}
 use Rattle.judge_core.specs.declared.judged.Verdict.{Verdict}
 use Rattle.judge_core.specs.declared.judged.Verdict.TheVariants.{Unreadable, Stray, Refuse, Filtered, Accept}
-use Rattle.judge_core.specs.Delivering.{AreDeliveries, destinations_of}
-use Rattle.judge_core.specs.Judging.{verdict, verdict_where, verdict_of, decided_by, header_fault, sent_to, deliveries_by, deliveries_of, filtered_by, is_stopped, open_routes, passes, routed, stepped, is_acknowledgment, is_booked, is_stray, is_unreadable, named}
+use Rattle.judge_core.specs.Delivering.{destinations_of}
+use Rattle.judge_core.specs.inner.Delivering.{AreDeliveries}
+use Rattle.judge_core.specs.Judging.{verdict, verdict_where, verdict_of, decided_by, header_fault, sent_to, deliveries_by, deliveries_of, filtered_by, is_stopped, open_routes, passes, routed, stepped, is_acknowledgment, is_stray, is_unreadable, named}
+use Rattle.judge_core.specs.inner.Judging.{is_booked}
 use Rattle.judge_core.proofs.Judgements.{booked-of}
 use Rattle.judge_core.proofs.Printing.{printed_plain}
 use Rattle.judge_core.proofs.Routing.{routes_are_deliveries, routes_lead}
@@ -36,15 +38,15 @@ module _ (P : List Delivery → Type 0) (none : P []) where
   of-stepped routes (Err stop) each = none
   of-stepped routes (Ok t) each = of-routed routes t (each t refl)
 
-  of-decided : (channel : ChannelEntry) (h : Msh) (t : Tree) → ((u : Tree) → after channel.steps t ≡ Ok u → P (deliveries_by channel.routes u)) → P (deliveries_of (decided_by channel h t))
+  of-decided : (channel : ChannelEntry) (h : Msh) (t : Tree) → ((u : Tree) → after_steps channel.steps t ≡ Ok u → P (deliveries_by channel.routes u)) → P (deliveries_of (decided_by channel h t))
   of-decided channel h t each =
       elim (header_fault channel h) as (λ o. P (deliveries_of (option_map_or Refuse o (filtered_by channel t)))) [
-        | None ↦ elim (passes t channel.filter) as (λ b. P (deliveries_of (cond b (stepped channel.routes (after channel.steps t)) Filtered)))
-            [ true ↦ of-stepped channel.routes (after channel.steps t) each | false ↦ none ]
+        | None ↦ elim (passes t channel.filter) as (λ b. P (deliveries_of (cond b (stepped channel.routes (after_steps channel.steps t)) Filtered)))
+            [ true ↦ of-stepped channel.routes (after_steps channel.steps t) each | false ↦ none ]
         | Some cause ↦ none
       ]
 
-  of-found : (o : Option ChannelEntry) (h : Msh) (t : Tree) → ((c : ChannelEntry) (u : Tree) → o ≡ Some c → after c.steps t ≡ Ok u → P (deliveries_by c.routes u)) → P (deliveries_of (verdict_of o h t))
+  of-found : (o : Option ChannelEntry) (h : Msh) (t : Tree) → ((c : ChannelEntry) (u : Tree) → o ≡ Some c → after_steps c.steps t ≡ Ok u → P (deliveries_by c.routes u)) → P (deliveries_of (verdict_of o h t))
   of-found o h t each =
       elim (is_acknowledgment h) as (λ b. P (deliveries_of (cond b Stray (option_map_or (λ c. decided_by c h t) o (Refuse UnsupportedType))))) [
         | true ↦ none
@@ -52,7 +54,7 @@ module _ (P : List Delivery → Type 0) (none : P []) where
             [ None ↦ λ e. none | Some c ↦ λ e. of-decided c h t (λ u made. each c u (sym e) made) ] refl
       ]
 
-  pub of-verdict : (plan : PlanEntry) (channel : ℕ) (text : List ℕ) → ((c : ChannelEntry) (t u : Tree) → slice_get plan.channels channel ≡ Some c → tree text ≡ Ok t → after c.steps t ≡ Ok u → P (deliveries_by c.routes u)) → P (deliveries_of (verdict plan channel text))
+  pub of-verdict : (plan : PlanEntry) (channel : ℕ) (text : List ℕ) → ((c : ChannelEntry) (t u : Tree) → slice_get plan.channels channel ≡ Some c → tree text ≡ Ok t → after_steps c.steps t ≡ Ok u → P (deliveries_by c.routes u)) → P (deliveries_of (verdict plan channel text))
   unfolding verdict
   of-verdict plan channel text each =
       elim (tree text) as (λ r. r ≡ tree text → P (deliveries_of (verdict_where (slice_get plan.channels channel) r)))

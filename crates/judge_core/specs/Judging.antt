@@ -12,7 +12,7 @@ use Rattle.hl7_head.specs.declared.ack.Cause.{Cause}
 use Rattle.hl7_head.specs.declared.ack.Cause.TheVariants.{UnsupportedType, UnsupportedProcessing, UnsupportedVersion, MissingControlId, BadControlId, SourceTransform, RouteTransform}
 use Rattle.hl7_head.specs.Header.{Msh, header, header_of}
 use Rattle.hl7_transform.specs.declared.fault.StepFault.{StepFault}
-use Rattle.hl7_transform.specs.Step.{after}
+use Rattle.hl7_transform.specs.Step.{after_steps}
 use Rattle.plan_text.specs.Entries.{PlanEntry, ChannelEntry, RouteEntry, takes_type, takes_processing, takes_version}
 use Rattle.judge_core.specs.declared.delivery.Delivery.{Delivery}
 use Rattle.judge_core.specs.declared.judged.Verdict.{Verdict}
@@ -50,11 +50,11 @@ open_routes routes t = filter (λ r. passes t r.filter) routes
 
 -- whether a route's steps can't be taken at a message
 abbrev pub is_stopped : Tree → RouteEntry → Bool
-is_stopped t r = is_err (after r.steps t)
+is_stopped t r = is_err (after_steps r.steps t)
 
 -- what goes by a route: the message after the route's steps, as it is printed
 abbrev pub delivery_by : Tree → RouteEntry → Option Delivery
-delivery_by t r = option_map (λ u. record { destination = r.to; payload = text_of u }) (result_ok (after r.steps t))
+delivery_by t r = option_map (λ u. record { destination = r.to; payload = text_of u }) (result_ok (after_steps r.steps t))
 
 -- what goes by the routes whose filter a message passes
 abbrev pub deliveries_by : List RouteEntry → Tree → List Delivery
@@ -76,7 +76,7 @@ stepped routes (Ok t) = routed routes t
 
 -- what a channel decides of a message whose header it takes
 abbrev pub filtered_by : ChannelEntry → Tree → Verdict
-filtered_by channel t = if passes t channel.filter then stepped channel.routes (after channel.steps t) else Filtered
+filtered_by channel t = if passes t channel.filter then stepped channel.routes (after_steps channel.steps t) else Filtered
 
 -- what a channel decides of a message that is no acknowledgment
 abbrev pub decided_by : ChannelEntry → Msh → Tree → Verdict
@@ -108,14 +108,6 @@ deliveries_of Filtered = []
 -- the destinations that a channel names for a text
 abbrev pub named : PlanEntry → ℕ → List ℕ → List ℕ
 named plan channel text = destinations_of (deliveries_of (verdict plan channel text))
-
--- only what is answered is booked
-abbrev pub is_booked : Verdict → Bool
-is_booked Unreadable = false
-is_booked Stray = false
-is_booked (Refuse cause) = true
-is_booked Filtered = true
-is_booked (Accept deliveries) = true
 
 -- a text that is no message
 abbrev pub is_unreadable : List ℕ → Bool

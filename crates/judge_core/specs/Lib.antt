@@ -1,5 +1,3 @@
-pub mod Coding
 pub mod Delivering
-pub mod Outgoing
 pub mod Judging
-pub mod Rows
+pub mod inner

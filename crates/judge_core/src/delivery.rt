@@ -3,13 +3,13 @@
 ghost use Rattle.std.specs.Prelude.{◌≡◌, ◌≢◌, ◌<◌, ◌==◌, ◌∷◌, [], ◌++◌, length, IfOk, MatchOption, All, AllPairs, option_map, true, false};
 ghost use Rattle.std.specs.List.{list_any};
 ghost use Rattle.std.specs.Result.{result_ok};
-ghost use Rattle.hl7_transform.specs.Step.{after};
-ghost use Rattle.hl7_transform.specs.View.{steps_view};
+ghost use Rattle.hl7_transform.specs.Step.{after_steps};
+ghost use Rattle.hl7_transform.specs.inner.View.{steps_view};
 ghost use Rattle.plan_text.specs.Entries.{AllStand};
 ghost use Rattle.mllp_frame.specs.Framing.{IsData};
 ghost use Rattle.er7_tree.specs.Tree.{text_of};
-ghost use Rattle.hl7_filter.specs.View.{view as condition_view};
-ghost use Rattle.judge_core.specs.Outgoing.{listed};
+ghost use Rattle.hl7_filter.specs.inner.View.{view as condition_view};
+ghost use Rattle.judge_core.specs.inner.Outgoing.{listed};
 ghost use Rattle.judge_core.specs.Judging.{passes, deliveries_by, is_stopped, open_routes};
 
 use crate::text::Text;
@@ -55,8 +55,8 @@ pub struct Deliveries {
 impl Model for Deliveries {
     ghost use Rattle.std.specs.Prelude.{List};
     ghost use Rattle.judge_core.specs.declared.delivery.Delivery.{Delivery};
-    ghost use Rattle.judge_core.specs.Delivering.{AreDeliveries};
-    ghost use Rattle.judge_core.specs.Outgoing.{kept};
+    ghost use Rattle.judge_core.specs.inner.Delivering.{AreDeliveries};
+    ghost use Rattle.judge_core.specs.inner.Outgoing.{kept};
 
     ghost Value = { List Delivery };
 
@@ -122,7 +122,7 @@ pub(crate) fn passes(filter: Option<&Cond>, message: &Message) -> Result<bool, A
 /// The message after the steps, or nothing where one of them can't be taken.
 pub(crate) fn transformed(steps: &[Step], message: Message) -> Result<Option<Message>, AllocError>
     requires { AllStand (steps_view steps.now) }
-    ensures { IfOk result (λ t. t ≡ result_ok (after (steps_view steps.now) message)) }
+    ensures { IfOk result (λ t. t ≡ result_ok (after_steps (steps_view steps.now) message)) }
 {
     match apply(steps, message) {
         Ok(message) => Ok(Some(message)),
@@ -141,7 +141,7 @@ fn text_by(
 ) -> Result<Option<Text>, AllocError>
     requires stand { AllStand (steps_view steps.now) }
     requires payload { payload.now ≡ text_of message.now }
-    ensures { IfOk result (λ text. text ≡ option_map text_of (result_ok (after (steps_view steps.now) message.now))) }
+    ensures { IfOk result (λ text. text ≡ option_map text_of (result_ok (after_steps (steps_view steps.now) message.now))) }
 {
     if steps.is_empty() {
         return Ok(Some(payload.share()?));
@@ -185,7 +185,7 @@ pub(crate) fn by_routes(
 }
 
 impl Deliveries {
-    ghost use Rattle.judge_core.specs.Delivering.{AreDeliveries};
+    ghost use Rattle.judge_core.specs.inner.Delivering.{AreDeliveries};
 
     /// Deliveries to at most 32 destinations, to each once.
     pub(crate) fn new(alloc: Global, items: Outgoing) -> Result<Deliveries, AllocError>

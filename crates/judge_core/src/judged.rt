@@ -2,13 +2,13 @@
 
 ghost use Rattle.std.specs.Prelude.{◌≡◌, ◌<◌, IfOk, IfSome, IsTrue, Some, All, length, option_copied, option_map};
 ghost use Rattle.mllp_frame.specs.Framing.{IsBlockData};
-ghost use Rattle.hl7_transform.specs.Step.{after};
+ghost use Rattle.hl7_transform.specs.Step.{after_steps};
 ghost use Rattle.plan_text.specs.Entries.{AllStand};
 ghost use Rattle.std.specs.Arc.{arc_value};
 ghost use Rattle.std.specs.Result.{result_ok};
 ghost use Rattle.er7_tree.specs.Tree.{tree, text_of};
 ghost use Rattle.hl7_head.specs.Header.{header_of};
-ghost use Rattle.judge_core.specs.Delivering.{AreDeliveries};
+ghost use Rattle.judge_core.specs.inner.Delivering.{AreDeliveries};
 ghost use Rattle.judge_core.specs.Judging.{header_fault, key_by, deliveries_by, routed, stepped, verdict_of};
 
 use crate::delivery::{Deliveries, by_routes, passes, transformed};
@@ -38,7 +38,7 @@ pub enum Verdict {
 }
 
 impl Verdict {
-    ghost use Rattle.judge_core.specs.Judging.{is_booked};
+    ghost use Rattle.judge_core.specs.inner.Judging.{is_booked};
 
     /// Whether the arrival is booked, since it is answered.
     pub fn is_booked(&self) -> bool
@@ -72,7 +72,7 @@ impl Model for Judged {
 
     ghost Value = { Judgement };
 
-    ghost use Rattle.judge_core.specs.Coding.{judgement_code};
+    ghost use Rattle.judge_core.specs.inner.Coding.{judgement_code};
 
     ghost coded = { judgement_code };
 
@@ -193,8 +193,8 @@ fn stepped(
     requires printed { IsTrue printed → text_of message ≡ raw.now }
     requires stand { AllStand channel.now.steps }
     requires routes_stand { All (λ r. AllStand r.steps) channel.now.routes }
-    requires goes { IfOk (after channel.now.steps message) (λ t. AreDeliveries (deliveries_by channel.now.routes t)) }
-    ensures { IfOk result (λ verdict. verdict ≡ stepped channel.now.routes (after channel.now.steps message)) }
+    requires goes { IfOk (after_steps channel.now.steps message) (λ t. AreDeliveries (deliveries_by channel.now.routes t)) }
+    ensures { IfOk result (λ verdict. verdict ≡ stepped channel.now.routes (after_steps channel.now.steps message)) }
 {
     let Some(message) = transformed(channel.steps(), message)? else {
         return Ok(Verdict::Refuse(Cause::SourceTransform));
@@ -216,7 +216,7 @@ fn decide(
     requires printed { IsTrue printed → text_of message ≡ raw.now }
     requires stand { AllStand channel.now.steps }
     requires routes_stand { All (λ r. AllStand r.steps) channel.now.routes }
-    requires goes { IfOk (after channel.now.steps message) (λ t. AreDeliveries (deliveries_by channel.now.routes t)) }
+    requires goes { IfOk (after_steps channel.now.steps message) (λ t. AreDeliveries (deliveries_by channel.now.routes t)) }
     ensures { IfOk result (λ verdict. verdict ≡ verdict_of (Some channel.now) header.now message) }
 {
     if header.message_code() == b"ACK".as_slice() {
@@ -279,7 +279,8 @@ pub fn judge(
 }
 
 impl Judged {
-    ghost use Rattle.judge_core.specs.Judging.{verdict, key_of, is_bookable, is_booked};
+    ghost use Rattle.judge_core.specs.Judging.{verdict, key_of, is_bookable};
+    ghost use Rattle.judge_core.specs.inner.Judging.{is_booked};
 
     /// The plan by which it was judged.
     pub fn plan(&self) -> &Plan
@@ -323,6 +324,13 @@ impl Judged {
         ensures { result.now ≡ key_of self.now.channel self.now.raw }
     {
         self.key.as_slice()
+    }
+
+    /// The same key as it is kept, of which an index takes a copy.
+    pub fn kept_key(&self) -> &Key
+        ensures { result.now ≡ key_of self.now.channel self.now.raw }
+    {
+        &self.key
     }
 
     /// What was decided.

@@ -4,8 +4,9 @@ ghost use Rattle.std.specs.Prelude.{◌≡◌, ◌<◌, ◌↔◌, ℕ, List, []
 ghost use Rattle.mllp_frame.specs.Framing.{IsData};
 ghost use Rattle.hl7_head.specs.Header.{Msh, header_of};
 ghost use Rattle.plan_text.specs.Entries.{PlanEntry, IsPlan};
-ghost use Rattle.judge_core.specs.Delivering.{AreDeliveries};
-ghost use Rattle.judge_core.specs.Judging.{deliveries_of, is_booked, is_bookable, is_stray, is_unreadable, key_of, named, verdict};
+ghost use Rattle.judge_core.specs.inner.Delivering.{AreDeliveries};
+ghost use Rattle.judge_core.specs.Judging.{deliveries_of, is_bookable, is_stray, is_unreadable, key_of, named, verdict};
+ghost use Rattle.judge_core.specs.inner.Judging.{is_booked};
 
 use crate::judged::Verdict;
 

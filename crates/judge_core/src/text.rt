@@ -2,7 +2,7 @@
 
 ghost use Rattle.std.specs.Prelude.{◌≡◌, ◌↔◌, IfOk, IsTrue, length};
 ghost use Rattle.std.specs.Arc.{arc_value};
-ghost use Rattle.er7_tree.specs.Spans.{covered, IsBetween};
+ghost use Rattle.er7_tree.specs.inner.Spans.{covered, IsBetween};
 ghost use Rattle.mllp_frame.specs.Framing.{IsBlockData};
 
 use er7_tree::Span;
@@ -83,7 +83,7 @@ const _: () = prove!(size_of::<TextPiece>() == 16);
 impl Model for TextPiece {
     ghost use Rattle.std.specs.Prelude.{List, ℕ, length};
     ghost use Rattle.std.specs.Arc.{arc_value};
-    ghost use Rattle.er7_tree.specs.Spans.{covered, IsBetween};
+    ghost use Rattle.er7_tree.specs.inner.Spans.{covered, IsBetween};
 
     ghost Value = { List ℕ };
 

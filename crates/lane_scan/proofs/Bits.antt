@@ -14,7 +14,7 @@ use Rattle.std.proofs.lemmas.Simd.{length-chunk, none_from_empty_mask, trailing_
 use Rattle.std.proofs.Math.Nat.{div-one}
 use native.Mathlib.Nat.{div-div-eq-div-mul}
 use native.Mathlib.Numerals.{unary_clauses}
-use Rattle.lane_scan.specs.Scan.{AreAhead, IsNext, IsNowhere, bits_of, piece}
+use Rattle.lane_scan.specs.inner.Scan.{AreAhead, IsNext, IsNowhere, bits_of, piece}
 
 half : (b : Bool) (n : ℕ) → (cond b 1 0 + 2 * n) / 2 ≡ n
 half true n = omega arith

@@ -3,7 +3,7 @@
 #![tactic(auto)]
 
 ghost use Rattle.std.specs.Prelude.{◌≡◌, ℕ, List, ◌+◌, ◌-◌, ◌<◌, ◌≤◌, length, take, drop, map, MatchOption};
-ghost use Rattle.lane_scan.specs.Scan.{AreAhead, IsNext, IsNowhere, bits_of, piece};
+ghost use Rattle.lane_scan.specs.inner.Scan.{AreAhead, IsNext, IsNowhere, bits_of, piece};
 
 use std::simd::Simd;
 

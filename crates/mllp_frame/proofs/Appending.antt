@@ -3,12 +3,13 @@ use Rattle.std.proofs.Common.{◌≡◌, ℕ, ◌+◌, ◌≤◌, true, false, c
 use Rattle.std.proofs.lemmas.Bool.{cond-false, cases_Bool, cases_lt, lt-leb}
 use Rattle.std.proofs.lemmas.List.{take_all, take-append-le, take-take}
 use Rattle.mllp_frame.specs.declared.Break.TheVariants.{NewStart, BadEnd}
-use Rattle.mllp_frame.specs.Event.{Event, broken}
-use Rattle.mllp_frame.specs.Framing.{start_block, carriage_return, data_max, data_of, rest_of, ended_block, decision, outcome_of, blocks, shortened, least_too_long, unfinished, open_end}
+use Rattle.mllp_frame.specs.Event.{FramingEvent, broken}
+use Rattle.mllp_frame.specs.Framing.{start_block, carriage_return, data_max, data_of, rest_of, ended_block, decision, block_outcome, blocks}
+use Rattle.mllp_frame.specs.inner.Framing.{shortened, least_too_long, unfinished, open_end}
 use Rattle.mllp_frame.proofs.Cuts.{Plain, Stops, cut, data_of-append, rest_of-append, outcome_of-cut, outcome_of-append, NoStart, NoStart-plain, NoStart-append, Plain-take, blocks-quiet, open_end-quiet, data_of-cut, rest_of-cut}
 
 -- what has decided a block isn't undone by more bytes
-decision-more : (d r p : List ℕ) (e : Event) → decision d r ≡ Some e → decision d (r ++ p) ≡ Some e
+decision-more : (d r p : List ℕ) (e : FramingEvent) → decision d r ≡ Some e → decision d (r ++ p) ≡ Some e
 decision-more d [] p e is = cc
 decision-more d (b ∷ []) [] e is = is
 decision-more d (b ∷ []) (c ∷ p) e is =
@@ -18,16 +19,16 @@ decision-more d (b ∷ []) (c ∷ p) e is =
     ]
 decision-more d (b ∷ c ∷ r) p e is = is
 
-Stops-more : (r p : List ℕ) (d : List ℕ) (e : Event) → Stops r → decision d r ≡ Some e → Stops (r ++ p)
+Stops-more : (r p : List ℕ) (d : List ℕ) (e : FramingEvent) → Stops r → decision d r ≡ Some e → Stops (r ++ p)
 Stops-more [] p d e stops is = cc
 Stops-more (b ∷ r) p d e stops is = stops
 
-pub outcome_of-more : (s p : List ℕ) (e : Event) → outcome_of s ≡ Some e → outcome_of (s ++ p) ≡ Some e
+pub outcome_of-more : (s p : List ℕ) (e : FramingEvent) → block_outcome s ≡ Some e → block_outcome (s ++ p) ≡ Some e
 outcome_of-more s p e is =
     let parts = cut s in
-    let at : decision parts.front parts.after ≡ Some e = sym (outcome_of-cut parts.front parts.after parts.plain parts.stops) ∙ sym (ap outcome_of parts.whole) ∙ is in
-    ap (λ l. outcome_of (l ++ p)) parts.whole
-    ∙ ap outcome_of (append_assoc parts.front parts.after p)
+    let at : decision parts.front parts.after ≡ Some e = sym (outcome_of-cut parts.front parts.after parts.plain parts.stops) ∙ sym (ap block_outcome parts.whole) ∙ is in
+    ap (λ l. block_outcome (l ++ p)) parts.whole
+    ∙ ap block_outcome (append_assoc parts.front parts.after p)
     ∙ outcome_of-cut parts.front (parts.after ++ p) parts.plain (Stops-more parts.after p parts.front e parts.stops at)
     ∙ decision-more parts.front parts.after p e at
 
@@ -83,7 +84,7 @@ decision-shortened d y (b ∷ []) = refl
 decision-shortened d y (b ∷ c ∷ r) =
     ap (λ e. cond (b == start_block) (Some (broken NewStart)) (cond (c == carriage_return) (Some e) (Some (broken BadEnd)))) (ended_block-shortened d y)
 
-pub outcome_of-shortened : (d x : List ℕ) → Plain d → outcome_of (d ++ x) ≡ outcome_of (shortened d ++ x)
+pub outcome_of-shortened : (d x : List ℕ) → Plain d → block_outcome (d ++ x) ≡ block_outcome (shortened d ++ x)
 outcome_of-shortened d x plain =
     outcome_of-append d x plain ∙ decision-shortened d (data_of x) (rest_of x) ∙ sym (outcome_of-append (shortened d) x (Plain-take least_too_long d plain))
 
@@ -97,14 +98,14 @@ unfinished-shortened d x plain =
 pub record GoesOn (s k : List ℕ) : Type 0 where
   pub quiet : NoStart s
   pub quiet_too : NoStart k
-  pub decides : (p : List ℕ) → outcome_of (s ++ p) ≡ outcome_of (k ++ p)
+  pub decides : (p : List ℕ) → block_outcome (s ++ p) ≡ block_outcome (k ++ p)
   pub holds : (p : List ℕ) → unfinished (s ++ p) ≡ unfinished (k ++ p)
 
 goes_on_at : (d r : List ℕ) → Plain d → NoStart r → GoesOn (d ++ r) (shortened d ++ r)
 goes_on_at d r plain quiet = record {
   quiet = NoStart-append d r (NoStart-plain d plain) quiet;
   quiet_too = NoStart-append (shortened d) r (NoStart-plain (shortened d) (Plain-take least_too_long d plain)) quiet;
-  decides = λ p. ap outcome_of (append_assoc d r p) ∙ outcome_of-shortened d (r ++ p) plain ∙ sym (ap outcome_of (append_assoc (shortened d) r p));
+  decides = λ p. ap block_outcome (append_assoc d r p) ∙ outcome_of-shortened d (r ++ p) plain ∙ sym (ap block_outcome (append_assoc (shortened d) r p));
   holds = λ p. ap unfinished (append_assoc d r p) ∙ unfinished-shortened d (r ++ p) plain ∙ sym (ap unfinished (append_assoc (shortened d) r p));
 }
 
@@ -119,10 +120,10 @@ goes_on_plain d plain = record {
 pub unfinished-cut : (d r : List ℕ) → Plain d → Stops r → unfinished (d ++ r) ≡ shortened d ++ r
 unfinished-cut d r plain stops = ap (λ l. shortened l ++ rest_of (d ++ r)) (data_of-cut d r plain stops) ∙ ap (λ l. shortened d ++ l) (rest_of-cut d r plain stops)
 
-pub goes_on : (s : List ℕ) → outcome_of s ≡ None → GoesOn s (unfinished s)
+pub goes_on : (s : List ℕ) → block_outcome s ≡ None → GoesOn s (unfinished s)
 goes_on s is =
     let parts = cut s in
-    let at : decision parts.front parts.after ≡ None = sym (outcome_of-cut parts.front parts.after parts.plain parts.stops) ∙ sym (ap outcome_of parts.whole) ∙ is in
+    let at : decision parts.front parts.after ≡ None = sym (outcome_of-cut parts.front parts.after parts.plain parts.stops) ∙ sym (ap block_outcome parts.whole) ∙ is in
     let quiet : NoStart parts.after = decision-none parts.front parts.after at in
     let here : GoesOn (parts.front ++ parts.after) (unfinished (parts.front ++ parts.after)) =
     subst (λ k. GoesOn (parts.front ++ parts.after) k) (sym (unfinished-cut parts.front parts.after parts.plain parts.stops)) (goes_on_at parts.front parts.after parts.plain quiet) in
@@ -133,26 +134,26 @@ goes_on s is =
 pub blocks-other : (b : ℕ) (s : List ℕ) → (b == start_block) ≡ false → blocks (b ∷ s) ≡ blocks s
 blocks-other b s other = rw other
 
-pub blocks-start : (b : ℕ) (s : List ℕ) → (b == start_block) ≡ true → blocks (b ∷ s) ≡ option_to_list (outcome_of s) ++ blocks s
+pub blocks-start : (b : ℕ) (s : List ℕ) → (b == start_block) ≡ true → blocks (b ∷ s) ≡ option_to_list (block_outcome s) ++ blocks s
 blocks-start b s start = rw start
 
 pub open_end-other : (b : ℕ) (s : List ℕ) → (b == start_block) ≡ false → open_end (b ∷ s) ≡ open_end s
 open_end-other b s other = rw other
 
-pub open_end-open : (b : ℕ) (s : List ℕ) → (b == start_block) ≡ true → outcome_of s ≡ None → open_end (b ∷ s) ≡ b ∷ unfinished s
+pub open_end-open : (b : ℕ) (s : List ℕ) → (b == start_block) ≡ true → block_outcome s ≡ None → open_end (b ∷ s) ≡ b ∷ unfinished s
 open_end-open b s start is = rw (start, is)
 
-pub open_end-closed : (b : ℕ) (s : List ℕ) (e : Event) → outcome_of s ≡ Some e → open_end (b ∷ s) ≡ open_end s
+pub open_end-closed : (b : ℕ) (s : List ℕ) (e : FramingEvent) → block_outcome s ≡ Some e → open_end (b ∷ s) ≡ open_end s
 open_end-closed b s e is =
     elim (cases_Bool (b == start_block)) as (λ _. open_end (b ∷ s) ≡ open_end s) [
       | inl start ↦ rw (start, is)
       | inr other ↦ rw other
     ]
 
-pub blocks-decided : (b : ℕ) (s : List ℕ) (e : Event) → (b == start_block) ≡ true → outcome_of s ≡ Some e → blocks (b ∷ s) ≡ e ∷ blocks s
+pub blocks-decided : (b : ℕ) (s : List ℕ) (e : FramingEvent) → (b == start_block) ≡ true → block_outcome s ≡ Some e → blocks (b ∷ s) ≡ e ∷ blocks s
 blocks-decided b s e start is = blocks-start b s start ∙ ap (λ o. option_to_list o ++ blocks s) is
 
-pub blocks-open : (b : ℕ) (s : List ℕ) → (b == start_block) ≡ true → outcome_of s ≡ None → blocks (b ∷ s) ≡ blocks s
+pub blocks-open : (b : ℕ) (s : List ℕ) → (b == start_block) ≡ true → block_outcome s ≡ None → blocks (b ∷ s) ≡ blocks s
 blocks-open b s start is = blocks-start b s start ∙ ap (λ o. option_to_list o ++ blocks s) is
 
 pub blocks-none : (s : List ℕ) → NoStart s → blocks s ≡ []
@@ -172,7 +173,7 @@ pub blocks-resumed : (b : ℕ) (s k p : List ℕ) → (b == start_block) ≡ tru
 blocks-resumed b s k p start same =
     blocks-start b (s ++ p) start
     ∙ ap (λ o. option_to_list o ++ blocks (s ++ p)) (same.decides p)
-    ∙ ap (λ l. option_to_list (outcome_of (k ++ p)) ++ l) (blocks-quiet s p same.quiet ∙ sym (blocks-quiet k p same.quiet_too))
+    ∙ ap (λ l. option_to_list (block_outcome (k ++ p)) ++ l) (blocks-quiet s p same.quiet ∙ sym (blocks-quiet k p same.quiet_too))
     ∙ sym (blocks-start b (k ++ p) start)
 
 -- the blocks of a string and of what follows it: those of the string, and then those of its open end with what follows
@@ -187,7 +188,7 @@ blocks-append (b ∷ s) p =
           ∙ ap (λ l. l ++ blocks (open_end s ++ p)) (sym (blocks-other b s other))
           ∙ ap (λ l. blocks (b ∷ s) ++ blocks (l ++ p)) (sym (open_end-other b s other))
       | inl start ↦
-          elim (option_cases (outcome_of s)) as (λ _. Goal) [
+          elim (option_cases (block_outcome s)) as (λ _. Goal) [
             | inr found ↦
                 blocks-decided b (s ++ p) found.0 start (outcome_of-more s p found.0 found.1)
                 ∙ ap (λ l. found.0 ∷ l) later
@@ -203,7 +204,7 @@ blocks-append (b ∷ s) p =
 
 pub open_end-resumed : (b : ℕ) (s k p : List ℕ) → (b == start_block) ≡ true → GoesOn s k → open_end (b ∷ (s ++ p)) ≡ open_end (b ∷ (k ++ p))
 open_end-resumed b s k p start same =
-    elim (option_cases (outcome_of (s ++ p))) as (λ _. open_end (b ∷ (s ++ p)) ≡ open_end (b ∷ (k ++ p))) [
+    elim (option_cases (block_outcome (s ++ p))) as (λ _. open_end (b ∷ (s ++ p)) ≡ open_end (b ∷ (k ++ p))) [
       | inr found ↦
           open_end-closed b (s ++ p) found.0 found.1 ∙ open_end-quiet s p same.quiet
           ∙ sym (open_end-quiet k p same.quiet_too) ∙ sym (open_end-closed b (k ++ p) found.0 (sym (same.decides p) ∙ found.1))
@@ -221,7 +222,7 @@ open_end-append (b ∷ s) p =
     elim (cases_Bool (b == start_block)) as (λ _. Goal) [
       | inr other ↦ open_end-other b (s ++ p) other ∙ later ∙ ap (λ l. open_end (l ++ p)) (sym (open_end-other b s other))
       | inl start ↦
-          elim (option_cases (outcome_of s)) as (λ _. Goal) [
+          elim (option_cases (block_outcome s)) as (λ _. Goal) [
             | inr found ↦
                 open_end-closed b (s ++ p) found.0 (outcome_of-more s p found.0 found.1) ∙ later
                 ∙ ap (λ l. open_end (l ++ p)) (sym (open_end-closed b s found.0 found.1))

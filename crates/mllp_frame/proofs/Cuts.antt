@@ -3,7 +3,8 @@ use Rattle.std.proofs.Common.{◌≡◌, ℕ, zero, suc, true, false, ◌==◌, 
 use Rattle.std.proofs.Math.Numerals.{one-add}
 use Rattle.std.proofs.lemmas.Bool.{cases_Bool, or_parts}
 use Rattle.std.specs.List.{AllByRecursion}
-use Rattle.mllp_frame.specs.Framing.{start_block, end_block, is_framing, data_of, rest_of, decision, outcome_of, blocks, open_end}
+use Rattle.mllp_frame.specs.Framing.{start_block, end_block, is_framing, data_of, rest_of, decision, block_outcome, blocks}
+use Rattle.mllp_frame.specs.inner.Framing.{open_end}
 
 -- data, by recursion
 abbrev pub Plain : List ℕ → Type 0
@@ -66,10 +67,10 @@ data_of-cut d s plain stops = data_of-append d s plain ∙ ap (λ l. d ++ l) (da
 pub rest_of-cut : (d s : List ℕ) → Plain d → Stops s → rest_of (d ++ s) ≡ s
 rest_of-cut d s plain stops = rest_of-append d s plain ∙ rest_of-stopped s stops
 
-pub outcome_of-cut : (d s : List ℕ) → Plain d → Stops s → outcome_of (d ++ s) ≡ decision d s
+pub outcome_of-cut : (d s : List ℕ) → Plain d → Stops s → block_outcome (d ++ s) ≡ decision d s
 outcome_of-cut d s plain stops = ap (λ l. decision l (rest_of (d ++ s))) (data_of-cut d s plain stops) ∙ ap (decision d) (rest_of-cut d s plain stops)
 
-pub outcome_of-append : (d x : List ℕ) → Plain d → outcome_of (d ++ x) ≡ decision (d ++ data_of x) (rest_of x)
+pub outcome_of-append : (d x : List ℕ) → Plain d → block_outcome (d ++ x) ≡ decision (d ++ data_of x) (rest_of x)
 outcome_of-append d x plain = ap (λ l. decision l (rest_of (d ++ x))) (data_of-append d x plain) ∙ ap (decision (d ++ data_of x)) (rest_of-append d x plain)
 
 -- no start byte

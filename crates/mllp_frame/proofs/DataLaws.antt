@@ -4,24 +4,25 @@ use Rattle.std.proofs.lemmas.Bool.{cases_Bool, cases_lt}
 use Rattle.std.proofs.lemmas.List.Elements.{recursion_from_All, All-from_recursion}
 use Rattle.std.specs.List.{AllByRecursion, flat_map}
 use Rattle.mllp_frame.specs.declared.Break.TheVariants.{NewStart, BadEnd}
-use Rattle.mllp_frame.specs.Event.{Event, block, broken}
-use Rattle.mllp_frame.specs.Framed.{AddsFront}
-use Rattle.mllp_frame.specs.Framing.{start_block, end_block, carriage_return, data_max, ended_block, decision, outcome_of, blocks, open_end, block_bytes, IsBlockData, HoldsData}
-use Rattle.mllp_frame.specs.Stage.{Reads}
+use Rattle.mllp_frame.specs.Event.{FramingEvent, block, broken}
+use Rattle.mllp_frame.specs.inner.Framed.{AddsFront}
+use Rattle.mllp_frame.specs.Framing.{start_block, end_block, carriage_return, data_max, ended_block, decision, block_outcome, blocks, block_bytes, IsBlockData}
+use Rattle.mllp_frame.specs.inner.Framing.{open_end, HoldsData}
+use Rattle.mllp_frame.specs.inner.Stage.{Reads}
 use Rattle.mllp_frame.proofs.Cuts.{Plain, NoStart-plain, cut, outcome_of-cut, open_end-quiet}
 use Rattle.mllp_frame.proofs.Appending.{blocks-append, open_end-append, open_end-closed, option_cases, blocks-other, blocks-start}
 use Rattle.mllp_frame.proofs.Rules.{rule_whole, ended_block-whole, ended_block-long}
 
 -- ---- each event holds data
 
-abbrev AllHoldData : List Event → Type 0
+abbrev AllHoldData : List FramingEvent → Type 0
 AllHoldData events = AllByRecursion HoldsData events
 
-AllHoldData-append : (a b : List Event) → AllHoldData a → AllHoldData b → AllHoldData (a ++ b)
+AllHoldData-append : (a b : List FramingEvent) → AllHoldData a → AllHoldData b → AllHoldData (a ++ b)
 AllHoldData-append [] b one two = two
 AllHoldData-append (e ∷ a) b one two = (one.0, AllHoldData-append a b one.1 two)
 
-AllHoldData-front : (a b : List Event) → AllHoldData (a ++ b) → AllHoldData a
+AllHoldData-front : (a b : List FramingEvent) → AllHoldData (a ++ b) → AllHoldData a
 AllHoldData-front [] b both = tt
 AllHoldData-front (e ∷ a) b both = (both.0, AllHoldData-front a b both.1)
 
@@ -34,7 +35,7 @@ ended_data d plain =
           subst HoldsData (sym (ended_block-whole d fits)) holds
     ]
 
-decision_data : (d r : List ℕ) (e : Event) → Plain d → decision d r ≡ Some e → HoldsData e
+decision_data : (d r : List ℕ) (e : FramingEvent) → Plain d → decision d r ≡ Some e → HoldsData e
 decision_data d [] e plain is = cc
 decision_data d (b ∷ []) e plain is =
     elim (cases_Bool (b == start_block)) as (λ _. HoldsData e) [
@@ -51,10 +52,10 @@ decision_data d (b ∷ c ∷ r) e plain is =
           ]
     ]
 
-outcome_data : (s : List ℕ) (e : Event) → outcome_of s ≡ Some e → HoldsData e
+outcome_data : (s : List ℕ) (e : FramingEvent) → block_outcome s ≡ Some e → HoldsData e
 outcome_data s e is =
     let parts = cut s in
-    decision_data parts.front parts.after e parts.plain (sym (outcome_of-cut parts.front parts.after parts.plain parts.stops) ∙ sym (ap outcome_of parts.whole) ∙ is)
+    decision_data parts.front parts.after e parts.plain (sym (outcome_of-cut parts.front parts.after parts.plain parts.stops) ∙ sym (ap block_outcome parts.whole) ∙ is)
 
 pub blocks_data : (s : List ℕ) → AllHoldData (blocks s)
 blocks_data [] = tt
@@ -63,24 +64,24 @@ blocks_data (b ∷ s) =
     elim (cases_Bool (b == start_block)) as (λ _. AllHoldData (blocks (b ∷ s))) [
       | inr other ↦ subst AllHoldData (sym (blocks-other b s other)) later
       | inl start ↦
-          elim (option_cases (outcome_of s)) as (λ _. AllHoldData (blocks (b ∷ s))) [
+          elim (option_cases (block_outcome s)) as (λ _. AllHoldData (blocks (b ∷ s))) [
             | inl is ↦ subst AllHoldData (sym (blocks-start b s start ∙ ap (λ o. option_to_list o ++ blocks s) is)) later
             | inr found ↦ subst AllHoldData (sym (blocks-start b s start ∙ ap (λ o. option_to_list o ++ blocks s) found.1)) (outcome_data s found.0 found.1, later)
           ]
     ]
 
-pub front_data : (old new : List Event) (s : List ℕ) → AllHoldData old → AddsFront old new (blocks s) → AllHoldData new
+pub front_data : (old new : List FramingEvent) (s : List ℕ) → AllHoldData old → AddsFront old new (blocks s) → AllHoldData new
 front_data old new s had adds =
     let found : AllHoldData (adds.added ++ adds.missed) = subst AllHoldData adds.front (blocks_data s) in
     subst AllHoldData (sym adds.grows) (AllHoldData-append old adds.added had (AllHoldData-front adds.added adds.missed found))
 
-pub read_data : (old new : List Event) (before after : List ℕ) → AllHoldData old → Reads old new before after → AllHoldData new
+pub read_data : (old new : List FramingEvent) (before after : List ℕ) → AllHoldData old → Reads old new before after → AllHoldData new
 read_data old new before after had reads =
     let adds : AddsFront old new (blocks before) = record { added = reads.added; missed = blocks after; grows = reads.events; front = reads.front } in
     front_data old new before had adds
 
 -- the first of the events to come
-pub first_data : (events : List Event) (e : Event) (rest : List Event) → AllHoldData events → events ≡ e ∷ rest → HoldsData e
+pub first_data : (events : List FramingEvent) (e : FramingEvent) (rest : List FramingEvent) → AllHoldData events → events ≡ e ∷ rest → HoldsData e
 first_data events e rest had is = let now : AllHoldData (e ∷ rest) = subst AllHoldData is had in now.0
 
 -- ---- reading back

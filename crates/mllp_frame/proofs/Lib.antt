@@ -10,3 +10,4 @@ pub mod Bounds
 pub mod DataLaws
 pub mod Rows
 pub mod OneByte
+pub mod Continuing

@@ -1,12 +1,13 @@
 -- A piece of one byte ends at most one block.
 use Rattle.std.proofs.Common.{◌≡◌, ℕ, ◌+◌, ◌≤◌, ◌==◌, List, [], ◌∷◌, ◌++◌, length, Option, None, Some, inl, inr, ap, ◌∙◌, option_to_list, arith, length-append}
 use Rattle.std.proofs.lemmas.Bool.{cases_Bool}
-use Rattle.mllp_frame.specs.Event.{Event}
-use Rattle.mllp_frame.specs.Framing.{start_block, blocks, open_end, outcome_of}
+use Rattle.mllp_frame.specs.Event.{FramingEvent}
+use Rattle.mllp_frame.specs.Framing.{start_block, blocks, block_outcome}
+use Rattle.mllp_frame.specs.inner.Framing.{open_end}
 use Rattle.mllp_frame.proofs.Cuts.{blocks-quiet}
 use Rattle.mllp_frame.proofs.Appending.{blocks-append, blocks-decided, blocks-other, blocks-start, goes_on, option_cases, outcome_of-more}
 
-one_at_most : (o : Option Event) → length (option_to_list o) ≤ 1
+one_at_most : (o : Option FramingEvent) → length (option_to_list o) ≤ 1
 one_at_most None = omega arith
 one_at_most (Some e) = omega arith
 
@@ -21,7 +22,7 @@ one_byte-event (x ∷ s) b =
     elim (cases_Bool (x == start_block)) as (λ _. length (blocks (x ∷ (s ++ b ∷ []))) ≤ length (blocks (x ∷ s)) + 1) [
       | inr other ↦ omega (arith, later, ap length (blocks-other x (s ++ b ∷ []) other), ap length (blocks-other x s other))
       | inl start ↦
-          elim (option_cases (outcome_of s)) as (λ _. length (blocks (x ∷ (s ++ b ∷ []))) ≤ length (blocks (x ∷ s)) + 1) [
+          elim (option_cases (block_outcome s)) as (λ _. length (blocks (x ∷ (s ++ b ∷ []))) ≤ length (blocks (x ∷ s)) + 1) [
             | inr found ↦
                 omega (
                   arith,
@@ -32,9 +33,9 @@ one_byte-event (x ∷ s) b =
             | inl is ↦
                 let quiet = (goes_on s is).quiet in
                 let none : blocks (s ++ b ∷ []) ≡ [] = blocks-quiet s (b ∷ []) quiet ∙ single b in
-                let parts : length (blocks (x ∷ (s ++ b ∷ []))) ≡ length (option_to_list (outcome_of (s ++ b ∷ []))) + length (blocks (s ++ b ∷ [])) =
-                ap length (blocks-start x (s ++ b ∷ []) start) ∙ length-append (option_to_list (outcome_of (s ++ b ∷ []))) (blocks (s ++ b ∷ [])) in
-                let few : length (option_to_list (outcome_of (s ++ b ∷ []))) ≤ 1 = one_at_most (outcome_of (s ++ b ∷ [])) in
+                let parts : length (blocks (x ∷ (s ++ b ∷ []))) ≡ length (option_to_list (block_outcome (s ++ b ∷ []))) + length (blocks (s ++ b ∷ [])) =
+                ap length (blocks-start x (s ++ b ∷ []) start) ∙ length-append (option_to_list (block_outcome (s ++ b ∷ []))) (blocks (s ++ b ∷ [])) in
+                let few : length (option_to_list (block_outcome (s ++ b ∷ []))) ≤ 1 = one_at_most (block_outcome (s ++ b ∷ [])) in
                 omega (arith, parts, few, ap length none)
           ]
     ]

@@ -1,10 +1,11 @@
 -- However a stream is cut.
 use Rattle.std.proofs.Common.{◌≡◌, ℕ, List, [], ◌∷◌, ◌++◌, take, drop, refl, sym, ap, ◌∙◌, append_assoc, append-nil}
 use Rattle.std.proofs.lemmas.List.{append_cancel_left, take-append-drop}
-use Rattle.mllp_frame.specs.Event.{Event}
-use Rattle.mllp_frame.specs.Framed.{Framed, fed, taken, blank, AddsFront, IsFront}
-use Rattle.mllp_frame.specs.Framing.{blocks, open_end}
-use Rattle.mllp_frame.specs.Calls.{Call, feed, next, bytes_of, handed_out, after_calls}
+use Rattle.mllp_frame.specs.Event.{FramingEvent}
+use Rattle.mllp_frame.specs.inner.Framed.{Framed, fed, taken, blank, AddsFront, IsFront}
+use Rattle.mllp_frame.specs.Framing.{blocks}
+use Rattle.mllp_frame.specs.inner.Framing.{open_end}
+use Rattle.mllp_frame.specs.inner.Calls.{Call, feed, next, bytes_of, handed_out, after_calls}
 use Rattle.mllp_frame.proofs.Appending.{blocks-append, open_end-append}
 
 pub blocks-open_end : (s : List ℕ) → blocks (open_end s) ≡ []
@@ -44,9 +45,9 @@ pub any_end : (calls : List Call) → (after_calls blank calls).open_end ≡ ope
 any_end calls = ends blank calls refl
 
 -- where a feed is refused, what was handed out and what is to come is the front of the events
-pub any_refusal : (calls : List Call) (piece : List ℕ) (to_come : List Event) → AddsFront (after_calls blank calls).to_come to_come (blocks ((after_calls blank calls).open_end ++ piece)) → IsFront (handed_out blank calls ++ to_come) (blocks (bytes_of calls ++ piece))
+pub any_refusal : (calls : List Call) (piece : List ℕ) (to_come : List FramingEvent) → AddsFront (after_calls blank calls).to_come to_come (blocks ((after_calls blank calls).open_end ++ piece)) → IsFront (handed_out blank calls ++ to_come) (blocks (bytes_of calls ++ piece))
 any_refusal calls piece to_come adds =
-    let out : List Event = handed_out blank calls in
+    let out : List FramingEvent = handed_out blank calls in
     let f : Framed = after_calls blank calls in
     record {
       rest = adds.missed;

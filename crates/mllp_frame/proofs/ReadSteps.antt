@@ -1,17 +1,18 @@
 -- What the steps of a framer read.
 use Rattle.std.proofs.Common.{◌≡◌, ℕ, false, ◌==◌, List, [], ◌∷◌, ◌++◌, Some, refl, sym, ap, ◌∙◌, subst, append_assoc, append-nil}
 use Rattle.mllp_frame.specs.declared.Break.TheVariants.{NewStart, BadEnd}
-use Rattle.mllp_frame.specs.Event.{Event, broken}
-use Rattle.mllp_frame.specs.Framing.{start_block, end_block, carriage_return, ended_block, decision, outcome_of, blocks, shortened, open_end, begun_block, ending_block}
-use Rattle.mllp_frame.specs.Stage.{Reads}
+use Rattle.mllp_frame.specs.Event.{FramingEvent, broken}
+use Rattle.mllp_frame.specs.Framing.{start_block, end_block, carriage_return, ended_block, decision, block_outcome, blocks}
+use Rattle.mllp_frame.specs.inner.Framing.{shortened, open_end, begun_block, ending_block}
+use Rattle.mllp_frame.specs.inner.Stage.{Reads}
 use Rattle.mllp_frame.proofs.Cuts.{Plain, Plain-append, NoStart, NoStart-plain, NoStart-append, outcome_of-cut, blocks-quiet, open_end-quiet}
 use Rattle.mllp_frame.proofs.Appending.{GoesOn, goes_on_plain, blocks-resumed, open_end-resumed, blocks-decided, open_end-closed, blocks-none, open_end-none}
 
-module _ (old : List Event) where
+module _ (old : List FramingEvent) where
   pub reads_nothing : (s : List ℕ) → Reads old old s s
   reads_nothing s = record { added = []; events = sym (append-nil old); front = refl; end = refl }
 
-  pub reads_on : (new last : List Event) (a b c : List ℕ) → Reads old new a b → Reads new last b c → Reads old last a c
+  pub reads_on : (new last : List FramingEvent) (a b c : List ℕ) → Reads old new a b → Reads new last b c → Reads old last a c
   reads_on new last a b c one two = record {
     added = one.added ++ two.added;
     events = two.events ∙ ap (λ l. l ++ two.added) one.events ∙ append_assoc old one.added two.added;
@@ -24,7 +25,7 @@ module _ (old : List Event) where
   same a b front end = record { added = []; events = sym (append-nil old); front = front; end = end }
 
   -- an event is
-  one_more : (e : Event) (a b : List ℕ) → blocks a ≡ e ∷ blocks b → open_end a ≡ open_end b → Reads old (old ++ e ∷ []) a b
+  one_more : (e : FramingEvent) (a b : List ℕ) → blocks a ≡ e ∷ blocks b → open_end a ≡ open_end b → Reads old (old ++ e ∷ []) a b
   one_more e a b front end = record { added = e ∷ []; events = refl; front = front; end = end }
 
   pub outside_none : (piece : List ℕ) → NoStart piece → Reads old old piece []
@@ -41,7 +42,7 @@ module _ (old : List Event) where
       subst (λ l. Reads old old (start_block ∷ l) (start_block ∷ (shortened (d ++ piece) ++ []))) (append-nil (d ++ piece))
       (resumed (d ++ piece) (shortened (d ++ piece)) [] (goes_on_plain (d ++ piece) (Plain-append d piece one two)))
 
-  decided : (x r : List ℕ) (e : Event) (left : List ℕ) → outcome_of (x ++ r) ≡ Some e → blocks (x ++ r) ≡ blocks left → open_end (x ++ r) ≡ open_end left → Reads old (old ++ e ∷ []) (start_block ∷ (x ++ r)) left
+  decided : (x r : List ℕ) (e : FramingEvent) (left : List ℕ) → block_outcome (x ++ r) ≡ Some e → blocks (x ++ r) ≡ blocks left → open_end (x ++ r) ≡ open_end left → Reads old (old ++ e ∷ []) (start_block ∷ (x ++ r)) left
   decided x r e left is front end =
       one_more e (start_block ∷ (x ++ r)) left
       (blocks-decided start_block (x ++ r) e refl is ∙ ap (λ l. e ∷ l) front)

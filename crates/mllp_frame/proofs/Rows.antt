@@ -2,7 +2,8 @@
 use Rattle.std.proofs.Common.{◌≡◌, ℕ, List, [], ◌∷◌, ◌++◌, codes, length, refl}
 use Rattle.mllp_frame.specs.declared.Break.TheVariants.{NewStart, BadEnd}
 use Rattle.mllp_frame.specs.Event.{block, broken}
-use Rattle.mllp_frame.specs.Framing.{blocks, open_end, block_bytes, least_too_long}
+use Rattle.mllp_frame.specs.Framing.{blocks, block_bytes}
+use Rattle.mllp_frame.specs.inner.Framing.{open_end, least_too_long}
 
 -- an admission that asks for an accept acknowledgment
 abbrev admission : List ℕ

@@ -3,8 +3,9 @@ use Rattle.std.proofs.Common.{◌≡◌, ◌≢◌, ℕ, ◌<◌, ◌≤◌, fal
 use Rattle.std.proofs.lemmas.Bool.{ne_eqb, cond-true, cond-false, le-leb, lt-leb}
 use Rattle.std.proofs.lemmas.List.Elements.{recursion_from_All}
 use Rattle.mllp_frame.specs.declared.Break.TheVariants.{NewStart, BadEnd, TooLong}
-use Rattle.mllp_frame.specs.Event.{Event, block, broken}
-use Rattle.mllp_frame.specs.Framing.{start_block, end_block, carriage_return, data_max, ended_block, decision, blocks, IsData, HasNoStart}
+use Rattle.mllp_frame.specs.Event.{FramingEvent, block, broken}
+use Rattle.mllp_frame.specs.Framing.{start_block, end_block, carriage_return, data_max, ended_block, decision, blocks, IsData}
+use Rattle.mllp_frame.specs.inner.Framing.{HasNoStart}
 use Rattle.mllp_frame.proofs.Cuts.{Plain, Stops, NoStart, NoStart-plain, NoStart-append, outcome_of-cut, blocks-quiet}
 use Rattle.mllp_frame.proofs.Appending.{blocks-none, blocks-open, blocks-decided}
 
@@ -27,7 +28,7 @@ module _ (skipped d rest : List ℕ) (quiet : HasNoStart skipped) (plain : IsDat
       ∙ blocks-open start_block (d ++ r) refl (outcome_of-cut d r (plain_of d plain) stops ∙ is)
       ∙ blocks-none (d ++ r) (NoStart-append d r (NoStart-plain d (plain_of d plain)) calm)
 
-  decided : (r left : List ℕ) (e : Event) → Stops r → decision d r ≡ Some e → blocks (d ++ r) ≡ blocks left → blocks (skipped ++ start_block ∷ (d ++ r)) ≡ e ∷ blocks left
+  decided : (r left : List ℕ) (e : FramingEvent) → Stops r → decision d r ≡ Some e → blocks (d ++ r) ≡ blocks left → blocks (skipped ++ start_block ∷ (d ++ r)) ≡ e ∷ blocks left
   decided r left e stops is on =
       from_start r ∙ blocks-decided start_block (d ++ r) e refl (outcome_of-cut d r (plain_of d plain) stops ∙ is) ∙ ap (λ l. e ∷ l) on
 

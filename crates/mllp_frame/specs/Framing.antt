@@ -1,8 +1,8 @@
 -- The framing of HL7's minimal lower layer protocol: what a whole byte string holds.
-use Rattle.std.specs.Prelude.{◌≡◌, ◌≢◌, ℕ, Bool, false, ◌+◌, ◌==◌, ◌||◌, ◌&&◌, ◌≤◌, nat_le, if◌then◌else◌, List, [], ◌∷◌, ◌++◌, length, take, drop, Option, Some, None, is_none, option_to_list, All}
+use Rattle.std.specs.Prelude.{◌≡◌, ℕ, Bool, false, ◌==◌, ◌||◌, ◌≤◌, nat_le, if◌then◌else◌, List, [], ◌∷◌, ◌++◌, length, drop, Option, Some, None, option_to_list, All}
 use Rattle.std.specs.List.{before_first, position_or_len}
 use Rattle.mllp_frame.specs.declared.Break.TheVariants.{NewStart, BadEnd, TooLong}
-use Rattle.mllp_frame.specs.Event.{Event, block, broken}
+use Rattle.mllp_frame.specs.Event.{FramingEvent, block, broken}
 
 -- the start block character, the end block character, and the carriage return that has to follow that one (MLLP Release 1, block format)
 abbrev pub start_block : ℕ
@@ -39,11 +39,11 @@ abbrev pub rest_of : List ℕ → List ℕ
 rest_of s = drop (position_or_len is_framing s) s
 
 -- the event of a block that has both its end bytes
-abbrev pub ended_block : List ℕ → Event
+abbrev pub ended_block : List ℕ → FramingEvent
 ended_block bytes = if nat_le (length bytes) data_max then block bytes else broken TooLong
 
 -- what becomes of a block with this data, by the bytes after it; none where they do not decide it yet
-abbrev pub decision : List ℕ → List ℕ → Option Event
+abbrev pub decision : List ℕ → List ℕ → Option FramingEvent
 decision bytes [] = None
 decision bytes (b ∷ []) = if b == start_block then Some (broken NewStart) else None
 decision bytes (b ∷ c ∷ rest) =
@@ -51,52 +51,17 @@ decision bytes (b ∷ c ∷ rest) =
     else if c == carriage_return then Some (ended_block bytes) else Some (broken BadEnd)
 
 -- what becomes of the block that a start byte opens, by the bytes after that byte
-abbrev pub outcome_of : List ℕ → Option Event
-outcome_of s = decision (data_of s) (rest_of s)
+abbrev pub block_outcome : List ℕ → Option FramingEvent
+block_outcome s = decision (data_of s) (rest_of s)
 
 -- The events of a byte string: each start byte opens a block, and the bytes after it decide what becomes of it.
 -- The search for the next start byte goes on right behind the last one. That is the same as going on behind the block,
 -- since data holds no start byte; `cutting_rules` says it so, one equation for each way in which a block goes on.
-abbrev pub blocks : List ℕ → List Event
+abbrev pub blocks : List ℕ → List FramingEvent
 blocks [] = []
-blocks (b ∷ s) = if b == start_block then option_to_list (outcome_of s) ++ blocks s else blocks s
-
--- the least length of data that is too long
-unfoldable pub least_too_long : ℕ
-least_too_long = data_max + 1
-
--- data up to the first byte past the limit, by which it is known to be too long
-abbrev pub shortened : List ℕ → List ℕ
-shortened bytes = take least_too_long bytes
-
--- what is kept of the bytes behind the start byte of an open block
-abbrev pub unfinished : List ℕ → List ℕ
-unfinished s = shortened (data_of s) ++ rest_of s
-
--- The open end of a byte string: the block that has begun and has neither ended nor broken, and else nothing. Its data
--- is kept up to the first byte past the limit.
-abbrev pub open_end : List ℕ → List ℕ
-open_end [] = []
-open_end (b ∷ s) = if b == start_block && is_none (outcome_of s) then b ∷ unfinished s else open_end s
-
--- a block begun, with this data so far
-abbrev pub begun_block : List ℕ → List ℕ
-begun_block bytes = start_block ∷ bytes
-
--- the same behind its end byte
-abbrev pub ending_block : List ℕ → List ℕ
-ending_block bytes = start_block ∷ bytes ++ end_block ∷ []
-
--- bytes that open no block
-abbrev pub HasNoStart : List ℕ → Type 0
-HasNoStart bytes = All (λ b. b ≢ start_block) bytes
+blocks (b ∷ s) = if b == start_block then option_to_list (block_outcome s) ++ blocks s else blocks s
 
 -- what a block can hold: data within the limit
 pub record IsBlockData (bytes : List ℕ) : Type 0 where
   pub plain : IsData bytes
   pub bounded : length bytes ≤ data_max
-
--- A block that was read holds what a block can hold.
-abbrev pub HoldsData : Event → Type 0
-HoldsData (block bytes) = IsBlockData bytes
-HoldsData (broken cause) = Unit {0}

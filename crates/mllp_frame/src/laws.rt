@@ -3,10 +3,11 @@
 
 ghost use Rattle.std.specs.Prelude.{◌≡◌, ◌≢◌, ℕ, ◌+◌, ◌<◌, ◌≤◌, List, [], ◌∷◌, ◌++◌, length, map};
 ghost use Rattle.std.specs.List.{AllByRecursion, flat_map};
-ghost use Rattle.mllp_frame.specs.Event.{Event, block, broken};
-ghost use Rattle.mllp_frame.specs.Framing.{start_block, end_block, carriage_return, data_max, blocks, open_end, block_bytes, ended_block, IsData, IsBlockData, HoldsData, HasNoStart};
-ghost use Rattle.mllp_frame.specs.Framed.{Framed, AddsFront, IsFront, blank};
-ghost use Rattle.mllp_frame.specs.Calls.{Call, bytes_of, handed_out, after_calls};
+ghost use Rattle.mllp_frame.specs.Event.{FramingEvent, block, broken};
+ghost use Rattle.mllp_frame.specs.Framing.{start_block, end_block, carriage_return, data_max, blocks, block_bytes, ended_block, IsData, IsBlockData};
+ghost use Rattle.mllp_frame.specs.inner.Framing.{open_end, HoldsData, HasNoStart};
+ghost use Rattle.mllp_frame.specs.inner.Framed.{Framed, AddsFront, IsFront, blank};
+ghost use Rattle.mllp_frame.specs.inner.Calls.{Call, bytes_of, handed_out, after_calls};
 
 use crate::Break;
 
@@ -43,7 +44,7 @@ pub fn any_pieces()
     ensures end { (calls : List Call) → (after_calls blank calls).open_end ≡ open_end (bytes_of calls) }
 
     // Where memory is refused within a further piece, they are the first of those events.
-    ensures refused { (calls : List Call) (piece : List ℕ) (to_come : List Event) →
+    ensures refused { (calls : List Call) (piece : List ℕ) (to_come : List FramingEvent) →
         AddsFront (after_calls blank calls).to_come to_come (blocks ((after_calls blank calls).open_end ++ piece)) →
         IsFront (handed_out blank calls ++ to_come) (blocks (bytes_of calls ++ piece)) }
 {}

@@ -8,9 +8,11 @@
 
 ghost use Rattle.std.specs.Prelude.{◌≡◌, ◌≤◌, [], ◌∷◌, ◌++◌, length, OnOk, OnErr};
 ghost use Rattle.mllp_frame.specs.Event.{block};
-ghost use Rattle.mllp_frame.specs.Framing.{blocks, data_max, open_end, block_bytes, IsData};
+ghost use Rattle.mllp_frame.specs.Framing.{blocks, data_max, block_bytes, IsData};
+ghost use Rattle.mllp_frame.specs.inner.Framing.{open_end};
 
 mod laws;
+mod search;
 mod stage;
 
 pub use fixed_numbers::{CARRIAGE_RETURN, DATA_MAX, END_BLOCK, START_BLOCK};
@@ -57,7 +59,7 @@ pub enum FrameFault {
 
 impl FrameFault {
     ghost use Rattle.std.specs.Prelude.{◌≡◌};
-    ghost use Rattle.mllp_frame.specs.Code.{code_of};
+    ghost use Rattle.mllp_frame.specs.inner.Code.{code_of};
 
     /// The number of the fault, 1 or 2, as it is given where no name can be.
     pub fn code(&self) -> u32
@@ -98,13 +100,13 @@ impl Model for Framer {
     ghost use Rattle.std.specs.Prelude.{[], map, is_none};
     ghost use Rattle.std.specs.List.{AllByRecursion};
     ghost use Rattle.std.specs.Option.{ForSome, option_map_or};
-    ghost use Rattle.mllp_frame.specs.Framed.{Framed};
+    ghost use Rattle.mllp_frame.specs.inner.Framed.{Framed};
 
     ghost Value = { Framed };
 
-    ghost use Rattle.mllp_frame.specs.Event.{event_of};
-    ghost use Rattle.mllp_frame.specs.Framing.{HoldsData};
-    ghost use Rattle.mllp_frame.specs.Stage.{open_block, HoldsShortData};
+    ghost use Rattle.mllp_frame.specs.inner.Event.{event_of};
+    ghost use Rattle.mllp_frame.specs.inner.Framing.{HoldsData};
+    ghost use Rattle.mllp_frame.specs.inner.Stage.{open_block, HoldsShortData};
 
     ghost view = { λ f. record { to_come = map event_of f.events.items; open_end = option_map_or open_block f.stage []; failed = is_none f.stage } };
 
@@ -113,10 +115,10 @@ impl Model for Framer {
 
 impl Framer {
     ghost use Rattle.std.specs.Prelude.{◌≡◌, ◌↔◌, slice_get, false, true, OnOk, IfSome, IsErrOf, IsOk, option_map};
-    ghost use Rattle.mllp_frame.specs.Event.{event_of};
-    ghost use Rattle.mllp_frame.specs.Framing.{HoldsData};
-    ghost use Rattle.mllp_frame.specs.Framed.{blank, fed, taken, GivesUp};
-    ghost use Rattle.mllp_frame.specs.Stage.{IsQuiet};
+    ghost use Rattle.mllp_frame.specs.inner.Event.{event_of};
+    ghost use Rattle.mllp_frame.specs.inner.Framing.{HoldsData};
+    ghost use Rattle.mllp_frame.specs.inner.Framed.{blank, fed, taken, GivesUp};
+    ghost use Rattle.mllp_frame.specs.inner.Stage.{IsQuiet};
 
     /// A framer at the start of a stream.
     pub fn new(alloc: Global) -> Self

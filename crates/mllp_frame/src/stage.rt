@@ -1,13 +1,15 @@
 //! How a framer reads a piece of its stream: outside of blocks, in a block's data, and behind an end block character.
 
-ghost use Rattle.std.specs.Prelude.{◌≡◌, ◌+◌, ◌*◌, ◌<◌, ◌≤◌, List, ◌++◌, length, map, OnOk, OnErr, IfOk, IsOk, IsOkAnd};
-ghost use Rattle.mllp_frame.specs.Event.{Event, event_of};
-ghost use Rattle.mllp_frame.specs.Framing.{blocks, HasNoStart, least_too_long, shortened, begun_block, ended_block, ending_block};
-ghost use Rattle.mllp_frame.specs.Framed.{AddsFront};
-ghost use Rattle.mllp_frame.specs.Stage.{Reads, HoldsShortData, IsQuiet, IsShortData, open_block, work};
+ghost use Rattle.std.specs.Prelude.{◌≡◌, ◌+◌, ◌*◌, ◌<◌, ◌≤◌, List, ◌++◌, drop, length, map, OnOk, OnErr, IfOk, IsOk, IsOkAnd};
+ghost use Rattle.mllp_frame.specs.Event.{FramingEvent};
+ghost use Rattle.mllp_frame.specs.inner.Event.{event_of};
+ghost use Rattle.mllp_frame.specs.Framing.{blocks, ended_block};
+ghost use Rattle.mllp_frame.specs.inner.Framing.{HasNoStart, least_too_long, shortened, begun_block, ending_block};
+ghost use Rattle.mllp_frame.specs.inner.Framed.{AddsFront};
+ghost use Rattle.mllp_frame.specs.inner.Stage.{Reads, HoldsShortData, IsQuiet, IsShortData, open_block, work};
 
+use crate::search::{find_framing, find_start};
 use crate::{Break, CARRIAGE_RETURN, DATA_MAX, END_BLOCK, FrameEvent, START_BLOCK};
-use memchr::{memchr, memchr2};
 use std::alloc::{AllocError, Global};
 use std::collections::VecDeque;
 
@@ -29,50 +31,6 @@ fn keep(bytes: &mut Vec<u8>, more: &[u8]) -> Result<(), AllocError>
 {
     let room = DATA_MAX + 1 - bytes.len();
     bytes.extend_from_slice(&more[..room.min(more.len())])
-}
-
-/// Reads on outside of blocks, up to the next start block character.
-fn read_outside(alloc: Global, piece: &[u8]) -> (Stage, &[u8])
-    ensures reads { (old : List Event) → Reads old old (piece.now) (open_block result.0 ++ result.1.now) }
-    ensures short { HoldsShortData result.0 }
-    ensures nearer { 0 < length piece.now → work result.0 result.1.now < 2 * length piece.now }
-    ensures quiet { HasNoStart piece.now → IsQuiet (open_block result.0) result.1.now }
-{
-    match memchr(START_BLOCK, piece) {
-        Some(at) => (Stage::Inside(Vec::new(alloc)), &piece[at + 1..]),
-        None => (Stage::Outside, &[]),
-    }
-}
-
-/// Reads on in a block's data, up to the byte that ends or breaks it.
-fn read_inside<'a>(
-    mut bytes: Vec<u8>,
-    events: &mut VecDeque<FrameEvent>,
-    piece: &'a [u8],
-) -> Result<(Stage, &'a [u8]), AllocError>
-    requires { IsShortData bytes.items }
-    ensures reads { IfOk result (λ next.
-        Reads (map event_of events.old.items) (map event_of events.new.items)
-        (begun_block bytes.items ++ piece.now) (open_block next.0 ++ next.1.now)) }
-    ensures short { IfOk result (λ next. HoldsShortData next.0) }
-    ensures nearer { IfOk result (λ next. 0 < length piece.now → work next.0 next.1.now < 2 * length piece.now) }
-    ensures err { OnErr result (events.new.items ≡ events.old.items) }
-{
-    match memchr2(START_BLOCK, END_BLOCK, piece) {
-        None => {
-            keep(&mut bytes, piece)?;
-            Ok((Stage::Inside(bytes), &[]))
-        }
-        Some(at) if piece[at] == START_BLOCK => {
-            events.push_back(FrameEvent::Broken(Break::NewStart))?;
-            bytes.clear();
-            Ok((Stage::Inside(bytes), &piece[at + 1..]))
-        }
-        Some(at) => {
-            keep(&mut bytes, &piece[..at])?;
-            Ok((Stage::Ended(bytes), &piece[at + 1..]))
-        }
-    }
 }
 
 /// The event of a block that has both its end bytes.
@@ -109,6 +67,115 @@ fn read_ended<'a>(
     Ok((Stage::Outside, &piece[1..]))
 }
 
+/// Reads on behind an end block character, where something follows it.
+fn read_end<'a>(
+    bytes: Vec<u8>,
+    events: &mut VecDeque<FrameEvent>,
+    piece: &'a [u8],
+) -> Result<(Stage, &'a [u8]), AllocError>
+    requires { IsShortData bytes.items }
+    ensures reads { IfOk result (λ next.
+        Reads (map event_of events.old.items) (map event_of events.new.items)
+        (ending_block bytes.items ++ piece.now) (open_block next.0 ++ next.1.now)) }
+    ensures short { IfOk result (λ next. HoldsShortData next.0) }
+    ensures nearer { IfOk result (λ next. work next.0 next.1.now < 2 * length piece.now + 2) }
+    ensures err { OnErr result (events.new.items ≡ events.old.items) }
+{
+    if piece.is_empty() {
+        return Ok((Stage::Ended(bytes), piece));
+    }
+    read_ended(bytes, events, piece)
+}
+
+/// Reads on in a block's data, up to the byte that ends or breaks it, and past the block's end where that is read too.
+fn read_inside<'a>(
+    mut bytes: Vec<u8>,
+    events: &mut VecDeque<FrameEvent>,
+    piece: &'a [u8],
+) -> Result<(Stage, &'a [u8]), AllocError>
+    requires { IsShortData bytes.items }
+    ensures reads { IfOk result (λ next.
+        Reads (map event_of events.old.items) (map event_of events.new.items)
+        (begun_block bytes.items ++ piece.now) (open_block next.0 ++ next.1.now)) }
+    ensures short { IfOk result (λ next. HoldsShortData next.0) }
+    ensures nearer { IfOk result (λ next. 0 < length piece.now → work next.0 next.1.now < 2 * length piece.now) }
+    ensures most { IfOk result (λ next. work next.0 next.1.now ≤ 2 * length piece.now) }
+    ensures err { OnErr result (events.new.items ≡ events.old.items) }
+{
+    match find_framing(piece) {
+        None => {
+            keep(&mut bytes, piece)?;
+            Ok((Stage::Inside(bytes), &[]))
+        }
+        Some(at) if piece[at] == START_BLOCK => {
+            events.push_back(FrameEvent::Broken(Break::NewStart))?;
+            bytes.clear();
+            Ok((Stage::Inside(bytes), &piece[at + 1..]))
+        }
+        Some(at) => {
+            keep(&mut bytes, &piece[..at])?;
+            read_end(bytes, events, &piece[at + 1..])
+        }
+    }
+}
+
+/// Reads a block that the piece begins with and that lies whole in it, and returns how many bytes it takes, 0 where there is no
+/// such block. Where it is broken or too long, nothing is read.
+///
+/// It exists for speed: the data is copied once, and no stage is kept on the way, which saves some 80 instructions a block.
+fn take_block(
+    alloc: Global,
+    events: &mut VecDeque<FrameEvent>,
+    piece: &[u8],
+) -> Result<usize, AllocError>
+    ensures within { IfOk result (λ n. n ≤ length piece.now) }
+    ensures reads { IfOk result (λ n.
+        Reads (map event_of events.old.items) (map event_of events.new.items) piece.now (drop n piece.now)) }
+    ensures none { IfOk result (λ n. n ≡ 0 → events.new.items ≡ events.old.items) }
+    ensures err { OnErr result (events.new.items ≡ events.old.items) }
+    ensures quiet { HasNoStart piece.now → IsOkAnd result (λ n. n ≡ 0) }
+{
+    if piece.is_empty() || piece[0] != START_BLOCK {
+        return Ok(0);
+    }
+    let data = &piece[1..];
+    let Some(at) = find_framing(data) else {
+        return Ok(0);
+    };
+    if at > DATA_MAX || at + 1 >= data.len() {
+        return Ok(0);
+    }
+    if data[at] != END_BLOCK || data[at + 1] != CARRIAGE_RETURN {
+        return Ok(0);
+    }
+    let bytes = Vec::from_slice(alloc, &data[..at])?;
+    events.push_back(FrameEvent::Block(bytes))?;
+    Ok(at + 3)
+}
+
+/// Reads on outside of blocks, and in the next block where its start block character is read.
+fn read_outside<'a>(
+    alloc: Global,
+    events: &mut VecDeque<FrameEvent>,
+    piece: &'a [u8],
+) -> Result<(Stage, &'a [u8]), AllocError>
+    ensures reads { IfOk result (λ next.
+        Reads (map event_of events.old.items) (map event_of events.new.items) piece.now (open_block next.0 ++ next.1.now)) }
+    ensures short { IfOk result (λ next. HoldsShortData next.0) }
+    ensures nearer { IfOk result (λ next. 0 < length piece.now → work next.0 next.1.now < 2 * length piece.now) }
+    ensures err { OnErr result (events.new.items ≡ events.old.items) }
+    ensures quiet { HasNoStart piece.now → IsOkAnd result (λ next. IsQuiet (open_block next.0) next.1.now) }
+{
+    let taken = take_block(alloc, events, piece)?;
+    if taken > 0 {
+        return Ok((Stage::Outside, &piece[taken..]));
+    }
+    match find_start(piece) {
+        Some(at) => read_inside(Vec::new(alloc), events, &piece[at + 1..]),
+        None => Ok((Stage::Outside, &[])),
+    }
+}
+
 /// Reads on, up to where the stage changes.
 fn advance<'a>(
     alloc: Global,
@@ -126,7 +193,7 @@ fn advance<'a>(
     ensures quiet { IsQuiet (open_block stage) piece.now → IsOkAnd result (λ next. IsQuiet (open_block next.0) next.1.now) }
 {
     match stage {
-        Stage::Outside => Ok(read_outside(alloc, piece)),
+        Stage::Outside => read_outside(alloc, events, piece),
         Stage::Inside(bytes) => read_inside(bytes, events, piece),
         Stage::Ended(bytes) => read_ended(bytes, events, piece),
     }

@@ -3,7 +3,7 @@ use Rattle.std.proofs.Common.{◌≡◌, Bool, true, false, ◌&&◌, ◌==◌, 
 use lib.Dec.{eqb_refl}
 use Rattle.std.specs.declared.option.Option.TheVariants.{Some}
 use denote.RawPtr.{Ptr, block_ptr, null_ptr}
-use Rattle.node_heap.specs.Held.{Held, same_ptr, held_at, find_node, set_node, drop_node}
+use Rattle.node_heap.specs.inner.Held.{HeldNode, same_ptr, held_at, find_node, set_node, drop_node}
 
 true_of : (b : Bool) → T b → b ≡ true
 true_of true t = refl
@@ -32,14 +32,14 @@ same_ptr_symm p q e = (elim (same_ptr p q) as (λ y. same_ptr p q ≡ y → same
 
 module _ {N : Type 0} where
   -- the list as the values before, the one at p, and those after
-  pub record Cut (hs : List (Held N)) (p : Ptr) (x : N) : Type 0 where
-    pub before : List (Held N)
-    pub after : List (Held N)
+  pub record Cut (hs : List (HeldNode N)) (p : Ptr) (x : N) : Type 0 where
+    pub before : List (HeldNode N)
+    pub after : List (HeldNode N)
     pub cut : hs ≡ before ++ held_at p x ∷ after
     pub set : (w : N) → set_node p w hs ≡ before ++ held_at p w ∷ after
     pub dropped : drop_node p hs ≡ before ++ after
 
-  cut_here : (h : Held N) (hs : List (Held N)) (p : Ptr) (x : N) → same_ptr h.at p ≡ true → find_node p (h ∷ hs) ≡ Some x → Cut (h ∷ hs) p x
+  cut_here : (h : HeldNode N) (hs : List (HeldNode N)) (p : Ptr) (x : N) → same_ptr h.at p ≡ true → find_node p (h ∷ hs) ≡ Some x → Cut (h ∷ hs) p x
   cut_here h hs p x e f =
       let at : h.at ≡ p = same_ptr_eq h.at p e in
       let is : Some h.node ≡ Some x = subst (λ (b : Bool). cond b (Some h.node) (find_node p hs) ≡ Some x) e f in
@@ -52,7 +52,7 @@ module _ {N : Type 0} where
         dropped = ap (λ (b : Bool). cond b hs (h ∷ drop_node p hs)) e;
       }
 
-  pub cut_at : (hs : List (Held N)) (p : Ptr) (x : N) → find_node p hs ≡ Some x → Cut hs p x
+  pub cut_at : (hs : List (HeldNode N)) (p : Ptr) (x : N) → find_node p hs ≡ Some x → Cut hs p x
   cut_at [] p x f = cc
   cut_at (h ∷ hs) p x f = (elim (same_ptr h.at p) as (λ y. same_ptr h.at p ≡ y → Cut (h ∷ hs) p x) [
     | true ↦ λ e. cut_here h hs p x e f

@@ -31,8 +31,8 @@ use borrow.Table.OneValue.{part_out}
 use Rattle.std_alloc.proofs.RcSteps.{word}
 use Rattle.std.specs.Mem.{type_size}
 use Rattle.std.specs.declared.option.Option.TheVariants.{None, Some}
-use Rattle.node_heap.specs.Held.{Held, same_ptr, find_node}
-use Rattle.node_heap.specs.Ownership.{node_owns, nodes_own, nodes_lent}
+use Rattle.node_heap.specs.inner.Held.{HeldNode, same_ptr, find_node}
+use Rattle.node_heap.specs.inner.Ownership.{node_owns, nodes_own, nodes_lent}
 use Rattle.node_heap.specs.contracts.nodes.Nodes as N-type
 use Rattle.node_heap.specs.contracts.nodes.Place as P-type
 use Rattle.node_heap.proofs.Cut.{same_ptr_eq}
@@ -51,7 +51,7 @@ module _ (Y : RattleType) where
   R = param 0 Y
 
   abbrev pub Node : Type 0
-  Node = Held Y.Denot
+  Node = HeldNode Y.Denot
 
   abbrev pub Nr : RattleType
   Nr = N-type.the_row R
@@ -114,17 +114,17 @@ module _ {M : Type 1} {𝓤 : Ura M} {𝓛 : Logic 𝓤} {K : Type 0} {Γ : List
   })
 
 module _ {M : Type 1} {𝓤 : Ura M} (𝓛 : Logic 𝓤) (R : RattleType) where
-  pub nodes_cut : (xs : List (Held R.Denot)) (n : Held R.Denot) (ys : List (Held R.Denot)) → ent 𝓤 (sem 𝓛 (nodes_own R (xs ++ n ∷ ys))) (sep 𝓤 (sem 𝓛 (node_owns R n)) (sem 𝓛 (nodes_own R (xs ++ ys))))
+  pub nodes_cut : (xs : List (HeldNode R.Denot)) (n : HeldNode R.Denot) (ys : List (HeldNode R.Denot)) → ent 𝓤 (sem 𝓛 (nodes_own R (xs ++ n ∷ ys))) (sep 𝓤 (sem 𝓛 (node_owns R n)) (sem 𝓛 (nodes_own R (xs ++ ys))))
   nodes_cut [] n ys = id⊢ 𝓤 _
   nodes_cut (x ∷ xs) n ys = qed 𝓛 (‵ (nodes_own R (x ∷ xs ++ n ∷ ys)) ∷ []) ∵ fsplit ! $ move ! (1 ∷ []) $
       use1 𝓛 (‵ (node_owns R n) ⊛ ‵ (nodes_own R (xs ++ ys))) (nodes_cut xs n ys) $ split ! $ move ! (2 ∷ 1 ∷ []) $ fjoin ! $ move ! (1 ∷ []) $ done !
 
-  pub nodes_glue : (xs : List (Held R.Denot)) (n : Held R.Denot) (ys : List (Held R.Denot)) → ent 𝓤 (sep 𝓤 (sem 𝓛 (node_owns R n)) (sem 𝓛 (nodes_own R (xs ++ ys)))) (sem 𝓛 (nodes_own R (xs ++ n ∷ ys)))
+  pub nodes_glue : (xs : List (HeldNode R.Denot)) (n : HeldNode R.Denot) (ys : List (HeldNode R.Denot)) → ent 𝓤 (sep 𝓤 (sem 𝓛 (node_owns R n)) (sem 𝓛 (nodes_own R (xs ++ ys)))) (sem 𝓛 (nodes_own R (xs ++ n ∷ ys)))
   nodes_glue [] n ys = id⊢ 𝓤 _
   nodes_glue (x ∷ xs) n ys = qed 𝓛 (‵ (node_owns R n) ∷ ‵ (nodes_own R (x ∷ xs ++ ys)) ∷ []) ∵ move ! (1 ∷ []) $ fsplit ! $ move ! (2 ∷ 1 ∷ []) $
       use2 𝓛 (‵ (nodes_own R (xs ++ n ∷ ys))) (nodes_glue xs n ys) $ move ! (1 ∷ 0 ∷ []) $ fjoin ! $ done !
 
-  pub node_seen : (κ : Lft) (xs : List (Held R.Denot)) (n : Held R.Denot) (ys : List (Held R.Denot)) → ent 𝓤 (sem 𝓛 (nodes_lent R (xs ++ n ∷ ys) κ)) (sem 𝓛 (lent_at R n.at n.node κ))
+  pub node_seen : (κ : Lft) (xs : List (HeldNode R.Denot)) (n : HeldNode R.Denot) (ys : List (HeldNode R.Denot)) → ent 𝓤 (sem 𝓛 (nodes_lent R (xs ++ n ∷ ys) κ)) (sem 𝓛 (lent_at R n.at n.node κ))
   node_seen κ [] n ys = fst∗ 𝓤 _ (sem 𝓛 (nodes_lent R ys κ))
   node_seen κ (x ∷ xs) n ys = via 𝓤 _ (snd∗ 𝓤 (sem 𝓛 (lent_at R x.at x.node κ)) _) (node_seen κ xs n ys)
 

@@ -3,8 +3,8 @@ ghost use Rattle.std.specs.Prelude.{◌≡◌, List as Seq, [], ◌∷◌, ◌++
 ghost use Rattle.std.specs.Borrow.{sem};
 ghost use Rattle.std.specs.Mem.{type_size};
 ghost use Rattle.std.specs.declared.option.Option.TheVariants.{None, Some};
-ghost use Rattle.node_heap.specs.Held.{Held, held_at, find_node, set_node, drop_node, IsHeld};
-ghost use Rattle.node_heap.specs.Ownership.{nodes_own, nodes_lent};
+ghost use Rattle.node_heap.specs.inner.Held.{HeldNode, held_at, find_node, set_node, drop_node, IsHeld};
+ghost use Rattle.node_heap.specs.inner.Ownership.{nodes_own, nodes_lent};
 
 use crate::loose::Loose;
 use std::alloc::{AllocError, Global};
@@ -43,7 +43,7 @@ unsafe impl Sync for Place {}
 /// The owner of the values. It takes no space.
 pub struct Nodes<N> {
     mark: PhantomData<*mut N>,
-    pub ghost held: { Seq (Held N) },
+    pub ghost held: { Seq (HeldNode N) },
 }
 
 impl<N> Model for Nodes<N> {
@@ -57,7 +57,7 @@ unsafe impl<N: Send> Send for Nodes<N> {}
 unsafe impl<N: Sync> Sync for Nodes<N> {}
 
 impl<N> Nodes<N> {
-    ghost use Rattle.node_heap.specs.Lends.{lends_node};
+    ghost use Rattle.node_heap.specs.inner.Lends.{lends_node};
 
     pub fn new() -> Nodes<N>
         ensures { result.held ≡ [] }

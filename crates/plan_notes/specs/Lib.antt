@@ -1,4 +1,1 @@
-pub mod Address
-pub mod Line
-pub mod Position
-pub mod Room
+pub mod inner

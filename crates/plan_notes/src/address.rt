@@ -1,7 +1,7 @@
 //! Addresses of a plan, `HOST:PORT`, as far as they can be judged without the network.
 
 ghost use Rattle.std.specs.Prelude.{◌≡◌, ◌&&◌, ◌==◌, not};
-ghost use Rattle.plan_notes.specs.Address.{hosts_meet, leads_to_host, meet, leads_to};
+ghost use Rattle.plan_notes.specs.inner.Address.{hosts_meet, leads_to_host, meet, leads_to};
 
 /// The host of an address.
 #[derive(Clone, Copy, Debug)]

@@ -6,7 +6,7 @@ use crate::position::Position;
 use crate::shown::Quoted;
 use crate::spot::Spot;
 use crate::{path_notes, value_notes};
-use plan_text::{Channel, FaultName, PlanFault};
+use plan_text::{Channel, PlanFault, PlanFaultKind};
 use std::alloc::{AllocError, Global};
 use std::{io, str};
 use toml::de::Error;
@@ -38,17 +38,17 @@ fn add_owner(notes: &mut Lines, spot: &Spot<'_>) -> Result<(), AllocError> {
 }
 
 /// Notes what is wrong where the fault is.
-fn add_cause(notes: &mut Lines, name: FaultName, spot: &Spot<'_>) -> Result<(), AllocError> {
+fn add_cause(notes: &mut Lines, name: PlanFaultKind, spot: &Spot<'_>) -> Result<(), AllocError> {
     match name {
-        FaultName::UnknownKey => value_notes::add_unknown_key(notes, spot),
-        FaultName::Missing => value_notes::add_missing(notes, spot),
-        FaultName::BadRange => value_notes::add_bad_range(notes, spot),
-        FaultName::TooMany => value_notes::add_too_many(notes, spot),
-        FaultName::BadPath => path_notes::add_bad_path(notes, spot),
-        FaultName::ForbiddenWrite => path_notes::add_forbidden_write(notes, spot),
-        FaultName::UnknownName => value_notes::add_unknown_name(notes, spot),
-        FaultName::DoubleName => value_notes::add_double_name(notes, spot),
-        FaultName::NotToml | FaultName::NoMemory => Ok(()),
+        PlanFaultKind::UnknownKey => value_notes::add_unknown_key(notes, spot),
+        PlanFaultKind::Missing => value_notes::add_missing(notes, spot),
+        PlanFaultKind::BadRange => value_notes::add_bad_range(notes, spot),
+        PlanFaultKind::TooMany => value_notes::add_too_many(notes, spot),
+        PlanFaultKind::BadPath => path_notes::add_bad_path(notes, spot),
+        PlanFaultKind::ForbiddenWrite => path_notes::add_forbidden_write(notes, spot),
+        PlanFaultKind::UnknownName => value_notes::add_unknown_name(notes, spot),
+        PlanFaultKind::DoubleName => value_notes::add_double_name(notes, spot),
+        PlanFaultKind::NotToml | PlanFaultKind::NoMemory => Ok(()),
     }
 }
 

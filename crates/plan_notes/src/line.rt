@@ -2,7 +2,7 @@
 
 ghost use Rattle.std.specs.Prelude.{◌≡◌, true, string_bytes, IfOk};
 ghost use Rattle.std.specs.List.{list_all};
-ghost use Rattle.plan_notes.specs.Line.{is_printing};
+ghost use Rattle.plan_notes.specs.inner.Line.{is_printing};
 
 use std::alloc::{AllocError, Global};
 use std::fmt;

@@ -1,7 +1,7 @@
 //! Lines and columns of a text.
 
 ghost use Rattle.std.specs.Prelude.{◌≡◌, ◌+◌, count_by, take};
-ghost use Rattle.plan_notes.specs.Position.{is_line_end};
+ghost use Rattle.plan_notes.specs.inner.Position.{is_line_end};
 
 /// A position in a text: its line and its column, both from 1. A column counts characters.
 #[derive(Clone, Copy, Debug, PartialEq, Eq)]

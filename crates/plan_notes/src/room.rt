@@ -1,7 +1,7 @@
 //! How many messages a book takes.
 
 ghost use Rattle.std.specs.Prelude.{◌≡◌, ◌+◌, ◌-◌, ◌*◌, ◌<◌, ◌≤◌, IfSome, IfOk, length};
-ghost use Rattle.plan_notes.specs.Room.{attempts_of, owed_at, reserved, IsMost};
+ghost use Rattle.plan_notes.specs.inner.Room.{attempts_of, owed_at, reserved, IsMost};
 
 use crate::line::Line;
 use crate::lines::Lines;

@@ -1,7 +1,7 @@
 //! Where in its document a fault's path leads.
 
 use crate::tables::TableKind;
-use plan_text::{FaultName, PlanFault};
+use plan_text::{PlanFault, PlanFaultKind};
 use toml::{Table, Value};
 
 /// The most tables that a path is followed through: the document, a channel, a route, and 17 conditions, at which a filter
@@ -125,7 +125,7 @@ impl<'a> Spot<'a> {
 
     /// Where the fault of a document is.
     pub(crate) fn of(document: &'a Table, fault: &'a PlanFault) -> Spot<'a> {
-        let is_unknown = fault.name == FaultName::UnknownKey;
+        let is_unknown = fault.name == PlanFaultKind::UnknownKey;
         let mut spot = Spot {
             document,
             kind: TableKind::Document,

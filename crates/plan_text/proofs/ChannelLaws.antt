@@ -7,20 +7,20 @@ use Rattle.std.proofs.lemmas.List.Folds.{list_any_at, list_all-append}
 use Rattle.std.proofs.lemmas.List.Quantifiers.{all_pairs_push, position-Some}
 use Rattle.toml.specs.Data.{Data, Items, no_items, item, Members, string, integer, float, boolean, datetime, array, table, get_member}
 use Rattle.hl7_filter.specs.Condition.{Condition}
-use Rattle.plan_text.specs.declared.fault.FaultName.TheVariants as name
+use Rattle.plan_text.specs.declared.fault.PlanFaultKind.TheVariants as name
 use Rattle.plan_text.specs.declared.fault.PlanFault.{PlanFault}
 use Rattle.plan_text.specs.Fault.{told}
 use Rattle.plan_text.specs.Entries.{DestinationEntry, RouteEntry, ChannelEntry, IsShallow, AllStand, IsChannel, IsPlan}
 use Rattle.plan_text.specs.Keys.{key, key_path, required, table_at, only_keys, list, list_within, item_count, each, each_after}
 use Rattle.plan_text.specs.Kinds.{new_name, text_within}
 use Rattle.plan_text.specs.Conditions.{path, filter_at}
-use Rattle.plan_text.specs.Steps.{checked, stands_at, step_key, step_by, step, steps_at}
+use Rattle.plan_text.specs.Steps.{checked_step, stands_at, step_key, step_by, step, steps_at}
 use Rattle.hl7_transform.specs.declared.step_check.StepCheck.{StepCheck}
 use Rattle.hl7_transform.specs.declared.step_check.StepCheck.TheVariants as check
 use Rattle.hl7_transform.specs.Check.{check_step, may_stand}
 use Rattle.hl7_transform.specs.Step.{Edit}
 use Rattle.plan_text.specs.Destinations.{destinations}
-use Rattle.plan_text.specs.Channels.{place_of, leads_to, new_place, way_at, route_to, route, route_keys, routes_at, taken_at, channel, channel_keys, channel_has_name}
+use Rattle.plan_text.specs.Channels.{destination_index, leads_to, new_place, way_at, route_to, route, route_keys, routes_at, taken_at, channel, channel_keys, channel_has_name}
 use Rattle.plan_text.specs.Document.{some_within}
 use Rattle.plan_text.proofs.Deep.{filter-levels}
 use Rattle.plan_text.proofs.Laws.{bound, told_Ok, kept, name_is, list_is, passed, each_after-length, each_after-keeps, differs, destinations-are}
@@ -33,7 +33,7 @@ shallow at v (Some c) h = filter-levels at v (Some c) c h refl
 stands : (at : List ℕ) (s : Edit) (u : Unit {0}) → stands_at at s ≡ Ok u → may_stand s ≡ true
 stands at s u h = by_check (check_step s) h
   where
-    by_check : (r : Result (Unit {0}) StepCheck) → told at (checked r) ≡ Ok u → is_ok r ≡ true
+    by_check : (r : Result (Unit {0}) StepCheck) → told at (checked_step r) ≡ Ok u → is_ok r ≡ true
     by_check (Ok x) h = refl
     by_check (Err check.BadPath) h = cc
     by_check (Err check.ForbiddenWrite) h = cc
@@ -62,18 +62,18 @@ steps-stand at (Some d) steps h =
     another before path d x all_stand h = rw (list_all-append may_stand before (x ∷ []), all_stand, step-stands path d x h) refl
 
 -- a place is that of a destination, and no route before leads to it
-place_is : (ds : List DestinationEntry) (before : List RouteEntry) (s : List ℕ) (n : ℕ) → new_place before (place_of ds s) ≡ Ok n → (n < length ds) × (leads_to before n ≡ false)
-place_is ds before s n h = by_place (place_of ds s) refl h
+place_is : (ds : List DestinationEntry) (before : List RouteEntry) (s : List ℕ) (n : ℕ) → new_place before (destination_index ds s) ≡ Ok n → (n < length ds) × (leads_to before n ≡ false)
+place_is ds before s n h = by_place (destination_index ds s) refl h
   where
     by_test : (m : ℕ) (b : Bool) → leads_to before m ≡ b → m < length ds → (if b then Err name.DoubleName else Ok m) ≡ Ok n → (n < length ds) × (leads_to before n ≡ false)
     by_test m true is lt h = cc
     by_test m false is lt h = let same : m ≡ n = cc in rw (← same) (lt, is)
 
-    by_place : (o : Option ℕ) → place_of ds s ≡ o → new_place before o ≡ Ok n → (n < length ds) × (leads_to before n ≡ false)
+    by_place : (o : Option ℕ) → destination_index ds s ≡ o → new_place before o ≡ Ok n → (n < length ds) × (leads_to before n ≡ false)
     by_place None is h = cc
     by_place (Some m) is h = by_test m (leads_to before m) refl (within ds is) h
       where
-        within : (xs : List DestinationEntry) → place_of xs s ≡ Some m → m < length xs
+        within : (xs : List DestinationEntry) → destination_index xs s ≡ Some m → m < length xs
         within [] is = cc
         within (x ∷ xs) is = (position-Some (λ d. bytes_eq d.name s) (x ∷ xs) m x is).0
 

@@ -2,11 +2,12 @@
 use Rattle.std.proofs.Common.{◌≡◌, ℕ, ◌+◌, ◌<◌, List, ◌∷◌, ◌++◌, length, drop, get_or, map, filter, Bool, true, false, Option, Some, None, Err, is_some, option_map, Bor, refl, sym, ap}
 use Rattle.std.proofs.lemmas.List.{drop_more}
 use Rattle.std.specs.Option.{option_to_list}
-use Rattle.plan_text.specs.declared.fault.FaultName.TheVariants as name
+use Rattle.plan_text.specs.declared.fault.PlanFaultKind.TheVariants as name
 use Rattle.plan_text.specs.declared.fault.PlanFault.{PlanFault}
 use Rattle.plan_text.specs.declared.fault.Stop.{Stop}
 use Rattle.plan_text.specs.declared.fault.Stop.TheVariants as stop
-use Rattle.plan_text.specs.Fault.{Fails, IsStop, fault_at}
+use Rattle.plan_text.specs.Fault.{fault_at}
+use Rattle.plan_text.specs.inner.Fault.{Fails, IsStop}
 use Rattle.plan_text.specs.Keys.{only_one}
 
 abbrev pub text_of : Bor (List ℕ) → List ℕ

@@ -2,34 +2,35 @@
 use Rattle.std.proofs.Common.{◌≡◌, ℕ, zero, suc, ◌≤◌, List, [], ◌∷◌, ◌++◌, codes, Bool, true, false, if◌then◌else◌, Option, Some, None, Result, Ok, Err, refl, arith}
 use Rattle.std.specs.Str.{bytes_eq}
 use Rattle.toml.specs.Data.{Data, Items, Members}
-use Rattle.hl7_filter.specs.Condition.{Condition, equals, one_of, exists, starts, contains, all, any, negated, Conditions, levels, most_levels}
+use Rattle.hl7_filter.specs.Condition.{Condition, equals, one_of, exists, starts, contains, all, any, negated, Conditions, most_levels, nesting}
 use Rattle.hl7_filter.specs.View.{conditions_of}
-use Rattle.plan_text.specs.declared.fault.FaultName.TheVariants as name
+use Rattle.plan_text.specs.declared.fault.PlanFaultKind.TheVariants as name
 use Rattle.plan_text.specs.declared.fault.PlanFault.{PlanFault}
-use Rattle.plan_text.specs.Fault.{◌>>=◌, fault_at}
+use Rattle.er7_tree.specs.Tree.{◌>>=◌}
+use Rattle.plan_text.specs.Fault.{fault_at}
 use Rattle.plan_text.specs.Keys.{key_path, table_at, each}
 use Rattle.plan_text.specs.Conditions.{on_piece, by_key, condition_key, with_one_key, condition, filter_at}
 use Rattle.plan_text.proofs.Laws.{bound, each_after-keeps}
 
 -- a reader gives conditions of at most so many levels
 abbrev Within : ℕ → Result Condition PlanFault → Type 0
-Within n r = (c : Condition) → r ≡ Ok c → levels c ≤ n
+Within n r = (c : Condition) → r ≡ Ok c → nesting c ≤ n
 
 either : (n : ℕ) (b : Bool) (r s : Result Condition PlanFault) → Within n r → Within n s → Within n (if b then r else s)
 either n true r s p q = p
 either n false r s p q = q
 
 -- a condition that holds no other
-single : {A : Type 0} (n : ℕ) (r : Result A PlanFault) (f : A → Condition) → ((x : A) → levels (f x) ≡ 1) → Within (suc n) (r >>= λ x. Ok (f x))
+single : {A : Type 0} (n : ℕ) (r : Result A PlanFault) (f : A → Condition) → ((x : A) → nesting (f x) ≡ 1) → Within (suc n) (r >>= λ x. Ok (f x))
 single n (Ok x) f one c h = let same : f x ≡ c = cc in rw (← same, one x) (omega arith)
 single n (Err e) f one c h = cc
 
-most_levels-push : (cs : List Condition) (c : Condition) (n : ℕ) → most_levels (conditions_of cs) ≤ n → levels c ≤ n → most_levels (conditions_of (cs ++ c ∷ [])) ≤ n
+most_levels-push : (cs : List Condition) (c : Condition) (n : ℕ) → most_levels (conditions_of cs) ≤ n → nesting c ≤ n → most_levels (conditions_of (cs ++ c ∷ [])) ≤ n
 most_levels-push [] c n h k = omega (arith, h, k)
 most_levels-push (d ∷ cs) c n h k = omega (arith, h, most_levels-push cs c n (omega (arith, h)) k)
 
 listed : (n : ℕ) (r : Result Items PlanFault) (inner : List ℕ → Data → Result Condition PlanFault) (at : List ℕ) (f : Conditions → Condition)
-    → ((path : List ℕ) (d : Data) → Within n (inner path d)) → ((cs : Conditions) → levels (f cs) ≡ suc (most_levels cs))
+    → ((path : List ℕ) (d : Data) → Within n (inner path d)) → ((cs : Conditions) → nesting (f cs) ≡ suc (most_levels cs))
     → Within (suc n) (r >>= each inner at >>= λ cs. Ok (f (conditions_of cs)))
 listed n (Err e) inner at f shallow is c h = cc
 listed n (Ok items) inner at f shallow is c h =
@@ -74,7 +75,7 @@ condition-levels (suc n) at d c h =
     by_key-levels n (condition n) at t.0 k.0 (condition-levels n) c k.1.1
 
 -- a filter that was read is at most 16 deep
-pub filter-levels : (at : List ℕ) (v : Option Data) (filter : Option Condition) (c : Condition) → filter_at at v ≡ Ok filter → filter ≡ Some c → levels c ≤ 16
+pub filter-levels : (at : List ℕ) (v : Option Data) (filter : Option Condition) (c : Condition) → filter_at at v ≡ Ok filter → filter ≡ Some c → nesting c ≤ 16
 unfolding filter_at
 filter-levels at None filter c h is = cc
 filter-levels at (Some d) filter c h is =

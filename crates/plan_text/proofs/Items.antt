@@ -8,7 +8,7 @@ use Rattle.toml.proofs.Views.{items_view-drop}
 use Rattle.plan_text.specs.declared.fault.Stop.{Stop}
 use Rattle.plan_text.specs.declared.fault.Stop.TheVariants as stop
 use Rattle.plan_text.specs.declared.fault.PlanFault.{PlanFault}
-use Rattle.plan_text.specs.Fault.{Fails}
+use Rattle.plan_text.specs.inner.Fault.{Fails}
 use Rattle.plan_text.specs.Keys.{item_count, each_after, member_path}
 
 pub item_count_view : (vs : List Value) → item_count (items_view vs) ≡ length vs

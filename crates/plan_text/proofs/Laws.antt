@@ -10,14 +10,15 @@ use Rattle.std.proofs.lemmas.List.Folds.{list_any_at}
 use Rattle.std.proofs.lemmas.List.Quantifiers.{all_pairs_push}
 use Rattle.std.proofs.lemmas.Slice.Eq.{bytes_eq-Decides}
 use Rattle.toml.specs.Data.{Data, Items, no_items, item, Members, string, integer, float, boolean, datetime, array, table, get_member}
-use Rattle.plan_text.specs.declared.fault.FaultName.{FaultName}
-use Rattle.plan_text.specs.declared.fault.FaultName.TheVariants as name
+use Rattle.plan_text.specs.declared.fault.PlanFaultKind.{PlanFaultKind}
+use Rattle.plan_text.specs.declared.fault.PlanFaultKind.TheVariants as name
 use Rattle.plan_text.specs.declared.fault.PlanFault.{PlanFault}
-use Rattle.plan_text.specs.Fault.{◌>>=◌, told}
+use Rattle.er7_tree.specs.Tree.{◌>>=◌}
+use Rattle.plan_text.specs.Fault.{told}
 use Rattle.plan_text.specs.Entries.{DestinationEntry, IsDestination}
 use Rattle.plan_text.specs.Keys.{key, required, or_else, table_at, only_keys, list_within, item_count, each_after, member_path}
-use Rattle.plan_text.specs.Kinds.{within, number_within, new_name, is_name, text_within, text_as, await_word}
-use Rattle.plan_text.specs.Destinations.{sending, destination, destinations, destination_keys, has_name}
+use Rattle.plan_text.specs.Kinds.{within, number_within, new_name, is_plan_name, text_within, text_as, await_word}
+use Rattle.plan_text.specs.Destinations.{sending, destination, destinations, destination_keys, has_destination}
 use Rattle.plan_text.specs.declared.destination.Await.TheVariants as await
 use Rattle.plan_text.specs.declared.from_toml.destinations.Sending.{Sending}
 
@@ -26,7 +27,7 @@ pub bound : {A B : Type 0} (r : Result A PlanFault) (f : A → Result B PlanFaul
 bound (Ok x) f y h = (x, (refl, h))
 bound (Err e) f y h = cc
 
-pub told_Ok : {A : Type 0} (at : List ℕ) (r : Result A FaultName) (x : A) → told at r ≡ Ok x → r ≡ Ok x
+pub told_Ok : {A : Type 0} (at : List ℕ) (r : Result A PlanFaultKind) (x : A) → told at r ≡ Ok x → r ≡ Ok x
 told_Ok at (Ok y) x h = let same : y ≡ x = cc in ap Ok same
 told_Ok at (Err n) x h = cc
 
@@ -38,7 +39,7 @@ pub kept : {A : Type 0} (P : A → Type 0) (x y : A) → as_read x ≡ Ok y → 
 kept P x y e p = let same : x ≡ y = cc in subst P same p
 
 -- what a test that lets a value through says of it
-pub passed : {A : Type 0} (b : Bool) (x y : A) (n : FaultName) (r : Result A FaultName) → r ≡ Ok y → r ≡ (if b then Ok x else Err n) → (b ≡ true) × (x ≡ y)
+pub passed : {A : Type 0} (b : Bool) (x y : A) (n : PlanFaultKind) (r : Result A PlanFaultKind) → r ≡ Ok y → r ≡ (if b then Ok x else Err n) → (b ≡ true) × (x ≡ y)
 passed true x y n r h is = (refl, cc)
 passed false x y n r h is = cc
 
@@ -61,7 +62,7 @@ number_is default low high n (Some (table x)) a b h = cc
 
 pub name_is : (taken : List ℕ → Bool) (v : Option Data) (s : List ℕ) → required (new_name taken) v ≡ Ok s → taken s ≡ false
 name_is taken None s h = cc
-name_is taken (Some (string t)) s h = by_tests (is_name t) (taken t) refl h
+name_is taken (Some (string t)) s h = by_tests (is_plan_name t) (taken t) refl h
   where
     by_tests : (a b : Bool) → taken t ≡ b → (if a then (if b then Err name.DoubleName else Ok t) else Err name.BadRange) ≡ Ok s → taken s ≡ false
     by_tests true true is h = cc
@@ -127,17 +128,17 @@ sending-is at t x h =
       timeout = number_is 30 1 3600 timeout.0 (get_member (codes "timeout") t) (lit≤ tt) (lit≤ tt) (told_Ok _ _ _ timeout.1.0);
     })
 
-pub destination-is : (before : List DestinationEntry) (at : List ℕ) (d : Data) (x : DestinationEntry) → destination before at d ≡ Ok x → IsDestination x × (has_name before x.name ≡ false)
+pub destination-is : (before : List DestinationEntry) (at : List ℕ) (d : Data) (x : DestinationEntry) → destination before at d ≡ Ok x → IsDestination x × (has_destination before x.name ≡ false)
 unfolding destination
 destination-is before at d x h =
     let t = bound (table_at at d) _ x h in
     let known = bound (only_keys destination_keys at t.0) _ x t.1.1 in
-    let name = bound (key at t.0 (codes "name") (required (new_name (has_name before)))) _ x known.1.1 in
+    let name = bound (key at t.0 (codes "name") (required (new_name (has_destination before)))) _ x known.1.1 in
     let address = bound (key at t.0 (codes "address") (required (text_within 1 255))) _ x name.1.1 in
     let sent = bound (sending at t.0) _ x address.1.1 in
     let is = sending-is at t.0 sent.0 sent.1.0 in
-    let free = name_is (has_name before) (get_member (codes "name") t.0) name.0 (told_Ok _ _ _ name.1.0) in
-    kept (λ z. IsDestination z × (has_name before z.name ≡ false))
+    let free = name_is (has_destination before) (get_member (codes "name") t.0) name.0 (told_Ok _ _ _ name.1.0) in
+    kept (λ z. IsDestination z × (has_destination before z.name ≡ false))
     (record { name = name.0; address = address.0; attempts = sent.0.attempts; interval = sent.0.interval; timeout = sent.0.timeout; wait = sent.0.wait }) x sent.1.1
     (record { tried = is.attempts.0; attempts = is.attempts.1; interval = is.interval; waited = is.timeout.0; timeout = is.timeout.1 }, free)
 

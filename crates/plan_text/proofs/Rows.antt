@@ -3,9 +3,9 @@ use Rattle.std.specs.Prelude.{◌≡◌, refl, ℕ, List, [], codes, Result, Ok,
 use Rattle.std.proofs.Common.{sym, ◌∙◌}
 use Rattle.std.specs.Fmt.{digits}
 use Rattle.toml.proofs.OnLiterals.{toml_on_literals}
-use Rattle.plan_text.specs.declared.fault.FaultName.TheVariants as name
+use Rattle.plan_text.specs.declared.fault.PlanFaultKind.TheVariants as name
 use Rattle.plan_text.specs.declared.fault.PlanFault.{PlanFault}
-use Rattle.plan_text.specs.BuiltIn.{built_in_text, built_in}
+use Rattle.plan_text.specs.inner.BuiltIn.{built_in_text, built_in}
 use Rattle.plan_text.specs.Entries.{PlanEntry}
 use Rattle.plan_text.specs.Fault.{fault_at}
 use Rattle.plan_text.specs.Destinations.{sending, destination, destinations}

@@ -4,17 +4,19 @@ use Rattle.std.specs.Option.{ok_or}
 use Rattle.toml.specs.Data.{Data, Items}
 use Rattle.er7_tree.specs.Path.{Place, path_of}
 use Rattle.er7_tree.specs.declared.refusal.Refusal.{Refusal}
-use Rattle.plan_text.specs.declared.fault.FaultName.{FaultName}
-use Rattle.plan_text.specs.declared.fault.FaultName.TheVariants as name
+use Rattle.plan_text.specs.declared.fault.PlanFaultKind.{PlanFaultKind}
+use Rattle.plan_text.specs.declared.fault.PlanFaultKind.TheVariants as name
 use Rattle.plan_text.specs.declared.fault.PlanFault.{PlanFault}
 use Rattle.plan_text.specs.declared.fault.Stop.{Stop}
 use Rattle.plan_text.specs.declared.fault.Stop.TheVariants as stop
-use Rattle.plan_text.specs.Fault.{◌>>=◌, told, Fails, IsStop, fault_at}
+use Rattle.er7_tree.specs.Tree.{◌>>=◌}
+use Rattle.plan_text.specs.Fault.{told, fault_at}
+use Rattle.plan_text.specs.inner.Fault.{Fails, IsStop}
 use Rattle.plan_text.specs.Keys.{required, item_count}
 use Rattle.plan_text.specs.Conditions.{path_by, path_in, path_and_text, path_and_texts, text_pair, text_and_list, all_texts}
 
 -- a step that fails ends its chain
-pub told_stops : {A B : Type 0} (e : Stop) (at : List ℕ) (r : Result A FaultName) (f : A → Result B FaultName) → Fails e (told at r) → Fails e (told at (r >>= f))
+pub told_stops : {A B : Type 0} (e : Stop) (at : List ℕ) (r : Result A PlanFaultKind) (f : A → Result B PlanFaultKind) → Fails e (told at r) → Fails e (told at (r >>= f))
 told_stops stop.NoMemory at r f h = tt
 told_stops (stop.Fault x) at (Ok y) f h = cc
 told_stops (stop.Fault x) at (Err n) f h = let same : fault_at n at ≡ x = cc in ap (λ (g : PlanFault). Err g) same
@@ -36,7 +38,7 @@ pub path_and_texts-fails : (e : Stop) (at : List ℕ) (v : Option Data) (d : Dat
     → Fails e (told at (path_in p)) → Fails e (told at (required path_and_texts v))
 path_and_texts-fails e at v d p ds texts h pair all few bad = rw (h, ← pair, ← all, few) (told_stops e at (path_in p) _ bad)
 
-told_goes : {A B : Type 0} (at : List ℕ) (r : Result A FaultName) (x : A) (f : A → Result B FaultName) → told at r ≡ Ok x → told at (r >>= f) ≡ told at (f x)
+told_goes : {A B : Type 0} (at : List ℕ) (r : Result A PlanFaultKind) (x : A) (f : A → Result B PlanFaultKind) → told at r ≡ Ok x → told at (r >>= f) ≡ told at (f x)
 told_goes at (Ok y) x f h = let same : y ≡ x = cc in rw same refl
 told_goes at (Err n) x f h = cc
 

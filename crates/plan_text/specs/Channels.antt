@@ -5,35 +5,36 @@ use Rattle.std.specs.Str.{bytes_eq}
 use Rattle.toml.specs.Data.{Data, string, Members, get_member}
 use Rattle.hl7_filter.specs.Condition.{Condition}
 use Rattle.hl7_transform.specs.Step.{Edit}
-use Rattle.plan_text.specs.declared.fault.FaultName.{FaultName}
-use Rattle.plan_text.specs.declared.fault.FaultName.TheVariants as name
+use Rattle.plan_text.specs.declared.fault.PlanFaultKind.{PlanFaultKind}
+use Rattle.plan_text.specs.declared.fault.PlanFaultKind.TheVariants as name
 use Rattle.plan_text.specs.declared.fault.PlanFault.{PlanFault}
 use Rattle.plan_text.specs.declared.channel.MessageType.{MessageType}
 use Rattle.plan_text.specs.declared.channel.ProcessingId.{ProcessingId}
 use Rattle.plan_text.specs.declared.channel.VersionId.{VersionId}
-use Rattle.plan_text.specs.Fault.{◌>>=◌, told}
+use Rattle.er7_tree.specs.Tree.{◌>>=◌}
+use Rattle.plan_text.specs.Fault.{told}
 use Rattle.plan_text.specs.Entries.{DestinationEntry, RouteEntry, ChannelEntry}
 use Rattle.plan_text.specs.Keys.{key, key_path, required, only_keys, table_at, list, list_within, each, each_after}
 use Rattle.plan_text.specs.Conditions.{filter_at}
 use Rattle.plan_text.specs.Steps.{steps_at}
-use Rattle.plan_text.specs.Kinds.{is_named, new_name, text_as, text_within, message_type, processing_id, version_id}
+use Rattle.plan_text.specs.Kinds.{is_one_named, new_name, text_as, text_within, message_type, processing_id, version_id}
 
 -- the index of the destination of this name
-abbrev pub place_of : List DestinationEntry → List ℕ → Option ℕ
-place_of ds s = position (λ d. bytes_eq d.name s) ds
+abbrev pub destination_index : List DestinationEntry → List ℕ → Option ℕ
+destination_index ds s = position (λ d. bytes_eq d.name s) ds
 
 -- one of these leads to the destination at an index
 abbrev pub leads_to : List RouteEntry → ℕ → Bool
 leads_to routes n = list_any (λ r. r.to == n) routes
 
 -- an index that no route before leads to
-abbrev pub new_place : List RouteEntry → Option ℕ → Result ℕ FaultName
+abbrev pub new_place : List RouteEntry → Option ℕ → Result ℕ PlanFaultKind
 new_place before None = Err name.UnknownName
 new_place before (Some n) = if leads_to before n then Err name.DoubleName else Ok n
 
 -- the name of a destination that no route before leads to
-abbrev pub route_to : List DestinationEntry → List RouteEntry → Data → Result ℕ FaultName
-route_to ds before (string s) = new_place before (place_of ds s)
+abbrev pub route_to : List DestinationEntry → List RouteEntry → Data → Result ℕ PlanFaultKind
+route_to ds before (string s) = new_place before (destination_index ds s)
 route_to ds before _ = Err name.BadRange
 
 -- which messages go on, and what is done with them
@@ -61,16 +62,16 @@ routes_at ds at None = Ok []
 routes_at ds at (Some d) = told at (list d) >>= each_after (route ds) at []
 
 -- a text of a form, at a path
-abbrev pub entry_at : {A : Type 0} → (List ℕ → Option A) → List ℕ → Data → Result A PlanFault
-entry_at form at d = told at (text_as form d)
+abbrev pub text_entry_at : {A : Type 0} → (List ℕ → Option A) → List ℕ → Data → Result A PlanFault
+text_entry_at form at d = told at (text_as form d)
 
 -- a list of texts of a form, at most 256
 unfoldable pub entries_at : {A : Type 0} → (List ℕ → Option A) → List ℕ → Option Data → Result (List A) PlanFault
-entries_at form at d = told at (required (list_within 256) d) >>= each (entry_at form) at
+entries_at form at d = told at (required (list_within 256) d) >>= each (text_entry_at form) at
 
 -- one of these has the name
 abbrev pub channel_has_name : List ChannelEntry → List ℕ → Bool
-channel_has_name cs name = is_named (λ c. c.name) cs name
+channel_has_name cs name = is_one_named (λ c. c.name) cs name
 
 -- the messages that a channel takes
 unfoldable pub taken_at : List ℕ → Members → Result (List MessageType × (List ProcessingId × List VersionId)) PlanFault

@@ -5,23 +5,24 @@ use Rattle.toml.specs.Data.{Data, string, array, Members, Items, no_items, item,
 use Rattle.er7_tree.specs.Path.{Place, path_of}
 use Rattle.hl7_filter.specs.Condition.{Condition, equals, one_of, exists, starts, contains, all, any, negated}
 use Rattle.hl7_filter.specs.View.{conditions_of}
-use Rattle.plan_text.specs.declared.fault.FaultName.{FaultName}
-use Rattle.plan_text.specs.declared.fault.FaultName.TheVariants as name
+use Rattle.plan_text.specs.declared.fault.PlanFaultKind.{PlanFaultKind}
+use Rattle.plan_text.specs.declared.fault.PlanFaultKind.TheVariants as name
 use Rattle.plan_text.specs.declared.fault.PlanFault.{PlanFault}
-use Rattle.plan_text.specs.Fault.{◌>>=◌, fault_at}
+use Rattle.er7_tree.specs.Tree.{◌>>=◌}
+use Rattle.plan_text.specs.Fault.{fault_at}
 use Rattle.plan_text.specs.Keys.{key, key_path, required, table_at, only_keys, one_key, list_within, item_count, each}
 use Rattle.plan_text.specs.Kinds.{in_range}
 
 -- what a path names
-abbrev pub path_by : Option Place → Result Place FaultName
+abbrev pub path_by : Option Place → Result Place PlanFaultKind
 path_by None = Err name.BadPath
 path_by (Some place) = Ok place
 
-abbrev pub path_in : List ℕ → Result Place FaultName
+abbrev pub path_in : List ℕ → Result Place PlanFaultKind
 path_in text = path_by (path_of text)
 
 -- path
-abbrev pub path : Data → Result Place FaultName
+abbrev pub path : Data → Result Place PlanFaultKind
 path (string text) = path_in text
 path _ = Err name.BadRange
 
@@ -44,17 +45,17 @@ abbrev pub text_and_list : Data → Option (List ℕ × Items)
 text_and_list d = option_and_then (λ p. option_and_then (λ a. option_map (λ b. (a, b)) (as_array p.1)) (as_str p.0)) (pair_of d)
 
 -- [path, text]
-abbrev pub path_and_text : Data → Result (Place × List ℕ) FaultName
+abbrev pub path_and_text : Data → Result (Place × List ℕ) PlanFaultKind
 path_and_text d = do
   p ← in_range (text_pair d)
   path ← path_in p.0
   Ok (path, p.1)
 
-abbrev pub at_most : ℕ → Items → Result (Unit {0}) FaultName
+abbrev pub at_most : ℕ → Items → Result (Unit {0}) PlanFaultKind
 at_most most ds = if nat_le (item_count ds) most then Ok tt else Err name.TooMany
 
 -- [path, [text, ..]]
-abbrev pub path_and_texts : Data → Result (Place × List (List ℕ)) FaultName
+abbrev pub path_and_texts : Data → Result (Place × List (List ℕ)) PlanFaultKind
 path_and_texts d = do
   p ← in_range (text_and_list d)
   texts ← in_range (all_texts p.1)

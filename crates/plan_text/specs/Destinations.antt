@@ -4,14 +4,14 @@ use Rattle.toml.specs.Data.{Data, Members}
 use Rattle.plan_text.specs.declared.fault.PlanFault.{PlanFault}
 use Rattle.plan_text.specs.declared.destination.Await.TheVariants as await
 use Rattle.plan_text.specs.declared.from_toml.destinations.Sending.{Sending}
-use Rattle.plan_text.specs.Fault.{◌>>=◌}
+use Rattle.er7_tree.specs.Tree.{◌>>=◌}
 use Rattle.plan_text.specs.Entries.{DestinationEntry}
 use Rattle.plan_text.specs.Keys.{key, required, or_else, only_keys, table_at, list_within, each_after}
-use Rattle.plan_text.specs.Kinds.{is_named, new_name, text_as, text_within, number_within, await_word}
+use Rattle.plan_text.specs.Kinds.{is_one_named, new_name, text_as, text_within, number_within, await_word}
 
 -- one of these has the name
-abbrev pub has_name : List DestinationEntry → List ℕ → Bool
-has_name ds name = is_named (λ d. d.name) ds name
+abbrev pub has_destination : List DestinationEntry → List ℕ → Bool
+has_destination ds name = is_one_named (λ d. d.name) ds name
 
 abbrev pub destination_keys : List (List ℕ)
 destination_keys = codes "name" ∷ codes "address" ∷ codes "attempts" ∷ codes "interval" ∷ codes "timeout" ∷ codes "await" ∷ []
@@ -30,7 +30,7 @@ unfoldable pub destination : List DestinationEntry → List ℕ → Data → Res
 destination before at d = do
   t ← table_at at d
   known ← only_keys destination_keys at t
-  name ← key at t (codes "name") (required (new_name (has_name before)))
+  name ← key at t (codes "name") (required (new_name (has_destination before)))
   address ← key at t (codes "address") (required (text_within 1 255))
   sent ← sending at t
   Ok (record { name = name; address = address; attempts = sent.attempts; interval = sent.interval; timeout = sent.timeout; wait = sent.wait })

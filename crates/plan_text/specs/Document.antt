@@ -2,17 +2,18 @@
 use Rattle.std.specs.Prelude.{ℕ, List, [], ◌∷◌, codes, Option, Some, None, Result, Ok, Err}
 use Rattle.toml.specs.Data.{Data, array, Members, Items, no_items}
 use Rattle.toml.specs.Parse.{parse_document}
-use Rattle.plan_text.specs.declared.fault.FaultName.{FaultName}
-use Rattle.plan_text.specs.declared.fault.FaultName.TheVariants as name
+use Rattle.plan_text.specs.declared.fault.PlanFaultKind.{PlanFaultKind}
+use Rattle.plan_text.specs.declared.fault.PlanFaultKind.TheVariants as name
 use Rattle.plan_text.specs.declared.fault.PlanFault.{PlanFault}
-use Rattle.plan_text.specs.Fault.{◌>>=◌, fault_at}
+use Rattle.er7_tree.specs.Tree.{◌>>=◌}
+use Rattle.plan_text.specs.Fault.{fault_at}
 use Rattle.plan_text.specs.Entries.{PlanEntry}
 use Rattle.plan_text.specs.Keys.{key, required, only_keys, list_within, each_after}
 use Rattle.plan_text.specs.Destinations.{destinations}
 use Rattle.plan_text.specs.Channels.{channel}
 
 -- a list of at least one member and at most n
-abbrev pub some_within : ℕ → Data → Result Items FaultName
+abbrev pub some_within : ℕ → Data → Result Items PlanFaultKind
 some_within most (array no_items) = Err name.Missing
 some_within most d = list_within most d
 

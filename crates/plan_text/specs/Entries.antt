@@ -2,7 +2,7 @@
 use Rattle.std.specs.Prelude.{◌≢◌, ℕ, ◌<◌, ◌≤◌, List, length, codes, Bool, true, not, ◌&&◌, ◌==◌, Option, IsTrue, IfSome, All, AllPairs}
 use Rattle.std.specs.List.{list_any, list_all}
 use Rattle.std.specs.Str.{bytes_eq}
-use Rattle.hl7_filter.specs.Condition.{Condition, levels}
+use Rattle.hl7_filter.specs.Condition.{Condition, nesting}
 use Rattle.hl7_transform.specs.Check.{may_stand}
 use Rattle.hl7_transform.specs.Step.{Edit}
 use Rattle.plan_text.specs.declared.destination.Await.{Await}
@@ -83,7 +83,7 @@ pub record IsDestination (d : DestinationEntry) : Type 0 where
 
 -- a filter whose conditions are at most 16 deep
 abbrev pub IsShallow : Option Condition → Type 0
-IsShallow filter = IfSome filter (λ c. levels c ≤ 16)
+IsShallow filter = IfSome filter (λ c. nesting c ≤ 16)
 
 -- steps that a transformer may have: none writes MSH-1, MSH-2 or MSH-10
 abbrev pub AllStand : List Edit → Type 0

@@ -6,10 +6,11 @@ use Rattle.std.specs.List.{list_any}
 use Rattle.std.specs.Ordering.{is_lt, nat_cmp}
 use Rattle.std.specs.Str.{bytes_eq}
 use Rattle.toml.specs.Data.{Data, array, table, Items, no_items, item, Members, no_members, member, get_member}
-use Rattle.plan_text.specs.declared.fault.FaultName.{FaultName}
-use Rattle.plan_text.specs.declared.fault.FaultName.TheVariants as name
+use Rattle.plan_text.specs.declared.fault.PlanFaultKind.{PlanFaultKind}
+use Rattle.plan_text.specs.declared.fault.PlanFaultKind.TheVariants as name
 use Rattle.plan_text.specs.declared.fault.PlanFault.{PlanFault}
-use Rattle.plan_text.specs.Fault.{◌>>=◌, fault_at, told}
+use Rattle.er7_tree.specs.Tree.{◌>>=◌}
+use Rattle.plan_text.specs.Fault.{fault_at, told}
 
 -- the path to a key of the table at a path
 abbrev pub key_path : List ℕ → List ℕ → List ℕ
@@ -64,16 +65,16 @@ abbrev pub one_key : List (List ℕ) → List ℕ → Members → Result (List �
 one_key keys at t = only_one at (filter (λ k. is_some (get_member k t)) keys)
 
 -- what is read at a key of the table t at a path
-abbrev pub key : {A : Type 0} → List ℕ → Members → List ℕ → (Option Data → Result A FaultName) → Result A PlanFault
+abbrev pub key : {A : Type 0} → List ℕ → Members → List ℕ → (Option Data → Result A PlanFaultKind) → Result A PlanFault
 key at t k read = told (key_path at k) (read (get_member k t))
 
 -- a value that has to be there
-abbrev pub required : {A : Type 0} → (Data → Result A FaultName) → Option Data → Result A FaultName
+abbrev pub required : {A : Type 0} → (Data → Result A PlanFaultKind) → Option Data → Result A PlanFaultKind
 required read None = Err name.Missing
 required read (Some d) = read d
 
 -- a value that may be left out
-abbrev pub or_else : {A : Type 0} → A → (Data → Result A FaultName) → Option Data → Result A FaultName
+abbrev pub or_else : {A : Type 0} → A → (Data → Result A PlanFaultKind) → Option Data → Result A PlanFaultKind
 or_else default read None = Ok default
 or_else default read (Some d) = read d
 
@@ -82,12 +83,12 @@ item_count no_items = 0
 item_count (item d ds) = item_count ds + 1
 
 -- a list
-abbrev pub list : Data → Result Items FaultName
+abbrev pub list : Data → Result Items PlanFaultKind
 list (array ds) = Ok ds
 list _ = Err name.BadRange
 
 -- a list of at most n members
-abbrev pub list_within : ℕ → Data → Result Items FaultName
+abbrev pub list_within : ℕ → Data → Result Items PlanFaultKind
 list_within most (array ds) = if nat_le (item_count ds) most then Ok ds else Err name.TooMany
 list_within most _ = Err name.BadRange
 

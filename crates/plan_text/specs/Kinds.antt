@@ -3,8 +3,8 @@ use Rattle.std.specs.Prelude.{ℕ, pos, List, length, codes, Bool, ◌&&◌, ◌
 use Rattle.std.specs.List.{list_any, list_all, before_first, after_first}
 use Rattle.std.specs.Str.{bytes_eq}
 use Rattle.toml.specs.Data.{Data, string, integer}
-use Rattle.plan_text.specs.declared.fault.FaultName.{FaultName}
-use Rattle.plan_text.specs.declared.fault.FaultName.TheVariants as name
+use Rattle.plan_text.specs.declared.fault.PlanFaultKind.{PlanFaultKind}
+use Rattle.plan_text.specs.declared.fault.PlanFaultKind.TheVariants as name
 use Rattle.plan_text.specs.declared.destination.Await.{Await}
 use Rattle.plan_text.specs.declared.destination.Await.TheVariants as await
 use Rattle.plan_text.specs.declared.channel.MessageType.{MessageType}
@@ -18,12 +18,12 @@ abbrev pub within : ℕ → ℕ → ℕ → Bool
 within low high n = nat_le low n && nat_le n high
 
 -- a value in its range
-abbrev pub in_range : {A : Type 0} → Option A → Result A FaultName
+abbrev pub in_range : {A : Type 0} → Option A → Result A PlanFaultKind
 in_range None = Err name.BadRange
 in_range (Some x) = Ok x
 
 -- a text of a form
-abbrev pub text_as : {A : Type 0} → (List ℕ → Option A) → Data → Result A FaultName
+abbrev pub text_as : {A : Type 0} → (List ℕ → Option A) → Data → Result A PlanFaultKind
 text_as form (string s) = in_range (form s)
 text_as form _ = Err name.BadRange
 
@@ -31,11 +31,11 @@ text_as form _ = Err name.BadRange
 abbrev pub bytes_within : ℕ → ℕ → List ℕ → Option (List ℕ)
 bytes_within low high s = if within low high (length s) then Some s else None
 
-abbrev pub text_within : ℕ → ℕ → Data → Result (List ℕ) FaultName
+abbrev pub text_within : ℕ → ℕ → Data → Result (List ℕ) PlanFaultKind
 text_within low high = text_as (bytes_within low high)
 
 -- a number within bounds
-abbrev pub number_within : ℕ → ℕ → Data → Result ℕ FaultName
+abbrev pub number_within : ℕ → ℕ → Data → Result ℕ PlanFaultKind
 number_within low high (integer (pos n)) = if within low high n then Ok n else Err name.BadRange
 number_within low high _ = Err name.BadRange
 
@@ -43,16 +43,16 @@ number_within low high _ = Err name.BadRange
 abbrev pub is_name_byte : ℕ → Bool
 is_name_byte b = (within 65 90 b || within 97 122 b) || (within 48 57 b || (b == 95 || b == 45))
 
-abbrev pub is_name : List ℕ → Bool
-is_name s = within 1 32 (length s) && list_all is_name_byte s
+abbrev pub is_plan_name : List ℕ → Bool
+is_plan_name s = within 1 32 (length s) && list_all is_name_byte s
 
 -- one of these has the name
-abbrev pub is_named : {A : Type 0} → (A → List ℕ) → List A → List ℕ → Bool
-is_named name_of xs name = list_any (λ x. bytes_eq (name_of x) name) xs
+abbrev pub is_one_named : {A : Type 0} → (A → List ℕ) → List A → List ℕ → Bool
+is_one_named name_of xs name = list_any (λ x. bytes_eq (name_of x) name) xs
 
 -- a name that isn't taken
-abbrev pub new_name : (List ℕ → Bool) → Data → Result (List ℕ) FaultName
-new_name taken (string s) = if is_name s then (if taken s then Err name.DoubleName else Ok s) else Err name.BadRange
+abbrev pub new_name : (List ℕ → Bool) → Data → Result (List ℕ) PlanFaultKind
+new_name taken (string s) = if is_plan_name s then (if taken s then Err name.DoubleName else Ok s) else Err name.BadRange
 new_name taken _ = Err name.BadRange
 
 -- what a delivery waits for

@@ -1,13 +1,10 @@
 pub mod Entries
-pub mod Coding
-pub mod Same
-pub mod BuiltIn
 pub mod Fault
 pub mod Keys
-pub mod AtKey
 pub mod Kinds
 pub mod Destinations
 pub mod Conditions
 pub mod Steps
 pub mod Channels
 pub mod Document
+pub mod inner

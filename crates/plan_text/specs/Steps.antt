@@ -7,25 +7,26 @@ use Rattle.hl7_transform.specs.declared.step_check.StepCheck.{StepCheck}
 use Rattle.hl7_transform.specs.declared.step_check.StepCheck.TheVariants as check
 use Rattle.hl7_transform.specs.Check.{check_step}
 use Rattle.hl7_transform.specs.Step.{Edit, set, copy, clear, lookup, remove}
-use Rattle.plan_text.specs.declared.fault.FaultName.{FaultName}
-use Rattle.plan_text.specs.declared.fault.FaultName.TheVariants as name
+use Rattle.plan_text.specs.declared.fault.PlanFaultKind.{PlanFaultKind}
+use Rattle.plan_text.specs.declared.fault.PlanFaultKind.TheVariants as name
 use Rattle.plan_text.specs.declared.fault.PlanFault.{PlanFault}
-use Rattle.plan_text.specs.Fault.{◌>>=◌, told}
+use Rattle.er7_tree.specs.Tree.{◌>>=◌}
+use Rattle.plan_text.specs.Fault.{told}
 use Rattle.plan_text.specs.Keys.{key, key_path, required, or_else, table_at, only_keys, one_key, list_within, each}
 use Rattle.plan_text.specs.Kinds.{in_range, text_as}
 use Rattle.plan_text.specs.Conditions.{path, path_in, path_and_text, text_pair}
 
 -- the fault of a step that a transformer may not have
-abbrev pub checked : Result (Unit {0}) StepCheck → Result (Unit {0}) FaultName
-checked (Ok _) = Ok tt
-checked (Err check.BadPath) = Err name.BadPath
-checked (Err check.ForbiddenWrite) = Err name.ForbiddenWrite
+abbrev pub checked_step : Result (Unit {0}) StepCheck → Result (Unit {0}) PlanFaultKind
+checked_step (Ok _) = Ok tt
+checked_step (Err check.BadPath) = Err name.BadPath
+checked_step (Err check.ForbiddenWrite) = Err name.ForbiddenWrite
 
 -- a step that a transformer may have, else its fault at a path
 abbrev pub stands_at : List ℕ → Edit → Result (Unit {0}) PlanFault
-stands_at at step = told at (checked (check_step step))
+stands_at at step = told at (checked_step (check_step step))
 
-abbrev pub two_texts : Data → Result (List ℕ × List ℕ) FaultName
+abbrev pub two_texts : Data → Result (List ℕ × List ℕ) PlanFaultKind
 two_texts d = in_range (text_pair d)
 
 -- the lookup text of the pair is this
@@ -42,7 +43,7 @@ has_double no_items = false
 has_double (item d ds) = option_map_or (λ p. any_looks_up p.0 ds) (text_pair d) false || has_double ds
 
 -- [[from, to], ..] of at most 1,000 pairs, whose members are still to be read
-abbrev pub pairs : Data → Result Items FaultName
+abbrev pub pairs : Data → Result Items PlanFaultKind
 pairs d = do
   ds ← list_within 1000 d
   if has_double ds then Err name.DoubleName else Ok ds
@@ -51,10 +52,10 @@ abbrev pub pair_at : List ℕ → Data → Result (List ℕ × List ℕ) PlanFau
 pair_at at d = told at (two_texts d)
 
 -- a text, of any length
-abbrev pub any_text : Data → Result (List ℕ) FaultName
+abbrev pub any_text : Data → Result (List ℕ) PlanFaultKind
 any_text = text_as Some
 
-abbrev pub default_text : Data → Result (Option (List ℕ)) FaultName
+abbrev pub default_text : Data → Result (Option (List ℕ)) PlanFaultKind
 default_text = text_as (λ s. Some (Some s))
 
 -- lookup = path, table = [[from, to], ..], default = text; a fault of what it writes comes before those of its table

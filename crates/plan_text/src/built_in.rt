@@ -1,7 +1,7 @@
 //! The built-in plan.
 
 ghost use Rattle.std.specs.Prelude.{◌≡◌, IfOk};
-ghost use Rattle.plan_text.specs.BuiltIn.{built_in};
+ghost use Rattle.plan_text.specs.inner.BuiltIn.{built_in};
 
 use crate::plan::Plan;
 use std::alloc::{AllocError, Global};

@@ -4,12 +4,12 @@ ghost use Rattle.std.specs.Prelude.{◌≡◌, ◌&&◌, option_map, length, sli
 ghost use Rattle.std.specs.Cmp.Lexicographic.{pointwise};
 ghost use Rattle.std.specs.List.{list_any};
 ghost use Rattle.std.specs.Option.{option_eq};
-ghost use Rattle.hl7_filter.specs.Same.{same_condition};
-ghost use Rattle.hl7_filter.specs.View.{view as condition_view};
-ghost use Rattle.hl7_transform.specs.Same.{same_edit};
-ghost use Rattle.hl7_transform.specs.View.{steps_view};
+ghost use Rattle.hl7_filter.specs.inner.Same.{same_condition};
+ghost use Rattle.hl7_filter.specs.inner.View.{view as condition_view};
+ghost use Rattle.hl7_transform.specs.inner.Same.{same_edit};
+ghost use Rattle.hl7_transform.specs.inner.View.{steps_view};
 ghost use Rattle.plan_text.specs.Entries.{matches_type, matches_processing, matches_version, takes_type, takes_processing, takes_version};
-ghost use Rattle.plan_text.specs.Same.{same_route};
+ghost use Rattle.plan_text.specs.inner.Same.{same_route};
 
 use crate::literal::Literal;
 use hl7_filter::Cond;
@@ -54,10 +54,10 @@ pub struct Route {
 
 impl Model for Route {
     ghost use Rattle.std.specs.Prelude.{option_map};
-    ghost use Rattle.hl7_filter.specs.View.{view as condition_view};
-    ghost use Rattle.hl7_transform.specs.View.{steps_view};
+    ghost use Rattle.hl7_filter.specs.inner.View.{view as condition_view};
+    ghost use Rattle.hl7_transform.specs.inner.View.{steps_view};
     ghost use Rattle.plan_text.specs.Entries.{RouteEntry};
-    ghost use Rattle.plan_text.specs.Coding.{route_code};
+    ghost use Rattle.plan_text.specs.inner.Coding.{route_code};
 
     ghost Value = { RouteEntry };
 
@@ -108,10 +108,10 @@ pub struct Channel {
 
 impl Model for Channel {
     ghost use Rattle.std.specs.Prelude.{option_map};
-    ghost use Rattle.hl7_filter.specs.View.{view as condition_view};
-    ghost use Rattle.hl7_transform.specs.View.{steps_view};
+    ghost use Rattle.hl7_filter.specs.inner.View.{view as condition_view};
+    ghost use Rattle.hl7_transform.specs.inner.View.{steps_view};
     ghost use Rattle.plan_text.specs.Entries.{ChannelEntry};
-    ghost use Rattle.plan_text.specs.Coding.{channel_code};
+    ghost use Rattle.plan_text.specs.inner.Coding.{channel_code};
 
     ghost Value = { ChannelEntry };
 
@@ -252,7 +252,7 @@ fn same_steps(steps: &[Step], others: &[Step]) -> bool
 }
 
 impl PartialEq for MessageType {
-    ghost use Rattle.plan_text.specs.Same.{same_type, type_laws};
+    ghost use Rattle.plan_text.specs.inner.Same.{same_type, type_laws};
 
     ghost eq = { same_type };
 
@@ -271,7 +271,7 @@ impl PartialEq for MessageType {
 }
 
 impl PartialEq for VersionId {
-    ghost use Rattle.plan_text.specs.Same.{same_version, version_laws};
+    ghost use Rattle.plan_text.specs.inner.Same.{same_version, version_laws};
 
     ghost eq = { same_version };
 
@@ -287,7 +287,7 @@ impl PartialEq for VersionId {
 }
 
 impl PartialEq for Route {
-    ghost use Rattle.plan_text.specs.Same.{same_route, route_laws};
+    ghost use Rattle.plan_text.specs.inner.Same.{same_route, route_laws};
 
     ghost eq = { same_route };
 
@@ -301,7 +301,7 @@ impl PartialEq for Route {
 }
 
 impl PartialEq for Channel {
-    ghost use Rattle.plan_text.specs.Same.{same_channel, channel_laws};
+    ghost use Rattle.plan_text.specs.inner.Same.{same_channel, channel_laws};
 
     ghost eq = { same_channel };
 

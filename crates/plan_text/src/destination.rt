@@ -85,7 +85,7 @@ impl Destination {
 }
 
 impl PartialEq for Destination {
-    ghost use Rattle.plan_text.specs.Same.{same_destination, destination_laws};
+    ghost use Rattle.plan_text.specs.inner.Same.{same_destination, destination_laws};
 
     ghost eq = { same_destination };
 

@@ -1,7 +1,7 @@
 //! What is wrong with a plan, and where.
 
 ghost use Rattle.std.specs.Prelude.{◌≡◌, []};
-ghost use Rattle.plan_text.specs.Fault.{fault_code, fault_text};
+ghost use Rattle.plan_text.specs.inner.Fault.{fault_code, fault_text};
 ghost use Rattle.plan_text.specs.declared.fault.Stop.TheVariants.{NoMemory as no_memory};
 
 use crate::literal::Literal;
@@ -11,7 +11,7 @@ use std::fmt;
 
 /// The faults of a plan.
 #[derive(Clone, Copy, Debug, PartialEq, Eq)]
-pub enum FaultName {
+pub enum PlanFaultKind {
     /// The text isn't a TOML document.
     NotToml,
     /// A key that the plan has no use for.
@@ -34,22 +34,22 @@ pub enum FaultName {
     NoMemory,
 }
 
-impl FaultName {
+impl PlanFaultKind {
     /// The number of the fault, 1 to 10.
     pub fn code(self) -> u32
         ensures { result ≡ fault_code self }
     {
         match self {
-            FaultName::NotToml => 1,
-            FaultName::UnknownKey => 2,
-            FaultName::Missing => 3,
-            FaultName::BadRange => 4,
-            FaultName::BadPath => 5,
-            FaultName::ForbiddenWrite => 6,
-            FaultName::UnknownName => 7,
-            FaultName::DoubleName => 8,
-            FaultName::TooMany => 9,
-            FaultName::NoMemory => 10,
+            PlanFaultKind::NotToml => 1,
+            PlanFaultKind::UnknownKey => 2,
+            PlanFaultKind::Missing => 3,
+            PlanFaultKind::BadRange => 4,
+            PlanFaultKind::BadPath => 5,
+            PlanFaultKind::ForbiddenWrite => 6,
+            PlanFaultKind::UnknownName => 7,
+            PlanFaultKind::DoubleName => 8,
+            PlanFaultKind::TooMany => 9,
+            PlanFaultKind::NoMemory => 10,
         }
     }
 
@@ -58,16 +58,16 @@ impl FaultName {
         ensures { result.now ≡ fault_text self }
     {
         match self {
-            FaultName::NotToml => "NotToml",
-            FaultName::UnknownKey => "UnknownKey",
-            FaultName::Missing => "Missing",
-            FaultName::BadRange => "BadRange",
-            FaultName::BadPath => "BadPath",
-            FaultName::ForbiddenWrite => "ForbiddenWrite",
-            FaultName::UnknownName => "UnknownName",
-            FaultName::DoubleName => "DoubleName",
-            FaultName::TooMany => "TooMany",
-            FaultName::NoMemory => "NoMemory",
+            PlanFaultKind::NotToml => "NotToml",
+            PlanFaultKind::UnknownKey => "UnknownKey",
+            PlanFaultKind::Missing => "Missing",
+            PlanFaultKind::BadRange => "BadRange",
+            PlanFaultKind::BadPath => "BadPath",
+            PlanFaultKind::ForbiddenWrite => "ForbiddenWrite",
+            PlanFaultKind::UnknownName => "UnknownName",
+            PlanFaultKind::DoubleName => "DoubleName",
+            PlanFaultKind::TooMany => "TooMany",
+            PlanFaultKind::NoMemory => "NoMemory",
         }
     }
 }
@@ -77,7 +77,7 @@ impl FaultName {
 /// The path of NotToml and of NoMemory is empty.
 #[derive(Debug, Drop)]
 pub struct PlanFault {
-    pub name: FaultName,
+    pub name: PlanFaultKind,
     pub path: Literal,
 }
 
@@ -96,7 +96,7 @@ impl Error for PlanFault {}
 
 impl PlanFault {
     /// A fault of the whole text, which has no path.
-    pub(crate) fn of_text(alloc: Global, name: FaultName) -> PlanFault
+    pub(crate) fn of_text(alloc: Global, name: PlanFaultKind) -> PlanFault
         ensures { result ≡ record { name = name; path = [] } }
     {
         PlanFault {

@@ -11,6 +11,6 @@ mod plan;
 
 pub use channel::{Channel, MessageType, ProcessingId, Route, VersionId};
 pub use destination::{Await, Destination};
-pub use fault::{FaultName, PlanFault};
+pub use fault::{PlanFault, PlanFaultKind};
 pub use literal::Literal;
 pub use plan::Plan;

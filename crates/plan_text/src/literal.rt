@@ -66,7 +66,7 @@ impl Literal {
 
 impl PartialEq for Literal {
     ghost use Rattle.std.specs.Str.{bytes_eq};
-    ghost use Rattle.plan_text.specs.Same.{text_laws};
+    ghost use Rattle.plan_text.specs.inner.Same.{text_laws};
 
     ghost eq = { bytes_eq };
 

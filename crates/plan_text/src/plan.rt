@@ -25,7 +25,7 @@ impl Model for Plan {
     ghost use Rattle.std.specs.Prelude.{◌≡◌, Ok};
     ghost use Rattle.plan_text.specs.Document.{plan_in};
     ghost use Rattle.plan_text.specs.Entries.{PlanEntry, IsPlan};
-    ghost use Rattle.plan_text.specs.Coding.{plan_code};
+    ghost use Rattle.plan_text.specs.inner.Coding.{plan_code};
 
     ghost Value = { PlanEntry };
 
@@ -87,7 +87,7 @@ impl Plan {
 }
 
 impl PartialEq for Plan {
-    ghost use Rattle.plan_text.specs.Same.{same_plan, plan_laws};
+    ghost use Rattle.plan_text.specs.inner.Same.{same_plan, plan_laws};
 
     ghost eq = { same_plan };
 

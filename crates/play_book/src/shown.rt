@@ -1,7 +1,7 @@
 //! How messages, receipts, jobs and entries are written.
 
-use book_core::{Book, Front, Job, Letter, Receipt};
-use dest_queue::{Addressed, Outcome, SlotState};
+use book_core::{Book, Front, Job, Outbound, Receipt};
+use dest_queue::{Outcome, Queued, SlotState};
 use event_log::{Entry, Ticket, Told};
 use hl7_head::Moment;
 use plan_text::Plan;
@@ -16,7 +16,7 @@ const RETURN: &str = "<CR>";
 /// # Errors
 ///
 /// Where memory is refused.
-pub fn bytes_of(alloc: Global, text: &str, number: u32) -> Result<Vec<u8>, AllocError> {
+pub(crate) fn bytes_of(alloc: Global, text: &str, number: u32) -> Result<Vec<u8>, AllocError> {
     let number = format!(in alloc; "{number}")?;
     let text = text.replace(alloc, RETURN, "\r")?;
     Ok(text.replace(alloc, "#", number.as_str())?.into_bytes())
@@ -32,7 +32,7 @@ fn shown(alloc: Global, bytes: &[u8]) -> Result<String, AllocError> {
 /// # Errors
 ///
 /// Where memory is refused.
-pub fn receipt_shown(alloc: Global, receipt: &Receipt) -> Result<String, AllocError> {
+pub(crate) fn receipt_shown(alloc: Global, receipt: &Receipt) -> Result<String, AllocError> {
     format!(in alloc;
         "{:?}, entry {}, connection {}, channel {}, {} bytes",
         receipt.told,
@@ -48,7 +48,7 @@ pub fn receipt_shown(alloc: Global, receipt: &Receipt) -> Result<String, AllocEr
 /// # Errors
 ///
 /// Where memory is refused.
-pub fn job_shown(alloc: Global, job: &Job) -> Result<String, AllocError> {
+pub(crate) fn job_shown(alloc: Global, job: &Job) -> Result<String, AllocError> {
     let ticket = job.ticket;
     let id = shown(alloc, job.control_id.as_slice())?;
     let payload = shown(alloc, job.payload.as_slice())?;
@@ -63,9 +63,9 @@ pub fn job_shown(alloc: Global, job: &Job) -> Result<String, AllocError> {
 /// # Errors
 ///
 /// Where memory is refused.
-pub fn letter_shown(
+pub(crate) fn letter_shown(
     alloc: Global,
-    letter: &Letter,
+    letter: &Outbound,
     conn: Option<u32>,
 ) -> Result<String, AllocError> {
     let id = shown(alloc, letter.control_id.as_slice())?;
@@ -81,7 +81,7 @@ pub fn letter_shown(
 /// # Errors
 ///
 /// Where memory is refused.
-pub fn gauge_shown<S: RowStore<Addressed<Letter>>>(
+pub(crate) fn gauge_shown<S: RowStore<Queued<Outbound>>>(
     alloc: Global,
     book: &Book<S>,
 ) -> Result<String, AllocError> {
@@ -107,7 +107,7 @@ pub fn gauge_shown<S: RowStore<Addressed<Letter>>>(
 /// # Errors
 ///
 /// Where memory is refused.
-pub fn numbers_shown(alloc: Global, numbers: &[u32]) -> Result<String, AllocError> {
+pub(crate) fn numbers_shown(alloc: Global, numbers: &[u32]) -> Result<String, AllocError> {
     let mut line = format!(in alloc; "{} found:", numbers.len())?;
     for number in numbers {
         line = format!(in alloc; "{line} {number}")?;
@@ -120,7 +120,7 @@ pub fn numbers_shown(alloc: Global, numbers: &[u32]) -> Result<String, AllocErro
 /// # Errors
 ///
 /// Where memory is refused.
-pub fn fronts_shown(alloc: Global, fronts: &[Front]) -> Result<String, AllocError> {
+pub(crate) fn fronts_shown(alloc: Global, fronts: &[Front]) -> Result<String, AllocError> {
     let mut line = format!(in alloc; "{} found:", fronts.len())?;
     for front in fronts {
         line = format!(in alloc; "{line} {} {:?}", front.number, front.state)?;
@@ -178,7 +178,7 @@ fn deploy_shown(alloc: Global, plan: &Plan) -> Result<String, AllocError> {
 /// # Errors
 ///
 /// Where memory is refused.
-pub fn entry_shown(alloc: Global, entry: &Entry) -> Result<String, AllocError> {
+pub(crate) fn entry_shown(alloc: Global, entry: &Entry) -> Result<String, AllocError> {
     match entry {
         Entry::Arrival {
             conn,

@@ -6,8 +6,8 @@ use crate::shown::{
     receipt_shown,
 };
 use anyhow::{Result, bail};
-use book_core::{Book, EVENTS_MAX, Letter, NotBooked, Receipt};
-use dest_queue::{Addressed, Outcome};
+use book_core::{Book, EVENTS_MAX, NotBooked, Outbound, Receipt};
+use dest_queue::{Outcome, Queued};
 use event_log::{Ticket, Told};
 use hl7_head::Moment;
 use judge_core::{Judged, fits_block, judge};
@@ -28,7 +28,7 @@ const CONNECTION: u32 = 3;
 #[derive(Drop)]
 pub struct Stage {
     alloc: Global,
-    book: Book<RecordList<Addressed<Letter>>>,
+    book: Book<RecordList<Queued<Outbound>>>,
     plan: Arc<Plan>,
 }
 

@@ -6,10 +6,10 @@ use crate::pieces::Pieces;
 use crate::script::{Call, Coming, Cut, Setting};
 use crate::shown::{add_end, add_entries, add_receipts, payload_shown, replies_shown};
 use anyhow::{Result, bail};
-use book_core::{Book, EVENTS_MAX, Letter};
-use conn_core::Line;
+use book_core::{Book, EVENTS_MAX, Outbound};
+use conn_core::ConnectionId;
 use conn_worker::{Counted, ServeReport, Still, TURNS_MAX, nearest, serve_within};
-use dest_queue::Addressed;
+use dest_queue::Queued;
 use engine_report::answer_stream;
 use plan_text::Plan;
 use play_script::bytes_of;
@@ -24,7 +24,7 @@ use std::{fs, mem};
 const ANSWERED_AT: u64 = 1_700_000_000;
 
 /// The book that connections are served from.
-type EngineBook = Book<RecordList<Addressed<Letter>>>;
+type EngineBook = Book<RecordList<Queued<Outbound>>>;
 
 /// The plan in a file.
 fn plan_in(rt: &HostRuntime, name: &str) -> Result<Plan> {
@@ -241,7 +241,7 @@ impl Exchange {
         let (conn, channel) = (0, 0);
         self.book.plan().rules();
         let report: ServeReport = serve_within(
-            &Line {
+            &ConnectionId {
                 alloc,
                 conn,
                 channel,

@@ -50,7 +50,7 @@ pub enum Call<'a> {
 }
 
 /// The call that a line is.
-pub fn call_of(line: &str) -> Option<Call<'_>> {
+pub(crate) fn call_of(line: &str) -> Option<Call<'_>> {
     match line.split_once(' ') {
         Some((word, rest)) => call_with(word, rest),
         None if line == "exchange" => Some(Call::Exchange),

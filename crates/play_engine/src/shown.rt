@@ -1,8 +1,8 @@
 //! How answers are written.
 
-use book_core::{Book, Letter, Receipt, Told};
+use book_core::{Book, Outbound, Receipt, Told};
 use conn_worker::ServeReport;
-use dest_queue::Addressed;
+use dest_queue::Queued;
 use event_log::Entry;
 use play_script::shown;
 use row_store::RowStore;
@@ -13,7 +13,7 @@ use std::alloc::{AllocError, Global};
 /// # Errors
 ///
 /// Where memory is refused.
-pub fn replies_shown(alloc: Global, bytes: &[u8]) -> Result<String, AllocError> {
+pub(crate) fn replies_shown(alloc: Global, bytes: &[u8]) -> Result<String, AllocError> {
     if bytes.is_empty() {
         return Ok(String::new(alloc));
     }
@@ -42,7 +42,7 @@ fn add_arrival(
 /// # Errors
 ///
 /// Where memory is refused.
-pub fn add_receipts(text: &mut String, receipts: &[Receipt]) -> Result<(), AllocError> {
+pub(crate) fn add_receipts(text: &mut String, receipts: &[Receipt]) -> Result<(), AllocError> {
     for receipt in receipts {
         let len = receipt.raw.as_slice().len();
         add_arrival(
@@ -62,7 +62,7 @@ pub fn add_receipts(text: &mut String, receipts: &[Receipt]) -> Result<(), Alloc
 /// # Errors
 ///
 /// Where memory is refused.
-pub fn add_entries<S: RowStore<Addressed<Letter>>>(
+pub(crate) fn add_entries<S: RowStore<Queued<Outbound>>>(
     text: &mut String,
     book: &Book<S>,
     first: usize,
@@ -88,7 +88,7 @@ pub fn add_entries<S: RowStore<Addressed<Letter>>>(
 /// # Errors
 ///
 /// Where memory is refused.
-pub fn add_end<K>(text: &mut String, report: &ServeReport<K>) -> Result<(), AllocError> {
+pub(crate) fn add_end<K>(text: &mut String, report: &ServeReport<K>) -> Result<(), AllocError> {
     writeln!(
         text,
         "  unreadable {}, strays {}, breaks {}, unbooked {}, end {:?}",
@@ -101,7 +101,7 @@ pub fn add_end<K>(text: &mut String, report: &ServeReport<K>) -> Result<(), Allo
 /// # Errors
 ///
 /// Where memory is refused.
-pub fn payload_shown(alloc: Global, payload: &[u8]) -> Result<String, AllocError> {
+pub(crate) fn payload_shown(alloc: Global, payload: &[u8]) -> Result<String, AllocError> {
     let payload = shown(alloc, payload)?;
     format!(in alloc; "  {payload}\n")
 }

@@ -237,7 +237,7 @@ fn answered(alloc: Global, message: &Message) -> Result<String> {
 /// # Errors
 ///
 /// Where there is no such call, its words can't be read, or memory is refused.
-pub fn answer(alloc: Global, message: &Message, call: &str, words: &str) -> Result<String> {
+pub(crate) fn answer(alloc: Global, message: &Message, call: &str, words: &str) -> Result<String> {
     match call {
         "fields" => fields(alloc, message),
         "mode" => mode(alloc, message),

@@ -2,7 +2,8 @@
 use Rattle.std.proofs.Common.{◌≡◌, ℕ, ◌<◌, ◌+◌, true, false, cond, not, List, [], ◌∷◌, ◌++◌, arith, zero, suc}
 use Rattle.std.specs.Prelude.{All}
 use Rattle.row_store.specs.declared.Row.{Row}
-use Rattle.row_store.specs.Rows.{is_row, changed_at, removed}
+use Rattle.row_store.specs.Rows.{is_row}
+use Rattle.row_store.specs.inner.Rows.{changed_at, removed}
 
 abbrev pub AreBelow : {T : Type 0} → ℕ → List (Row T) → Type 0
 AreBelow n rows = All (λ row. row.number < n) rows

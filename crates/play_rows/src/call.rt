@@ -49,7 +49,7 @@ impl fmt::Display for Answer {
 /// # Errors
 ///
 /// Where the line is no call, or memory is refused.
-pub fn call_of(alloc: Global, line: &str) -> Result<Call> {
+pub(crate) fn call_of(alloc: Global, line: &str) -> Result<Call> {
     let words: Vec<&str> = line.split_whitespace().collect(alloc)?;
     Ok(match words.as_slice() {
         ["push", item, mask] => Call::Push {
@@ -81,7 +81,7 @@ pub fn call_of(alloc: Global, line: &str) -> Result<Call> {
 }
 
 /// A call that these bits choose, on rows below `next`.
-pub fn random_call(bits: u64, next: u32) -> Call {
+pub(crate) fn random_call(bits: u64, next: u32) -> Call {
     let number = (bits >> 8 & 0x7FFF_FFFF) as u32 % next.max(1);
     let d = (bits >> 3 & 0xFFFF) as u32 % 33;
     match bits % 8 {
@@ -98,7 +98,7 @@ pub fn random_call(bits: u64, next: u32) -> Call {
 }
 
 /// The answer of a store to a call. A row that is pushed gets the number `next`, which is above all others.
-pub fn play<S: RowStore<u64>>(rows: &mut S, next: u32, call: &Call) -> Answer
+pub(crate) fn play<S: RowStore<u64>>(rows: &mut S, next: u32, call: &Call) -> Answer
     requires { All (λ row. row.number < next) (S.rows rows.old) }
     ensures { All (λ row. row.number < next + 1) (S.rows rows.new) }
 {

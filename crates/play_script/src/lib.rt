@@ -4,7 +4,7 @@
 
 ghost use Rattle.std.specs.Prelude.{◌≡◌, ◌==◌, ◌++◌, IfOk, OnOk, option_map, string_bytes};
 ghost use Rattle.std.specs.List.{before_first, after_first, flat_map};
-ghost use Rattle.play_script.specs.Script.{name_of, shown_byte, shown};
+ghost use Rattle.play_script.specs.inner.Script.{name_of, shown_byte, shown};
 
 use std::alloc::{AllocError, Global};
 

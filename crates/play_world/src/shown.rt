@@ -53,7 +53,7 @@ fn destination_shown(
 /// # Errors
 ///
 /// Where memory is refused.
-pub fn plan_shown(alloc: Global, plan: &Plan) -> Result<String, AllocError> {
+pub(crate) fn plan_shown(alloc: Global, plan: &Plan) -> Result<String, AllocError> {
     let mut text = String::new(alloc);
     for place in 0..plan.channels() {
         let channel = channel_shown(alloc, plan.channel(place))?;
@@ -81,7 +81,7 @@ fn deployment_shown(alloc: Global, plan: &Plan) -> Result<String, AllocError> {
 /// # Errors
 ///
 /// Where memory is refused.
-pub fn entry_shown(alloc: Global, entry: &Entry) -> Result<String, AllocError> {
+pub(crate) fn entry_shown(alloc: Global, entry: &Entry) -> Result<String, AllocError> {
     match entry {
         Entry::Arrival {
             conn,
@@ -118,7 +118,7 @@ pub fn entry_shown(alloc: Global, entry: &Entry) -> Result<String, AllocError> {
 /// # Errors
 ///
 /// Where memory is refused.
-pub fn step_shown(alloc: Global, step: &Step) -> Result<String, AllocError> {
+pub(crate) fn step_shown(alloc: Global, step: &Step) -> Result<String, AllocError> {
     match step {
         Step::Chunk { conn, bytes, now } => {
             let piece = shown(alloc, bytes)?;
@@ -141,7 +141,7 @@ pub fn step_shown(alloc: Global, step: &Step) -> Result<String, AllocError> {
 /// # Errors
 ///
 /// Where memory is refused.
-pub fn sent_shown(alloc: Global, conn: u32, bytes: &[u8]) -> Result<String, AllocError> {
+pub(crate) fn sent_shown(alloc: Global, conn: u32, bytes: &[u8]) -> Result<String, AllocError> {
     if bytes.is_empty() {
         return Ok(String::new(alloc));
     }

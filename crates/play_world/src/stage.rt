@@ -5,8 +5,8 @@ ghost use Rattle.std.specs.Prelude.{◌<◌, All, IsTrue};
 use crate::shown::{entry_shown, plan_shown, sent_shown, step_shown};
 use crate::words::{moment, number, numbers, outcome, ticket, word};
 use anyhow::{Result, bail};
-use book_core::{EVENTS_MAX, Letter};
-use dest_queue::Addressed;
+use book_core::{EVENTS_MAX, Outbound};
+use dest_queue::Queued;
 use engine_model::{Step, World, steps_of};
 use hl7_head::Moment;
 use plan_text::Plan;
@@ -24,7 +24,7 @@ use std::sync::Arc;
 #[derive(Drop)]
 pub struct Stage {
     alloc: Global,
-    world: World<RecordList<Addressed<Letter>>>,
+    world: World<RecordList<Queued<Outbound>>>,
     entries: usize,
     sent: Vec<usize>,
 }
@@ -60,7 +60,7 @@ fn world_of(
     plan: Arc<Plan>,
     events_max: u32,
     channels: &[u32],
-) -> Result<World<RecordList<Addressed<Letter>>>> {
+) -> Result<World<RecordList<Queued<Outbound>>>> {
     if events_max == 0 || events_max > EVENTS_MAX || !are_known(channels, plan.channels()) {
         bail!("there is no such world");
     }

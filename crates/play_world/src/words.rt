@@ -12,7 +12,7 @@ use std::str::SplitWhitespace;
 /// # Errors
 ///
 /// Where there is none.
-pub fn word<'a>(words: &mut SplitWhitespace<'a>) -> Result<&'a str> {
+pub(crate) fn word<'a>(words: &mut SplitWhitespace<'a>) -> Result<&'a str> {
     match words.next() {
         Some(word) => Ok(word),
         None => bail!("a word is missing"),
@@ -24,7 +24,7 @@ pub fn word<'a>(words: &mut SplitWhitespace<'a>) -> Result<&'a str> {
 /// # Errors
 ///
 /// Where there is no word, or it is no number.
-pub fn number(words: &mut SplitWhitespace<'_>) -> Result<u32> {
+pub(crate) fn number(words: &mut SplitWhitespace<'_>) -> Result<u32> {
     Ok(word(words)?.parse::<u32>()?)
 }
 
@@ -33,7 +33,7 @@ pub fn number(words: &mut SplitWhitespace<'_>) -> Result<u32> {
 /// # Errors
 ///
 /// Where there is no word, one of them is no number, or memory is refused.
-pub fn numbers(alloc: Global, words: &mut SplitWhitespace<'_>) -> Result<Vec<u32>> {
+pub(crate) fn numbers(alloc: Global, words: &mut SplitWhitespace<'_>) -> Result<Vec<u32>> {
     let mut numbers = Vec::new(alloc);
     for number in word(words)?.split(',') {
         numbers.push(number.parse::<u32>()?)?;
@@ -46,7 +46,7 @@ pub fn numbers(alloc: Global, words: &mut SplitWhitespace<'_>) -> Result<Vec<u32
 /// # Errors
 ///
 /// Where there is no word, or it is no moment.
-pub fn moment(words: &mut SplitWhitespace<'_>) -> Result<Moment> {
+pub(crate) fn moment(words: &mut SplitWhitespace<'_>) -> Result<Moment> {
     Ok(Moment::of_unix(word(words)?.parse::<i64>()?)?)
 }
 
@@ -55,7 +55,7 @@ pub fn moment(words: &mut SplitWhitespace<'_>) -> Result<Moment> {
 /// # Errors
 ///
 /// Where a word is missing, or is no number.
-pub fn ticket(words: &mut SplitWhitespace<'_>) -> Result<Ticket> {
+pub(crate) fn ticket(words: &mut SplitWhitespace<'_>) -> Result<Ticket> {
     Ok(Ticket {
         number: number(words)?,
         destination: number(words)?,
@@ -68,7 +68,7 @@ pub fn ticket(words: &mut SplitWhitespace<'_>) -> Result<Ticket> {
 /// # Errors
 ///
 /// Where there is no word, or it names no outcome.
-pub fn outcome(words: &mut SplitWhitespace<'_>) -> Result<Outcome> {
+pub(crate) fn outcome(words: &mut SplitWhitespace<'_>) -> Result<Outcome> {
     match word(words)? {
         "delivered" => Ok(Outcome::Delivered),
         "again" => Ok(Outcome::Again),

@@ -7,13 +7,13 @@ use denote.RawPtr.{Ptr}
 use Rattle.row_store.specs.declared.Row.{Row}
 use Rattle.std.specs.Option.{is_some}
 use Rattle.std.proofs.Math.Seq.{map-set_same}
-use Rattle.node_heap.specs.Held.{Held, held_at, same_ptr}
+use Rattle.node_heap.specs.inner.Held.{HeldNode, held_at, same_ptr}
 use Rattle.node_heap.specs.declared.nodes.Place.{Place}
 use Rattle.node_heap.proofs.Cut.{same_ptr_refl}
 use Rattle.record_list.specs.declared.link_table.Link.{Link}
 use Rattle.record_list.specs.declared.links.Node.{Node}
-use Rattle.record_list.specs.Chain.{place, link, first_or, last_or, chain, entry_of, entries, members, link_at, next_is, prev_is, with_next, with_prev, change_node, change_at, row_of, items_at}
-use Rattle.record_list.specs.Linked.{IsAway, IsApart, places}
+use Rattle.record_list.specs.inner.Chain.{place, link, first_or, last_or, chain, entry_of, entries, members, link_at, next_is, prev_is, with_next, with_prev, change_node, change_at, row_of, items_at}
+use Rattle.record_list.specs.inner.Linked.{IsNotAmong, IsApart, places}
 use Rattle.record_list.proofs.Change.{set_some}
 
 next_some : (q : Option Place) (o : Option Link) → is_some (next_is q o) ≡ is_some o
@@ -32,14 +32,14 @@ abbrev pub change_entry : Ptr → (Link → Link) → List (Ptr × Link) → Lis
 change_entry p f [] = []
 change_entry p f (e ∷ es) = cond (same_ptr e.0 p) ((e.0, f e.1) ∷ es) (e ∷ change_entry p f es)
 
-pub change_away : (p : Ptr) (f : Link → Link) (es : List (Ptr × Link)) → IsAway p (keys es) → change_entry p f es ≡ es
+pub change_away : (p : Ptr) (f : Link → Link) (es : List (Ptr × Link)) → IsNotAmong p (keys es) → change_entry p f es ≡ es
 change_away p f [] a = refl
 change_away p f (e ∷ es) a = ap (λ (b : Bool). cond b ((e.0, f e.1) ∷ es) (e ∷ change_entry p f es)) a.0 ∙ ap (λ l. e ∷ l) (change_away p f es a.1)
 
 pub change_here : (p : Ptr) (f : Link → Link) (l : Link) (es : List (Ptr × Link)) → change_entry p f ((p, l) ∷ es) ≡ (p, f l) ∷ es
 change_here p f l es = ap (λ (b : Bool). cond b ((p, f l) ∷ es) ((p, l) ∷ change_entry p f es)) (same_ptr_refl p)
 
-pub away_append : (p : Ptr) (xs ys : List Ptr) → IsAway p (xs ++ ys) → IsAway p xs × IsAway p ys
+pub away_append : (p : Ptr) (xs ys : List Ptr) → IsNotAmong p (xs ++ ys) → IsNotAmong p xs × IsNotAmong p ys
 away_append p [] ys a = (tt, a)
 away_append p (x ∷ xs) ys a = let on = away_append p xs ys a.1 in ((a.0, on.0), on.1)
 
@@ -58,7 +58,7 @@ chain_points_on b a q x (y ∷ ys) p rest d e =
     symm : (p q : Ptr) → same_ptr p q ≡ false → same_ptr q p ≡ false
     symm p q e = Rattle.node_heap.proofs.Cut.same_ptr_symm q p e
 
-    apart_last : (x y : Ptr) (ys : List Ptr) (p : Ptr) → IsAway x (y ∷ ys) → last_or (Some (place y)) ys ≡ Some (place p) → same_ptr x p ≡ false
+    apart_last : (x y : Ptr) (ys : List Ptr) (p : Ptr) → IsNotAmong x (y ∷ ys) → last_or (Some (place y)) ys ≡ Some (place p) → same_ptr x p ≡ false
     apart_last x y [] p d e = symm p x (subst (λ (r : Ptr). same_ptr r x ≡ false) (ap (λ (o : Option Place). elim o [ None ↦ y | Some r ↦ r.ptr ]) e) d.0)
     apart_last x y (z ∷ zs) p d e = apart_last x z zs p d.1 e
 
@@ -95,14 +95,14 @@ chain_append b a (x ∷ []) ys = refl
 chain_append b a (x ∷ z ∷ zs) ys = ap (λ l. (x, link b (Some (place z))) ∷ l) (chain_append (Some (place x)) a (z ∷ zs) ys)
 
 module _ {T : Type 0} where
-  pub away_members : (d : ℕ) (p : Ptr) (hs : List (Held (Node T))) → IsAway p (places hs) → IsAway p (members d hs)
+  pub away_members : (d : ℕ) (p : Ptr) (hs : List (HeldNode (Node T))) → IsNotAmong p (places hs) → IsNotAmong p (members d hs)
   away_members d p [] a = tt
-  away_members d p (h ∷ hs) a = (elim (link_at d h.node) as (λ o. IsAway p (keys (entry_of h.at o (entries d hs)))) [
+  away_members d p (h ∷ hs) a = (elim (link_at d h.node) as (λ o. IsNotAmong p (keys (entry_of h.at o (entries d hs)))) [
     | None ↦ away_members d p hs a.1
     | Some l ↦ (a.0, away_members d p hs a.1)
   ])
 
-  pub apart_members : (d : ℕ) (hs : List (Held (Node T))) → IsApart (places hs) → IsApart (members d hs)
+  pub apart_members : (d : ℕ) (hs : List (HeldNode (Node T))) → IsApart (places hs) → IsApart (members d hs)
   apart_members d [] a = tt
   apart_members d (h ∷ hs) a = (elim (link_at d h.node) as (λ o. IsApart (keys (entry_of h.at o (entries d hs)))) [
     | None ↦ apart_members d hs a.1
@@ -114,7 +114,7 @@ module _ {T : Type 0} where
     pub none : (n : Node T) → link_at d n ≡ None → link_at d (f n) ≡ None
     pub some : (n : Node T) (l : Link) → link_at d n ≡ Some l → link_at d (f n) ≡ Some (g l)
 
-  pub entries_changed : (d : ℕ) (p : Ptr) (f : Node T → Node T) (g : Link → Link) → Changes d f g → (hs : List (Held (Node T))) → IsApart (places hs) → entries d (change_node p f hs) ≡ change_entry p g (entries d hs)
+  pub entries_changed : (d : ℕ) (p : Ptr) (f : Node T → Node T) (g : Link → Link) → Changes d f g → (hs : List (HeldNode (Node T))) → IsApart (places hs) → entries d (change_node p f hs) ≡ change_entry p g (entries d hs)
   entries_changed d p f g c [] a = refl
   entries_changed d p f g c (h ∷ hs) a = (elim (same_ptr h.at p) as (λ y. same_ptr h.at p ≡ y → entries d (change_node p f (h ∷ hs)) ≡ change_entry p g (entries d (h ∷ hs))) [
     | true ↦ λ t. ap (λ (b : Bool). entries d (cond b (held_at h.at (f h.node) ∷ hs) (h ∷ change_node p f hs))) t ∙ here t (link_at d h.node) refl
@@ -123,7 +123,7 @@ module _ {T : Type 0} where
     where
       here : same_ptr h.at p ≡ true → (o : Option Link) → link_at d h.node ≡ o → entry_of h.at (link_at d (f h.node)) (entries d hs) ≡ change_entry p g (entry_of h.at (link_at d h.node) (entries d hs))
       here t None e =
-          let far : IsAway p (places hs) = subst (λ r. IsAway r (places hs)) (Rattle.node_heap.proofs.Cut.same_ptr_eq h.at p t) a.0 in
+          let far : IsNotAmong p (places hs) = subst (λ r. IsNotAmong r (places hs)) (Rattle.node_heap.proofs.Cut.same_ptr_eq h.at p t) a.0 in
           ap (λ o. entry_of h.at o (entries d hs)) (c.none h.node e) ∙ sym (change_away p g (entries d hs) (away_members d p hs far)) ∙ ap (λ o. change_entry p g (entry_of h.at o (entries d hs))) (sym e)
       here t (Some l) e =
           ap (λ o. entry_of h.at o (entries d hs)) (c.some h.node l e) ∙ sym (ap (λ (b : Bool). cond b ((h.at, g l) ∷ entries d hs) ((h.at, l) ∷ change_entry p g (entries d hs))) t) ∙ ap (λ o. change_entry p g (entry_of h.at o (entries d hs))) (sym e)
@@ -133,7 +133,7 @@ module _ {T : Type 0} where
       past t (Some l) = sym (ap (λ (b : Bool). cond b ((h.at, g l) ∷ entries d hs) ((h.at, l) ∷ change_entry p g (entries d hs))) t)
 
   -- a change that leaves the link e leaves the chain e
-  pub entries_kept : (e : ℕ) (p : Ptr) (f : Node T → Node T) → ((n : Node T) → link_at e (f n) ≡ link_at e n) → (hs : List (Held (Node T))) → entries e (change_node p f hs) ≡ entries e hs
+  pub entries_kept : (e : ℕ) (p : Ptr) (f : Node T → Node T) → ((n : Node T) → link_at e (f n) ≡ link_at e n) → (hs : List (HeldNode (Node T))) → entries e (change_node p f hs) ≡ entries e hs
   entries_kept e p f same [] = refl
   entries_kept e p f same (h ∷ hs) = (elim (same_ptr h.at p) as (λ y. same_ptr h.at p ≡ y → entries e (change_node p f (h ∷ hs)) ≡ entries e (h ∷ hs)) [
     | true ↦ λ t. ap (λ (b : Bool). entries e (cond b (held_at h.at (f h.node) ∷ hs) (h ∷ change_node p f hs))) t ∙ ap (λ o. entry_of h.at o (entries e hs)) (same h.node)
@@ -141,7 +141,7 @@ module _ {T : Type 0} where
   ]) refl
 
   -- places, numbers and items stay
-  pub items_kept : (p : Ptr) (f : Node T → Node T) → ((n : Node T) → (row_of (f n) ≡ row_of n) × (map is_some (f n).links ≡ map is_some n.links)) → (hs : List (Held (Node T))) → items_at (change_node p f hs) ≡ items_at hs
+  pub items_kept : (p : Ptr) (f : Node T → Node T) → ((n : Node T) → (row_of (f n) ≡ row_of n) × (map is_some (f n).links ≡ map is_some n.links)) → (hs : List (HeldNode (Node T))) → items_at (change_node p f hs) ≡ items_at hs
   items_kept p f same [] = refl
   items_kept p f same (h ∷ hs) = (elim (same_ptr h.at p) as (λ y. same_ptr h.at p ≡ y → items_at (change_node p f (h ∷ hs)) ≡ items_at (h ∷ hs)) [
     | true ↦ λ t. ap (λ (b : Bool). items_at (cond b (held_at h.at (f h.node) ∷ hs) (h ∷ change_node p f hs))) t ∙ (λ i. (h.at, (same h.node).0 i, (same h.node).1 i) ∷ items_at hs)
@@ -161,7 +161,7 @@ module _ {T : Type 0} where
   }
 
   -- the chain d, whose nodes xs are followed by q from here on
-  pub points_on : (d : ℕ) (a q : Option Place) (xs : List Ptr) (p : Option Place) (rest : List (Ptr × Link)) (hs : List (Held (Node T))) → IsApart (places hs) → entries d hs ≡ chain None xs a ++ rest → p ≡ last_or None xs
+  pub points_on : (d : ℕ) (a q : Option Place) (xs : List Ptr) (p : Option Place) (rest : List (Ptr × Link)) (hs : List (HeldNode (Node T))) → IsApart (places hs) → entries d hs ≡ chain None xs a ++ rest → p ≡ last_or None xs
       → entries d (change_at p (with_next d q) hs) ≡ chain None xs q ++ rest
   points_on d a q [] p rest hs apart e is = ap (λ o. entries d (change_at o (with_next d q) hs)) is ∙ e
   points_on d a q (x ∷ xs) p rest hs apart e is =
@@ -170,7 +170,7 @@ module _ {T : Type 0} where
       ap (λ o. entries d (change_at o (with_next d q) hs)) (is ∙ at.1) ∙ entries_changed d at.0 (with_next d q) (λ l. record l { next = q }) (next_changes d q) hs apart
       ∙ ap (change_entry at.0 (λ l. record l { next = q })) e ∙ chain_points_on None a q x xs at.0 rest far at.1
 
-  pub points_back : (d : ℕ) (b q : Option Place) (front : List (Ptr × Link)) (n : Option Place) (ys : List Ptr) (hs : List (Held (Node T))) → IsApart (places hs) → entries d hs ≡ front ++ chain b ys None → n ≡ first_or None ys
+  pub points_back : (d : ℕ) (b q : Option Place) (front : List (Ptr × Link)) (n : Option Place) (ys : List Ptr) (hs : List (HeldNode (Node T))) → IsApart (places hs) → entries d hs ≡ front ++ chain b ys None → n ≡ first_or None ys
       → entries d (change_at n (with_prev d q) hs) ≡ front ++ chain q ys None
   points_back d b q front n [] hs apart e is = ap (λ o. entries d (change_at o (with_prev d q) hs)) is ∙ e
   points_back d b q front n (y ∷ ys) hs apart e is =
@@ -178,23 +178,23 @@ module _ {T : Type 0} where
       ap (λ o. entries d (change_at o (with_prev d q) hs)) is ∙ entries_changed d y (with_prev d q) (λ l. record l { prev = q }) (prev_changes d q) hs apart
       ∙ ap (change_entry y (λ l. record l { prev = q })) e ∙ chain_points_back front b None q y ys far
 
-  pub others_on : (d e : ℕ) (q : Option Place) (p : Option Place) (hs : List (Held (Node T))) → e ≢ d → entries e (change_at p (with_next d q) hs) ≡ entries e hs
+  pub others_on : (d e : ℕ) (q : Option Place) (p : Option Place) (hs : List (HeldNode (Node T))) → e ≢ d → entries e (change_at p (with_next d q) hs) ≡ entries e hs
   others_on d e q None hs ne = refl
   others_on d e q (Some at) hs ne = entries_kept e at.ptr (with_next d q) (λ n. get_or-set_other n.links d e (next_is q (link_at d n)) None ne) hs
 
-  pub others_back : (d e : ℕ) (q : Option Place) (p : Option Place) (hs : List (Held (Node T))) → e ≢ d → entries e (change_at p (with_prev d q) hs) ≡ entries e hs
+  pub others_back : (d e : ℕ) (q : Option Place) (p : Option Place) (hs : List (HeldNode (Node T))) → e ≢ d → entries e (change_at p (with_prev d q) hs) ≡ entries e hs
   others_back d e q None hs ne = refl
   others_back d e q (Some at) hs ne = entries_kept e at.ptr (with_prev d q) (λ n. get_or-set_other n.links d e (prev_is q (link_at d n)) None ne) hs
 
-  pub items_on : (d : ℕ) (q : Option Place) (p : Option Place) (hs : List (Held (Node T))) → items_at (change_at p (with_next d q) hs) ≡ items_at hs
+  pub items_on : (d : ℕ) (q : Option Place) (p : Option Place) (hs : List (HeldNode (Node T))) → items_at (change_at p (with_next d q) hs) ≡ items_at hs
   items_on d q None hs = refl
   items_on d q (Some at) hs = items_kept at.ptr (with_next d q) (λ n. (refl, map-set_same is_some n.links d (next_is q (link_at d n)) None (next_some q (link_at d n)))) hs
 
-  pub items_back : (d : ℕ) (q : Option Place) (p : Option Place) (hs : List (Held (Node T))) → items_at (change_at p (with_prev d q) hs) ≡ items_at hs
+  pub items_back : (d : ℕ) (q : Option Place) (p : Option Place) (hs : List (HeldNode (Node T))) → items_at (change_at p (with_prev d q) hs) ≡ items_at hs
   items_back d q None hs = refl
   items_back d q (Some at) hs = items_kept at.ptr (with_prev d q) (λ n. (refl, map-set_same is_some n.links d (prev_is q (link_at d n)) None (prev_some q (link_at d n)))) hs
 
   -- places are those of the items
-  pub places_of_items : (hs : List (Held (Node T))) → places hs ≡ map (λ (i : Ptr × Row T × List Bool). i.0) (items_at hs)
+  pub places_of_items : (hs : List (HeldNode (Node T))) → places hs ≡ map (λ (i : Ptr × Row T × List Bool). i.0) (items_at hs)
   places_of_items [] = refl
   places_of_items (h ∷ hs) = ap (λ l. h.at ∷ l) (places_of_items hs)

@@ -4,12 +4,12 @@ use Rattle.std.proofs.lemmas.List.{set-get_or}
 use Rattle.std.specs.declared.option.Option.{Option}
 use Rattle.std.specs.declared.option.Option.TheVariants.{None, Some}
 use denote.RawPtr.{Ptr}
-use Rattle.node_heap.specs.Held.{Held, held_at, same_ptr, find_node, set_node}
+use Rattle.node_heap.specs.inner.Held.{HeldNode, held_at, same_ptr, find_node, set_node}
 use Rattle.node_heap.specs.declared.nodes.Place.{Place}
 use Rattle.node_heap.proofs.Cut.{same_ptr_eq}
 use Rattle.record_list.specs.declared.link_table.Link.{Link}
 use Rattle.record_list.specs.declared.links.Node.{Node}
-use Rattle.record_list.specs.Chain.{link, link_at, next_is, prev_is, with_next, with_prev, change_node, change_at}
+use Rattle.record_list.specs.inner.Chain.{link, link_at, next_is, prev_is, with_next, with_prev, change_node, change_at}
 
 -- the changed place of a list is the new value, where the old one was there
 pub set_some : {X : Type 0} (xs : List (Option X)) (i : ℕ) (x : X) (y : Option X) → slice_index_or xs i None ≡ Some x → slice_index_or (slice_set xs i y) i None ≡ y
@@ -24,7 +24,7 @@ set_none (z ∷ xs) (suc i) = set_none xs i
 
 module _ {T : Type 0} where
   -- a write to the node at p is a change of it
-  pub set_change : (p : Ptr) (f : Node T → Node T) (x w : Node T) (hs : List (Held (Node T))) → find_node p hs ≡ Some x → w ≡ f x → set_node p w hs ≡ change_node p f hs
+  pub set_change : (p : Ptr) (f : Node T → Node T) (x w : Node T) (hs : List (HeldNode (Node T))) → find_node p hs ≡ Some x → w ≡ f x → set_node p w hs ≡ change_node p f hs
   set_change p f x w [] e g = cc
   set_change p f x w (h ∷ hs) e g = (elim (same_ptr h.at p) as (λ y. same_ptr h.at p ≡ y → set_node p w (h ∷ hs) ≡ change_node p f (h ∷ hs)) [
     | true ↦ λ t.
@@ -51,7 +51,7 @@ module _ {T : Type 0} where
   with_prev_none : (d : ℕ) (q : Option Place) (x : Node T) → link_at d x ≡ None → x ≡ with_prev d q x
   with_prev_none d q x e = sym (ap (λ (o : Option Link). record x { links = slice_set x.links d (prev_is q o) }) e ∙ ap (λ (o : Option Link). record x { links = slice_set x.links d o }) (sym e) ∙ ap (λ (ls : List (Option Link)). record x { links = ls }) (set-get_or x.links d None))
 
-  module _ (prev : Option Place) (at : Place) (d : ℕ) (q : Option Place) (held : List (Held (Node T))) (x : Node T) (is : prev ≡ Some at) (found : find_node at.ptr held ≡ Some x) where
+  module _ (prev : Option Place) (at : Place) (d : ℕ) (q : Option Place) (held : List (HeldNode (Node T))) (x : Node T) (is : prev ≡ Some at) (found : find_node at.ptr held ≡ Some x) where
     pub next_written : (l : Link) → link_at d x ≡ Some l → set_node at.ptr (record x { links = slice_set x.links d (Some (link l.prev q)) }) held ≡ change_at prev (with_next d q) held
     next_written l e = set_change at.ptr (with_next d q) x _ held found (with_next_some d q x l e) ∙ ap (λ o. change_at o (with_next d q) held) (sym is)
 

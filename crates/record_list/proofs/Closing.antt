@@ -3,13 +3,13 @@ use Rattle.std.proofs.Common.{◌≡◌, ◌≢◌, ◌≤◌, ◌<◌, ◌+◌,
 use Rattle.std.specs.declared.option.Option.{Option}
 use Rattle.std.specs.declared.option.Option.TheVariants.{None, Some}
 use denote.RawPtr.{Ptr}
-use Rattle.node_heap.specs.Held.{Held, same_ptr, find_node, drop_node}
+use Rattle.node_heap.specs.inner.Held.{HeldNode, same_ptr, find_node, drop_node}
 use Rattle.node_heap.proofs.Cut.{same_ptr_eq}
 use Rattle.record_list.specs.declared.link_table.Link.{Link}
 use Rattle.record_list.specs.declared.links.Node.{Node}
 use Rattle.record_list.specs.declared.links.Links.{Links}
-use Rattle.record_list.specs.Chain.{place, first_or, last_or, entry_of, entries, members, link_at, items_at}
-use Rattle.record_list.specs.Linked.{IsAway, IsApart, places, head_at, tail_at, IsLinked, IsOpen, IsSameChain}
+use Rattle.record_list.specs.inner.Chain.{place, first_or, last_or, entry_of, entries, members, link_at, items_at}
+use Rattle.record_list.specs.inner.Linked.{IsNotAmong, IsApart, places, head_at, tail_at, IsLinked, IsOpen, IsSameChain}
 use Rattle.record_list.proofs.Chains.{away_members}
 use Rattle.record_list.proofs.Join.{apart_like}
 use Rattle.record_list.proofs.Leave.{drop_entry, find_entry, drop_away, cut_chain, first_again, last_again, entry_found, same_then}
@@ -73,12 +73,12 @@ module _ {T : Type 0} where
   }
 
   -- a node that is dropped is gone from each chain
-  entries_dropped : (d : ℕ) (p : Ptr) (hs : List (Held (Node T))) → IsApart (places hs) → entries d (drop_node p hs) ≡ drop_entry p (entries d hs)
+  entries_dropped : (d : ℕ) (p : Ptr) (hs : List (HeldNode (Node T))) → IsApart (places hs) → entries d (drop_node p hs) ≡ drop_entry p (entries d hs)
   entries_dropped d p [] a = refl
   entries_dropped d p (h ∷ hs) a = (elim (same_ptr h.at p) as (λ y. same_ptr h.at p ≡ y → entries d (drop_node p (h ∷ hs)) ≡ drop_entry p (entries d (h ∷ hs))) [
     | true ↦ λ t. ap (λ (b : Bool). entries d (cond b hs (h ∷ drop_node p hs))) t
         ∙ sym (elim (link_at d h.node) as (λ o. drop_entry p (entry_of h.at o (entries d hs)) ≡ entries d hs) [
-          | None ↦ drop_away p (entries d hs) (away_members d p hs (subst (λ r. IsAway r (places hs)) (same_ptr_eq h.at p t) a.0))
+          | None ↦ drop_away p (entries d hs) (away_members d p hs (subst (λ r. IsNotAmong r (places hs)) (same_ptr_eq h.at p t) a.0))
           | Some l ↦ ap (λ (b : Bool). cond b (entries d hs) ((h.at, l) ∷ drop_entry p (entries d hs))) t
         ])
     | false ↦ λ t. ap (λ (b : Bool). entries d (cond b hs (h ∷ drop_node p hs))) t ∙ ap (λ es. entry_of h.at (link_at d h.node) es) (entries_dropped d p hs a.1)
@@ -89,14 +89,14 @@ module _ {T : Type 0} where
   ]) refl
 
   -- a node with no link in the chain has no entry in it
-  entry_none : (d : ℕ) (p : Ptr) (x : Node T) (hs : List (Held (Node T))) → IsApart (places hs) → find_node p hs ≡ Some x → link_at d x ≡ None → drop_entry p (entries d hs) ≡ entries d hs
+  entry_none : (d : ℕ) (p : Ptr) (x : Node T) (hs : List (HeldNode (Node T))) → IsApart (places hs) → find_node p hs ≡ Some x → link_at d x ≡ None → drop_entry p (entries d hs) ≡ entries d hs
   entry_none d p x [] a f e = refl
   entry_none d p x (h ∷ hs) a f e = (elim (same_ptr h.at p) as (λ y. same_ptr h.at p ≡ y → drop_entry p (entries d (h ∷ hs)) ≡ entries d (h ∷ hs)) [
     | true ↦ λ t.
         let is : Some h.node ≡ Some x = subst (λ (b : Bool). cond b (Some h.node) (find_node p hs) ≡ Some x) t f in
         let node : h.node ≡ x = cc in
         ap (λ o. drop_entry p (entry_of h.at o (entries d hs))) (ap (link_at d) node ∙ e)
-        ∙ drop_away p (entries d hs) (away_members d p hs (subst (λ r. IsAway r (places hs)) (same_ptr_eq h.at p t) a.0))
+        ∙ drop_away p (entries d hs) (away_members d p hs (subst (λ r. IsNotAmong r (places hs)) (same_ptr_eq h.at p t) a.0))
         ∙ sym (ap (λ o. entry_of h.at o (entries d hs)) (ap (link_at d) node ∙ e))
     | false ↦ λ t.
         let on = entry_none d p x hs a.1 (subst (λ (b : Bool). cond b (Some h.node) (find_node p hs) ≡ Some x) t f) e in

@@ -3,15 +3,15 @@ use Rattle.std.proofs.Common.{◌≡◌, ◌≢◌, ℕ, ◌<◌, List, [], ◌�
 use Rattle.std.proofs.lemmas.List.{get_or-set_other, get_or-set_same}
 use Rattle.std.specs.declared.option.Option.TheVariants.{None, Some}
 use denote.RawPtr.{Ptr}
-use Rattle.node_heap.specs.Held.{IsHeld}
+use Rattle.node_heap.specs.inner.Held.{IsHeld}
 use Rattle.node_heap.specs.declared.nodes.Place.{Place}
 use Rattle.record_list.specs.declared.links.Links.{Links}
-use Rattle.record_list.specs.Chain.{link, first_or, last_or, chain, entries, members, with_next, change_at, end_after, items_at}
-use Rattle.record_list.specs.Linked.{IsApart, places, head_at, tail_at, IsLinked, Hangs, IsSameChain}
+use Rattle.record_list.specs.inner.Chain.{link, first_or, last_or, chain, entries, members, with_next, change_at, end_after, items_at}
+use Rattle.record_list.specs.inner.Linked.{IsApart, places, head_at, tail_at, IsLinked, LacksTail, IsSameChain}
 use Rattle.record_list.proofs.Chains.{keys, keys_chain, keys_only, chain_append, points_on, others_on, items_on}
 use Rattle.record_list.proofs.Join.{before_held, head_after, end_kept, last_append, first_append}
 
-module _ {T : Type 0} (d : ℕ) (at : Place) (s m t : Links T) (apart : IsApart (places s.nodes.held)) (hangs : Hangs d s at.ptr) where
+module _ {T : Type 0} (d : ℕ) (at : Place) (s m t : Links T) (apart : IsApart (places s.nodes.held)) (hangs : LacksTail d s at.ptr) where
   pub last_held : IfSome (tail_at d s) (λ q. IsHeld q.ptr s.nodes.held)
   last_held = before_held d (tail_at d s) hangs.front None ((at.ptr, link (last_or None hangs.front) None) ∷ []) s.nodes.held hangs.linked hangs.tail
 
@@ -61,5 +61,5 @@ module _ {T : Type 0} where
       let m : members e t.nodes.held ≡ members e s.nodes.held = ap keys k.entries_same in
       (k.entries_same ∙ l.0 ∙ ap (λ ps. chain None ps None) (sym m), k.head_same ∙ l.1 ∙ ap (first_or None) (sym m), k.tail_same ∙ l.2 ∙ ap (last_or None) (sym m))
 
-  pub same_hangs : (e : ℕ) (s t : Links T) (p : Ptr) → IsSameChain e s t → Hangs e s p → Hangs e t p
+  pub same_hangs : (e : ℕ) (s t : Links T) (p : Ptr) → IsSameChain e s t → LacksTail e s p → LacksTail e t p
   same_hangs e s t p k h = record { front = h.front; linked = k.entries_same ∙ h.linked; head = k.head_same ∙ h.head; tail = k.tail_same ∙ h.tail }

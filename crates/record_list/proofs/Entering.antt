@@ -3,8 +3,8 @@ use Rattle.std.proofs.Common.{◌≡◌, ◌≢◌, ◌≤◌, ◌<◌, ◌+◌,
 use lib.Dec.{eqb_refl}
 use Rattle.record_list.proofs.Chains.{keys}
 use Rattle.record_list.specs.declared.links.Links.{Links}
-use Rattle.record_list.specs.Chain.{members, items_at}
-use Rattle.record_list.specs.Linked.{IsApart, places, IsLinked, IsSameChain}
+use Rattle.record_list.specs.inner.Chain.{members, items_at}
+use Rattle.record_list.specs.inner.Linked.{IsApart, places, IsLinked, IsSameChain}
 use Rattle.record_list.proofs.Leave.{same_then}
 use Rattle.record_list.proofs.Enter.{same_linked}
 

@@ -4,16 +4,17 @@ use Rattle.std.specs.Prelude.{find}
 use Rattle.std.proofs.lemmas.Bool.Decides.{nat_tests}
 use Rattle.std.specs.declared.option.Option.TheVariants.{None, Some}
 use denote.RawPtr.{Ptr}
-use Rattle.node_heap.specs.Held.{Held, same_ptr, find_node, drop_node}
+use Rattle.node_heap.specs.inner.Held.{HeldNode, same_ptr, find_node, drop_node}
 use Rattle.node_heap.specs.declared.nodes.Place.{Place}
 use Rattle.node_heap.proofs.Cut.{same_ptr_refl, same_ptr_eq}
 use Rattle.row_store.specs.declared.Row.{Row}
-use Rattle.row_store.specs.Rows.{NumbersRise, is_row, stands_in, is_linked, changed_at, removed}
+use Rattle.row_store.specs.Rows.{is_row, is_in_queue}
+use Rattle.row_store.specs.inner.Rows.{NumbersRise, is_linked, changed_at, removed}
 use Rattle.row_store.proofs.Places.{IsMissing, missing-tail, only_at, rest-missing, changed_at-missing, removed-missing, is_linked-missing}
 use Rattle.record_list.specs.declared.links.Node.{Node}
-use Rattle.record_list.specs.Chain.{place, rows_of, change_node}
-use Rattle.record_list.specs.Linked.{IsAway, IsApart, places}
-use Rattle.record_list.specs.Listed.{place_of, without_number, listed}
+use Rattle.record_list.specs.inner.Chain.{place, rows_of, change_node}
+use Rattle.record_list.specs.inner.Linked.{IsNotAmong, IsApart, places}
+use Rattle.record_list.specs.inner.Listed.{place_of, without_number, listed}
 
 rise-tail : {T : Type 0} (row : Row T) (rows : List (Row T)) → NumbersRise (row ∷ rows) → NumbersRise rows
 rise-tail row rows rise = λ k inside.
@@ -31,7 +32,7 @@ others-missing n row rows rise named = rest-missing n row rows (only_at n 0 (row
 
 module _ {T : Type 0} where
   -- a node that is held lies elsewhere than one that is apart from all
-  pub away_held : (p q : Ptr) (x : Node T) (hs : List (Held (Node T))) → IsAway p (places hs) → find_node q hs ≡ Some x → same_ptr p q ≡ false
+  pub away_held : (p q : Ptr) (x : Node T) (hs : List (HeldNode (Node T))) → IsNotAmong p (places hs) → find_node q hs ≡ Some x → same_ptr p q ≡ false
   away_held p q x [] away found = cc
   away_held p q x (h ∷ hs) away found = (elim (same_ptr h.at q) as (λ y. same_ptr h.at q ≡ y → same_ptr p q ≡ false) [
     | true ↦ λ t. Rattle.node_heap.proofs.Cut.same_ptr_symm p q (subst (λ r. same_ptr r p ≡ false) (same_ptr_eq h.at q t) away.0)
@@ -39,17 +40,17 @@ module _ {T : Type 0} where
   ]) refl
 
   -- the node of that number
-  pub record Found (n : ℕ) (at : Place) (hs : List (Held (Node T))) : Type 0 where
+  pub record Found (n : ℕ) (at : Place) (hs : List (HeldNode (Node T))) : Type 0 where
     pub node : Node T
     pub found : find_node at.ptr hs ≡ Some node
     pub number_is : node.row.number ≡ n
     pub row_is : find (is_row n) (rows_of hs) ≡ Some node.row
-    pub linked_is : (d : ℕ) → is_linked n d (rows_of hs) ≡ stands_in d node.row
+    pub linked_is : (d : ℕ) → is_linked n d (rows_of hs) ≡ is_in_queue d node.row
     pub changed_is : (f : Node T → Node T) (g : Row T → Row T) → ((x : Node T) → (f x).row ≡ g x.row) → rows_of (change_node at.ptr f hs) ≡ changed_at n g (rows_of hs)
     pub removed_is : rows_of (drop_node at.ptr hs) ≡ removed n (rows_of hs)
     pub unlisted : listed (drop_node at.ptr hs) ≡ without_number n (listed hs)
 
-  found_here : (n : ℕ) (h : Held (Node T)) (hs : List (Held (Node T))) → NumbersRise (rows_of (h ∷ hs)) → is_row n h.node.row ≡ true → Found n (place h.at) (h ∷ hs)
+  found_here : (n : ℕ) (h : HeldNode (Node T)) (hs : List (HeldNode (Node T))) → NumbersRise (rows_of (h ∷ hs)) → is_row n h.node.row ≡ true → Found n (place h.at) (h ∷ hs)
   found_here n h hs rise named =
       let here = same_ptr_refl h.at in
       let missing = others-missing n h.node.row (rows_of hs) rise named in
@@ -58,13 +59,13 @@ module _ {T : Type 0} where
         found = rw here refl;
         number_is = is_row-true n h.node.row named;
         row_is = rw named refl;
-        linked_is = λ d. rw (named, is_linked-missing n d (rows_of hs) missing) (elim (stands_in d h.node.row) as (λ b. (b || false) ≡ b) [ true ↦ refl | false ↦ refl ]);
+        linked_is = λ d. rw (named, is_linked-missing n d (rows_of hs) missing) (elim (is_in_queue d h.node.row) as (λ b. (b || false) ≡ b) [ true ↦ refl | false ↦ refl ]);
         changed_is = λ f g same. rw (here, named, changed_at-missing n g (rows_of hs) missing) (ap (λ r. r ∷ rows_of hs) (same h.node));
         removed_is = rw (here, named, removed-missing n (rows_of hs) missing) refl;
         unlisted = rw (here, named) refl;
       }
 
-  found_later : (n : ℕ) (at : Place) (h : Held (Node T)) (hs : List (Held (Node T))) → IsAway h.at (places hs) → is_row n h.node.row ≡ false → Found n at hs → Found n at (h ∷ hs)
+  found_later : (n : ℕ) (at : Place) (h : HeldNode (Node T)) (hs : List (HeldNode (Node T))) → IsNotAmong h.at (places hs) → is_row n h.node.row ≡ false → Found n at hs → Found n at (h ∷ hs)
   found_later n at h hs away other on =
       let past = away_held h.at at.ptr on.node hs away on.found in
       record {
@@ -78,7 +79,7 @@ module _ {T : Type 0} where
         unlisted = rw (past, other) (ap (λ ls. (h.node.row.number, place h.at) ∷ ls) on.unlisted);
       }
 
-  pub found_at : (n : ℕ) (at : Place) (hs : List (Held (Node T))) → IsApart (places hs) → NumbersRise (rows_of hs) → place_of n (listed hs) ≡ Some at → Found n at hs
+  pub found_at : (n : ℕ) (at : Place) (hs : List (HeldNode (Node T))) → IsApart (places hs) → NumbersRise (rows_of hs) → place_of n (listed hs) ≡ Some at → Found n at hs
   found_at n at [] apart rise is = cc
   found_at n at (h ∷ hs) apart rise is = (elim (is_row n h.node.row) as (λ b. is_row n h.node.row ≡ b → cond b (Some (place h.at)) (place_of n (listed hs)) ≡ Some at → Found n at (h ∷ hs)) [
     | true ↦ λ named e. let same : place h.at ≡ at = cc in subst (λ p. Found n p (h ∷ hs)) same (found_here n h hs rise named)
@@ -92,7 +93,7 @@ module _ {T : Type 0} where
     pub changed_is : (g : Row T → Row T) → changed_at n g rows ≡ rows
     pub removed_is : removed n rows ≡ rows
 
-  pub absent_at : (n : ℕ) (hs : List (Held (Node T))) → place_of n (listed hs) ≡ None → Absent n (rows_of hs)
+  pub absent_at : (n : ℕ) (hs : List (HeldNode (Node T))) → place_of n (listed hs) ≡ None → Absent n (rows_of hs)
   absent_at n [] is = record { row_is = refl; linked_is = λ d. refl; changed_is = λ g. refl; removed_is = refl }
   absent_at n (h ∷ hs) is = (elim (is_row n h.node.row) as (λ b. is_row n h.node.row ≡ b → cond b (Some (place h.at)) (place_of n (listed hs)) ≡ None → Absent n (rows_of (h ∷ hs))) [
     | true ↦ λ named e. cc
@@ -107,7 +108,7 @@ module _ {T : Type 0} where
   ]) refl is
 
   -- the number of a node that is held leads to its place
-  missing_held : (n : ℕ) (p : Ptr) (x : Node T) (hs : List (Held (Node T))) → IsMissing n (rows_of hs) → find_node p hs ≡ Some x → x.row.number ≢ n
+  missing_held : (n : ℕ) (p : Ptr) (x : Node T) (hs : List (HeldNode (Node T))) → IsMissing n (rows_of hs) → find_node p hs ≡ Some x → x.row.number ≢ n
   missing_held n p x [] missing found = cc
   missing_held n p x (h ∷ hs) missing found = (elim (same_ptr h.at p) as (λ y. same_ptr h.at p ≡ y → x.row.number ≢ n) [
     | true ↦ λ t.
@@ -117,7 +118,7 @@ module _ {T : Type 0} where
     | false ↦ λ t. missing_held n p x hs (missing-tail n h.node.row (rows_of hs) missing) (subst (λ (b : Bool). cond b (Some h.node) (find_node p hs) ≡ Some x) t found)
   ]) refl
 
-  pub listed_held : (at : Place) (x : Node T) (hs : List (Held (Node T))) → NumbersRise (rows_of hs) → find_node at.ptr hs ≡ Some x → place_of x.row.number (listed hs) ≡ Some at
+  pub listed_held : (at : Place) (x : Node T) (hs : List (HeldNode (Node T))) → NumbersRise (rows_of hs) → find_node at.ptr hs ≡ Some x → place_of x.row.number (listed hs) ≡ Some at
   listed_held at x [] rise found = cc
   listed_held at x (h ∷ hs) rise found = (elim (same_ptr h.at at.ptr) as (λ y. same_ptr h.at at.ptr ≡ y → place_of x.row.number (listed (h ∷ hs)) ≡ Some at) [
     | true ↦ λ t.

@@ -5,14 +5,14 @@ use Rattle.std.specs.declared.option.Option.{Option}
 use Rattle.std.specs.declared.option.Option.TheVariants.{None, Some}
 use denote.RawPtr.{Ptr}
 use Rattle.row_store.specs.declared.Row.{Row}
-use Rattle.node_heap.specs.Held.{Held, same_ptr, find_node, IsHeld}
+use Rattle.node_heap.specs.inner.Held.{HeldNode, same_ptr, find_node, IsHeld}
 use Rattle.node_heap.specs.declared.nodes.Place.{Place}
 use Rattle.node_heap.proofs.Cut.{same_ptr_refl}
 use Rattle.record_list.specs.declared.link_table.Link.{Link}
 use Rattle.record_list.specs.declared.links.Node.{Node}
 use Rattle.record_list.specs.declared.links.Links.{Links}
-use Rattle.record_list.specs.Chain.{place, first_or, last_or, chain, entry_of, entries, members, link_at, with_next, with_prev, change_at, end_after, items_at}
-use Rattle.record_list.specs.Linked.{IsApart, places, head_at, tail_at, IsLinked, Gap, IsSameChain}
+use Rattle.record_list.specs.inner.Chain.{place, first_or, last_or, chain, entry_of, entries, members, link_at, with_next, with_prev, change_at, end_after, items_at}
+use Rattle.record_list.specs.inner.Linked.{IsApart, places, head_at, tail_at, IsLinked, BrokenAt, IsSameChain}
 use Rattle.record_list.proofs.Chains.{keys, keys_chain, keys_only, keys_front, last_is, chain_append, points_on, points_back, others_on, others_back, items_on, items_back, places_of_items}
 
 last_cut : (x : Ptr) (xs : List Ptr) → (us : List Ptr) × (p : Ptr) × ((x ∷ xs ≡ us ++ p ∷ []) × (last_or (Some (place x)) xs ≡ Some (place p)))
@@ -43,17 +43,17 @@ last_append b [] ys = refl
 last_append b (x ∷ xs) ys = last_append (Some (place x)) xs ys
 
 module _ {T : Type 0} where
-  held_more : (p : Ptr) (h : Held (Node T)) (hs : List (Held (Node T))) → IsHeld p hs → IsHeld p (h ∷ hs)
+  held_more : (p : Ptr) (h : HeldNode (Node T)) (hs : List (HeldNode (Node T))) → IsHeld p hs → IsHeld p (h ∷ hs)
   held_more p h hs x = (elim (same_ptr h.at p) as (λ y. same_ptr h.at p ≡ y → IsHeld p (h ∷ hs)) [
     | true ↦ λ t. (h.node, ap (λ (b : Bool). cond b (Some h.node) (find_node p hs)) t)
     | false ↦ λ t. (x.0, ap (λ (b : Bool). cond b (Some h.node) (find_node p hs)) t ∙ x.1)
   ]) refl
 
-  held_here : (p : Ptr) (h : Held (Node T)) (hs : List (Held (Node T))) → h.at ≡ p → IsHeld p (h ∷ hs)
+  held_here : (p : Ptr) (h : HeldNode (Node T)) (hs : List (HeldNode (Node T))) → h.at ≡ p → IsHeld p (h ∷ hs)
   held_here p h hs e = (h.node, ap (λ (b : Bool). cond b (Some h.node) (find_node p hs)) (subst (λ r. same_ptr h.at r ≡ true) e (same_ptr_refl h.at)))
 
   -- a member is held
-  pub member_held : (d : ℕ) (p : Ptr) (us vs : List Ptr) (hs : List (Held (Node T))) → members d hs ≡ us ++ p ∷ vs → IsHeld p hs
+  pub member_held : (d : ℕ) (p : Ptr) (us vs : List Ptr) (hs : List (HeldNode (Node T))) → members d hs ≡ us ++ p ∷ vs → IsHeld p hs
   member_held d p [] vs [] e = cc
   member_held d p (u ∷ us) vs [] e = cc
   member_held d p [] vs (h ∷ hs) e = (elim (link_at d h.node) as (λ o. keys (entry_of h.at o (entries d hs)) ≡ p ∷ vs → IsHeld p (h ∷ hs)) [
@@ -65,29 +65,29 @@ module _ {T : Type 0} where
     | Some l ↦ λ f. let rest : members d hs ≡ us ++ p ∷ vs = cc in held_more p h hs (member_held d p us vs hs rest)
   ]) e
 
-  pub before_held : (d : ℕ) (b : Option Place) (xs : List Ptr) (a : Option Place) (rest : List (Ptr × Link)) (hs : List (Held (Node T))) → entries d hs ≡ chain None xs a ++ rest → b ≡ last_or None xs → IfSome b (λ at. IsHeld at.ptr hs)
+  pub before_held : (d : ℕ) (b : Option Place) (xs : List Ptr) (a : Option Place) (rest : List (Ptr × Link)) (hs : List (HeldNode (Node T))) → entries d hs ≡ chain None xs a ++ rest → b ≡ last_or None xs → IfSome b (λ at. IsHeld at.ptr hs)
   before_held d b [] a rest hs e is = subst (λ o. IfSome o (λ at. IsHeld at.ptr hs)) (sym is) tt
   before_held d b (x ∷ xs) a rest hs e is =
       let c = last_cut x xs in
       let at : members d hs ≡ c.0 ++ c.1 ∷ keys rest = ap keys e ∙ keys_chain None a (x ∷ xs) rest ∙ ap (λ l. l ++ keys rest) c.2.0 ∙ Rattle.std.proofs.Common.append_assoc c.0 (c.1 ∷ []) (keys rest) in
       subst (λ o. IfSome o (λ at. IsHeld at.ptr hs)) (sym (is ∙ c.2.1)) (member_held d c.1 c.0 (keys rest) hs at)
 
-  pub after_held : (d : ℕ) (n : Option Place) (front : List (Ptr × Link)) (b : Option Place) (ys : List Ptr) (hs : List (Held (Node T))) → entries d hs ≡ front ++ chain b ys None → n ≡ first_or None ys → IfSome n (λ at. IsHeld at.ptr hs)
+  pub after_held : (d : ℕ) (n : Option Place) (front : List (Ptr × Link)) (b : Option Place) (ys : List Ptr) (hs : List (HeldNode (Node T))) → entries d hs ≡ front ++ chain b ys None → n ≡ first_or None ys → IfSome n (λ at. IsHeld at.ptr hs)
   after_held d n front b [] hs e is = subst (λ o. IfSome o (λ at. IsHeld at.ptr hs)) (sym is) tt
   after_held d n front b (y ∷ ys) hs e is =
       subst (λ o. IfSome o (λ at. IsHeld at.ptr hs)) (sym is) (member_held d y (keys front) ys hs (ap keys e ∙ keys_front front b None (y ∷ ys)))
 
-  pub apart_like : (hs ks : List (Held (Node T))) → items_at ks ≡ items_at hs → IsApart (places hs) → IsApart (places ks)
+  pub apart_like : (hs ks : List (HeldNode (Node T))) → items_at ks ≡ items_at hs → IsApart (places hs) → IsApart (places ks)
   apart_like hs ks e = subst IsApart (places_of_items hs ∙ ap (map (λ (i : Ptr × Row T × List Bool). i.0)) (sym e) ∙ sym (places_of_items ks))
 
-  half : (d : ℕ) (prev next : Option Place) (s m : Links T) → IsApart (places s.nodes.held) → (gap : Gap d s prev next) → m.nodes.held ≡ change_at prev (with_next d next) s.nodes.held → entries d m.nodes.held ≡ chain None gap.front next ++ chain gap.from gap.back None
+  half : (d : ℕ) (prev next : Option Place) (s m : Links T) → IsApart (places s.nodes.held) → (gap : BrokenAt d s prev next) → m.nodes.held ≡ change_at prev (with_next d next) s.nodes.held → entries d m.nodes.held ≡ chain None gap.front next ++ chain gap.from gap.back None
   half d prev next s m apart gap held₁ = ap (entries d) held₁ ∙ points_on d gap.on next gap.front prev (chain gap.from gap.back None) s.nodes.held apart gap.linked gap.last
 
-  pub after_is_held : (d : ℕ) (prev next : Option Place) (s m : Links T) → IsApart (places s.nodes.held) → Gap d s prev next → m.nodes.held ≡ change_at prev (with_next d next) s.nodes.held → IfSome next (λ at. IsHeld at.ptr m.nodes.held)
+  pub after_is_held : (d : ℕ) (prev next : Option Place) (s m : Links T) → IsApart (places s.nodes.held) → BrokenAt d s prev next → m.nodes.held ≡ change_at prev (with_next d next) s.nodes.held → IfSome next (λ at. IsHeld at.ptr m.nodes.held)
   after_is_held d prev next s m apart gap held₁ = after_held d next (chain None gap.front next) gap.from gap.back m.nodes.held (half d prev next s m apart gap held₁) gap.first
 
   -- what `point_on` and then `point_back` leave
-  module _ (d : ℕ) (prev next : Option Place) (s m t : Links T) (apart : IsApart (places s.nodes.held)) (gap : Gap d s prev next)
+  module _ (d : ℕ) (prev next : Option Place) (s m t : Links T) (apart : IsApart (places s.nodes.held)) (gap : BrokenAt d s prev next)
       (held₁ : m.nodes.held ≡ change_at prev (with_next d next) s.nodes.held) (held₂ : t.nodes.held ≡ change_at next (with_prev d prev) m.nodes.held)
       (heads₁ : m.heads ≡ end_after prev d next s.heads) (heads₂ : t.heads ≡ m.heads)
       (tails₁ : m.tails ≡ s.tails) (tails₂ : t.tails ≡ end_after next d prev m.tails)

@@ -7,9 +7,9 @@ use Rattle.std.specs.declared.option.Option.{Option}
 use Rattle.std.specs.declared.option.Option.TheVariants.{None, Some}
 use Rattle.node_heap.specs.declared.nodes.Place.{Place}
 use Rattle.record_list.specs.declared.link_table.Link.{Link}
-use Rattle.record_list.specs.Chain.{link}
+use Rattle.record_list.specs.inner.Chain.{link}
 use Rattle.std.specs.Option.{is_some}
-use Rattle.record_list.specs.Stands.{stands, new_link}
+use Rattle.record_list.specs.inner.Stands.{stands, new_link}
 use Rattle.record_list.proofs.Change.{set_some}
 use Rattle.record_list.proofs.Entering.{differ, same}
 

@@ -4,14 +4,14 @@ use Rattle.std.proofs.lemmas.List.{get_or-set_other}
 use Rattle.std.specs.declared.option.Option.{Option}
 use Rattle.std.specs.declared.option.Option.TheVariants.{None, Some}
 use denote.RawPtr.{Ptr}
-use Rattle.node_heap.specs.Held.{Held, held_at, same_ptr, find_node, set_node}
+use Rattle.node_heap.specs.inner.Held.{HeldNode, held_at, same_ptr, find_node, set_node}
 use Rattle.node_heap.specs.declared.nodes.Place.{Place}
 use Rattle.node_heap.proofs.Cut.{same_ptr_eq}
 use Rattle.record_list.specs.declared.link_table.Link.{Link}
 use Rattle.record_list.specs.declared.links.Node.{Node}
 use Rattle.record_list.specs.declared.links.Links.{Links}
-use Rattle.record_list.specs.Chain.{place, link, first_or, last_or, chain, entry_of, entries, members, link_at, without_link, change_node}
-use Rattle.record_list.specs.Linked.{IsAway, IsApart, places, head_at, tail_at, IsLinked, Gap, IsSameChain}
+use Rattle.record_list.specs.inner.Chain.{place, link, first_or, last_or, chain, entry_of, entries, members, link_at, without_link, change_node}
+use Rattle.record_list.specs.inner.Linked.{IsNotAmong, IsApart, places, head_at, tail_at, IsLinked, BrokenAt, IsSameChain}
 use Rattle.record_list.proofs.Change.{set_change, set_some}
 use Rattle.record_list.proofs.Chains.{keys, away_members, entries_kept}
 use Rattle.record_list.proofs.Join.{last_append}
@@ -24,7 +24,7 @@ abbrev pub find_entry : Ptr → List (Ptr × Link) → Option Link
 find_entry p [] = None
 find_entry p (e ∷ es) = cond (same_ptr e.0 p) (Some e.1) (find_entry p es)
 
-pub drop_away : (p : Ptr) (es : List (Ptr × Link)) → IsAway p (keys es) → drop_entry p es ≡ es
+pub drop_away : (p : Ptr) (es : List (Ptr × Link)) → IsNotAmong p (keys es) → drop_entry p es ≡ es
 drop_away p [] a = refl
 drop_away p (e ∷ es) a = ap (λ (b : Bool). cond b es (e ∷ drop_entry p es)) a.0 ∙ ap (λ l. e ∷ l) (drop_away p es a.1)
 
@@ -75,7 +75,7 @@ last_again t us p [] e = refl
 last_again t us p (v ∷ vs) e = e ∙ sym (last_append None us (p ∷ v ∷ vs))
 
 module _ {T : Type 0} where
-  pub set_same : (p : Ptr) (x : Node T) (hs : List (Held (Node T))) → find_node p hs ≡ Some x → set_node p x hs ≡ hs
+  pub set_same : (p : Ptr) (x : Node T) (hs : List (HeldNode (Node T))) → find_node p hs ≡ Some x → set_node p x hs ≡ hs
   set_same p x [] e = cc
   set_same p x (h ∷ hs) e = (elim (same_ptr h.at p) as (λ y. same_ptr h.at p ≡ y → set_node p x (h ∷ hs) ≡ h ∷ hs) [
     | true ↦ λ t.
@@ -86,12 +86,12 @@ module _ {T : Type 0} where
   ]) refl
 
   -- a changed node stays where it is
-  pub places_changed : (p : Ptr) (f : Node T → Node T) (hs : List (Held (Node T))) → places (change_node p f hs) ≡ places hs
+  pub places_changed : (p : Ptr) (f : Node T → Node T) (hs : List (HeldNode (Node T))) → places (change_node p f hs) ≡ places hs
   places_changed p f [] = refl
   places_changed p f (h ∷ hs) = elim (same_ptr h.at p) as (λ y. places (cond y (held_at h.at (f h.node) ∷ hs) (h ∷ change_node p f hs)) ≡ h.at ∷ places hs)
       [ true ↦ refl | false ↦ ap (λ ps. h.at ∷ ps) (places_changed p f hs) ]
 
-  pub entry_found : (d : ℕ) (p : Ptr) (x : Node T) (l : Link) (hs : List (Held (Node T))) → find_node p hs ≡ Some x → link_at d x ≡ Some l → find_entry p (entries d hs) ≡ Some l
+  pub entry_found : (d : ℕ) (p : Ptr) (x : Node T) (l : Link) (hs : List (HeldNode (Node T))) → find_node p hs ≡ Some x → link_at d x ≡ Some l → find_entry p (entries d hs) ≡ Some l
   entry_found d p x l [] f e = cc
   entry_found d p x l (h ∷ hs) f e = (elim (same_ptr h.at p) as (λ y. same_ptr h.at p ≡ y → find_entry p (entries d (h ∷ hs)) ≡ Some l) [
     | true ↦ λ t.
@@ -112,12 +112,12 @@ module _ {T : Type 0} where
       cleared : (xs : List (Option Link)) (i : ℕ) → slice_index_or (slice_set xs i None) i None ≡ None
       cleared xs i = Rattle.record_list.proofs.Change.set_none xs i
 
-  entries_left : (d : ℕ) (p : Ptr) (hs : List (Held (Node T))) → IsApart (places hs) → entries d (change_node p (without_link d) hs) ≡ drop_entry p (entries d hs)
+  entries_left : (d : ℕ) (p : Ptr) (hs : List (HeldNode (Node T))) → IsApart (places hs) → entries d (change_node p (without_link d) hs) ≡ drop_entry p (entries d hs)
   entries_left d p [] a = refl
   entries_left d p (h ∷ hs) a = (elim (same_ptr h.at p) as (λ y. same_ptr h.at p ≡ y → entries d (change_node p (without_link d) (h ∷ hs)) ≡ drop_entry p (entries d (h ∷ hs))) [
     | true ↦ λ t. ap (λ (b : Bool). entries d (cond b (held_at h.at (without_link d h.node) ∷ hs) (h ∷ change_node p (without_link d) hs))) t ∙ ap (λ o. entry_of h.at o (entries d hs)) (gone d h.node)
         ∙ sym (elim (link_at d h.node) as (λ o. drop_entry p (entry_of h.at o (entries d hs)) ≡ entries d hs) [
-          | None ↦ drop_away p (entries d hs) (away_members d p hs (subst (λ r. IsAway r (places hs)) (same_ptr_eq h.at p t) a.0))
+          | None ↦ drop_away p (entries d hs) (away_members d p hs (subst (λ r. IsNotAmong r (places hs)) (same_ptr_eq h.at p t) a.0))
           | Some l ↦ ap (λ (b : Bool). cond b (entries d hs) ((h.at, l) ∷ drop_entry p (entries d hs))) t
         ])
     | false ↦ λ t. ap (λ (b : Bool). entries d (cond b (held_at h.at (without_link d h.node) ∷ hs) (h ∷ change_node p (without_link d) hs))) t ∙ ap (λ es. entry_of h.at (link_at d h.node) es) (entries_left d p hs a.1)
@@ -143,7 +143,7 @@ module _ {T : Type 0} where
       tail_same = ap (λ h. slice_index_or h e None) tails;
     }
 
-    pub gap_left : Gap d m l.prev l.next
+    pub gap_left : BrokenAt d m l.prev l.next
     gap_left =
         let ms = members d s.nodes.held in
         let c = cut_chain None ms None p l (ap (find_entry p) (sym linked.0) ∙ entry_found d p x l s.nodes.held found has) in
@@ -162,7 +162,7 @@ module _ {T : Type 0} where
         }
 
   pub linked_like : (d : ℕ) (s t : Links T) → t.nodes.held ≡ s.nodes.held → t.heads ≡ s.heads → t.tails ≡ s.tails → IsLinked d s → IsLinked d t
-  linked_like d s t e h w k = subst (λ (z : List (Held (Node T)) × List (Option Place) × List (Option Place)).
+  linked_like d s t e h w k = subst (λ (z : List (HeldNode (Node T)) × List (Option Place) × List (Option Place)).
       (entries d z.0 ≡ chain None (members d z.0) None) × (slice_index_or z.1 d None ≡ first_or None (members d z.0)) × (slice_index_or z.2 d None ≡ last_or None (members d z.0))) (λ i. (sym e i, sym h i, sym w i)) k
 
   pub same_like : (e : ℕ) (s t : Links T) → t.nodes.held ≡ s.nodes.held → t.heads ≡ s.heads → t.tails ≡ s.tails → IsSameChain e s t

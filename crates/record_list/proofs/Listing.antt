@@ -14,7 +14,7 @@ use Rattle.std.specs.declared.option.Option.{Option}
 use Rattle.std.specs.declared.option.Option.TheVariants.{None, Some}
 use Rattle.std.specs.declared.cmp.Ordering.TheVariants.{Less, Equal, Greater}
 use Rattle.node_heap.specs.declared.nodes.Place.{Place}
-use Rattle.record_list.specs.Listed.{place_of, without_number, IsListed, NumbersAscend}
+use Rattle.record_list.specs.inner.Listed.{place_of, without_number, IsListed, NumbersAscend}
 
 test-no : (n : ℕ) (e : ℕ × Place) → e.0 ≢ n → (e.0 == n) ≡ false
 test-no n e differs = grind (arith, nat_tests)

@@ -8,20 +8,20 @@ use Rattle.std.proofs.lemmas.List.{map-append, set-get_or, get_or-set_other}
 use Rattle.std.specs.declared.option.Option.{Option}
 use Rattle.std.specs.declared.option.Option.TheVariants.{None, Some}
 use denote.RawPtr.{Ptr}
-use Rattle.node_heap.specs.Held.{Held, held_at, same_ptr, find_node, drop_node}
+use Rattle.node_heap.specs.inner.Held.{HeldNode, held_at, same_ptr, find_node, drop_node}
 use Rattle.node_heap.specs.declared.nodes.Place.{Place}
 use Rattle.node_heap.proofs.Cut.{same_ptr_symm}
 use Rattle.row_store.specs.declared.Row.{Row}
-use Rattle.row_store.specs.Rows.{without}
+use Rattle.row_store.specs.inner.Rows.{without}
 use Rattle.row_store.proofs.Bits.{bit_at-without_same, bit_at-without_other}
 use Rattle.row_store.proofs.Places.{numbers-changed_at, NumbersRise-removed, NumbersRise-push}
 use Rattle.record_list.specs.declared.link_table.Link.{Link}
 use Rattle.record_list.specs.declared.links.Node.{Node}
 use Rattle.record_list.specs.declared.links.Links.{Links}
-use Rattle.record_list.specs.Chain.{place, link, first_or, last_or, chain, entry_of, entries, members, link_at, without_link, change_node, row_of, rows_of, items_at}
-use Rattle.record_list.specs.Linked.{IsAway, IsApart, places, tail_at, IsLinked, Hangs, IsSameChain}
-use Rattle.record_list.specs.Listed.{place_of, without_number}
-use Rattle.record_list.specs.Stands.{stands, new_link, AreMarked, IsWhole, IsKept}
+use Rattle.record_list.specs.inner.Chain.{place, link, first_or, last_or, chain, entry_of, entries, members, link_at, without_link, change_node, row_of, rows_of, items_at}
+use Rattle.record_list.specs.inner.Linked.{IsNotAmong, IsApart, places, tail_at, IsLinked, LacksTail, IsSameChain}
+use Rattle.record_list.specs.inner.Listed.{place_of, without_number}
+use Rattle.record_list.specs.inner.Stands.{stands, new_link, AreMarked, IsWhole, IsKept}
 use Rattle.record_list.proofs.Change.{set_change, set_none}
 use Rattle.record_list.proofs.Chains.{keys}
 use Rattle.record_list.proofs.Enter.{same_linked}
@@ -42,11 +42,11 @@ on_err (Err b) e p = p
 less : (d mask : ℕ) → mask < 2 ^ 32 → without d mask < 2 ^ 32
 less d mask lt = elim (bit_at mask d == 1) as (λ b. cond b (mask - 2 ^ d) mask < 2 ^ 32) [ true ↦ omega (arith, lt) | false ↦ lt ]
 
-apart_push : (ps : List Ptr) (p : Ptr) → IsApart ps → IsAway p ps → IsApart (ps ++ p ∷ [])
+apart_push : (ps : List Ptr) (p : Ptr) → IsApart ps → IsNotAmong p ps → IsApart (ps ++ p ∷ [])
 apart_push [] p a w = (tt, tt)
 apart_push (q ∷ qs) p a w = (away_push q qs p a.0 (same_ptr_symm p q w.0), apart_push qs p a.1 w.1)
   where
-    away_push : (q : Ptr) (qs : List Ptr) (p : Ptr) → IsAway q qs → same_ptr p q ≡ false → IsAway q (qs ++ p ∷ [])
+    away_push : (q : Ptr) (qs : List Ptr) (p : Ptr) → IsNotAmong q qs → same_ptr p q ≡ false → IsNotAmong q (qs ++ p ∷ [])
     away_push q [] p a e = (e, tt)
     away_push q (r ∷ rs) p a e = (a.0, away_push q rs p a.1 e)
 
@@ -57,7 +57,7 @@ module _ {T : Type 0} where
   pub absent_of : (n : ℕ) (s : Links T) (directory : List (ℕ × Place)) → IsKept s directory → None ≡ place_of n directory → Absent n (rows_of s.nodes.held)
   absent_of n s directory k e = absent_at n s.nodes.held (subst (λ l. place_of n l ≡ None) k.listed_is (sym e))
 
-  pub marked_found : (p : Ptr) (x : Node T) (hs : List (Held (Node T))) → AreMarked (items_at hs) → find_node p hs ≡ Some x → IsMarked (p, row_of x, map is_some x.links)
+  pub marked_found : (p : Ptr) (x : Node T) (hs : List (HeldNode (Node T))) → AreMarked (items_at hs) → find_node p hs ≡ Some x → IsMarked (p, row_of x, map is_some x.links)
   marked_found p x [] m f = cc
   marked_found p x (h ∷ hs) m f = (elim (same_ptr h.at p) as (λ y. same_ptr h.at p ≡ y → IsMarked (p, row_of x, map is_some x.links)) [
     | true ↦ λ t.
@@ -92,7 +92,7 @@ module _ {T : Type 0} where
   )
 
   -- to leave a chain in which the node doesn't stand changes nothing
-  pub left_none : (d : ℕ) → d < 32 → (p : Ptr) (x : Node T) (hs : List (Held (Node T))) → find_node p hs ≡ Some x → IsMarked (p, row_of x, map is_some x.links) → link_at d x ≡ None → change_node p (without_link d) hs ≡ hs
+  pub left_none : (d : ℕ) → d < 32 → (p : Ptr) (x : Node T) (hs : List (HeldNode (Node T))) → find_node p hs ≡ Some x → IsMarked (p, row_of x, map is_some x.links) → link_at d x ≡ None → change_node p (without_link d) hs ≡ hs
   left_none d lt p x hs found m none =
       let out : (bit_at x.row.mask d == 1) ≡ false = in_queue d (held_at p x) lt m ∙ ap is_some none in
       let mask : without d x.row.mask ≡ x.row.mask = rw out refl in
@@ -123,14 +123,14 @@ module _ {T : Type 0} where
       kept_from (drop_node at.ptr s.nodes.held) t after items (apart_dropped at.ptr s.nodes.held k.whole.apart) (marked_dropped at.ptr s.nodes.held k.whole.marked)
       (rw on.removed_is (NumbersRise-removed n (rows_of s.nodes.held) k.rise)) (gone ∙ ap (without_number n) k.listed_is ∙ sym on.unlisted) whole.linked
 
-  away_fresh : (p : Ptr) (hs : List (Held (Node T))) → find_node p hs ≡ None → IsAway p (places hs)
+  away_fresh : (p : Ptr) (hs : List (HeldNode (Node T))) → find_node p hs ≡ None → IsNotAmong p (places hs)
   away_fresh p [] e = tt
-  away_fresh p (h ∷ hs) e = (elim (same_ptr h.at p) as (λ y. same_ptr h.at p ≡ y → IsAway p (places (h ∷ hs))) [
+  away_fresh p (h ∷ hs) e = (elim (same_ptr h.at p) as (λ y. same_ptr h.at p ≡ y → IsNotAmong p (places (h ∷ hs))) [
     | true ↦ λ t. let wrong : Some h.node ≡ None = subst (λ (b : Bool). cond b (Some h.node) (find_node p hs) ≡ None) t e in cc
     | false ↦ λ t. (t, away_fresh p hs (subst (λ (b : Bool). cond b (Some h.node) (find_node p hs) ≡ None) t e))
   ]) refl
 
-  entries_push : (d : ℕ) (hs : List (Held (Node T))) (h : Held (Node T)) → entries d (hs ++ h ∷ []) ≡ entries d hs ++ entry_of h.at (link_at d h.node) []
+  entries_push : (d : ℕ) (hs : List (HeldNode (Node T))) (h : HeldNode (Node T)) → entries d (hs ++ h ∷ []) ≡ entries d hs ++ entry_of h.at (link_at d h.node) []
   entries_push d [] h = refl
   entries_push d (k ∷ ks) h = ap (entry_of k.at (link_at d k.node)) (entries_push d ks h) ∙ past (link_at d k.node)
     where
@@ -141,7 +141,7 @@ module _ {T : Type 0} where
   -- the state s, and the state m with one more node, whose links know the ends of the chains
   module _ (s m : Links T) (w : IsWhole s) (p : Ptr) (x : Node T) (fresh : find_node p s.nodes.held ≡ None) (held : m.nodes.held ≡ s.nodes.held ++ held_at p x ∷ []) (heads : m.heads ≡ s.heads) (tails : m.tails ≡ s.tails)
       (links : (d : ℕ) → d < 32 → link_at d x ≡ new_link (stands d x.row.mask) (tail_at d s)) where
-    abbrev longer : List (Held (Node T))
+    abbrev longer : List (HeldNode (Node T))
     longer = s.nodes.held ++ held_at p x ∷ []
 
     apart_longer : IsApart (places longer)
@@ -153,7 +153,7 @@ module _ {T : Type 0} where
     in_now : (d : ℕ) → d < 32 → (y : Bool) → stands d x.row.mask ≡ y → entries d m.nodes.held ≡ entries d s.nodes.held ++ entry_of p (new_link y (tail_at d s)) []
     in_now d lt y e = ap (entries d) held ∙ entries_push d s.nodes.held (held_at p x) ∙ ap (λ o. entries d s.nodes.held ++ entry_of p o []) (links d lt ∙ ap (λ b. new_link b (tail_at d s)) e)
 
-    pub hangs_pushed : (d : ℕ) → d < 32 → stands d x.row.mask ≡ true → Hangs d m p
+    pub hangs_pushed : (d : ℕ) → d < 32 → stands d x.row.mask ≡ true → LacksTail d m p
     hangs_pushed d lt e =
         let k = w.linked d lt in
         record {
@@ -170,13 +170,13 @@ module _ {T : Type 0} where
         (same ∙ k.0 ∙ ap (λ es. chain None (keys es) None) (sym same), ap (λ l. slice_index_or l d None) heads ∙ k.1 ∙ ap (λ es. first_or None (keys es)) (sym same), ap (λ l. slice_index_or l d None) tails ∙ k.2 ∙ ap (λ es. last_or None (keys es)) (sym same))
 
     pub rows_longer : rows_of longer ≡ rows_of s.nodes.held ++ x.row ∷ []
-    rows_longer = map-append (λ (h : Held (Node T)). h.node.row) s.nodes.held (held_at p x ∷ [])
+    rows_longer = map-append (λ (h : HeldNode (Node T)). h.node.row) s.nodes.held (held_at p x ∷ [])
 
     pub kept_pushed : (t : Links T) (directory after : List (ℕ × Place)) → IsKept s directory → x.row.mask < 2 ^ 32 → All (λ row. row.number < x.row.number) (rows_of s.nodes.held) → after ≡ directory ++ (x.row.number, place p) ∷ []
         → items_at t.nodes.held ≡ items_at m.nodes.held → ((d : ℕ) → d < 32 → IsLinked d t) → IsKept t after
     kept_pushed t directory after k fits below more items linked =
         kept_from longer t after (items ∙ ap items_at held) apart_longer
-        (subst AreMarked (sym (map-append (λ (h : Held (Node T)). (h.at, row_of h.node, map is_some h.node.links)) s.nodes.held (held_at p x ∷ [])))
+        (subst AreMarked (sym (map-append (λ (h : HeldNode (Node T)). (h.at, row_of h.node, map is_some h.node.links)) s.nodes.held (held_at p x ∷ [])))
         (marked_push (items_at s.nodes.held) (p, row_of x, map is_some x.links) k.whole.marked (fits, λ d lt. is_some_at x.links d ∙ ap is_some (links d lt) ∙ is_new (stands d x.row.mask) (tail_at d s))))
         (rw rows_longer (NumbersRise-push (rows_of s.nodes.held) x.row k.rise below))
-        (more ∙ ap (λ l. l ++ (x.row.number, place p) ∷ []) k.listed_is ∙ sym (map-append (λ (h : Held (Node T)). (h.node.row.number, place h.at)) s.nodes.held (held_at p x ∷ []))) linked
+        (more ∙ ap (λ l. l ++ (x.row.number, place p) ∷ []) k.listed_is ∙ sym (map-append (λ (h : HeldNode (Node T)). (h.node.row.number, place h.at)) s.nodes.held (held_at p x ∷ []))) linked

@@ -8,11 +8,11 @@ use Rattle.std.proofs.lemmas.List.FromFn.{get_or-map-range_with_len, length-map-
 use Rattle.std.proofs.lemmas.Nat.Bits.{bit_at-zero}
 use Rattle.std.specs.declared.option.Option.{Option}
 use Rattle.std.specs.declared.option.Option.TheVariants.{None}
-use Rattle.row_store.specs.Rows.{without}
+use Rattle.row_store.specs.inner.Rows.{without}
 use Rattle.row_store.proofs.Bits.{bit_at-without_other}
 use Rattle.record_list.specs.declared.link_table.Link.{Link}
-use Rattle.record_list.specs.Packing.{slot_of, link_in, table_of}
-use Rattle.record_list.specs.Stands.{stands, new_link}
+use Rattle.record_list.specs.inner.Packing.{slot_of, link_in, table_of}
+use Rattle.record_list.specs.inner.Stands.{stands, new_link}
 use Rattle.record_list.proofs.Entering.{differ, same}
 
 -- which queue has that slot

@@ -1,7 +1,1 @@
-pub mod Chain
-pub mod Linked
-pub mod Listed
-pub mod Packing
-pub mod Seating
-pub mod Stands
-pub mod Visit
+pub mod inner

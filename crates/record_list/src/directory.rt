@@ -3,7 +3,7 @@
 ghost use Rattle.std.specs.Prelude.{◌≡◌, ◌≢◌, ◌<◌, [], ◌∷◌, ◌++◌, All, IfSome, IfNone, MatchOption, OnOk, OnErr, length};
 ghost use Rattle.std.specs.List.{HoldsAt};
 ghost use Rattle.std.specs.declared.option.Option.TheVariants.{Some};
-ghost use Rattle.record_list.specs.Listed.{place_of, without_number};
+ghost use Rattle.record_list.specs.inner.Listed.{place_of, without_number};
 
 use crate::entries::Entries;
 use node_heap::Place;
@@ -26,7 +26,7 @@ impl Model for Directory {
 
     ghost Value = { List (ℕ × Place) };
 
-    ghost use Rattle.record_list.specs.Listed.{IsListed, NumbersAscend};
+    ghost use Rattle.record_list.specs.inner.Listed.{IsListed, NumbersAscend};
 
     ghost view = { λ s. s.entries };
 

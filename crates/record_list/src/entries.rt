@@ -3,7 +3,7 @@
 ghost use Rattle.std.specs.Prelude.{◌≡◌, ◌≢◌, ◌<◌, [], ◌∷◌, ◌++◌, All, IfSome, IfNone, MatchOption, OnOk, OnErr, get_or, length, remove};
 ghost use Rattle.std.specs.List.{HoldsAt};
 ghost use Rattle.std.specs.Option.{option_to_list};
-ghost use Rattle.record_list.specs.Listed.{NumbersAscend};
+ghost use Rattle.record_list.specs.inner.Listed.{NumbersAscend};
 
 use node_heap::Place;
 use std::alloc::{AllocError, Global};

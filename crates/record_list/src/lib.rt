@@ -3,7 +3,8 @@
 
 ghost use Rattle.std.specs.Prelude.{◌≡◌, ◌≢◌, ℕ, List};
 ghost use Rattle.row_store.specs.declared.Row.{Row};
-ghost use Rattle.row_store.specs.Rows.{numbers, queue_of, item_at, unlinked};
+ghost use Rattle.row_store.specs.Rows.{row_numbers, queue_of, item_at};
+ghost use Rattle.row_store.specs.inner.Rows.{unlinked};
 
 mod directory;
 mod entries;
@@ -20,5 +21,5 @@ pub use record_list::RecordList;
 pub fn link_rules<T>()
     ensures other_queues { (rows : List (Row T)) (number d e : ℕ) → e ≢ d → queue_of e (unlinked number d rows) ≡ queue_of e rows }
     ensures items { (rows : List (Row T)) (number d other : ℕ) → item_at other (unlinked number d rows) ≡ item_at other rows }
-    ensures all_rows { (rows : List (Row T)) (number d : ℕ) → numbers (unlinked number d rows) ≡ numbers rows }
+    ensures all_rows { (rows : List (Row T)) (number d : ℕ) → row_numbers (unlinked number d rows) ≡ row_numbers rows }
 {}

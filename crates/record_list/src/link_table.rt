@@ -3,9 +3,9 @@
 ghost use Rattle.std.specs.Prelude.{◌≡◌, ◌≢◌, ◌<◌, ◌≤◌, ℕ, true, false, IsTrue, IfOk, slice_index_or, slice_set};
 ghost use Rattle.std.specs.Option.{is_some};
 ghost use Rattle.std.specs.declared.option.Option.TheVariants.{None};
-ghost use Rattle.record_list.specs.declared.link_table.Ends.{Ends};
-ghost use Rattle.record_list.specs.Packing.{link_of, slot_of};
-ghost use Rattle.record_list.specs.Stands.{stands, new_link};
+ghost use Rattle.record_list.specs.declared.link_table.Neighbours.{Neighbours};
+ghost use Rattle.record_list.specs.inner.Packing.{link_of, slot_of};
+ghost use Rattle.record_list.specs.inner.Stands.{stands, new_link};
 
 use node_heap::Place;
 use std::alloc::{AllocError, Global};
@@ -20,7 +20,7 @@ pub struct Link {
 
 /// Which neighbours a node has in a chain.
 #[derive(Clone, Copy)]
-enum Seat {
+enum LinkKind {
     /// It isn't in the chain.
     Absent,
     /// It is the only one.
@@ -30,18 +30,22 @@ enum Seat {
     Last,
 }
 
-impl Seat {
+impl LinkKind {
     /// The seat of a row that is the only one in a chain, or isn't in it.
-    fn alone(there: bool) -> Seat
-        ensures { (ends : Ends) → link_of result ends ≡ new_link there None }
+    fn alone(there: bool) -> LinkKind
+        ensures { (ends : Neighbours) → link_of result ends ≡ new_link there None }
     {
-        if there { Seat::Alone } else { Seat::Absent }
+        if there {
+            LinkKind::Alone
+        } else {
+            LinkKind::Absent
+        }
     }
 }
 
 /// Where the neighbours of a node lie, where it has them.
 #[derive(Clone, Copy)]
-struct Ends {
+struct Neighbours {
     prev: Place,
     next: Place,
 }
@@ -49,15 +53,15 @@ struct Ends {
 /// The links in each queue but one, in 17 bytes each.
 #[derive(Drop)]
 struct OtherLinks {
-    seats: [Seat; 31],
-    ends: [Ends; 31],
+    seats: [LinkKind; 31],
+    ends: [Neighbours; 31],
 }
 
 impl Model for OtherLinks {
     ghost use Rattle.std.specs.Prelude.{List};
     ghost use Rattle.std.specs.declared.option.Option.{Option};
     ghost use Rattle.record_list.specs.declared.link_table.Link.{Link};
-    ghost use Rattle.record_list.specs.Packing.{links_of};
+    ghost use Rattle.record_list.specs.inner.Packing.{links_of};
 
     ghost Value = { List (Option Link) };
 
@@ -71,14 +75,14 @@ impl OtherLinks {
         ensures { (d : ℕ) → d < 32 → d ≢ queue → slice_index_or result (slot_of queue d) None ≡ new_link (stands d mask) None }
     {
         let nowhere = Place::nowhere();
-        let mut seats = [Seat::Absent; 31];
+        let mut seats = [LinkKind::Absent; 31];
         for slot in 0..31 {
             let d = if slot < queue { slot } else { slot + 1 };
-            seats[slot] = Seat::alone(stands(mask, d));
+            seats[slot] = LinkKind::alone(stands(mask, d));
         }
         OtherLinks {
             seats,
-            ends: [Ends {
+            ends: [Neighbours {
                 prev: nowhere,
                 next: nowhere,
             }; 31],
@@ -109,13 +113,13 @@ impl OtherLinks {
 #[derive(Clone, Copy)]
 struct QueueSeat {
     queue: u8,
-    seat: Seat,
+    seat: LinkKind,
 }
 
 /// Where a node's neighbours in its row's first queue lie, and its links in the others.
 #[derive(Drop)]
 pub struct QueueLinks {
-    first: Ends,
+    first: Neighbours,
     others: OtherLinks,
 }
 
@@ -124,48 +128,48 @@ const _: () = prove!(size_of::<QueueLinks>() == 544);
 
 /// The seat of a node in its row's first queue, and where its neighbours in queues lie.
 #[derive(Drop)]
-enum Seating {
+enum NodeLinks {
     /// The row was pushed into one queue, or none: its ends there.
-    OneQueue(QueueSeat, Ends),
+    OneQueue(QueueSeat, Neighbours),
     /// The row was pushed into several queues: its links there, in a block of their own.
     Several(QueueSeat, Box<QueueLinks>),
 }
 
-impl Seating {
-    ghost use Rattle.record_list.specs.Seating.{queue_seat_of, queue_ends_of, others_of};
+impl NodeLinks {
+    ghost use Rattle.record_list.specs.inner.Seating.{queue_seat_of, queue_ends_of, others_of};
 
     /// The first queue, and the seat there.
     fn queue_seat(&self) -> QueueSeat
         ensures { result ≡ queue_seat_of self.now }
     {
         match self {
-            Seating::OneQueue(first, _) => *first,
-            Seating::Several(first, _) => *first,
+            NodeLinks::OneQueue(first, _) => *first,
+            NodeLinks::Several(first, _) => *first,
         }
     }
 
     /// The ends in the first queue.
-    fn queue_ends(&self) -> Ends
+    fn queue_ends(&self) -> Neighbours
         ensures { result ≡ queue_ends_of self.now }
     {
         match self {
-            Seating::OneQueue(_, ends) => *ends,
-            Seating::Several(_, links) => links.first,
+            NodeLinks::OneQueue(_, ends) => *ends,
+            NodeLinks::Several(_, links) => links.first,
         }
     }
 
     /// Writes the seat and the ends in the first queue alone.
-    fn set_in_queue(&mut self, first: QueueSeat, ends: Ends)
+    fn set_in_queue(&mut self, first: QueueSeat, ends: Neighbours)
         ensures seat { queue_seat_of self.new ≡ first }
         ensures ends { queue_ends_of self.new ≡ ends }
         ensures rest { others_of self.new ≡ others_of self.old }
     {
         match self {
-            Seating::OneQueue(kept, kept_ends) => {
+            NodeLinks::OneQueue(kept, kept_ends) => {
                 *kept = first;
                 *kept_ends = ends;
             }
-            Seating::Several(kept, links) => {
+            NodeLinks::Several(kept, links) => {
                 *kept = first;
                 links.first = ends;
             }
@@ -177,7 +181,7 @@ impl Seating {
 /// block of their own, which a row that was pushed into one queue goes without.
 #[derive(Drop)]
 pub struct LinkTable {
-    seating: Seating,
+    seating: NodeLinks,
 }
 
 /// What is kept inline takes 24 bytes.
@@ -187,7 +191,7 @@ impl Model for LinkTable {
     ghost use Rattle.std.specs.Prelude.{List, ◌<◌};
     ghost use Rattle.std.specs.declared.option.Option.{Option};
     ghost use Rattle.record_list.specs.declared.link_table.Link.{Link};
-    ghost use Rattle.record_list.specs.Seating.{queue_seat_of, table_by};
+    ghost use Rattle.record_list.specs.inner.Seating.{queue_seat_of, table_by};
 
     ghost Value = { List (Option Link) };
 
@@ -207,20 +211,20 @@ impl LinkTable {
         let rest = if in_queue { mask - (1 << queue) } else { mask };
         let first = QueueSeat {
             queue: queue as u8,
-            seat: Seat::alone(in_queue),
+            seat: LinkKind::alone(in_queue),
         };
-        let nowhere = Ends {
+        let nowhere = Neighbours {
             prev: Place::nowhere(),
             next: Place::nowhere(),
         };
         let seating = if rest == 0 {
-            Seating::OneQueue(first, nowhere)
+            NodeLinks::OneQueue(first, nowhere)
         } else {
             let links = QueueLinks {
                 first: nowhere,
                 others: OtherLinks::alone(mask, queue),
             };
-            Seating::Several(first, Box::new(alloc, links)?)
+            NodeLinks::Several(first, Box::new(alloc, links)?)
         };
         Ok(LinkTable { seating })
     }
@@ -236,8 +240,8 @@ impl LinkTable {
             return unpacked(first.seat, self.seating.queue_ends());
         }
         match &self.seating {
-            Seating::OneQueue(..) => None,
-            Seating::Several(_, links) => links.others.get(slot_of(queue, d)),
+            NodeLinks::OneQueue(..) => None,
+            NodeLinks::Several(_, links) => links.others.get(slot_of(queue, d)),
         }
     }
 
@@ -253,7 +257,7 @@ impl LinkTable {
             let (seat, ends) = packed(link);
             let first = QueueSeat { seat, ..first };
             self.seating.set_in_queue(first, ends);
-        } else if let Seating::Several(_, links) = &mut self.seating {
+        } else if let NodeLinks::Several(_, links) = &mut self.seating {
             links.others.set(slot_of(queue, d), link);
         }
     }
@@ -286,26 +290,26 @@ fn slot_of(queue: usize, d: usize) -> usize
 }
 
 /// A link as it is kept.
-fn packed(link: Option<Link>) -> (Seat, Ends)
+fn packed(link: Option<Link>) -> (LinkKind, Neighbours)
     ensures { link_of result.0 result.1 ≡ link }
 {
     let nowhere = Place::nowhere();
     let Some(Link { prev, next }) = link else {
         return (
-            Seat::Absent,
-            Ends {
+            LinkKind::Absent,
+            Neighbours {
                 prev: nowhere,
                 next: nowhere,
             },
         );
     };
     let seat = match (prev, next) {
-        (None, None) => Seat::Alone,
-        (None, Some(_)) => Seat::First,
-        (Some(_), Some(_)) => Seat::Middle,
-        (Some(_), None) => Seat::Last,
+        (None, None) => LinkKind::Alone,
+        (None, Some(_)) => LinkKind::First,
+        (Some(_), Some(_)) => LinkKind::Middle,
+        (Some(_), None) => LinkKind::Last,
     };
-    let ends = Ends {
+    let ends = Neighbours {
         prev: prev.unwrap_or(nowhere),
         next: next.unwrap_or(nowhere),
     };
@@ -313,24 +317,24 @@ fn packed(link: Option<Link>) -> (Seat, Ends)
 }
 
 /// The link that is kept so.
-fn unpacked(seat: Seat, ends: Ends) -> Option<Link>
+fn unpacked(seat: LinkKind, ends: Neighbours) -> Option<Link>
     ensures { result ≡ link_of seat ends }
 {
     match seat {
-        Seat::Absent => None,
-        Seat::Alone => Some(Link {
+        LinkKind::Absent => None,
+        LinkKind::Alone => Some(Link {
             prev: None,
             next: None,
         }),
-        Seat::First => Some(Link {
+        LinkKind::First => Some(Link {
             prev: None,
             next: Some(ends.next),
         }),
-        Seat::Middle => Some(Link {
+        LinkKind::Middle => Some(Link {
             prev: Some(ends.prev),
             next: Some(ends.next),
         }),
-        Seat::Last => Some(Link {
+        LinkKind::Last => Some(Link {
             prev: Some(ends.prev),
             next: None,
         }),

@@ -1,10 +1,10 @@
 //! Nodes that are in up to 32 chains, one for each queue.
 ghost use Rattle.std.specs.Prelude.{min, ◌-◌, ◌^◌, ◌≡◌, ◌≢◌, ◌<◌, ◌≤◌, ◌+◌, ℕ, [], ◌∷◌, ◌++◌, slice_index_or, true, false, IfOk, IfSome, MatchOption, MatchResult, replicate, if◌then◌else◌};
 ghost use Rattle.std.specs.Option.{is_some};
-ghost use Rattle.record_list.specs.Stands.{stands};
+ghost use Rattle.record_list.specs.inner.Stands.{stands};
 ghost use Rattle.std.specs.Borrow.{sem, Lends};
 ghost use Rattle.std.specs.declared.option.Option.TheVariants.{None, Some};
-ghost use Rattle.node_heap.specs.Held.{IsHeld, find_node, drop_node, held_at};
+ghost use Rattle.node_heap.specs.inner.Held.{IsHeld, find_node, drop_node, held_at};
 
 use crate::directory::Directory;
 use crate::link_table::{Link, LinkTable, QueueLinks, none_from, stands};
@@ -33,10 +33,10 @@ pub struct Links<T> {
 }
 
 impl<T> Links<T> {
-    ghost use Rattle.record_list.specs.Chain.{change_at, with_next, with_prev, end_after, members, items_at, link_at, change_node, without_link};
-    ghost use Rattle.record_list.specs.Linked.{IsApart, places, IsLinked, Gap, Hangs, IsSameChain, tail_at};
-    ghost use Rattle.record_list.specs.Stands.{new_link};
-    ghost use Rattle.record_list.specs.Visit.{lends_visit};
+    ghost use Rattle.record_list.specs.inner.Chain.{change_at, with_next, with_prev, end_after, members, items_at, link_at, change_node, without_link};
+    ghost use Rattle.record_list.specs.inner.Linked.{IsApart, places, IsLinked, BrokenAt, LacksTail, IsSameChain, tail_at};
+    ghost use Rattle.record_list.specs.inner.Stands.{new_link};
+    ghost use Rattle.record_list.specs.inner.Visit.{lends_visit};
 
     pub(crate) fn new() -> Links<T>
         ensures nodes { result.nodes.held ≡ [] }
@@ -126,7 +126,7 @@ impl<T> Links<T> {
     pub(crate) fn join(&mut self, d: usize, prev: Option<Place>, next: Option<Place>)
         requires chain { d < 32 }
         requires apart { IsApart (places self.old.nodes.held) }
-        requires gap { Gap d self.old prev next }
+        requires gap { BrokenAt d self.old prev next }
         ensures linked { IsLinked d self.new }
         ensures members { members d self.new.nodes.held ≡ members d self.old.nodes.held }
         ensures others { (e : ℕ) → e ≢ d → IsSameChain e self.old self.new }
@@ -142,7 +142,7 @@ impl<T> Links<T> {
     pub(crate) fn enter(&mut self, d: usize, at: Place)
         requires chain { d < 32 }
         requires apart { IsApart (places self.old.nodes.held) }
-        requires hangs { Hangs d self.old at.ptr }
+        requires hangs { LacksTail d self.old at.ptr }
         ensures linked { IsLinked d self.new }
         ensures members { members d self.new.nodes.held ≡ members d self.old.nodes.held }
         ensures others { (e : ℕ) → e ≢ d → IsSameChain e self.old self.new }
@@ -178,7 +178,7 @@ impl<T> Links<T> {
     /// The last row's node, at `at`, is linked into each of its chains.
     pub(crate) fn enter_all(&mut self, at: Place, mask: u32)
         requires apart { IsApart (places self.old.nodes.held) }
-        requires hangs { (d : ℕ) → d < 32 → stands d mask ≡ true → Hangs d self.old at.ptr }
+        requires hangs { (d : ℕ) → d < 32 → stands d mask ≡ true → LacksTail d self.old at.ptr }
         requires linked { (d : ℕ) → d < 32 → stands d mask ≡ false → IsLinked d self.old }
         ensures linked { (d : ℕ) → d < 32 → IsLinked d self.new }
         ensures members { (d : ℕ) → d < 32 → members d self.new.nodes.held ≡ members d self.old.nodes.held }
@@ -222,10 +222,10 @@ impl<T> Links<T> {
 }
 
 impl<T: Drop> Links<T> {
-    ghost use Rattle.record_list.specs.Chain.{items_at};
-    ghost use Rattle.record_list.specs.Linked.{IsApart, places, IsLinked, IsOpen};
-    ghost use Rattle.record_list.specs.Listed.{listed};
-    ghost use Rattle.record_list.specs.Stands.{IsWhole};
+    ghost use Rattle.record_list.specs.inner.Chain.{items_at};
+    ghost use Rattle.record_list.specs.inner.Linked.{IsApart, places, IsLinked, IsOpen};
+    ghost use Rattle.record_list.specs.inner.Listed.{listed};
+    ghost use Rattle.record_list.specs.inner.Stands.{IsWhole};
 
     /// Gives the node a block, and returns it where memory is refused.
     pub(crate) fn place(&mut self, alloc: Global, node: Node<T>) -> Result<Place, Node<T>>

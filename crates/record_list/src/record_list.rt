@@ -4,7 +4,8 @@ ghost use Rattle.std.specs.Prelude.{ℕ, ◌≡◌, ◌<◌, ◌≤◌, ◌+◌,
 ghost use Rattle.std.specs.Borrow.{LendsSo, sem};
 ghost use Rattle.std.specs.Option.{option_copied_mut};
 ghost use Rattle.row_store.specs.declared.Row.{Row};
-ghost use Rattle.row_store.specs.Rows.{front_of, is_linked, unlinked, item_at, removed};
+ghost use Rattle.row_store.specs.Rows.{item_at};
+ghost use Rattle.row_store.specs.inner.Rows.{front_of, is_linked, unlinked, removed};
 
 use crate::directory::Directory;
 use crate::links::{Links, Node};
@@ -23,8 +24,8 @@ pub struct RecordList<T: Drop> {
 impl<T: Drop> Model for RecordList<T> {
     ghost use Rattle.std.specs.Prelude.{ℕ, List};
     ghost use Rattle.row_store.specs.declared.Row.{Row};
-    ghost use Rattle.record_list.specs.Chain.{rows_of};
-    ghost use Rattle.record_list.specs.Stands.{IsKept};
+    ghost use Rattle.record_list.specs.inner.Chain.{rows_of};
+    ghost use Rattle.record_list.specs.inner.Stands.{IsKept};
 
     ghost Value = { List (Row T) × ℕ };
 

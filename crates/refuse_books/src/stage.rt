@@ -1,12 +1,12 @@
 //! The book of a script, and calls on it.
 
 use anyhow::{Result, bail};
-use book_core::{Book, EVENTS_MAX, Letter};
+use book_core::{Book, EVENTS_MAX, Outbound};
 use book_state::answers::{arrived, cancelled, deployed, fronts, numbers, pruned, taken};
 use book_state::push_book;
 use book_state::words::{moment, number, outcome, ticket, word};
 use call_window::{Window, done};
-use dest_queue::Addressed;
+use dest_queue::Queued;
 use event_log::Log;
 use judge_core::{Judged, fits_block, judge};
 use plan_text::Plan;
@@ -26,7 +26,7 @@ const CONNECTION: u32 = 3;
 #[derive(Drop)]
 pub struct Stage {
     alloc: Global,
-    book: Book<RecordList<Addressed<Letter>>>,
+    book: Book<RecordList<Queued<Outbound>>>,
 }
 
 /// The plan in a file.

@@ -68,7 +68,12 @@ fn ack(alloc: Global, window: &Window, message: &Message) -> Result<String> {
 ///
 /// Where the words are no such call, standard output can't be written, or memory is refused outside of the
 /// call's own requests.
-pub fn answer(alloc: Global, window: &Window, message: &Message, name: &str) -> Result<String> {
+pub(crate) fn answer(
+    alloc: Global,
+    window: &Window,
+    message: &Message,
+    name: &str,
+) -> Result<String> {
     match name {
         "header" => header(alloc, window, message),
         "msa" => msa(alloc, window, message),

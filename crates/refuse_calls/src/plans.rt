@@ -7,7 +7,7 @@ use er7_tree::Message;
 use hl7_filter::Cond;
 use hl7_transform::{Step, StepFault, all_may_stand, apply};
 use judge_core::{Delivery, Judged, Verdict, fits_block, judge};
-use plan_text::{Channel, FaultName, Plan, PlanFault};
+use plan_text::{Channel, Plan, PlanFault, PlanFaultKind};
 use play_script::{bytes_of, shown};
 use std::alloc::{AllocError, Global};
 use std::fmt::Write;
@@ -23,7 +23,7 @@ pub struct Plans {
 
 /// What is wrong with a plan. Where memory was refused, no key is named.
 fn fault_told(alloc: Global, fault: &PlanFault) -> Result<String, AllocError> {
-    if fault.name == FaultName::NoMemory && fault.path.as_str().is_empty() {
+    if fault.name == PlanFaultKind::NoMemory && fault.path.as_str().is_empty() {
         return no_memory(alloc);
     }
     format!(in alloc; "fault {fault}")

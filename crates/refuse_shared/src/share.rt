@@ -7,9 +7,10 @@ ghost use Rattle.event_log.specs.Counting.{counted};
 use crate::stage::{Rows, Stage, plan_named};
 use anyhow::{Result, bail};
 use book_core::{Book, EVENTS_MAX, Receipt};
-use book_lock::{Closed, Desk, Opening, Shared, Station, audit};
+use book_lock::{ArrivalLedger, Closed, Desk, LogEntry, Shared, Station, audit};
 use book_state::push_held;
 use call_window::Window;
+use ghost_log::BlankLog;
 use log::Log;
 use std::hash::RandomState;
 use std::marker::Brand;
@@ -25,7 +26,7 @@ fn empty_book(host: &HostRuntime) -> Result<Book<Rows>> {
 }
 
 /// Writes a line, with the answer to its call.
-fn play_line<A: Opening, T: Ledger, U: Ledger, H: Wait + Clock + Log>(
+fn play_line<A: ArrivalLedger, T: Ledger, U: Ledger, H: Wait + Clock + Log>(
     host: &HostRuntime,
     stage: &mut Stage<'_, A, T, U, H>,
     line: &str,
@@ -42,7 +43,7 @@ fn play_line<A: Opening, T: Ledger, U: Ledger, H: Wait + Clock + Log>(
 }
 
 /// Plays all lines of standard input.
-fn play_all<A: Opening, T: Ledger, U: Ledger, H: Wait + Clock + Log>(
+fn play_all<A: ArrivalLedger, T: Ledger, U: Ledger, H: Wait + Clock + Log>(
     host: &HostRuntime,
     stage: &mut Stage<'_, A, T, U, H>,
 ) -> Result<()> {
@@ -54,12 +55,12 @@ fn play_all<A: Opening, T: Ledger, U: Ledger, H: Wait + Clock + Log>(
 
 /// Plays all lines at the first desk and the first station of a shared book, and returns the
 /// receipts.
-fn play_at<A: Opening, T: Ledger, U: Ledger, H: Wait + Clock + Log>(
+fn play_at<A: ArrivalLedger, T: Ledger, U: Ledger, H: Wait + Clock + Log>(
     rt: &H,
     host: &HostRuntime,
     shared: &Shared<A, T, U, Rows>,
     desks: &mut [Desk<A>],
-    stations: &mut [Station<T, U>],
+    stations: &mut [Station<A, T, U>],
 ) -> Result<Vec<Receipt>> {
     let (Some(desk), Some(station)) = (desks.first_mut(), stations.first_mut()) else {
         bail!("there is no desk or no station");
@@ -80,14 +81,17 @@ fn tell_closed(host: &HostRuntime, closed: &Closed<Rows>, receipts: &[Receipt]) 
 }
 
 /// Shares a book between a desk and a station, plays all lines on it, and closes it.
-fn play_and_close<A: Opening, T: Ledger, U: Ledger, H: Wait + Clock + Log>(
+fn play_and_close<A: ArrivalLedger, T: Ledger, U: Ledger, H: Wait + Clock + Log>(
     rt: &H,
     host: &HostRuntime,
     book: Book<Rows>,
+    log: BlankLog<LogEntry>,
     arrivals: Blank,
     takes: Blank,
     settlements: Blank,
 ) -> Result<()>
+    requires opening { book ≡ A.opening }
+    requires log { log.table.shared.table_id ≡ A.table }
     requires counts { counted book ≡ A.counts }
     requires first { next_place book ≡ A.first }
     requires channels { length (plan_in_force book).channels ≡ A.channels }
@@ -100,6 +104,7 @@ fn play_and_close<A: Opening, T: Ledger, U: Ledger, H: Wait + Clock + Log>(
         book,
         1,
         1,
+        log,
         arrivals,
         takes,
         settlements,
@@ -117,10 +122,12 @@ fn play_and_close<A: Opening, T: Ledger, U: Ledger, H: Wait + Clock + Log>(
 
 /// Plays all lines of standard input on a shared book.
 fn play_on<H: Wait + Clock + Log>(rt: &H, host: &HostRuntime, book: Book<Rows>) -> Result<()> {
+    let log = BlankLog::new(host.alloc())?;
     play_and_close::<Brand, Brand, Brand, H>(
         rt,
         host,
         book,
+        log,
         Blank::new(2),
         Blank::new(2),
         Blank::new(2),
@@ -133,7 +140,7 @@ fn play_on<H: Wait + Clock + Log>(rt: &H, host: &HostRuntime, book: Book<Rows>) 
 ///
 /// Where there is no such book, a line is no call, standard output can't be written, or memory is
 /// refused outside of the calls' own requests.
-pub fn play_shared<H: Wait + Clock + Log>(rt: &H, host: &HostRuntime) -> Result<()> {
+pub(crate) fn play_shared<H: Wait + Clock + Log>(rt: &H, host: &HostRuntime) -> Result<()> {
     let book = empty_book(host)?;
     play_on(rt, host, book)
 }

@@ -43,7 +43,11 @@ fn push_plan(told: &mut String, plan: &Plan) -> Result<(), AllocError> {
 /// # Errors
 ///
 /// Where memory is refused.
-pub fn push_status(told: &mut String, status: &Status, plan: &Plan) -> Result<(), AllocError> {
+pub(crate) fn push_status(
+    told: &mut String,
+    status: &Status,
+    plan: &Plan,
+) -> Result<(), AllocError> {
     write!(told, "; {:?}", status.gauge)?;
     push_plan(told, plan)?;
     push_counts(told, &status.counts)?;
@@ -60,7 +64,11 @@ pub fn push_status(told: &mut String, status: &Status, plan: &Plan) -> Result<()
 /// # Errors
 ///
 /// Where memory is refused.
-pub fn push_message(told: &mut String, number: u32, found: &Found) -> Result<(), AllocError> {
+pub(crate) fn push_message(
+    told: &mut String,
+    number: u32,
+    found: &Found,
+) -> Result<(), AllocError> {
     let Found::Kept(message) = found else {
         return write!(told, "; message {number} is not kept");
     };
@@ -83,7 +91,7 @@ pub fn push_message(told: &mut String, number: u32, found: &Found) -> Result<(),
 /// # Errors
 ///
 /// Where memory is refused.
-pub fn push_queue(told: &mut String, d: u32, queue: &[Front]) -> Result<(), AllocError> {
+pub(crate) fn push_queue(told: &mut String, d: u32, queue: &[Front]) -> Result<(), AllocError> {
     if !queue.is_empty() {
         write!(told, "; queue {d}:")?;
     }

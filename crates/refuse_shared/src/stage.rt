@@ -5,14 +5,14 @@ ghost use Rattle.std.specs.Prelude.{◌<◌};
 use crate::devices::{Agreeing, Leaping, Sink, Source};
 use crate::shown::{push_message, push_queue, push_status};
 use anyhow::{Result, bail};
-use book_core::{Letter, NotBooked, Receipt};
-use book_lock::{Desk, Opening, Shared, Station};
+use book_core::{NotBooked, Outbound, Receipt};
+use book_lock::{ArrivalLedger, Desk, Shared, Station};
 use book_state::answers::{arrived, cancelled, deployed, fronts, numbers, pruned, taken};
 use book_state::words::{moment, number, outcome, ticket, word};
 use call_window::Window;
 use conn_worker::{Counted, ServeReport, Still, nearest, serve};
 use delivery_worker::{DeliverReport, deliver};
-use dest_queue::Addressed;
+use dest_queue::Queued;
 use judge_core::{Judged, fits_block, judge};
 use log::Log;
 use plan_text::Plan;
@@ -27,7 +27,7 @@ use std::sync::{Arc, Wait};
 use std::time::Clock;
 
 /// The rows of the book.
-pub type Rows = RecordList<Addressed<Letter>>;
+pub type Rows = RecordList<Queued<Outbound>>;
 
 /// The number of the connection by which all messages come.
 const CONNECTION: u32 = 3;
@@ -41,12 +41,12 @@ const TURNS: u64 = 12;
 /// The shared book that calls are made on, the desk and the station that they are made at, and the
 /// receipts of the arrivals.
 #[derive(Drop)]
-pub struct Stage<'s, A: Opening, T: Ledger, U: Ledger, H> {
+pub struct Stage<'s, A: ArrivalLedger, T: Ledger, U: Ledger, H> {
     rt: &'s H,
     alloc: Global,
     shared: &'s Shared<A, T, U, Rows>,
     desk: &'s mut Desk<A>,
-    station: &'s mut Station<T, U>,
+    station: &'s mut Station<A, T, U>,
     pub receipts: Vec<Receipt>,
 }
 
@@ -55,7 +55,7 @@ pub struct Stage<'s, A: Opening, T: Ledger, U: Ledger, H> {
 /// # Errors
 ///
 /// Where there is no such file, it has no plan, or memory is refused.
-pub fn plan_named(host: &HostRuntime, name: &str) -> Result<Arc<Plan>> {
+pub(crate) fn plan_named(host: &HostRuntime, name: &str) -> Result<Arc<Plan>> {
     let alloc = host.alloc();
     let plan = Plan::read(alloc, &fs::read(host, name)?)?;
     Ok(Arc::new(alloc, plan)?)
@@ -91,14 +91,14 @@ fn delivered(alloc: Global, report: &DeliverReport, sent: &[u8]) -> Result<Strin
     )?)
 }
 
-impl<'s, A: Opening, T: Ledger, U: Ledger, H: Wait + Clock + Log> Stage<'s, A, T, U, H> {
+impl<'s, A: ArrivalLedger, T: Ledger, U: Ledger, H: Wait + Clock + Log> Stage<'s, A, T, U, H> {
     /// With no call made yet.
     pub fn new(
         rt: &'s H,
         alloc: Global,
         shared: &'s Shared<A, T, U, Rows>,
         desk: &'s mut Desk<A>,
-        station: &'s mut Station<T, U>,
+        station: &'s mut Station<A, T, U>,
     ) -> Self {
         Stage {
             rt,

@@ -3,11 +3,11 @@
 ghost use Rattle.std.specs.Prelude.{◌<◌, All, IsTrue};
 
 use anyhow::{Result, bail};
-use book_core::{EVENTS_MAX, Letter};
+use book_core::{EVENTS_MAX, Outbound};
 use book_state::push_held;
 use book_state::words::{moment, number, outcome, ticket, word};
 use call_window::{Window, no_memory};
-use dest_queue::Addressed;
+use dest_queue::Queued;
 use engine_model::{Step, World, steps_of};
 use plan_text::Plan;
 use play_script::{bytes_of, shown};
@@ -26,7 +26,7 @@ const CONNECTIONS: u32 = 8;
 #[derive(Drop)]
 pub struct Stage {
     alloc: Global,
-    world: World<RecordList<Addressed<Letter>>>,
+    world: World<RecordList<Queued<Outbound>>>,
     connections: u32,
 }
 
@@ -50,7 +50,7 @@ fn world_of(
     plan: Arc<Plan>,
     events_max: u32,
     connections: u32,
-) -> Result<World<RecordList<Addressed<Letter>>>> {
+) -> Result<World<RecordList<Queued<Outbound>>>> {
     let channels = vec![in rt.alloc(); 0; connections as usize]?;
     if events_max == 0 || events_max > EVENTS_MAX || !are_known(&channels, plan.channels()) {
         bail!("there is no such world");

@@ -7,7 +7,7 @@ use Rattle.std.proofs.lemmas.Bool.{cases_lt}
 use Rattle.std.specs.Int.Bits.{xor_add_and}
 use Rattle.std.proofs.Math.Pow.{pow-lt}
 use Rattle.std.proofs.Math.Nat.{one-mul, mod-eq_of_lt}
-use Rattle.row_store.specs.Rows.{without}
+use Rattle.row_store.specs.inner.Rows.{without}
 
 -- a bit that is set lies within the width
 pub within_width : (mask d w : ℕ) → mask < 2 ^ w → (bit_at mask d == 1) ≡ true → d < w

@@ -4,7 +4,8 @@ use Rattle.std.specs.Prelude.{find}
 use Rattle.std.specs.Option.{option_map}
 use Rattle.std.proofs.lemmas.Bool.Decides.{nat_tests}
 use Rattle.row_store.specs.declared.Row.{Row}
-use Rattle.row_store.specs.Rows.{NumbersRise, is_row, item_at, changed_at, unlinked, without}
+use Rattle.row_store.specs.Rows.{is_row, item_at}
+use Rattle.row_store.specs.inner.Rows.{NumbersRise, changed_at, unlinked, without}
 use Rattle.row_store.proofs.Places.{changed_at-missing, only_at, rest-missing}
 
 rise-tail : {T : Type 0} (row : Row T) (rows : List (Row T)) → NumbersRise (row ∷ rows) → NumbersRise rows

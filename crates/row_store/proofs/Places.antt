@@ -11,7 +11,8 @@ use Rattle.std.specs.List.Sorted.{IsBinarySearchResult, IsNonDecreasingBy, IsStr
 use Rattle.std.specs.Ordering.{nat_cmp, ordering_index}
 use Rattle.std.specs.declared.cmp.Ordering.TheVariants.{Less, Equal, Greater}
 use Rattle.row_store.specs.declared.Row.{Row}
-use Rattle.row_store.specs.Rows.{numbers, NumbersRise, is_row, stands_in, is_linked, changed_at, removed}
+use Rattle.row_store.specs.Rows.{row_numbers, is_row, is_in_queue}
+use Rattle.row_store.specs.inner.Rows.{NumbersRise, is_linked, changed_at, removed}
 
 -- that number is at place i and nowhere else
 pub record IsOnlyAt {T : Type 0} (n i : ℕ) (rows : List (Row T)) : Type 0 where
@@ -77,25 +78,25 @@ module _ {T : Type 0} (n : ℕ) where
   removed-at zero (row ∷ rows) only = rw (is_row-yes n row (only.here row)) (removed-missing rows (rest-missing row rows only))
   removed-at (suc i) (row ∷ rows) only = rw (first-other i row rows only) (ap (λ rest. row ∷ rest) (removed-at i rows (rest-only i row rows only)))
 
-  pub is_linked-at : (q i : ℕ) (d : Row T) (rows : List (Row T)) → IsOnlyAt n i rows → is_linked n q rows ≡ stands_in q (get_or rows i d)
+  pub is_linked-at : (q i : ℕ) (d : Row T) (rows : List (Row T)) → IsOnlyAt n i rows → is_linked n q rows ≡ is_in_queue q (get_or rows i d)
   is_linked-at q i d [] only = absurd (let within = only.inside in omega arith)
-  is_linked-at q zero d (row ∷ rows) only = rw (is_row-yes n row (only.here row), is_linked-missing q rows (rest-missing row rows only)) (elim (stands_in q row) as (λ b. (b || false) ≡ b) [ true ↦ refl | false ↦ refl ])
+  is_linked-at q zero d (row ∷ rows) only = rw (is_row-yes n row (only.here row), is_linked-missing q rows (rest-missing row rows only)) (elim (is_in_queue q row) as (λ b. (b || false) ≡ b) [ true ↦ refl | false ↦ refl ])
   is_linked-at q (suc i) d (row ∷ rows) only = rw (first-other i row rows only) (is_linked-at q i d rows (rest-only i row rows only))
 
-pub get_or-numbers : {T : Type 0} (rows : List (Row T)) (k : ℕ) (d : Row T) (e : ℕ) → k < length rows → get_or (numbers rows) k e ≡ (get_or rows k d).number
+pub get_or-numbers : {T : Type 0} (rows : List (Row T)) (k : ℕ) (d : Row T) (e : ℕ) → k < length rows → get_or (row_numbers rows) k e ≡ (get_or rows k d).number
 get_or-numbers {T} rows k d e inside = get_or-map (λ (row : Row T). row.number) rows k d e inside
 
 -- where numbers rise, a place with that number is the only one
 pub only_at : {T : Type 0} (n i : ℕ) (rows : List (Row T)) → NumbersRise rows → i < length rows → HoldsAt (λ row. row.number ≡ n) rows i → IsOnlyAt n i rows
 only_at {T} n i rows rise inside found =
-    let apart = AllPairs-from_increasing (numbers rows) rise in
+    let apart = AllPairs-from_increasing (row_numbers rows) rise in
     let same_length = length-map rows (λ (row : Row T). row.number) in
     record {
       inside = inside;
       here = found;
       others = λ k d within differs same.
-          let here_is : get_or (numbers rows) i 0 ≡ n = get_or-numbers rows i d 0 inside ∙ found d in
-          let there_is : get_or (numbers rows) k 0 ≡ n = get_or-numbers rows k d 0 within ∙ same in
+          let here_is : get_or (row_numbers rows) i 0 ≡ n = get_or-numbers rows i d 0 inside ∙ found d in
+          let there_is : get_or (row_numbers rows) k 0 ≡ n = get_or-numbers rows k d 0 within ∙ same in
           elim (cases_lt k i) [
             | inl before ↦ let rises = apart k i 0 before (omega arith) in omega arith
             | inr after ↦ let rises = apart i k 0 (omega arith) (omega arith) in omega arith
@@ -103,22 +104,22 @@ only_at {T} n i rows rise inside found =
     }
 
 -- a change that keeps the number keeps all numbers
-pub numbers-changed_at : {T : Type 0} (n : ℕ) (change : Row T → Row T) → ((row : Row T) → (change row).number ≡ row.number) → (rows : List (Row T)) → numbers (changed_at n change rows) ≡ numbers rows
+pub numbers-changed_at : {T : Type 0} (n : ℕ) (change : Row T → Row T) → ((row : Row T) → (change row).number ≡ row.number) → (rows : List (Row T)) → row_numbers (changed_at n change rows) ≡ row_numbers rows
 numbers-changed_at n change keeps [] = refl
 numbers-changed_at {T} n change keeps (row ∷ rows) =
     let rest = numbers-changed_at n change keeps rows in
-    elim (is_row n row) as (λ b. (cond b (change row) row).number ∷ numbers (changed_at n change rows) ≡ row.number ∷ numbers rows)
+    elim (is_row n row) as (λ b. (cond b (change row) row).number ∷ row_numbers (changed_at n change rows) ≡ row.number ∷ row_numbers rows)
     [ true ↦ rw (keeps row, rest) refl | false ↦ rw rest refl ]
 
-pub numbers-removed : {T : Type 0} (n : ℕ) (rows : List (Row T)) → numbers (removed n rows) ≡ filter (λ k. not (k == n)) (numbers rows)
+pub numbers-removed : {T : Type 0} (n : ℕ) (rows : List (Row T)) → row_numbers (removed n rows) ≡ filter (λ k. not (k == n)) (row_numbers rows)
 numbers-removed n [] = refl
 numbers-removed {T} n (row ∷ rows) =
     let rest = numbers-removed n rows in
-    elim (is_row n row) as (λ b. numbers (cond (not b) (row ∷ removed n rows) (removed n rows)) ≡ cond (not b) (row.number ∷ filter (λ k. not (k == n)) (numbers rows)) (filter (λ k. not (k == n)) (numbers rows)))
+    elim (is_row n row) as (λ b. row_numbers (cond (not b) (row ∷ removed n rows) (removed n rows)) ≡ cond (not b) (row.number ∷ filter (λ k. not (k == n)) (row_numbers rows)) (filter (λ k. not (k == n)) (row_numbers rows)))
     [ true ↦ rest | false ↦ ap (λ ks. row.number ∷ ks) rest ]
 
 pub NumbersRise-removed : {T : Type 0} (n : ℕ) (rows : List (Row T)) → NumbersRise rows → NumbersRise (removed n rows)
-NumbersRise-removed n rows rise = rw (numbers-removed n rows) (IsStrictlyIncreasing-filter (λ k. not (k == n)) (numbers rows) rise)
+NumbersRise-removed n rows rise = rw (numbers-removed n rows) (IsStrictlyIncreasing-filter (λ k. not (k == n)) (row_numbers rows) rise)
 
 rising-push : (xs : List ℕ) (y : ℕ) → IsStrictlyIncreasing xs → ((k : ℕ) → k < length xs → get_or xs k 0 < y) → IsStrictlyIncreasing (xs ++ y ∷ [])
 rising-push xs y rise below = λ k inside.
@@ -133,7 +134,7 @@ pub NumbersRise-push : {T : Type 0} (rows : List (Row T)) (row : Row T) → Numb
 NumbersRise-push {T} rows row rise below =
     let number : Row T → ℕ = λ r. r.number in
     rw (map-append number rows (row ∷ []))
-    (rising-push (numbers rows) row.number rise
+    (rising-push (row_numbers rows) row.number rise
     (λ k inside. let within : k < length rows = omega (arith, length-map rows number) in
     let is = get_or-numbers rows k row 0 within in let low = below k row within in omega arith))
 
@@ -152,7 +153,7 @@ answers_rise a b n le = grind (arith, nat_tests)
 -- along rising numbers the answers rise
 rising-answers : {T : Type 0} (n : ℕ) (rows : List (Row T)) → NumbersRise rows → IsNonDecreasingBy (λ row. ordering_index (nat_cmp row.number n)) rows
 rising-answers {T} n rows rise = λ i j d le inside. answers_rise _ _ n (
-    let apart = AllPairs-from_increasing (numbers rows) rise in
+    let apart = AllPairs-from_increasing (row_numbers rows) rise in
     let same_length = length-map rows (λ (row : Row T). row.number) in
     elim (cases_lt i j) [
       | inl before ↦

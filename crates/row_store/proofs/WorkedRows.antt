@@ -1,7 +1,8 @@
 -- Three rows: 3 stands in the queues 0 and 31, 5 in 31, and 9 in none.
 use Rattle.std.proofs.Common.{◌≡◌, ℕ, false, List, [], ◌∷◌, None, Some, refl}
 use Rattle.row_store.specs.declared.Row.{Row}
-use Rattle.row_store.specs.Rows.{queue_of, front_of, item_at, with_item, is_linked, unlinked, removed}
+use Rattle.row_store.specs.Rows.{queue_of, item_at}
+use Rattle.row_store.specs.inner.Rows.{front_of, with_item, is_linked, unlinked, removed}
 
 abbrev three_rows : List (Row ℕ)
 three_rows = record { number = 3; item = 30; mask = 2147483649 } ∷ (record { number = 5; item = 50; mask = 2147483648 } ∷ (record { number = 9; item = 90; mask = 0 } ∷ []))

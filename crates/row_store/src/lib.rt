@@ -5,7 +5,8 @@ ghost use Rattle.std.specs.Prelude.{◌≡◌, ◌≢◌, ◌<◌, ◌==◌, ◌
 ghost use Rattle.std.specs.Borrow.{LendsSo, sem};
 ghost use Rattle.std.specs.Option.{option_copied_mut};
 ghost use Rattle.row_store.specs.declared.Row.{Row};
-ghost use Rattle.row_store.specs.Rows.{NumbersRise, stands_in, without, queue_of, front_of, item_at, with_item, is_linked, unlinked, removed};
+ghost use Rattle.row_store.specs.Rows.{is_in_queue, queue_of, item_at};
+ghost use Rattle.row_store.specs.inner.Rows.{NumbersRise, without, front_of, with_item, is_linked, unlinked, removed};
 
 use std::alloc::{AllocFailed, Global};
 
@@ -25,7 +26,7 @@ pub struct Row<T> {
 impl<T> Row<T> {
     /// Whether the row is in queue d. No row is in a queue of `QUEUES` or more.
     pub fn stands_in(&self, d: u32) -> bool
-        ensures { result ≡ stands_in d self.now }
+        ensures { result ≡ is_in_queue d self.now }
     {
         let mask = self.mask;
         d < QUEUES && mask >> d & 1 == 1
@@ -113,8 +114,8 @@ pub fn queue_rules<T>()
     ensures front { (rows : List (Row T)) (d : ℕ) → front_of d rows ≡ slice_get (queue_of d rows) 0 }
 
     // A row that leaves a queue leaves that queue and no other.
-    ensures left { (row : Row T) (d : ℕ) → stands_in d (record row { mask = without d row.mask }) ≡ false }
-    ensures others { (row : Row T) (d e : ℕ) → e ≢ d → stands_in e (record row { mask = without d row.mask }) ≡ stands_in e row }
+    ensures left { (row : Row T) (d : ℕ) → is_in_queue d (record row { mask = without d row.mask }) ≡ false }
+    ensures others { (row : Row T) (d e : ℕ) → e ≢ d → is_in_queue e (record row { mask = without d row.mask }) ≡ is_in_queue e row }
     ensures unlinked { (rows : List (Row T)) (number d : ℕ) →
         queue_of d (unlinked number d rows) ≡ filter (λ k. not (k == number)) (queue_of d rows) }
     ensures unlinked_others { (rows : List (Row T)) (number d e : ℕ) → e ≢ d → queue_of e (unlinked number d rows) ≡ queue_of e rows }
@@ -122,5 +123,5 @@ pub fn queue_rules<T>()
     // Another item changes no queue, and a row at the end is last in its own.
     ensures with_item { (rows : List (Row T)) (number d : ℕ) (item : T) → queue_of d (with_item number item rows) ≡ queue_of d rows }
     ensures pushed { (rows : List (Row T)) (row : Row T) (d : ℕ) →
-        queue_of d (rows ++ row ∷ []) ≡ (if stands_in d row then queue_of d rows ++ row.number ∷ [] else queue_of d rows) }
+        queue_of d (rows ++ row ∷ []) ≡ (if is_in_queue d row then queue_of d rows ++ row.number ∷ [] else queue_of d rows) }
 {}

@@ -2,7 +2,7 @@
 
 ghost use Rattle.std.specs.Prelude.{◌≡◌, ◌≢◌, ◌<◌, All, IfSome, IfNone, length};
 ghost use Rattle.std.specs.List.{HoldsAt};
-ghost use Rattle.row_store.specs.Rows.{NumbersRise};
+ghost use Rattle.row_store.specs.inner.Rows.{NumbersRise};
 
 use crate::{Row, RowStore};
 use std::alloc::{AllocFailed, Global};
@@ -17,7 +17,7 @@ pub struct PlainRows<T> {
 impl<T> Model for PlainRows<T> {
     ghost use Rattle.std.specs.Prelude.{◌-◌, ℕ, List, vec_len, vec_capacity};
     ghost use Rattle.row_store.specs.declared.Row.{Row};
-    ghost use Rattle.row_store.specs.Rows.{NumbersRise};
+    ghost use Rattle.row_store.specs.inner.Rows.{NumbersRise};
 
     ghost Value = { List (Row T) × ℕ };
 

@@ -7,7 +7,8 @@ use Rattle.std.proofs.lemmas.Bool.Decides.{nat_tests}
 use Rattle.plan_text.specs.Entries.{PlanEntry}
 use Rattle.event_log.specs.declared.entry.Entry.{Entry}
 use Rattle.event_log.specs.declared.refusal.CancelRefusal.TheVariants.{NoSuchMessage, NothingWaiting}
-use Rattle.event_log.specs.History.{History, accepted_from, deliveries, history_of, message_at, message_count}
+use Rattle.event_log.specs.History.{History, accepted_from, deliveries, message_at, message_count}
+use Rattle.event_log.specs.inner.History.{history_of}
 use Rattle.event_log.specs.Answers.{brings, brings_at, cancel_answer, keeps, known, mask_where, told_again, waits}
 use Rattle.event_log.proofs.Reading.{message-beyond}
 

@@ -6,8 +6,10 @@ use Rattle.std.proofs.lemmas.List.Elements.{All-head, All-nil, All-push, All-tai
 use Rattle.plan_text.specs.Entries.{PlanEntry, IsPlan}
 use Rattle.event_log.specs.declared.entry.Entry.{Entry}
 use Rattle.event_log.specs.declared.entry.Entry.TheVariants.{Arrival, Take, Settle, Cancel, Deploy}
-use Rattle.event_log.specs.History.{History, accepted, deployed_by, followed_by, last_from, opened_by, plan_after, plan_in_force}
-use Rattle.event_log.specs.Legal.{IsSound, MayFollow}
+use Rattle.event_log.specs.History.{History, accepted, deployed_by, followed_by, last_from, plan_after, plan_in_force}
+use Rattle.event_log.specs.inner.History.{snapshot_after}
+use Rattle.event_log.specs.Legal.{MayFollow}
+use Rattle.event_log.specs.inner.Legal.{IsSound}
 use Rattle.event_log.proofs.Arriving.{arrival-step}
 use Rattle.event_log.proofs.Cancelling.{cancel-step}
 use Rattle.event_log.proofs.Deploying.{deploy-step}
@@ -17,7 +19,7 @@ use Rattle.event_log.proofs.Beginning.{opened-sound}
 use Rattle.event_log.proofs.Settling.{settle-step}
 use Rattle.event_log.proofs.Taking.{take-step}
 use Rattle.event_log.proofs.Totals.{accepted-entries}
-use Rattle.sequential_book.specs.Reading.{IsJudgeable, IsPlain}
+use Rattle.sequential_book.specs.inner.Reading.{IsJudgeable, IsPlain}
 
 -- a sound history stays sound with an entry that may follow
 sound-followed_by : (h : History) → IsSound h → (e : Entry) → MayFollow h e → IsSound (followed_by h e)
@@ -36,7 +38,7 @@ plain-followed_by h plain e may judgeable = record {
 }
 
 -- and is true at first
-pub plain-opened : (plan : PlanEntry) (events_max : ℕ) → IsPlan plan → events_max ≤ 1000000 → IsPlain (opened_by plan events_max)
+pub plain-opened : (plan : PlanEntry) (events_max : ℕ) → IsPlan plan → events_max ≤ 1000000 → IsPlain (snapshot_after plan events_max)
 plain-opened plan events_max good few = record { sound = opened-sound plan events_max good; judgeable = All-nil (IsJudgeable (length plan.channels)); bound = few }
 
 -- an entry leaves as many channels

@@ -10,7 +10,7 @@ use Rattle.event_log.specs.declared.entry.Entry.{Entry}
 use Rattle.event_log.specs.declared.entry.Entry.TheVariants.{Arrival, Take, Settle, Cancel, Deploy}
 use Rattle.event_log.specs.History.{Accepted, accepted_by, accepted_from, accepted_under, deployed_by, last_from, plan_after}
 use Rattle.event_log.proofs.Following.{last-after}
-use Rattle.sequential_book.specs.Reading.{is_acceptance, is_deployment}
+use Rattle.sequential_book.specs.inner.Reading.{is_acceptance, is_deployment}
 use Rattle.sequential_book.proofs.Walks.{left}
 
 -- an entry is the arrival of an accepted message and brings it, or it brings none

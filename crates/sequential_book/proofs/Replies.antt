@@ -11,8 +11,8 @@ use Rattle.event_log.specs.declared.entry.Told.{Told}
 use Rattle.event_log.specs.declared.refusal.TakeRefusal.TheVariants.{Idle, NotDue}
 use Rattle.event_log.specs.History.{History, message_count, plan_in_force, queue, slot}
 use Rattle.event_log.specs.Answers.{arrival_answer, attempts_max, front_answer, known, take_answer, told_again, told_by}
-use Rattle.event_log.specs.Legal.{IsSound, IsWithin}
-use Rattle.event_log.specs.Room.{exceeds, is_full, own_owed, slots_added}
+use Rattle.event_log.specs.inner.Legal.{IsSound, IsWithin}
+use Rattle.event_log.specs.Room.{is_over_limit, is_full, committed_by_new, slots_added}
 use Rattle.sequential_book.proofs.Messages.{found-holds}
 
 -- a message whose key is known is told so
@@ -28,12 +28,12 @@ answer-first h channel raw bookable none = rw (bookable, none) refl
 
 -- whether there is room for an arrival that is told so, by what its slots would owe
 pub full-told : (h : History) (channel : ℕ) (raw : List ℕ) (told : Told) (plan : PlanEntry) (owes : ℕ) → arrival_answer h channel raw ≡ Some told → plan ≡ plan_in_force h
-    → owes ≡ own_owed plan (slots_added plan channel raw told) → is_full h channel raw ≡ exceeds h owes
+    → owes ≡ committed_by_new plan (slots_added plan channel raw told) → is_full h channel raw ≡ is_over_limit h owes
 unfolding is_full
 full-told h channel raw told plan owes is same owed =
-    ap (λ o. exceeds h (option_map_or (λ told. own_owed (plan_in_force h) (slots_added (plan_in_force h) channel raw told)) o 0)) is
-    ∙ (ap (λ p. exceeds h (own_owed p (slots_added p channel raw told))) (sym same)
-    ∙ ap (exceeds h) (sym owed))
+    ap (λ o. is_over_limit h (option_map_or (λ told. committed_by_new (plan_in_force h) (slots_added (plan_in_force h) channel raw told)) o 0)) is
+    ∙ (ap (λ p. is_over_limit h (committed_by_new p (slots_added p channel raw told))) (sym same)
+    ∙ ap (is_over_limit h) (sym owed))
 
 -- a plan allows at most 100 attempts
 pub few-attempts : (plan : PlanEntry) → IsPlan plan → (d : ℕ) → attempts_max plan d ≤ 100

@@ -2,11 +2,11 @@
 
 ghost use Rattle.std.specs.Prelude.{◌≡◌, ◌<◌, ◌≤◌, ◌+◌, ◌^◌};
 ghost use Rattle.judge_core.specs.Judging.{verdict as decided};
-ghost use Rattle.dest_queue.specs.States.{settle_answer, state_after};
-ghost use Rattle.event_log.specs.Room.{own_owed, slots_added};
+ghost use Rattle.dest_queue.specs.States.{slot_answer, state_after};
+ghost use Rattle.event_log.specs.Room.{committed_by_new, slots_added};
 
 use dest_queue::{FailCause, Outcome, SettleRefusal, SlotState};
-use event_log::{Told, own_owed};
+use event_log::{Told, committed_by_new};
 use judge_core::Verdict;
 use plan_text::Plan;
 
@@ -36,7 +36,7 @@ pub(crate) fn settled(
     interval: u32,
 ) -> Result<SlotState, SettleRefusal>
     requires { now + interval < 2 ^ 64 }
-    ensures { result ≡ settle_answer slot outcome attempt now max interval }
+    ensures { result ≡ slot_answer slot outcome attempt now max interval }
 {
     match slot {
         None => Err(SettleRefusal::NoSlot),
@@ -56,12 +56,12 @@ pub(crate) fn arrival_owes(
     verdict: &Verdict,
 ) -> u32
     requires { verdict.now ≡ decided plan.now channel raw.now }
-    ensures value { result ≡ own_owed plan.now (slots_added plan.now channel raw.now told) }
+    ensures value { result ≡ committed_by_new plan.now (slots_added plan.now channel raw.now told) }
     ensures bound { result ≤ 6432 }
 {
     match (told, verdict) {
         (Told::Accepted(_), Verdict::Accept(deliveries)) => {
-            own_owed(plan, deliveries.as_slice())
+            committed_by_new(plan, deliveries.as_slice())
         }
         _ => 0,
     }

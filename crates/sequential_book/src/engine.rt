@@ -3,10 +3,12 @@
 ghost use Rattle.std.specs.Prelude.{◌≡◌, ◌≤◌, Ok, Err, IfOk, IfSome, OnOk, OnErr, IsTrue, Some, length};
 ghost use Rattle.std.specs.Arc.{arc_value};
 ghost use Rattle.judge_core.specs.Judging.{is_bookable};
-ghost use Rattle.event_log.specs.Event.{Does, arrive, cancel, deploy, result_map_err, settle, take};
-ghost use Rattle.event_log.specs.History.{followed_by, opened_by, plan_in_force, queue, slot};
+ghost use Rattle.event_log.specs.Event.{Does, arrive, cancel, deploy, settle, take};
+ghost use Rattle.event_log.specs.inner.Event.{result_map_err};
+ghost use Rattle.event_log.specs.History.{followed_by, plan_in_force, queue, slot};
+ghost use Rattle.event_log.specs.inner.History.{snapshot_after};
 ghost use Rattle.event_log.specs.Legal.{MayFollow};
-ghost use Rattle.sequential_book.specs.Reading.{IsJudgeable, arrive_refusal, settled};
+ghost use Rattle.sequential_book.specs.inner.Reading.{IsJudgeable, arrive_refusal, settled};
 
 mod answers;
 mod slots;
@@ -35,9 +37,10 @@ pub struct SequentialBook {
 
 impl Model for SequentialBook {
     ghost use Rattle.std.specs.Arc.{arc_value};
-    ghost use Rattle.event_log.specs.History.{History, history_of};
-    ghost use Rattle.event_log.specs.Coding.{history_code};
-    ghost use Rattle.sequential_book.specs.Reading.{IsPlain};
+    ghost use Rattle.event_log.specs.History.{History};
+    ghost use Rattle.event_log.specs.inner.History.{history_of};
+    ghost use Rattle.event_log.specs.inner.Coding.{history_code};
+    ghost use Rattle.sequential_book.specs.inner.Reading.{IsPlain};
 
     ghost Value = { History };
 
@@ -52,7 +55,7 @@ impl SequentialBook {
     /// An engine of this plan that may book `events_max` entries, and has booked none yet.
     pub fn new(alloc: Global, plan: Arc<Plan>, events_max: u32) -> SequentialBook
         requires { events_max ≤ EVENTS_MAX }
-        ensures { result ≡ opened_by (arc_value plan) events_max }
+        ensures { result ≡ snapshot_after (arc_value plan) events_max }
     {
         plan.rules();
         SequentialBook {
@@ -192,7 +195,7 @@ impl SequentialBook {
         if let Some(refusal) = self.deploy_answer(&plan)? {
             return Err(refusal);
         }
-        if self.exceeds(0)? {
+        if self.is_over_limit(0)? {
             return Err(DeployRefusal::Full);
         }
         plan.rules();

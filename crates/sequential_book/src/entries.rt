@@ -10,7 +10,7 @@ ghost use Rattle.judge_core.specs.Judging.{deliveries_of};
 ghost use Rattle.dest_queue.specs.declared.SlotState.{SlotState};
 ghost use Rattle.event_log.specs.History.{accepted_by, accepted_from, deployed_by, is_for, last_from, names, plan_after, state_by};
 ghost use Rattle.event_log.specs.Answers.{brings, is_kept, keeps};
-ghost use Rattle.sequential_book.specs.Reading.{IsJudgeable, is_acceptance, is_deployment};
+ghost use Rattle.sequential_book.specs.inner.Reading.{IsJudgeable, is_acceptance, is_deployment};
 
 use dest_queue::{FailCause, SlotState};
 use event_log::{Entry, Ticket, Told};

@@ -18,7 +18,7 @@ pub const SHOWN_MAX: usize = 100;
 /// # Errors
 ///
 /// Where memory is refused.
-pub fn add_state(text: &mut String, state: SlotState) -> Result<(), AllocError> {
+pub(crate) fn add_state(text: &mut String, state: SlotState) -> Result<(), AllocError> {
     match state {
         SlotState::Waiting { attempts, due } => {
             write!(text, "waiting attempts {attempts} due {}", Utc(due))

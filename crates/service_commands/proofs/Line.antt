@@ -3,7 +3,7 @@ use Rattle.std.proofs.Common.{ℕ, List}
 use Rattle.std.specs.Prelude.{Option}
 use Rattle.std.specs.Io.KnownBytes.{Consumes}
 use Rattle.service_commands.specs.declared.input.Held.{Held}
-use Rattle.service_commands.specs.Reading.{Holds, IsText}
+use Rattle.service_commands.specs.inner.Reading.{Holds, IsText}
 
 -- the bytes of a line so far, and how they are held
 pub record IsHeld (old new : Option (List ℕ)) (buffer : List ℕ) (held : Held) : Type 0 where

@@ -1,7 +1,7 @@
 //! The commands, and the one that a line is.
 
 ghost use Rattle.std.specs.Prelude.{◌≡◌, option_map};
-ghost use Rattle.service_commands.specs.Commands.{argument, command_of, named, numbered, number_of, seen, with_digit};
+ghost use Rattle.service_commands.specs.inner.Commands.{argument, command_of, named, numbered, number_of, seen, with_digit};
 
 /// The command that a line is. Texts are of type `T`, the bytes as they are in the line.
 #[derive(Clone, Copy, Debug, PartialEq, Eq)]

@@ -2,7 +2,7 @@
 
 ghost use Rattle.std.specs.Prelude.{◌≡◌, ◌∷◌, [], ◌++◌, List, ℕ, IfOk, MatchOption, MatchResult, OnErr, length};
 ghost use Rattle.std.specs.Io.KnownBytes.{Consumes, IsAtEnd};
-ghost use Rattle.service_commands.specs.Reading.{HasReadPart, Holds, Reads, at_end, ended};
+ghost use Rattle.service_commands.specs.inner.Reading.{HasReadPart, Holds, Reads, at_end, ended};
 
 use std::io;
 use std::io::{ErrorKind, Read};

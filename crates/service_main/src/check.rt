@@ -11,7 +11,11 @@ use plan_table::plan_table;
 /// # Errors
 ///
 /// The fault of the file or of the plan, of standard output, or of memory.
-pub fn check<'a>(rt: &HostRuntime, path: &'a str, verbose: bool) -> Result<Ended, Trouble<'a>> {
+pub(crate) fn check<'a>(
+    rt: &HostRuntime,
+    path: &'a str,
+    verbose: bool,
+) -> Result<Ended, Trouble<'a>> {
     let plan = warned_plan(rt, path, EVENTS_MAX)?;
     let mut text = format!(in rt.alloc(); "{}\n", PlanSize::of(&plan))?;
     if verbose {

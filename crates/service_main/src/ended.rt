@@ -1,7 +1,7 @@
 //! How the program ends.
 
 ghost use Rattle.std.specs.Prelude.{◌≡◌};
-ghost use Rattle.service_main.specs.Ending.{ended_status, trouble_status};
+ghost use Rattle.service_main.specs.inner.Ending.{ended_status, trouble_status};
 
 use engine_report::Fault;
 use std::alloc::AllocError;

@@ -84,7 +84,7 @@ fn fault_of<'a>(fault: TryFault) -> Fault<'a> {
 /// # Errors
 ///
 /// The fault of the plan, of a device or of memory; `NoChannel` where the plan has no channel of that name.
-pub fn try_messages<'a>(
+pub(crate) fn try_messages<'a>(
     rt: &HostRuntime,
     path: &'a str,
     channel: Option<&'a str>,

@@ -2,14 +2,14 @@
 
 ghost use Rattle.std.specs.Prelude.{◌≡◌, IfErr, IfOk};
 ghost use Rattle.std.specs.Process.{exit_status};
-ghost use Rattle.service_main.specs.Ending.{ended_status, trouble_status};
+ghost use Rattle.service_main.specs.inner.Ending.{ended_status, trouble_status};
 
 use crate::check::check;
 use crate::ended::{Ended, Trouble};
 use crate::trying::try_messages;
 use engine_report::{Fault, warned_plan};
 use service_run::{RunEnd, Settings, run};
-use service_words::{Request, ask};
+use service_words::{Request, parse_args};
 use service_workers::Crew;
 use std::env;
 use std::io::ErrorKind;
@@ -34,7 +34,7 @@ pub fn words_given<'a>(rt: &HostRuntime) -> Result<Vec<String>, Trouble<'a>> {
 }
 
 /// Prints the help or the version that was requested, which is a success, or passes on what is wrong with the words.
-fn explain<'a>(rt: &HostRuntime, error: clap::Error) -> Result<Ended, Trouble<'a>> {
+fn print_help<'a>(rt: &HostRuntime, error: clap::Error) -> Result<Ended, Trouble<'a>> {
     if error.use_stderr() {
         return Err(Trouble::Engine(Fault::from(error)));
     }
@@ -73,7 +73,7 @@ pub fn perform<'a, H: Crew + Threads + Eprint + Copy + Sync>(
     _sockets: Sockets,
     words: &'a [String],
 ) -> Result<Ended, Trouble<'a>> {
-    match ask(rt.alloc(), words) {
+    match parse_args(rt.alloc(), words) {
         Ok(Request::Try { plan, channel }) => try_messages(rt, plan, channel),
         Ok(Request::Check { plan, verbose }) => check(rt, plan, verbose),
         Ok(
@@ -95,7 +95,7 @@ pub fn perform<'a, H: Crew + Threads + Eprint + Copy + Sync>(
             };
             serve(rt, handle, plan, &settings)
         }
-        Err(error) => explain(rt, error),
+        Err(error) => print_help(rt, error),
     }
 }
 

@@ -4,7 +4,7 @@ use crate::output::{tell, write_text};
 use crate::questions::queued;
 use crate::service::RunEnd;
 use crate::workers::Returned;
-use book_lock::{Opening, Shared};
+use book_lock::{ArrivalLedger, Shared};
 use engine_report::{Fault, Finding, statistics_text};
 use plan_text::Plan;
 use service_answers::{Listed, left_behind};
@@ -15,7 +15,7 @@ use std::sync::ledger::Ledger;
 
 /// Names each message that is left undelivered at a destination, a line each on standard error, as long as it is read. How many
 /// there are.
-fn name_left_at<A: Opening, T: Ledger, U: Ledger, H: Crew>(
+fn name_left_at<A: ArrivalLedger, T: Ledger, U: Ledger, H: Crew>(
     rt: &HostRuntime,
     site: &Site<'_, A, T, U, H>,
     destination: u32,
@@ -38,7 +38,7 @@ fn name_left_at<A: Opening, T: Ledger, U: Ledger, H: Crew>(
 /// # Errors
 ///
 /// Where memory is refused: some may not have been named.
-pub fn name_left<A: Opening, T: Ledger, U: Ledger, H: Crew>(
+pub(crate) fn name_left<A: ArrivalLedger, T: Ledger, U: Ledger, H: Crew>(
     rt: &HostRuntime,
     site: &Site<'_, A, T, U, H>,
 ) -> Result<usize, AllocError> {
@@ -75,7 +75,7 @@ fn is_any_left(plan: &Plan, counts: &Counts) -> bool {
 ///
 /// `Audit` where the shares of the workers don't add up, `Write` where standard output can't be written or nobody reads it for
 /// five seconds, `Memory`.
-pub fn conclude<'f, A: Opening, T: Ledger, U: Ledger>(
+pub(crate) fn conclude<'f, A: ArrivalLedger, T: Ledger, U: Ledger>(
     rt: &HostRuntime,
     alloc: Global,
     plan: &Plan,

@@ -1,12 +1,12 @@
 //! What a service counts beside its book.
 
-use book_lock::Opening;
+use book_lock::ArrivalLedger;
 use service_answers::{Figures, Unbooked};
 use service_workers::{Crew, Site};
 use std::sync::ledger::Ledger;
 
 /// What the workers of a service have counted so far.
-pub fn figures_of<A: Opening, T: Ledger, U: Ledger, H: Crew>(
+pub(crate) fn figures_of<A: ArrivalLedger, T: Ledger, U: Ledger, H: Crew>(
     site: &Site<'_, A, T, U, H>,
     started: u64,
 ) -> Figures {

@@ -2,9 +2,9 @@
 #![tactic(auto)]
 
 mod ending;
+mod execution;
 mod figures;
 mod listeners;
-mod obey;
 mod output;
 mod questions;
 mod service;

@@ -19,7 +19,7 @@ fn tell_gate(rt: &HostRuntime, gate: &Gate) {
 /// # Errors
 ///
 /// `Listen` of the first channel that can't listen, after a note that says why; `Memory`.
-pub fn open_gates<'f, H: Crew>(
+pub(crate) fn open_gates<'f, H: Crew>(
     rt: &HostRuntime,
     handle: &H,
     plan: &Plan,

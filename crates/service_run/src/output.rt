@@ -36,7 +36,7 @@ fn is_writable(descriptor: i32) -> bool {
 /// # Errors
 ///
 /// Where nobody reads it for five seconds, or writing fails. The rest is not written then.
-pub fn write_text(rt: &HostRuntime, text: &str) -> io::Result<()> {
+pub(crate) fn write_text(rt: &HostRuntime, text: &str) -> io::Result<()> {
     let mut output = rt.stdout();
     for piece in text.as_bytes().chunks(PIECE) {
         if !is_writable(STANDARD_OUTPUT) {
@@ -49,12 +49,12 @@ pub fn write_text(rt: &HostRuntime, text: &str) -> io::Result<()> {
 
 /// Writes an answer to standard output. What can't be written is dropped: whoever sends commands and doesn't read the answers
 /// holds up nothing.
-pub fn say(rt: &HostRuntime, text: &str) {
+pub(crate) fn say(rt: &HostRuntime, text: &str) {
     let _ = write_text(rt, text);
 }
 
 /// Writes an answer to standard output, or that memory was refused for it.
-pub fn answer(rt: &HostRuntime, text: Result<String, AllocError>) {
+pub(crate) fn answer(rt: &HostRuntime, text: Result<String, AllocError>) {
     match text {
         Ok(text) => say(rt, &text),
         Err(AllocError) => say(rt, NO_MEMORY),
@@ -62,6 +62,6 @@ pub fn answer(rt: &HostRuntime, text: Result<String, AllocError>) {
 }
 
 /// Writes a line to standard error. Whether it was written: it is not where nobody reads for five seconds, or writing fails.
-pub fn tell(rt: &HostRuntime, line: &str) -> bool {
+pub(crate) fn tell(rt: &HostRuntime, line: &str) -> bool {
     is_writable(STANDARD_ERROR) && eprintln!(rt; "{line}").is_ok()
 }

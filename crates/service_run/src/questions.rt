@@ -2,7 +2,7 @@
 
 use crate::figures::figures_of;
 use book_core::Front;
-use book_lock::Opening;
+use book_lock::ArrivalLedger;
 use log::{Log, info, warn};
 use log_text::Escaped;
 use plan_text::Plan;
@@ -28,7 +28,7 @@ pub const SLICE: u32 = 4_096;
 /// # Errors
 ///
 /// Where memory is refused, or the plan has more owners than can be counted.
-pub fn ask_status<A: Opening, T: Ledger, U: Ledger, H: Crew>(
+pub(crate) fn ask_status<A: ArrivalLedger, T: Ledger, U: Ledger, H: Crew>(
     site: &Site<'_, A, T, U, H>,
     started: u64,
 ) -> Result<String, AllocError> {
@@ -41,7 +41,7 @@ pub fn ask_status<A: Opening, T: Ledger, U: Ledger, H: Crew>(
 /// # Errors
 ///
 /// Where memory is refused, or the plan has more owners than can be counted.
-pub fn ask_metrics<A: Opening, T: Ledger, U: Ledger, H: Crew>(
+pub(crate) fn ask_metrics<A: ArrivalLedger, T: Ledger, U: Ledger, H: Crew>(
     site: &Site<'_, A, T, U, H>,
     started: u64,
 ) -> Result<String, AllocError> {
@@ -54,7 +54,7 @@ pub fn ask_metrics<A: Opening, T: Ledger, U: Ledger, H: Crew>(
 /// # Errors
 ///
 /// Where memory is refused, or the plan has more owners than can be counted.
-pub fn ask_message<A: Opening, T: Ledger, U: Ledger, H: Crew>(
+pub(crate) fn ask_message<A: ArrivalLedger, T: Ledger, U: Ledger, H: Crew>(
     site: &Site<'_, A, T, U, H>,
     number: u32,
 ) -> Result<String, AllocError> {
@@ -67,7 +67,7 @@ pub fn ask_message<A: Opening, T: Ledger, U: Ledger, H: Crew>(
 /// # Errors
 ///
 /// Where memory is refused.
-pub fn ask_find<A: Opening, T: Ledger, U: Ledger, H: Crew>(
+pub(crate) fn ask_find<A: ArrivalLedger, T: Ledger, U: Ledger, H: Crew>(
     site: &Site<'_, A, T, U, H>,
     id: &[u8],
 ) -> Result<String, AllocError> {
@@ -89,7 +89,7 @@ pub fn ask_find<A: Opening, T: Ledger, U: Ledger, H: Crew>(
 /// # Errors
 ///
 /// Where memory is refused.
-pub fn queued<A: Opening, T: Ledger, U: Ledger, H: Crew>(
+pub(crate) fn queued<A: ArrivalLedger, T: Ledger, U: Ledger, H: Crew>(
     site: &Site<'_, A, T, U, H>,
     destination: u32,
     most: usize,
@@ -134,7 +134,7 @@ fn destination_named(plan: &Plan, counts: &Counts, name: &[u8]) -> Option<(u32, 
 /// # Errors
 ///
 /// Where memory is refused, or the plan has more owners than can be counted.
-pub fn ask_waiting<A: Opening, T: Ledger, U: Ledger, H: Crew>(
+pub(crate) fn ask_waiting<A: ArrivalLedger, T: Ledger, U: Ledger, H: Crew>(
     site: &Site<'_, A, T, U, H>,
     name: &[u8],
 ) -> Result<String, AllocError> {
@@ -155,7 +155,7 @@ pub fn ask_waiting<A: Opening, T: Ledger, U: Ledger, H: Crew>(
 /// # Errors
 ///
 /// Where memory is refused.
-pub fn do_prune<A: Opening, T: Ledger, U: Ledger, H: Crew>(
+pub(crate) fn do_prune<A: ArrivalLedger, T: Ledger, U: Ledger, H: Crew>(
     site: &Site<'_, A, T, U, H>,
 ) -> Result<String, AllocError> {
     match site.shared.prune_settled(site.rt, site.keep) {
@@ -178,7 +178,7 @@ pub fn do_prune<A: Opening, T: Ledger, U: Ledger, H: Crew>(
 /// # Errors
 ///
 /// Where memory is refused, or the plan has more owners than can be counted.
-pub fn do_cancel<A: Opening, T: Ledger, U: Ledger, H: Crew>(
+pub(crate) fn do_cancel<A: ArrivalLedger, T: Ledger, U: Ledger, H: Crew>(
     site: &Site<'_, A, T, U, H>,
     number: u32,
 ) -> Result<String, AllocError> {
@@ -193,7 +193,7 @@ pub fn do_cancel<A: Opening, T: Ledger, U: Ledger, H: Crew>(
 }
 
 /// The plan in a file, or the answer that says why there is none.
-fn read_plan<A: Opening, T: Ledger, U: Ledger, H: Crew>(
+fn read_plan<A: ArrivalLedger, T: Ledger, U: Ledger, H: Crew>(
     rt: &HostRuntime,
     site: &Site<'_, A, T, U, H>,
     path: &str,
@@ -228,7 +228,7 @@ fn deployed(alloc: Global, gates: &[Gate], plan: &Plan) -> Result<String, AllocE
 /// # Errors
 ///
 /// Where memory is refused, or the plan has more owners than can be counted.
-pub fn do_deploy<A: Opening, T: Ledger, U: Ledger, H: Crew>(
+pub(crate) fn do_deploy<A: ArrivalLedger, T: Ledger, U: Ledger, H: Crew>(
     rt: &HostRuntime,
     site: &Site<'_, A, T, U, H>,
     gates: &[Gate],

@@ -10,10 +10,11 @@ use crate::settings::Settings;
 use crate::threads::work;
 use crate::workers::Workers;
 use book_core::{Book, EVENTS_MAX};
-use book_lock::{Opening, Shared};
+use book_lock::{ArrivalLedger, LogEntry, Shared};
 use descriptors::allowed;
 use engine_journal::{Journal, Outbox, Repeats};
 use engine_report::{Fault, connections_of, descriptors_of, hasher};
+use ghost_log::BlankLog;
 use log::{Log, info, warn};
 use log_text::Escaped;
 use plan_text::Plan;
@@ -46,7 +47,12 @@ pub enum RunEnd {
 
 /// Runs all workers over a shared book until they have ended, and names what is left undelivered. Whether enough threads could
 /// be started.
-fn run_workers<A: Opening + Sync, T: Ledger + Sync, U: Ledger + Sync, H: Crew + Threads + Sync>(
+fn run_workers<
+    A: ArrivalLedger + Send + Sync,
+    T: Ledger + Sync,
+    U: Ledger + Sync,
+    H: Crew + Threads + Sync,
+>(
     rt: &HostRuntime,
     handle: &H,
     settings: &Settings,
@@ -66,17 +72,26 @@ fn run_workers<A: Opening + Sync, T: Ledger + Sync, U: Ledger + Sync, H: Crew + 
 }
 
 /// Shares the book, runs all workers over it, closes it, and prints the statistics.
-fn serve<'f, A: Opening + Sync, T: Ledger + Sync, U: Ledger + Sync, H: Crew + Threads + Sync>(
+fn serve<
+    'f,
+    A: ArrivalLedger + Send + Sync,
+    T: Ledger + Sync,
+    U: Ledger + Sync,
+    H: Crew + Threads + Sync,
+>(
     rt: &HostRuntime,
     handle: &H,
     settings: &Settings,
     gates: Vec<Gate>,
     book: Book<ServiceRows>,
     desks: u32,
+    log: BlankLog<LogEntry>,
     arrivals: Blank,
     takes: Blank,
     settlements: Blank,
 ) -> Result<RunEnd, Fault<'f>>
+    requires opening { book ≡ A.opening }
+    requires log { log.table.shared.table_id ≡ A.table }
     requires counts { counted book ≡ A.counts }
     requires first { next_place book ≡ A.first }
     requires channels { length (plan_in_force book).channels ≡ A.channels }
@@ -90,6 +105,7 @@ fn serve<'f, A: Opening + Sync, T: Ledger + Sync, U: Ledger + Sync, H: Crew + Th
         book,
         desks as usize,
         POSTS as usize,
+        log,
         arrivals,
         takes,
         settlements,
@@ -159,6 +175,7 @@ fn run_by<'f, H: Crew + Threads + Sync>(
     // The words of the command line have these bounds already.
     let events = settings.events.clamp(1, EVENTS_MAX);
     let book = Book::<ServiceRows>::new(alloc, shared_plan, events, hasher);
+    let log = BlankLog::new(alloc)?;
     serve::<Brand, Brand, Brand, _>(
         rt,
         handle,
@@ -166,6 +183,7 @@ fn run_by<'f, H: Crew + Threads + Sync>(
         gates,
         book,
         desks,
+        log,
         Blank::new(u64::from(desks) + 1),
         Blank::new(u64::from(POSTS) + 1),
         Blank::new(u64::from(POSTS) + 1),

@@ -1,9 +1,9 @@
 //! The threads of a service.
 
-use crate::obey::obey_all;
+use crate::execution::execute_all;
 use crate::settings::Settings;
 use crate::workers::Workers;
-use book_lock::Opening;
+use book_lock::ArrivalLedger;
 use log::{Log, info, warn};
 use service_workers::{Crew, Gate, Place, Post, Site, stop, work_place, work_post, work_warden};
 use std::sync::ledger::Ledger;
@@ -19,11 +19,11 @@ fn start_posts<
     's,
     'x: 's,
     E: 's,
-    A: Opening + Sync + 's,
+    A: ArrivalLedger + Send + Sync + 's,
     T: Ledger + Sync + 's,
     U: Ledger + Sync + 's,
     H: Crew + Sync + 's,
->(scope: &Scope<'s, E>, site: &'s Site<'x, A, T, U, H>, posts: &'s [Post<T, U>]) -> u32 {
+>(scope: &Scope<'s, E>, site: &'s Site<'x, A, T, U, H>, posts: &'s [Post<A, T, U>]) -> u32 {
     let mut refused: u32 = 0;
     for (post, destination) in posts.iter().zip(0..u32::MAX) {
         site.begin_post();
@@ -49,7 +49,7 @@ fn start_places<
     's,
     'x: 's,
     E: 's,
-    A: Opening + Sync + 's,
+    A: ArrivalLedger + Send + Sync + 's,
     T: Ledger + Sync + 's,
     U: Ledger + Sync + 's,
     H: Crew + Sync + 's,
@@ -81,7 +81,7 @@ fn start_warden<
     's,
     'x: 's,
     E: 's,
-    A: Opening + Sync + 's,
+    A: ArrivalLedger + Send + Sync + 's,
     T: Ledger + Sync + 's,
     U: Ledger + Sync + 's,
     H: Crew + Sync + 's,
@@ -97,7 +97,7 @@ fn start_all<
     's,
     'x: 's,
     E: 's,
-    A: Opening + Sync + 's,
+    A: ArrivalLedger + Send + Sync + 's,
     T: Ledger + Sync + 's,
     U: Ledger + Sync + 's,
     H: Crew + Sync + 's,
@@ -119,7 +119,7 @@ fn work_within<
     's,
     'x: 's,
     E: 's,
-    A: Opening + Sync + 's,
+    A: ArrivalLedger + Send + Sync + 's,
     T: Ledger + Sync + 's,
     U: Ledger + Sync + 's,
     H: Crew + Sync + 's,
@@ -134,7 +134,7 @@ fn work_within<
     let is_staffed = start_all(scope, site, workers);
     if is_staffed {
         info!(site.rt; "the service is ready");
-        obey_all(rt, site, workers, settings, started);
+        execute_all(rt, site, workers, settings, started);
     } else {
         stop(site, &workers.gates, &workers.places, false, Duration::ZERO);
     }
@@ -142,10 +142,10 @@ fn work_within<
 }
 
 /// Works until all workers have ended. Whether enough threads could be started.
-pub fn work<
+pub(crate) fn work<
     'y,
     'x: 'y,
-    A: Opening + Sync,
+    A: ArrivalLedger + Send + Sync,
     T: Ledger + Sync,
     U: Ledger + Sync,
     H: Crew + Threads + Sync,

@@ -1,30 +1,33 @@
 //! What works in a service.
 
-use book_lock::{Desk, Opening, Station};
+use book_lock::{ArrivalLedger, Desk, Station};
 use service_workers::{Gate, Place, Post};
 use std::alloc::{AllocError, Global};
 use std::sync::ledger::Ledger;
 
 /// What works: the listeners of the channels, the places at which connections are served, and the posts that deliver.
 #[derive(Drop)]
-pub struct Workers<A: Opening, T: Ledger, U: Ledger> {
+pub struct Workers<A: ArrivalLedger, T: Ledger, U: Ledger> {
     /// The listeners, in the order of the plan's channels.
     pub gates: Vec<Gate>,
     /// The place at index `k` is one of channel `k` modulo the number of channels.
     pub places: Vec<Place<A>>,
     /// The posts, by destination.
-    pub posts: Vec<Post<T, U>>,
+    pub posts: Vec<Post<A, T, U>>,
 }
 
 /// The desks and stations of workers that have ended.
 #[derive(Drop)]
-pub struct Returned<A: Opening, T: Ledger, U: Ledger> {
+pub struct Returned<A: ArrivalLedger, T: Ledger, U: Ledger> {
     pub desks: Vec<Desk<A>>,
-    pub stations: Vec<Station<T, U>>,
+    pub stations: Vec<Station<A, T, U>>,
 }
 
 /// A place for each desk.
-fn places_of<A: Opening>(alloc: Global, desks: Vec<Desk<A>>) -> Result<Vec<Place<A>>, AllocError> {
+fn places_of<A: ArrivalLedger>(
+    alloc: Global,
+    desks: Vec<Desk<A>>,
+) -> Result<Vec<Place<A>>, AllocError> {
     let mut places = Vec::new(alloc);
     for desk in desks {
         places.push(Place::new(desk))?;
@@ -33,10 +36,10 @@ fn places_of<A: Opening>(alloc: Global, desks: Vec<Desk<A>>) -> Result<Vec<Place
 }
 
 /// A post for each station.
-fn posts_of<T: Ledger, U: Ledger>(
+fn posts_of<A: ArrivalLedger, T: Ledger, U: Ledger>(
     alloc: Global,
-    stations: Vec<Station<T, U>>,
-) -> Result<Vec<Post<T, U>>, AllocError> {
+    stations: Vec<Station<A, T, U>>,
+) -> Result<Vec<Post<A, T, U>>, AllocError> {
     let mut posts = Vec::new(alloc);
     for station in stations {
         posts.push(Post::new(station))?;
@@ -45,7 +48,10 @@ fn posts_of<T: Ledger, U: Ledger>(
 }
 
 /// The desks of places that have ended.
-fn desks_of<A: Opening>(alloc: Global, places: Vec<Place<A>>) -> Result<Vec<Desk<A>>, AllocError> {
+fn desks_of<A: ArrivalLedger>(
+    alloc: Global,
+    places: Vec<Place<A>>,
+) -> Result<Vec<Desk<A>>, AllocError> {
     let mut desks = Vec::new(alloc);
     for place in places {
         if let Some(desk) = place.into_desk() {
@@ -56,10 +62,10 @@ fn desks_of<A: Opening>(alloc: Global, places: Vec<Place<A>>) -> Result<Vec<Desk
 }
 
 /// The stations of posts that have ended.
-fn stations_of<T: Ledger, U: Ledger>(
+fn stations_of<A: ArrivalLedger, T: Ledger, U: Ledger>(
     alloc: Global,
-    posts: Vec<Post<T, U>>,
-) -> Result<Vec<Station<T, U>>, AllocError> {
+    posts: Vec<Post<A, T, U>>,
+) -> Result<Vec<Station<A, T, U>>, AllocError> {
     let mut stations = Vec::new(alloc);
     for post in posts {
         if let Some(station) = post.into_station() {
@@ -69,7 +75,7 @@ fn stations_of<T: Ledger, U: Ledger>(
     Ok(stations)
 }
 
-impl<A: Opening, T: Ledger, U: Ledger> Workers<A, T, U> {
+impl<A: ArrivalLedger, T: Ledger, U: Ledger> Workers<A, T, U> {
     /// A place for each desk, and a post for each station.
     ///
     /// # Errors
@@ -79,7 +85,7 @@ impl<A: Opening, T: Ledger, U: Ledger> Workers<A, T, U> {
         alloc: Global,
         gates: Vec<Gate>,
         desks: Vec<Desk<A>>,
-        stations: Vec<Station<T, U>>,
+        stations: Vec<Station<A, T, U>>,
     ) -> Result<Self, AllocError> {
         Ok(Workers {
             gates,

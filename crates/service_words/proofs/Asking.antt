@@ -10,7 +10,7 @@ use Rattle.clap.specs.declared.error.Error.{Error}
 use Rattle.clap.specs.declared.parser.matches.ArgMatches.{ArgMatches}
 use Rattle.clap.specs.declared.parser.matches.SubCommand.{SubCommand}
 use Rattle.clap.specs.declared.parser.matches.ArgMatches.TheViews.{out-SubCommand}
-use Rattle.service_words.specs.Words.{IsNumberOf, program}
+use Rattle.service_words.specs.inner.Words.{IsNumberOf, program}
 
 -- what reading a number gives
 abbrev pub ReadOf : ℕ → List ℕ → Result ℕ ParseIntError → Type 0

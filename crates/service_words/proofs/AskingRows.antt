@@ -3,7 +3,7 @@ use Rattle.std.specs.Prelude.{◌≡◌, List, [], ◌∷◌, Option, None, Some
 use Rattle.clap.proofs.OnLiterals.{clap_on_literals}
 use Rattle.clap.specs.declared.error.kind.ErrorKind.TheVariants.{MissingRequiredArgument, MissingSubcommand, UnknownArgument, ValueValidation}
 use Rattle.clap.specs.Words.{Text, fault_of, first_of, one_of, subcommand_of}
-use Rattle.service_words.specs.Words.{program}
+use Rattle.service_words.specs.inner.Words.{program}
 
 -- the command that words name, with its plan, its connections and what it keeps as they are written
 abbrev read-run : List Text → Option (Text × Option Text × Option Text × Option Text)

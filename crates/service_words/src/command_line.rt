@@ -4,8 +4,8 @@ ghost use Rattle.std.specs.Prelude.{◌≡◌, ◌≤◌, ℕ, None, Some, IfOk,
 ghost use Rattle.clap.specs.declared.builder.command.Command.TheViews.{out-Command as fields_of};
 ghost use Rattle.clap.specs.declared.builder.value_parser.ValueParser.TheVariants as parser;
 ghost use Rattle.clap.specs.Words.{FailsBy, app_of, fault_of, found_of, new_app, new_rule, rows_of, rule_of, subcommand_of, subcommand_rows_of, with_rule, with_subcommand};
-ghost use Rattle.service_words.specs.Request.{IsWithinLimits};
-ghost use Rattle.service_words.specs.Words.{channel_rule, check_app, connections_rule, events_rule, grace_rule, idle_rule, keep_rule, plan_rule, program, run_app, top, try_app, verbose_rule, Asks, AsksBy, AsksCheck, AsksRun, AsksTry, IsWithin, IsKept};
+ghost use Rattle.service_words.specs.inner.Request.{IsWithinLimits};
+ghost use Rattle.service_words.specs.inner.Words.{channel_rule, check_app, connections_rule, events_rule, grace_rule, idle_rule, keep_rule, plan_rule, program, run_app, top, try_app, verbose_rule, Asks, AsksBy, AsksCheck, AsksRun, AsksTry, IsWithin, IsKept};
 
 use crate::help::{CHECKING, RUNNING, STATUSES, TRYING};
 use clap::builder::ValueParser;
@@ -361,7 +361,7 @@ fn parse<'a>(alloc: Global, words: &'a [String]) -> Result<ArgMatches<'a>, Error
 ///
 /// The error has the text to be printed: the help, or what is wrong and what the program takes. Unless the system is out of
 /// memory, there is an error exactly where the words have a fault, and it is of that fault's kind.
-pub fn ask<'a>(alloc: Global, words: &'a [String]) -> Result<Request<'a>, Error>
+pub fn parse_args<'a>(alloc: Global, words: &'a [String]) -> Result<Request<'a>, Error>
     ensures limits { IfOk result IsWithinLimits }
     ensures written { IfOk result (λ request. Asks request (map string_bytes words.entry.now)) }
     ensures refused { FailsBy (fault_of program (map string_bytes words.entry.now)) result }

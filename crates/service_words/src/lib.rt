@@ -4,4 +4,4 @@
 mod command_line;
 mod help;
 
-pub use command_line::{Request, ask};
+pub use command_line::{Request, parse_args};

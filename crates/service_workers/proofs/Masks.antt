@@ -7,7 +7,7 @@ use Rattle.std.proofs.lemmas.Option.{slice_get_past}
 use Rattle.event_log.proofs.OneMore.{lt-tells}
 use Rattle.book_lock.specs.declared.status.Status.{Status}
 use Rattle.plan_text.specs.Entries.{PlanEntry}
-use Rattle.service_workers.specs.Pauses.{pauses, pauses_at}
+use Rattle.service_workers.specs.inner.Pauses.{pauses, pauses_at}
 
 -- a bit that is set, and the others
 pub set_here : (mask channel : ℕ) (is_set : Bool) → channel < 64 → is_set ≡ true

@@ -1,2 +1,1 @@
-pub mod Pauses
-pub mod Stages
+pub mod inner

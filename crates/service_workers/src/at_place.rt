@@ -3,7 +3,7 @@
 use crate::pauses::paused_by;
 use crate::site::{Crew, Site};
 use book_core::{NotBooked, Receipt};
-use book_lock::{Desk, Opening, Tidied, Tidying};
+use book_lock::{ArrivalLedger, Desk, Tidied, Tidying};
 use conn_core::Booking;
 use conn_worker::{log_arrival, log_break, log_fill, log_passed_over};
 use judge_core::Judged;
@@ -20,7 +20,7 @@ const FILL_STEP: usize = 16;
 /// A desk of a shared book. An arrival that finds the book tight first forgets what is settled, but for the last messages
 /// that the site keeps. Each call takes the book's lock for a moment. What is not booked is counted at once.
 #[derive(Drop)]
-pub struct AtPlace<'a, 'x, A: Opening, T: Ledger, U: Ledger, H> {
+pub struct AtPlace<'a, 'x, A: ArrivalLedger, T: Ledger, U: Ledger, H> {
     pub site: &'a Site<'x, A, T, U, H>,
     pub desk: &'a mut Desk<A>,
 }
@@ -36,19 +36,22 @@ fn log_tidying<H: Log>(rt: &H, tidying: Tidying) {
 
 /// Has reading pause at the channels that the book has no room for, at once: many messages may be received before the warden
 /// looks. It is the warden that logs it, and has reading go on.
-fn pause_early<A: Opening, T: Ledger, U: Ledger, H: Crew>(site: &Site<'_, A, T, U, H>) {
+fn pause_early<A: ArrivalLedger, T: Ledger, U: Ledger, H: Crew>(site: &Site<'_, A, T, U, H>) {
     // Where the plan can't be shared, the warden looks soon.
     if let Ok((status, plan)) = site.shared.status(site.rt) {
         site.pause_also(paused_by(&plan, &status, site.keep, site.paused()));
     }
 }
 
-impl<'a, 'x, A: Opening, T: Ledger, U: Ledger, H: Crew> Booking for AtPlace<'a, 'x, A, T, U, H> {
-    ghost use Rattle.std.specs.Prelude.{◌≡◌, ◌+◌, length, refl, ⊤};
-    ghost use Rattle.std.proofs.Common.{◌∙◌, arith, length-append};
+impl<'a, 'x, A: ArrivalLedger, T: Ledger, U: Ledger, H: Crew> Booking
+    for AtPlace<'a, 'x, A, T, U, H> {
+    ghost use Rattle.std.specs.Prelude.{refl, ⊤};
+    ghost use Rattle.conn_worker.specs.inner.Arriving.{BooksAtDesk, desk_after, desk_nothing};
 
-    /// The desk counted as many arrivals. It is the same desk.
-    ghost books = { λ old new receipts. (new.desk.now ≡ old.desk.now + length receipts) × (new.desk.ghost_name ≡ old.desk.ghost_name) };
+    /// The arrivals of these receipts were booked at the desk, in this order, and nothing else was. It is the same desk.
+    ghost books = { λ old new receipts.
+        BooksAtDesk A.opening old.desk.now new.desk.now receipts
+        old.desk.ghost_name new.desk.ghost_name };
 
     ghost channels = { λ _. A.channels };
 
@@ -89,9 +92,11 @@ impl<'a, 'x, A: Opening, T: Ledger, U: Ledger, H: Crew> Booking for AtPlace<'a, 
         }
     }
 
-    ghost nothing = { λ x. (Prim.omega arith, refl) };
+    ghost nothing = { λ x. desk_nothing A.opening x.desk.now x.desk.ghost_name };
 
-    ghost after = { λ x y z rs ss h k. (Prim.omega (arith, h.0, k.0, length-append rs ss), k.1 ∙ h.1) };
+    ghost after = { λ x y z rs ss.
+        desk_after A.opening x.desk.now y.desk.now z.desk.now rs ss
+        x.desk.ghost_name y.desk.ghost_name z.desk.ghost_name };
 
     ghost same_channels = { λ _ _ _ _. refl };
 }

@@ -62,7 +62,7 @@ fn is_timeout(error: &io::Error) -> bool {
 /// # Errors
 ///
 /// Where the system refuses it.
-pub fn bound_writes(stream: &TcpStream) -> io::Result<()> {
+pub(crate) fn bound_writes(stream: &TcpStream) -> io::Result<()> {
     stream.set_write_timeout(Some(Duration::from_secs(WRITE_WAIT)))
 }
 

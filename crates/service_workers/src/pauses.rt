@@ -2,7 +2,7 @@
 
 ghost use Rattle.std.specs.Prelude.{◌≡◌, ◌≢◌, ◌<◌, ◌==◌, ℕ};
 ghost use Rattle.std.specs.Int.{bit_at};
-ghost use Rattle.service_workers.specs.Pauses.{frees_enough, is_crowded, is_overfull, leads_to_crowd, pauses, pauses_at};
+ghost use Rattle.service_workers.specs.inner.Pauses.{frees_enough, is_crowded, is_overfull, leads_to_crowd, pauses, pauses_at};
 
 use book_lock::{Gauge, Status};
 use plan_text::{Channel, Plan};
@@ -19,7 +19,7 @@ pub enum PauseCause {
 
 /// Whether as many messages are remembered as may be: those that a pruning keeps, and one for each entry that the book may
 /// hold.
-pub fn is_overfull(gauge: Gauge, keep: u32) -> bool
+pub(crate) fn is_overfull(gauge: Gauge, keep: u32) -> bool
     ensures { result ≡ is_overfull keep gauge }
 {
     u64::from(gauge.remembered()) >= u64::from(keep) + u64::from(gauge.events_max)
@@ -27,7 +27,7 @@ pub fn is_overfull(gauge: Gauge, keep: u32) -> bool
 
 /// Whether a pruning would forget more messages than an eighth of the entries that the book may hold. The number of prunings
 /// is limited, so none is made for a few messages.
-pub fn frees_enough(status: &Status, keep: u32) -> bool
+pub(crate) fn frees_enough(status: &Status, keep: u32) -> bool
     ensures { result ≡ frees_enough keep status.now }
 {
     let Gauge {
@@ -73,7 +73,7 @@ fn crowded_route(plan: &Plan, status: &Status, channel: &Channel) -> Option<u32>
 }
 
 /// Why the reading of a channel of this plan has to begin to pause, if it has to.
-pub fn pause_cause(
+pub(crate) fn pause_cause(
     plan: &Plan,
     status: &Status,
     keep: u32,
@@ -105,7 +105,7 @@ fn pauses(plan: &Plan, status: &Status, keep: u32, is_paused: bool, channel: &Ch
 }
 
 /// Whether the bit of a channel is set in a mask.
-pub fn has_channel(mask: u64, channel: u32) -> bool
+pub(crate) fn has_channel(mask: u64, channel: u32) -> bool
     requires { channel < 64 }
     ensures { result ≡ (bit_at mask channel == 1) }
 {

@@ -8,9 +8,11 @@ use crate::half::{Label, bound_writes};
 use crate::hold::Hold;
 use crate::site::{Crew, Site};
 use crate::stage::Stage;
-use book_lock::{Desk, Opening};
-use conn_core::Line;
-use conn_worker::{Counted, Running, ServeEnd, ServeReport, TURNS_MAX, Unkept, serve_within};
+use book_lock::{ArrivalLedger, Desk};
+use conn_core::ConnectionId;
+use conn_worker::{
+    Counted, DiscardReceipts, Running, ServeEnd, ServeReport, TURNS_MAX, serve_within,
+};
 use log::{Log, info, warn};
 use socket_options::keep_alive;
 use std::alloc::AllocError;
@@ -25,12 +27,12 @@ const RETRY_MILLIS: u64 = 100;
 
 /// A place of a channel: its desk, and the stream that it serves.
 #[derive(Drop)]
-pub struct Place<A: Opening> {
+pub struct Place<A: ArrivalLedger> {
     desk: Mutex<Option<Desk<A>>>,
     hold: Hold,
 }
 
-impl<A: Opening> Place<A> {
+impl<A: ArrivalLedger> Place<A> {
     /// A place with this desk.
     pub fn new(desk: Desk<A>) -> Self {
         Place {
@@ -65,7 +67,7 @@ fn prepare(stream: &TcpStream, idle: u32) {
 /// The outcome of serving a connection, and how many of its messages were booked.
 #[derive(Drop)]
 struct Served {
-    report: ServeReport<Unkept>,
+    report: ServeReport<DiscardReceipts>,
     booked: u64,
 }
 
@@ -74,7 +76,7 @@ struct Served {
 /// # Errors
 ///
 /// Where memory is refused for its stream.
-fn serve_stream<A: Opening, T: Ledger, U: Ledger, H: Crew>(
+fn serve_stream<A: ArrivalLedger, T: Ledger, U: Ledger, H: Crew>(
     site: &Site<'_, A, T, U, H>,
     channel: u32,
     hold: &Hold,
@@ -94,7 +96,7 @@ fn serve_stream<A: Opening, T: Ledger, U: Ledger, H: Crew>(
         hold.shut(site.rt, Shutdown::Read);
     }
     let before = desk.made();
-    let line = Line {
+    let line = ConnectionId {
         alloc: site.alloc,
         conn: label.connection,
         channel,
@@ -120,7 +122,7 @@ fn serve_stream<A: Opening, T: Ledger, U: Ledger, H: Crew>(
 }
 
 /// Logs that a connection ended, why, and what it brought. Whether it ended because memory was refused.
-fn log_end<A: Opening, T: Ledger, U: Ledger, H: Crew>(
+fn log_end<A: ArrivalLedger, T: Ledger, U: Ledger, H: Crew>(
     site: &Site<'_, A, T, U, H>,
     label: Label<'_>,
     served: Result<Served, AllocError>,
@@ -161,7 +163,7 @@ fn log_end<A: Opening, T: Ledger, U: Ledger, H: Crew>(
 }
 
 /// Serves a connection that was accepted, under a number of its own. Where no number is left, the connection is closed.
-fn serve_accepted<A: Opening, T: Ledger, U: Ledger, H: Crew>(
+fn serve_accepted<A: ArrivalLedger, T: Ledger, U: Ledger, H: Crew>(
     site: &Site<'_, A, T, U, H>,
     gate: &Gate,
     hold: &Hold,
@@ -193,7 +195,7 @@ fn serve_accepted<A: Opening, T: Ledger, U: Ledger, H: Crew>(
 }
 
 /// Waits a moment after a failure to accept. The first of a row is logged.
-fn wait_after_failure<A: Opening, T: Ledger, U: Ledger, H: Crew>(
+fn wait_after_failure<A: ArrivalLedger, T: Ledger, U: Ledger, H: Crew>(
     site: &Site<'_, A, T, U, H>,
     gate: &Gate,
     error: &io::Error,
@@ -215,7 +217,7 @@ fn log_recovery<H: Log>(rt: &H, gate: &Gate) {
 }
 
 /// Accepts one connection after another, and serves each to its end, until the service closes.
-fn serve_all<A: Opening, T: Ledger, U: Ledger, H: Crew>(
+fn serve_all<A: ArrivalLedger, T: Ledger, U: Ledger, H: Crew>(
     site: &Site<'_, A, T, U, H>,
     gate: &Gate,
     hold: &Hold,
@@ -242,7 +244,7 @@ fn serve_all<A: Opening, T: Ledger, U: Ledger, H: Crew>(
 }
 
 /// Whether the channel of a gate is one of the plan in force, as it is of each gate that was opened for the plan.
-fn is_planned<A: Opening, T: Ledger, U: Ledger, H: Crew>(
+fn is_planned<A: ArrivalLedger, T: Ledger, U: Ledger, H: Crew>(
     site: &Site<'_, A, T, U, H>,
     gate: &Gate,
 ) -> bool
@@ -255,7 +257,7 @@ fn is_planned<A: Opening, T: Ledger, U: Ledger, H: Crew>(
 }
 
 /// Works at a place of the gate's channel until the service closes.
-pub fn work_place<A: Opening, T: Ledger, U: Ledger, H: Crew>(
+pub fn work_place<A: ArrivalLedger, T: Ledger, U: Ledger, H: Crew>(
     site: &Site<'_, A, T, U, H>,
     gate: &Gate,
     place: &Place<A>,

@@ -3,9 +3,9 @@
 use crate::half::{Half, Label};
 use crate::stage::Stage;
 use crate::tallies::{Tallies, Unbooked};
-use book_core::{Letter, NotBooked};
-use book_lock::{Opening, Shared};
-use dest_queue::Addressed;
+use book_core::{NotBooked, Outbound};
+use book_lock::{ArrivalLedger, Shared};
+use dest_queue::Queued;
 use log::Log;
 use record_list::RecordList;
 use std::alloc::Global;
@@ -16,7 +16,7 @@ use std::sync::{Arc, Wait};
 use std::time::Clock;
 
 /// The store of a book's rows: linked nodes.
-pub type ServiceRows = RecordList<Addressed<Letter>>;
+pub type ServiceRows = RecordList<Queued<Outbound>>;
 
 /// What workers require of the system: waiting, sockets, the time, and a log.
 pub trait Crew: Clock + Net<Listener = TcpListener, Stream = TcpStream> + Log + Wait {}
@@ -25,7 +25,7 @@ impl<H: Clock + Net<Listener = TcpListener, Stream = TcpStream> + Log + Wait> Cr
 
 /// What all workers of a service share.
 #[derive(Drop)]
-pub struct Site<'x, A: Opening, T: Ledger, U: Ledger, H> {
+pub struct Site<'x, A: ArrivalLedger, T: Ledger, U: Ledger, H> {
     /// The system and the log.
     pub rt: &'x H,
     /// The allocator.
@@ -49,7 +49,7 @@ pub struct Site<'x, A: Opening, T: Ledger, U: Ledger, H> {
     tallies: Tallies,
 }
 
-impl<'x, A: Opening, T: Ledger, U: Ledger, H: Crew> Site<'x, A, T, U, H> {
+impl<'x, A: ArrivalLedger, T: Ledger, U: Ledger, H: Crew> Site<'x, A, T, U, H> {
     /// A site where nothing works yet.
     pub fn new(
         rt: &'x H,

@@ -1,7 +1,7 @@
 //! How far the end of a service is.
 
 ghost use Rattle.std.specs.Prelude.{◌≡◌};
-ghost use Rattle.service_workers.specs.Stages.{stage_number, stage_of};
+ghost use Rattle.service_workers.specs.inner.Stages.{stage_number, stage_of};
 
 /// How far the end of a service is.
 #[derive(Clone, Copy, Debug, PartialEq, Eq)]

@@ -3,7 +3,7 @@
 use crate::site::{Crew, Site};
 use crate::stage::Stage;
 use crate::stopping::has_ended;
-use book_lock::Opening;
+use book_lock::ArrivalLedger;
 use libc::net as c;
 use libc::types::pollfd;
 use std::io;
@@ -19,12 +19,12 @@ const LOOK_MILLIS: i32 = 100;
 /// A reader of standard input. While the service ends, it is at its end once all workers have ended, even where its writer
 /// keeps it open.
 #[derive(Drop)]
-pub struct StandardInput<'s, 'x, A: Opening, T: Ledger, U: Ledger, H, R> {
+pub struct StandardInput<'s, 'x, A: ArrivalLedger, T: Ledger, U: Ledger, H, R> {
     site: &'s Site<'x, A, T, U, H>,
     input: R,
 }
 
-impl<'s, 'x, A: Opening, T: Ledger, U: Ledger, H: Crew, R: Read> StandardInput<
+impl<'s, 'x, A: ArrivalLedger, T: Ledger, U: Ledger, H: Crew, R: Read> StandardInput<
     's,
     'x,
     A,
@@ -60,7 +60,7 @@ impl<'s, 'x, A: Opening, T: Ledger, U: Ledger, H: Crew, R: Read> StandardInput<
     }
 }
 
-impl<A: Opening, T: Ledger, U: Ledger, H: Crew, R: Read> Read
+impl<A: ArrivalLedger, T: Ledger, U: Ledger, H: Crew, R: Read> Read
     for StandardInput<'_, '_, A, T, U, H, R> {
     fn read(&mut self, buf: &mut [u8]) -> io::Result<usize> {
         if self.wait() {

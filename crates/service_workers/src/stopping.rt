@@ -4,7 +4,7 @@ use crate::gate::Gate;
 use crate::place::Place;
 use crate::site::{Crew, Site};
 use crate::stage::Stage;
-use book_lock::Opening;
+use book_lock::ArrivalLedger;
 use std::net::Shutdown;
 use std::sync::ledger::Ledger;
 use std::thread;
@@ -14,7 +14,7 @@ use std::time::{Duration, Instant};
 const LOOK_MILLIS: u64 = 10;
 
 /// Waits until all places have ended, for the grace at most. Whether all have.
-fn wait_for_places<A: Opening, T: Ledger, U: Ledger, H: Crew>(
+fn wait_for_places<A: ArrivalLedger, T: Ledger, U: Ledger, H: Crew>(
     site: &Site<'_, A, T, U, H>,
     grace: Duration,
 ) -> bool {
@@ -37,7 +37,7 @@ fn wait_for_places<A: Opening, T: Ledger, U: Ledger, H: Crew>(
 
 /// Accepts no further connection and reads no further block: what was read is answered within `grace`, and then each
 /// connection that has not ended is cut.
-fn close<A: Opening, T: Ledger, U: Ledger, H: Crew>(
+fn close<A: ArrivalLedger, T: Ledger, U: Ledger, H: Crew>(
     site: &Site<'_, A, T, U, H>,
     gates: &[Gate],
     places: &[Place<A>],
@@ -60,7 +60,7 @@ fn close<A: Opening, T: Ledger, U: Ledger, H: Crew>(
 
 /// Ends all workers. With `drains` the posts go on until nothing waits; else no further attempt begins, and a destination that
 /// doesn't answer is not waited for.
-pub fn stop<A: Opening, T: Ledger, U: Ledger, H: Crew>(
+pub fn stop<A: ArrivalLedger, T: Ledger, U: Ledger, H: Crew>(
     site: &Site<'_, A, T, U, H>,
     gates: &[Gate],
     places: &[Place<A>],
@@ -77,6 +77,8 @@ pub fn stop<A: Opening, T: Ledger, U: Ledger, H: Crew>(
 }
 
 /// Whether all places and posts have ended.
-pub fn has_ended<A: Opening, T: Ledger, U: Ledger, H: Crew>(site: &Site<'_, A, T, U, H>) -> bool {
+pub fn has_ended<A: ArrivalLedger, T: Ledger, U: Ledger, H: Crew>(
+    site: &Site<'_, A, T, U, H>,
+) -> bool {
     site.places() == 0 && site.posts() == 0
 }

@@ -3,7 +3,7 @@
 use crate::pauses::{PauseCause, frees_enough, has_channel, is_overfull, pause_cause, paused_by};
 use crate::site::{Crew, Site};
 use crate::stage::Stage;
-use book_lock::{Gauge, Opening, Status};
+use book_lock::{ArrivalLedger, Gauge, Status};
 use fixed_numbers::{DEPLOYMENTS_MAX, DESTINATIONS, PRUNINGS_MAX};
 use log::{Log, info, warn};
 use plan_text::{Channel, Plan};
@@ -136,7 +136,7 @@ fn log_changes<H: Log>(rt: &H, plan: &Plan, status: &Status, keep: u32, before: 
 
 /// Forgets what is settled, where as many messages are remembered as may be. No arrival does it then, since no channel is
 /// read.
-fn make_room<A: Opening, T: Ledger, U: Ledger, H: Crew>(
+fn make_room<A: ArrivalLedger, T: Ledger, U: Ledger, H: Crew>(
     site: &Site<'_, A, T, U, H>,
     status: &Status,
 ) {
@@ -153,7 +153,10 @@ fn make_room<A: Opening, T: Ledger, U: Ledger, H: Crew>(
 }
 
 /// Looks at the book once: which channels pause, and what runs out.
-fn look<A: Opening, T: Ledger, U: Ledger, H: Crew>(site: &Site<'_, A, T, U, H>, watch: &mut Watch) {
+fn look<A: ArrivalLedger, T: Ledger, U: Ledger, H: Crew>(
+    site: &Site<'_, A, T, U, H>,
+    watch: &mut Watch,
+) {
     // Where the plan can't be shared, all stays as it is until the next look.
     let Ok((status, plan)) = site.shared.status(site.rt) else {
         return;
@@ -168,7 +171,7 @@ fn look<A: Opening, T: Ledger, U: Ledger, H: Crew>(site: &Site<'_, A, T, U, H>, 
 }
 
 /// Whether nothing is left to look after: the service is halted, or it closes and no post works.
-fn is_over<A: Opening, T: Ledger, U: Ledger, H: Crew>(site: &Site<'_, A, T, U, H>) -> bool {
+fn is_over<A: ArrivalLedger, T: Ledger, U: Ledger, H: Crew>(site: &Site<'_, A, T, U, H>) -> bool {
     match site.stage() {
         Stage::Open => false,
         Stage::Closing => site.posts() == 0,
@@ -178,7 +181,7 @@ fn is_over<A: Opening, T: Ledger, U: Ledger, H: Crew>(site: &Site<'_, A, T, U, H
 
 /// Looks at the book 20 times a second, until the service is halted, or closes and no post works. Reading pauses at the
 /// channels that the book has no room for, and goes on once it has. Lines that the log holds back are written at each look.
-pub fn work_warden<A: Opening, T: Ledger, U: Ledger, H: Crew>(site: &Site<'_, A, T, U, H>) {
+pub fn work_warden<A: ArrivalLedger, T: Ledger, U: Ledger, H: Crew>(site: &Site<'_, A, T, U, H>) {
     let mut watch = Watch::new();
     for _ in site.rt.forever() {
         if is_over(site) {

@@ -2,7 +2,7 @@
 
 use crate::site::{Crew, Site};
 use crate::stage::Stage;
-use book_lock::Opening;
+use book_lock::ArrivalLedger;
 use delivery_worker::Way;
 use dest_queue::Outcome;
 use plan_text::{Destination, Plan};
@@ -11,7 +11,7 @@ use std::sync::ledger::Ledger;
 
 /// The way to the destination at an index of the plan in force.
 #[derive(Drop)]
-pub struct PlanWay<'s, 'x, A: Opening, T: Ledger, U: Ledger, H> {
+pub struct PlanWay<'s, 'x, A: ArrivalLedger, T: Ledger, U: Ledger, H> {
     site: &'s Site<'x, A, T, U, H>,
     index: u32,
     /// The plan that was taken up last, if one could be.
@@ -29,7 +29,7 @@ fn is_same_way(old: &Plan, new: &Plan, index: u32) -> bool {
     }
 }
 
-impl<'s, 'x, A: Opening, T: Ledger, U: Ledger, H: Crew> PlanWay<'s, 'x, A, T, U, H> {
+impl<'s, 'x, A: ArrivalLedger, T: Ledger, U: Ledger, H: Crew> PlanWay<'s, 'x, A, T, U, H> {
     /// The way by the plan in force at this moment.
     pub fn new(site: &'s Site<'x, A, T, U, H>, index: u32) -> Self {
         PlanWay {
@@ -40,7 +40,7 @@ impl<'s, 'x, A: Opening, T: Ledger, U: Ledger, H: Crew> PlanWay<'s, 'x, A, T, U,
     }
 }
 
-impl<A: Opening, T: Ledger, U: Ledger, H: Crew> Way for PlanWay<'_, '_, A, T, U, H> {
+impl<A: ArrivalLedger, T: Ledger, U: Ledger, H: Crew> Way for PlanWay<'_, '_, A, T, U, H> {
     fn destination(&self) -> Option<&Destination> {
         match &self.plan {
             Some(plan) => plan.destination(self.index),

@@ -3,7 +3,8 @@ use Rattle.std.proofs.Common.{◌≡◌, ℕ, ◌+◌, ◌-◌, ◌<◌, length,
 use Rattle.std.proofs.lemmas.List.Sums.{sum_by-set}
 use Rattle.stat_count.specs.declared.ChannelCounts.{ChannelCounts}
 use Rattle.stat_count.specs.declared.DestinationCounts.{DestinationCounts}
-use Rattle.stat_count.specs.Statistics.{Statistics, no_arrivals, no_slots, channel_at, destination_at, on_channel, on_destination}
+use Rattle.stat_count.specs.Statistics.{Statistics, no_arrivals, no_slots, channel_at, destination_at}
+use Rattle.stat_count.specs.inner.Statistics.{on_channel, on_destination}
 use Rattle.stat_count.specs.Sums.{arrivals, takes, settlements}
 
 -- a change at one place adds to the sum what it adds there

@@ -6,10 +6,11 @@ ghost use Rattle.std.specs.Prelude.{◌≡◌, ◌≢◌, ◌+◌, ◌<◌, ◌�
 ghost use Rattle.stat_count.specs.declared.ChannelCounts.{ChannelCounts};
 ghost use Rattle.stat_count.specs.declared.DestinationCounts.{DestinationCounts};
 ghost use Rattle.stat_count.specs.Sums.{arrivals, takes, settlements};
-ghost use Rattle.stat_count.specs.Statistics.{Statistics, empty, channel_at, destination_at, on_channel, on_destination, slots_of};
-ghost use Rattle.stat_count.specs.Statistics.{filtered_one, accepted_one, refused_one, repeated_one};
-ghost use Rattle.stat_count.specs.Statistics.{waits_one, taken_one, delivered_one, failed_one, again_one, cancelled_one};
-ghost use Rattle.stat_count.specs.Statistics.{one_less_waiting, one_less_inflight, one_less_delivered, one_less_failed};
+ghost use Rattle.stat_count.specs.Statistics.{Statistics, channel_at, destination_at};
+ghost use Rattle.stat_count.specs.inner.Statistics.{empty, on_channel, on_destination, slots_of};
+ghost use Rattle.stat_count.specs.inner.Statistics.{filtered_one, accepted_one, refused_one, repeated_one};
+ghost use Rattle.stat_count.specs.inner.Statistics.{waits_one, taken_one, delivered_one, failed_one, again_one, cancelled_one};
+ghost use Rattle.stat_count.specs.inner.Statistics.{one_less_waiting, one_less_inflight, one_less_delivered, one_less_failed};
 
 pub use fixed_numbers::{CHANNELS, DESTINATIONS};
 use std::marker::Model;
@@ -75,7 +76,8 @@ pub struct Counts {
 }
 
 impl Model for Counts {
-    ghost use Rattle.stat_count.specs.Statistics.{Statistics, IsStatistics};
+    ghost use Rattle.stat_count.specs.Statistics.{Statistics};
+    ghost use Rattle.stat_count.specs.inner.Statistics.{IsStatistics};
 
     ghost Value = { Statistics };
 

@@ -2,12 +2,12 @@
 #![tactic(auto)]
 
 ghost use Rattle.std.specs.Prelude.{◌≡◌, IfOk, All, Some, option_map};
-ghost use Rattle.hl7_filter.specs.View.{view as condition_view};
-ghost use Rattle.hl7_transform.specs.Step.{after};
-ghost use Rattle.hl7_transform.specs.View.{steps_view};
+ghost use Rattle.hl7_filter.specs.inner.View.{view as condition_view};
+ghost use Rattle.hl7_transform.specs.Step.{after_steps};
+ghost use Rattle.hl7_transform.specs.inner.View.{steps_view};
 ghost use Rattle.judge_core.specs.Judging.{passes};
 ghost use Rattle.plan_text.specs.Entries.{AllStand};
-ghost use Rattle.stopped_step.specs.Stopping.{stop_after, stop_by, stop_in, stop_of};
+ghost use Rattle.stopped_step.specs.inner.Stopping.{stop_after, stop_by, stop_in, stop_of};
 
 use er7_tree::Message;
 use hl7_filter::Cond;
@@ -43,7 +43,7 @@ fn stop_by(
     message: Message,
 ) -> Result<Option<StoppedStep>, AllocError>
     requires { AllStand (steps_view steps.now) }
-    ensures { IfOk result (λ stop. stop ≡ stop_by (Some index) (after (steps_view steps.now) message)) }
+    ensures { IfOk result (λ stop. stop ≡ stop_by (Some index) (after_steps (steps_view steps.now) message)) }
 {
     match apply(steps, message) {
         Ok(_) => Ok(None),

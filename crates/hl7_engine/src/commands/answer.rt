@@ -41,7 +41,7 @@ fn serve<'a, R: Read + Drop, W: Write + Drop, C: Clock>(
 /// # Errors
 ///
 /// The first fault: of the plan, of the system's random bytes, of a device or of memory.
-pub fn answer<'a>(
+pub(crate) fn answer<'a>(
     rt: &HostRuntime,
     plan: Option<&'a str>,
     now: Option<Moment>,

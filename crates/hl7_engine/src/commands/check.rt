@@ -9,7 +9,7 @@ use engine_report::{Fault, PlanSize, warned_plan};
 /// # Errors
 ///
 /// The fault of the file or of the plan, of standard output, or of memory.
-pub fn check<'a>(rt: &HostRuntime, path: &'a str) -> Result<(), Fault<'a>> {
+pub(crate) fn check<'a>(rt: &HostRuntime, path: &'a str) -> Result<(), Fault<'a>> {
     let size = PlanSize::of(&warned_plan(rt, path, EVENTS_MAX)?);
     println!(rt; "{size}").map_err(|_| Fault::Write)
 }

@@ -1,7 +1,8 @@
 //! The doors of the channels and the links of the destinations, over TCP.
 
 ghost use Rattle.std.specs.Prelude.{◌≡◌, ◌⊎◌, Some, IfErr, IfOk, length, map, vec_len};
-ghost use Rattle.engine_report.specs.Findings.{NamesChannel, failed_channels, listening};
+ghost use Rattle.engine_report.specs.Findings.{failed_channels};
+ghost use Rattle.engine_report.specs.inner.Findings.{NamesChannel, listening};
 
 use delivery_worker::TcpLink;
 use engine_report::{Fault, add_listen_fault, tell_lines};
@@ -89,7 +90,11 @@ fn tell_doors<H: Net<Listener = TcpListener, Stream = TcpStream> + Clock + Log>(
 /// # Errors
 ///
 /// The first channel of the plan that can't listen, or `Memory`.
-pub fn open_devices<'a, 'f, H: Net<Listener = TcpListener, Stream = TcpStream> + Clock + Log>(
+pub(crate) fn open_devices<
+    'a,
+    'f,
+    H: Net<Listener = TcpListener, Stream = TcpStream> + Clock + Log,
+>(
     rt: &HostRuntime,
     handle: &'a H,
     alloc: Global,
@@ -111,7 +116,7 @@ pub fn open_devices<'a, 'f, H: Net<Listener = TcpListener, Stream = TcpStream> +
 /// # Errors
 ///
 /// Where memory is refused.
-pub fn listen_faults<'f, D: Door>(
+pub(crate) fn listen_faults<'f, D: Door>(
     alloc: Global,
     plan: &Plan,
     doors: &[D],

@@ -11,7 +11,7 @@ use crate::commands::devices::{Devices, listen_faults, open_devices};
 use crate::commands::{EngineBook, EngineRows, warned_shared_plan};
 use crate::handle::Handle;
 use book_core::EVENTS_MAX;
-use book_lock::{Closed, Opening, Shared};
+use book_lock::{ArrivalLedger, Closed, LogEntry, Shared};
 use conn_worker::{ServeReport, Steady};
 use delivery_worker::TcpLink;
 use descriptors::allowed;
@@ -20,8 +20,9 @@ use engine_report::{
     Fault, add_finding, connections_of, descriptors_of, find, hasher, statistics_text,
 };
 use engine_workers::{
-    Door, Staff, TcpDoor, Worked, desks_and_reports, run_workers, stations_and_reports,
+    Door, Finished, TcpDoor, Workers, desks_and_reports, run_workers, stations_and_reports,
 };
+use ghost_log::BlankLog;
 use log::{Log, warn};
 use plan_text::{Destination, Plan};
 use std::alloc::{AllocError, Global};
@@ -39,15 +40,15 @@ struct Ended<'f> {
 }
 
 /// Takes the book out of its lock, once the workers have ended.
-fn close<'f, A: Opening, T: Ledger, U: Ledger, D: Door + Drop, L: Drop>(
+fn close<'f, A: ArrivalLedger, T: Ledger, U: Ledger, D: Door + Drop, L: Drop>(
     alloc: Global,
     plan: &Plan,
     shared: Shared<A, T, U, EngineRows>,
-    worked: Worked<A, T, U, D, L>,
+    worked: Finished<A, T, U, D, L>,
 ) -> Result<Ended<'f>, AllocError>
     ensures opening { IfOk result (λ ended. IfSome ended.closed (λ closed. (closed.opening ≡ A.counts) × (closed.first ≡ A.first))) }
 {
-    let Worked {
+    let Finished {
         seats,
         doors,
         outlets,
@@ -64,12 +65,12 @@ fn close<'f, A: Opening, T: Ledger, U: Ledger, D: Door + Drop, L: Drop>(
 }
 
 /// Runs all workers over a shared book, and closes it.
-fn work_at<'a, 'f, A: Opening + Sync, T: Ledger + Sync, U: Ledger + Sync, H: Handle>(
+fn work_at<'a, 'f, A: ArrivalLedger + Send + Sync, T: Ledger + Sync, U: Ledger + Sync, H: Handle>(
     rt: &'a H,
     alloc: Global,
     plan: &'a Plan,
     shared: Shared<A, T, U, EngineRows>,
-    staff: Staff<A, T, U, TcpDoor<'a, H>, TcpLink<'a, H, &'a Destination>>,
+    staff: Workers<A, T, U, TcpDoor<'a, H>, TcpLink<'a, H, &'a Destination>>,
     accept: u32,
 ) -> Result<Ended<'f>, AllocError>
     ensures opening { IfOk result (λ ended. IfSome ended.closed (λ closed. (closed.opening ≡ A.counts) × (closed.first ≡ A.first))) }
@@ -81,7 +82,7 @@ fn work_at<'a, 'f, A: Opening + Sync, T: Ledger + Sync, U: Ledger + Sync, H: Han
 }
 
 /// Shares the book, runs all workers over it, and closes it.
-fn work<'a, 'f, A: Opening + Sync, T: Ledger + Sync, U: Ledger + Sync, H: Handle>(
+fn work<'a, 'f, A: ArrivalLedger + Send + Sync, T: Ledger + Sync, U: Ledger + Sync, H: Handle>(
     rt: &'a H,
     alloc: Global,
     plan: &'a Plan,
@@ -89,10 +90,13 @@ fn work<'a, 'f, A: Opening + Sync, T: Ledger + Sync, U: Ledger + Sync, H: Handle
     devices: Devices<'a, H>,
     accept: u32,
     connections: u32,
+    log: BlankLog<LogEntry>,
     arrivals: Blank,
     takes: Blank,
     settlements: Blank,
 ) -> Result<Ended<'f>, AllocError>
+    requires opening { book ≡ A.opening }
+    requires log { log.table.shared.table_id ≡ A.table }
     requires counts { counted book ≡ A.counts }
     requires first { next_place book ≡ A.first }
     requires channels { length (plan_in_force book).channels ≡ A.channels }
@@ -107,13 +111,14 @@ fn work<'a, 'f, A: Opening + Sync, T: Ledger + Sync, U: Ledger + Sync, H: Handle
         book,
         connections as usize,
         plan.destinations() as usize,
+        log,
         arrivals,
         takes,
         settlements,
     );
     match opened {
         Ok((shared, desks, stations)) => {
-            let staff = Staff {
+            let staff = Workers {
                 desks,
                 doors,
                 stations,
@@ -240,6 +245,7 @@ fn run_by<'a, 'f, H: Handle>(
     let devices = open_devices(rt, handle, alloc, plan, accept)?;
     let book = EngineBook::new(alloc, shared_plan, events, hasher);
     let stations = u64::from(plan.destinations()) + 1;
+    let log = BlankLog::new(alloc)?;
     Ok(work::<Brand, Brand, Brand, _>(
         handle,
         alloc,
@@ -248,6 +254,7 @@ fn run_by<'a, 'f, H: Handle>(
         devices,
         accept,
         connections,
+        log,
         Blank::new(u64::from(connections) + 1),
         Blank::new(stations),
         Blank::new(stations),
@@ -261,7 +268,7 @@ fn run_by<'a, 'f, H: Handle>(
 /// # Errors
 ///
 /// The last of the faults of the run, where there are several; those before it are printed.
-pub fn run<'a, H: Handle + Eprint>(
+pub(crate) fn run<'a, H: Handle + Eprint>(
     rt: &HostRuntime,
     handle: &H,
     path: &'a str,

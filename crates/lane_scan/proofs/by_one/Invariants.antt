@@ -1,5 +1,5 @@
 use Rattle.std.proofs.Common.{◌≡◌, ◌-◌, ◌≤◌, length}
-use Rattle.lane_scan.specs.Scan.{bits_of, piece}
+use Rattle.lane_scan.specs.inner.Scan.{bits_of, piece}
 use Rattle.lane_scan.proofs.by_one.Given as goal
 
 abbrev pub invariant-loop-from : goal.invariant-loop-from

@@ -1,6 +1,6 @@
 use Rattle.std.proofs.Common.{ℕ, nat_eq, arith, w8}
 use Rattle.std.proofs.lemmas.Simd.{bitmask_splat, length-chunk}
-use Rattle.lane_scan.specs.Scan.{piece}
+use Rattle.lane_scan.specs.inner.Scan.{piece}
 use Rattle.lane_scan.proofs.lanes.Goals as goal
 
 pub returns : goal.returns

@@ -3,17 +3,18 @@
 ghost use Rattle.std.specs.Prelude.{◌≡◌, ◌≤◌, [], codes, Ok, length, option_map, refl};
 ghost use Rattle.toml.specs.Data.{Data, get_member};
 ghost use Rattle.toml.specs.View.{view, array_view, table_view};
-ghost use Rattle.hl7_filter.specs.View.{view as condition_view};
-ghost use Rattle.hl7_transform.specs.View.{steps_view};
-ghost use Rattle.plan_text.specs.AtKey.{at_key, key_at, value_at};
-ghost use Rattle.plan_text.specs.Fault.{Gives, ◌>>=◌ as and_then};
+ghost use Rattle.hl7_filter.specs.inner.View.{view as condition_view};
+ghost use Rattle.hl7_transform.specs.inner.View.{steps_view};
+ghost use Rattle.plan_text.specs.inner.AtKey.{at_key, key_at, value_at};
+ghost use Rattle.er7_tree.specs.Tree.{◌>>=◌ as and_then};
+ghost use Rattle.plan_text.specs.inner.Fault.{Gives};
 ghost use Rattle.plan_text.specs.Entries.{RouteEntry, ChannelEntry};
 ghost use Rattle.plan_text.specs.Keys.{required, table_at, only_keys, each_after, key_path};
-ghost use Rattle.plan_text.specs.Channels.{place_of, leads_to, way_at, route_to, route, routes_at, entry_at, entries_at, taken_at, channel_keys, channel};
+ghost use Rattle.plan_text.specs.Channels.{destination_index, leads_to, way_at, route_to, route, routes_at, text_entry_at, entries_at, taken_at, channel_keys, channel};
 
 use crate::channel::{Channel, MessageType, ProcessingId, Route, VersionId};
 use crate::destination::Destination;
-use crate::fault::{FaultName, Stop};
+use crate::fault::{PlanFaultKind, Stop};
 use crate::from_toml::conditions::filter_of;
 use crate::from_toml::keys::{Key, Keys, fault_at};
 use crate::from_toml::kinds::FromText;
@@ -30,7 +31,7 @@ use toml::Value;
 use toml::value::Array;
 
 fn place_of(destinations: &[Destination], name: &str) -> Option<usize>
-    ensures { result ≡ place_of destinations.now name.now }
+    ensures { result ≡ destination_index destinations.now name.now }
 {
     destinations.iter().position(|d| d.name() == name)
 }
@@ -48,14 +49,14 @@ fn route_to(destinations: &[Destination], before: &[Route], key: &Key<'_>) -> Re
 {
     let value = key.required()?;
     let Some(name) = value.as_str() else {
-        return Err(key.fault(FaultName::BadRange));
+        return Err(key.fault(PlanFaultKind::BadRange));
     };
     let Some(place) = place_of(destinations, name) else {
-        return Err(key.fault(FaultName::UnknownName));
+        return Err(key.fault(PlanFaultKind::UnknownName));
     };
     let place = place as u32;
     if leads_to(before, place) {
-        return Err(key.fault(FaultName::DoubleName));
+        return Err(key.fault(PlanFaultKind::DoubleName));
     }
     Ok(place)
 }
@@ -131,7 +132,7 @@ fn routes_of(key: &Key<'_>, destinations: &[Destination]) -> Result<Vec<Route>, 
         return Ok(Vec::new(key.alloc));
     };
     let Some(values) = value.as_array() else {
-        return Err(key.fault(FaultName::BadRange));
+        return Err(key.fault(PlanFaultKind::BadRange));
     };
     let at = key.path()?;
     each(key.alloc, &Routes { destinations }, at.as_str(), values)
@@ -152,7 +153,7 @@ impl<E: FromText> Reader for Entries<E> {
 
     ghost all_said = { λ es. es };
 
-    ghost reading = { λ s before. entry_at E.form };
+    ghost reading = { λ s before. text_entry_at E.form };
 
     ghost none_said = { refl };
 
@@ -162,11 +163,11 @@ impl<E: FromText> Reader for Entries<E> {
 
     fn read(&self, alloc: Global, _before: &[E], at: &str, value: &Value) -> Result<E, Stop> {
         let Some(text) = value.as_str() else {
-            return Err(fault_at(alloc, FaultName::BadRange, at));
+            return Err(fault_at(alloc, PlanFaultKind::BadRange, at));
         };
         match E::from_text(alloc, text)? {
             Some(entry) => Ok(entry),
-            None => Err(fault_at(alloc, FaultName::BadRange, at)),
+            None => Err(fault_at(alloc, PlanFaultKind::BadRange, at)),
         }
     }
 }

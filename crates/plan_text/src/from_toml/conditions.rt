@@ -4,13 +4,15 @@ ghost use Rattle.std.specs.Prelude.{◌≡◌, map, IfOk, Ok, option_map};
 ghost use Rattle.toml.specs.View.{view, table_view, array_view};
 ghost use Rattle.toml.specs.Data.{Members, get_member};
 ghost use Rattle.hl7_filter.specs.Condition.{negated};
-ghost use Rattle.hl7_filter.specs.View.{view as condition_view};
-ghost use Rattle.plan_text.specs.AtKey.{at_key, key_at, value_at};
-ghost use Rattle.plan_text.specs.Fault.{Gives, ◌>>=◌ as and_then, told};
+ghost use Rattle.hl7_filter.specs.inner.View.{view as condition_view};
+ghost use Rattle.plan_text.specs.inner.AtKey.{at_key, key_at, value_at};
+ghost use Rattle.er7_tree.specs.Tree.{◌>>=◌ as and_then};
+ghost use Rattle.plan_text.specs.Fault.{told};
+ghost use Rattle.plan_text.specs.inner.Fault.{Gives};
 ghost use Rattle.plan_text.specs.Keys.{required, each, list_within};
 ghost use Rattle.plan_text.specs.Conditions.{pair_of, text_pair, text_and_list, all_texts, path_in, path, path_and_text, path_and_texts, condition_key, on_piece, condition, by_key, filter_at};
 
-use crate::fault::{FaultName, Stop};
+use crate::fault::{PlanFaultKind, Stop};
 use crate::from_toml::keys::{Key, Keys, fault_at, member_path};
 use er7_tree::Path;
 use fixed_numbers::{LEVELS_MAX, MEMBERS_MAX};
@@ -74,7 +76,7 @@ impl<'a> Key<'a> {
     {
         match Path::parse(text) {
             Ok(path) => Ok(path),
-            Err(_) => Err(self.fault(FaultName::BadPath)),
+            Err(_) => Err(self.fault(PlanFaultKind::BadPath)),
         }
     }
 
@@ -84,7 +86,7 @@ impl<'a> Key<'a> {
     {
         match self.required()?.as_str() {
             Some(text) => self.path_in(text),
-            None => Err(self.fault(FaultName::BadRange)),
+            None => Err(self.fault(PlanFaultKind::BadRange)),
         }
     }
 
@@ -93,7 +95,7 @@ impl<'a> Key<'a> {
         ensures { Gives (λ p. p) result (at_key self.now (required path_and_text)) }
     {
         let Some((path, text)) = text_pair(self.required()?) else {
-            return Err(self.fault(FaultName::BadRange));
+            return Err(self.fault(PlanFaultKind::BadRange));
         };
         let path = self.path_in(path)?;
         Ok((path, bytes_of(self.alloc, text)?))
@@ -105,13 +107,13 @@ impl<'a> Key<'a> {
         ensures { Gives (λ p. (p.0, p.1.items)) result (at_key self.now (required path_and_texts)) }
     {
         let Some((path, values)) = text_and_list(self.required()?) else {
-            return Err(self.fault(FaultName::BadRange));
+            return Err(self.fault(PlanFaultKind::BadRange));
         };
         let Some(texts) = texts_of(self.alloc, values)? else {
-            return Err(self.fault(FaultName::BadRange));
+            return Err(self.fault(PlanFaultKind::BadRange));
         };
         if values.len() > MEMBERS_MAX {
-            return Err(self.fault(FaultName::TooMany));
+            return Err(self.fault(PlanFaultKind::TooMany));
         }
         Ok((self.path_in(path)?, texts))
     }
@@ -139,7 +141,7 @@ fn condition_of(alloc: Global, levels: u32, at: &str, value: &Value) -> Result<C
     let keys = Keys::of(alloc, at, value)?;
     let name = condition_key(&keys)?;
     if levels == 0 {
-        return Err(fault_at(alloc, FaultName::TooMany, at));
+        return Err(fault_at(alloc, PlanFaultKind::TooMany, at));
     }
     by_key(levels - 1, &keys.key(name))
 }

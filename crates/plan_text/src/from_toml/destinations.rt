@@ -3,8 +3,8 @@
 ghost use Rattle.std.specs.Prelude.{◌≡◌, [], IfOk, Ok, refl};
 ghost use Rattle.toml.specs.Data.{Data};
 ghost use Rattle.toml.specs.View.{table_view};
-ghost use Rattle.plan_text.specs.AtKey.{at_key};
-ghost use Rattle.plan_text.specs.Fault.{Gives};
+ghost use Rattle.plan_text.specs.inner.AtKey.{at_key};
+ghost use Rattle.plan_text.specs.inner.Fault.{Gives};
 ghost use Rattle.plan_text.specs.Entries.{DestinationEntry};
 ghost use Rattle.plan_text.specs.Keys.{or_else, table_at, only_keys};
 ghost use Rattle.plan_text.specs.Kinds.{text_as, await_word};
@@ -12,7 +12,7 @@ ghost use Rattle.plan_text.specs.Destinations.{sending, destination_keys, destin
 ghost use Rattle.plan_text.specs.declared.destination.Await.TheVariants as await;
 
 use crate::destination::{Await, Destination};
-use crate::fault::{FaultName, Stop};
+use crate::fault::{PlanFaultKind, Stop};
 use crate::from_toml::keys::{Key, Keys};
 use crate::from_toml::kinds::await_word;
 use crate::from_toml::members::{Reader, each};
@@ -29,11 +29,11 @@ fn await_of(key: &Key<'_>) -> Result<Await, Stop>
         return Ok(Await::Ack);
     };
     let Some(text) = value.as_str() else {
-        return Err(key.fault(FaultName::BadRange));
+        return Err(key.fault(PlanFaultKind::BadRange));
     };
     match await_word(text) {
         Some(wait) => Ok(wait),
-        None => Err(key.fault(FaultName::BadRange)),
+        None => Err(key.fault(PlanFaultKind::BadRange)),
     }
 }
 

@@ -2,16 +2,17 @@
 
 ghost use Rattle.std.specs.Prelude.{◌≡◌, [], ◌≤◌, length, IsUtf8, IsErrAnd, IfOk};
 ghost use Rattle.toml.specs.View.{array_view, table_view};
-ghost use Rattle.plan_text.specs.declared.fault.FaultName.TheVariants as name;
-ghost use Rattle.plan_text.specs.AtKey.{at_key};
-ghost use Rattle.plan_text.specs.Fault.{Gives, Reads, fault_at};
+ghost use Rattle.plan_text.specs.declared.fault.PlanFaultKind.TheVariants as name;
+ghost use Rattle.plan_text.specs.inner.AtKey.{at_key};
+ghost use Rattle.plan_text.specs.Fault.{fault_at};
+ghost use Rattle.plan_text.specs.inner.Fault.{Gives, Reads};
 ghost use Rattle.plan_text.specs.Keys.{required};
 ghost use Rattle.plan_text.specs.Entries.{IsPlan};
 ghost use Rattle.plan_text.specs.Document.{some_within, plan_of, plan_in};
 
 use crate::channel::Channel;
 use crate::destination::Destination;
-use crate::fault::{FaultName, PlanFault, Stop};
+use crate::fault::{PlanFault, PlanFaultKind, Stop};
 use crate::from_toml::channels::channels_of;
 use crate::from_toml::destinations::destinations_of;
 use crate::from_toml::keys::{Key, Keys};
@@ -28,7 +29,7 @@ fn some_of<'a>(key: &Key<'a>, most: usize) -> Result<&'a Array, Stop>
 {
     let values = key.list(most)?;
     if values.is_empty() {
-        return Err(key.fault(FaultName::Missing));
+        return Err(key.fault(PlanFaultKind::Missing));
     }
     Ok(values)
 }
@@ -66,7 +67,7 @@ impl Plan {
         ensures no_text { ¬ (IsUtf8 text.now) → IsErrAnd result (λ e. e ≡ fault_at name.NotToml []) }
     {
         let Ok(text) = std::str::from_utf8(text) else {
-            return Err(PlanFault::of_text(alloc, FaultName::NotToml));
+            return Err(PlanFault::of_text(alloc, PlanFaultKind::NotToml));
         };
         match toml::table_from_str(alloc, text) {
             Ok(document) => match plan_of(alloc, &document) {
@@ -76,13 +77,13 @@ impl Plan {
                         destinations,
                         channels,
                     }),
-                    Err(_) => Err(PlanFault::of_text(alloc, FaultName::NoMemory)),
+                    Err(_) => Err(PlanFault::of_text(alloc, PlanFaultKind::NoMemory)),
                 },
-                Err(Stop::NoMemory) => Err(PlanFault::of_text(alloc, FaultName::NoMemory)),
+                Err(Stop::NoMemory) => Err(PlanFault::of_text(alloc, PlanFaultKind::NoMemory)),
                 Err(Stop::Fault(fault)) => Err(fault),
             },
-            Err(e) if e.is_memory() => Err(PlanFault::of_text(alloc, FaultName::NoMemory)),
-            Err(_) => Err(PlanFault::of_text(alloc, FaultName::NotToml)),
+            Err(e) if e.is_memory() => Err(PlanFault::of_text(alloc, PlanFaultKind::NoMemory)),
+            Err(_) => Err(PlanFault::of_text(alloc, PlanFaultKind::NotToml)),
         }
     }
 }

@@ -5,12 +5,13 @@ ghost use Rattle.std.specs.Str.{bytes_eq};
 ghost use Rattle.std.specs.Prelude.{◌≡◌, ℕ, List, map, filter, is_some, option_map, string_bytes, Some, None, IfOk, IfErr};
 ghost use Rattle.toml.specs.Data.{get_member};
 ghost use Rattle.toml.specs.View.{view, table_view, array_view};
-ghost use Rattle.plan_text.specs.declared.fault.FaultName.TheVariants as name;
-ghost use Rattle.plan_text.specs.Fault.{IsStop, Gives, fault_at};
+ghost use Rattle.plan_text.specs.declared.fault.PlanFaultKind.TheVariants as name;
+ghost use Rattle.plan_text.specs.Fault.{fault_at};
+ghost use Rattle.plan_text.specs.inner.Fault.{IsStop, Gives};
 ghost use Rattle.plan_text.specs.Keys.{key_path, member_path, unknown_key, no_key, only_one, table_at, list_within, required, or_else};
 ghost use Rattle.plan_text.specs.Kinds.{text_within, number_within};
 
-use crate::fault::{FaultName, PlanFault, Stop};
+use crate::fault::{PlanFault, PlanFaultKind, Stop};
 use crate::literal::Literal;
 use std::alloc::{AllocError, Global};
 use toml::value::Array;
@@ -35,7 +36,7 @@ pub(crate) fn member_path(alloc: Global, at: &str, place: usize) -> Result<Strin
 }
 
 /// The fault at the path that was written, if memory for it was there.
-fn stop_at(name: FaultName, path: Result<String, AllocError>) -> Stop
+fn stop_at(name: PlanFaultKind, path: Result<String, AllocError>) -> Stop
     ensures { (p : List ℕ) → IfOk path (λ s. string_bytes s ≡ p) → IsStop result (fault_at name p) }
 {
     match path {
@@ -48,7 +49,7 @@ fn stop_at(name: FaultName, path: Result<String, AllocError>) -> Stop
 }
 
 /// A fault at a path.
-pub(crate) fn fault_at(alloc: Global, name: FaultName, at: &str) -> Stop
+pub(crate) fn fault_at(alloc: Global, name: PlanFaultKind, at: &str) -> Stop
     ensures { IsStop result (fault_at name at.now) }
 {
     stop_at(name, String::from_str(alloc, at))
@@ -70,7 +71,7 @@ impl<'a> Keys<'a> {
     {
         match value.as_table() {
             Some(table) => Ok(Keys { alloc, at, table }),
-            None => Err(fault_at(alloc, FaultName::BadRange, at)),
+            None => Err(fault_at(alloc, PlanFaultKind::BadRange, at)),
         }
     }
 
@@ -81,7 +82,7 @@ impl<'a> Keys<'a> {
     {
         match unknown_key(self.table, known) {
             None => Ok(()),
-            Some(name) => Err(self.key(name).fault(FaultName::UnknownKey)),
+            Some(name) => Err(self.key(name).fault(PlanFaultKind::UnknownKey)),
         }
     }
 
@@ -101,14 +102,14 @@ impl<'a> Keys<'a> {
         for name in names {
             if self.has(*name) {
                 if found.is_some() {
-                    return Err(fault_at(self.alloc, FaultName::BadRange, self.at));
+                    return Err(fault_at(self.alloc, PlanFaultKind::BadRange, self.at));
                 }
                 found = Some(*name);
             }
         }
         match found {
             Some(name) => Ok(name),
-            None => Err(fault_at(self.alloc, FaultName::Missing, self.at)),
+            None => Err(fault_at(self.alloc, PlanFaultKind::Missing, self.at)),
         }
     }
 
@@ -139,7 +140,7 @@ pub(crate) struct Key<'a> {
 }
 
 impl<'a> Key<'a> {
-    ghost use Rattle.plan_text.specs.AtKey.{at_key, key_at, value_at};
+    ghost use Rattle.plan_text.specs.inner.AtKey.{at_key, key_at, value_at};
 
     /// The path to this key.
     pub(crate) fn path(&self) -> Result<String, AllocError>
@@ -149,7 +150,7 @@ impl<'a> Key<'a> {
     }
 
     /// The fault at this key.
-    pub(crate) fn fault(&self, name: FaultName) -> Stop
+    pub(crate) fn fault(&self, name: PlanFaultKind) -> Stop
         ensures { IsStop result (fault_at name (key_at self.now)) }
     {
         stop_at(name, self.path())
@@ -162,7 +163,7 @@ impl<'a> Key<'a> {
     {
         match self.value {
             Some(value) => Ok(value),
-            None => Err(self.fault(FaultName::Missing)),
+            None => Err(self.fault(PlanFaultKind::Missing)),
         }
     }
 
@@ -173,7 +174,7 @@ impl<'a> Key<'a> {
         let value = self.required()?;
         match value.as_str() {
             Some(text) if low <= text.len() && text.len() <= high => Ok(text),
-            _ => Err(self.fault(FaultName::BadRange)),
+            _ => Err(self.fault(PlanFaultKind::BadRange)),
         }
     }
 
@@ -185,11 +186,11 @@ impl<'a> Key<'a> {
             return Ok(default);
         };
         let Some(number) = value.as_integer() else {
-            return Err(self.fault(FaultName::BadRange));
+            return Err(self.fault(PlanFaultKind::BadRange));
         };
         match u32::try_from(number) {
             Ok(number) if low <= number && number <= high => Ok(number),
-            _ => Err(self.fault(FaultName::BadRange)),
+            _ => Err(self.fault(PlanFaultKind::BadRange)),
         }
     }
 
@@ -201,8 +202,8 @@ impl<'a> Key<'a> {
         let value = self.required()?;
         match value.as_array() {
             Some(values) if values.len() <= most => Ok(values),
-            Some(_) => Err(self.fault(FaultName::TooMany)),
-            None => Err(self.fault(FaultName::BadRange)),
+            Some(_) => Err(self.fault(PlanFaultKind::TooMany)),
+            None => Err(self.fault(PlanFaultKind::BadRange)),
         }
     }
 }

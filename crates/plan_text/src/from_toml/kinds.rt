@@ -2,7 +2,7 @@
 
 ghost use Rattle.std.specs.Prelude.{◌≡◌, ℕ, List, Option, IfOk};
 ghost use Rattle.std.specs.List.{list_all};
-ghost use Rattle.plan_text.specs.Kinds.{is_name_byte, is_name, is_code_byte, is_code, await_word, message_type, processing_id, version_id};
+ghost use Rattle.plan_text.specs.Kinds.{is_name_byte, is_plan_name, is_code_byte, is_code, await_word, message_type, processing_id, version_id};
 
 use crate::channel::{MessageType, ProcessingId, VersionId};
 use crate::destination::Await;
@@ -23,7 +23,7 @@ fn has_name_bytes(text: &str) -> bool
 
 /// A name has 1 to 32 letters, digits, `_` and `-`.
 pub(crate) fn is_name(text: &str) -> bool
-    ensures { result ≡ is_name text.now }
+    ensures { result ≡ is_plan_name text.now }
 {
     1 <= text.len() && text.len() <= 32 && has_name_bytes(text)
 }

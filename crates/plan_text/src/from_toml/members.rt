@@ -4,7 +4,7 @@ ghost use Rattle.std.specs.Prelude.{◌≡◌, ◌++◌, ◌∷◌, ℕ, List, [
 ghost use Rattle.toml.specs.Data.{Data};
 ghost use Rattle.toml.specs.View.{view, array_view};
 ghost use Rattle.plan_text.specs.declared.fault.PlanFault.{PlanFault};
-ghost use Rattle.plan_text.specs.Fault.{Gives};
+ghost use Rattle.plan_text.specs.inner.Fault.{Gives};
 ghost use Rattle.plan_text.specs.Keys.{each_after};
 
 use crate::fault::Stop;

@@ -6,14 +6,15 @@ ghost use Rattle.std.specs.Option.{option_map_or};
 ghost use Rattle.toml.specs.Data.{Members, get_member};
 ghost use Rattle.toml.specs.View.{view, table_view as members_of, items_view, array_view};
 ghost use Rattle.hl7_transform.specs.Step.{Edit, lookup, remove};
-ghost use Rattle.hl7_transform.specs.View.{view as step_view, steps_view, table_view};
-ghost use Rattle.plan_text.specs.AtKey.{at_key, key_at, value_at};
-ghost use Rattle.plan_text.specs.Fault.{Gives, ◌>>=◌ as and_then};
+ghost use Rattle.hl7_transform.specs.inner.View.{view as step_view, steps_view, table_view};
+ghost use Rattle.plan_text.specs.inner.AtKey.{at_key, key_at, value_at};
+ghost use Rattle.er7_tree.specs.Tree.{◌>>=◌ as and_then};
+ghost use Rattle.plan_text.specs.inner.Fault.{Gives};
 ghost use Rattle.plan_text.specs.Conditions.{text_pair};
 ghost use Rattle.plan_text.specs.Keys.{each, key as read_at, key_path, required, or_else, only_keys};
 ghost use Rattle.plan_text.specs.Steps.{stands_at, two_texts, looks_up, any_looks_up, has_double, pairs, pair_at, any_text, default_text, lookup_at, known_keys, step_key, copy_at, step_by, step, steps_at};
 
-use crate::fault::{FaultName, Stop};
+use crate::fault::{PlanFaultKind, Stop};
 use crate::from_toml::conditions::{bytes_of, text_pair};
 use crate::from_toml::keys::{Key, Keys, fault_at};
 use crate::from_toml::members::{Reader, each};
@@ -78,7 +79,7 @@ impl<'a> Key<'a> {
         let value = self.required()?;
         match value.as_str() {
             Some(text) => Ok(text),
-            None => Err(self.fault(FaultName::BadRange)),
+            None => Err(self.fault(PlanFaultKind::BadRange)),
         }
     }
 
@@ -89,7 +90,7 @@ impl<'a> Key<'a> {
         let value = self.required()?;
         match text_pair(value) {
             Some(texts) => Ok(texts),
-            None => Err(self.fault(FaultName::BadRange)),
+            None => Err(self.fault(PlanFaultKind::BadRange)),
         }
     }
 
@@ -99,8 +100,8 @@ impl<'a> Key<'a> {
     {
         match check_step(step) {
             Ok(()) => Ok(()),
-            Err(StepCheck::BadPath) => Err(self.fault(FaultName::BadPath)),
-            Err(StepCheck::ForbiddenWrite) => Err(self.fault(FaultName::ForbiddenWrite)),
+            Err(StepCheck::BadPath) => Err(self.fault(PlanFaultKind::BadPath)),
+            Err(StepCheck::ForbiddenWrite) => Err(self.fault(PlanFaultKind::ForbiddenWrite)),
         }
     }
 
@@ -110,7 +111,7 @@ impl<'a> Key<'a> {
     {
         let values = self.list(PAIRS_MAX)?;
         if has_double(values.as_slice()) {
-            return Err(self.fault(FaultName::DoubleName));
+            return Err(self.fault(PlanFaultKind::DoubleName));
         }
         Ok(values)
     }
@@ -124,7 +125,7 @@ impl<'a> Key<'a> {
         };
         match value.as_str() {
             Some(text) => Ok(Some(bytes_of(self.alloc, text)?)),
-            None => Err(self.fault(FaultName::BadRange)),
+            None => Err(self.fault(PlanFaultKind::BadRange)),
         }
     }
 }
@@ -154,7 +155,7 @@ impl Reader for Pairs {
 
     fn read(&self, alloc: Global, _before: &[Pair], at: &str, value: &Value) -> Result<Pair, Stop> {
         let Some((from, to)) = text_pair(value) else {
-            return Err(fault_at(alloc, FaultName::BadRange, at));
+            return Err(fault_at(alloc, PlanFaultKind::BadRange, at));
         };
         Ok(Pair {
             from: bytes_of(alloc, from)?,

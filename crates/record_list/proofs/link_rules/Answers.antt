@@ -3,7 +3,8 @@ use Rattle.std.specs.Prelude.{find}
 use Rattle.std.specs.Option.{option_map}
 use Rattle.std.specs.declared.option.Option.TheVariants.{Some}
 use Rattle.row_store.specs.declared.Row.{Row}
-use Rattle.row_store.specs.Rows.{is_row, item_at, unlinked, without}
+use Rattle.row_store.specs.Rows.{is_row, item_at}
+use Rattle.row_store.specs.inner.Rows.{unlinked, without}
 use Rattle.row_store.proofs.Places.{numbers-changed_at}
 use Rattle.row_store.proofs.QueueLaws.{queue_of-unlinked_other}
 use Rattle.record_list.proofs.link_rules.Goals as goal

@@ -5,7 +5,7 @@ ghost use Rattle.judge_core.specs.Judging.{is_bookable};
 ghost use Rattle.event_log.specs.History.{plan_in_force};
 ghost use Rattle.event_log.specs.Answers.{arrival_answer, cancel_answer, settle_answer, take_answer};
 ghost use Rattle.event_log.specs.Deployment.{deploy_answer, first_lost, is_lost};
-ghost use Rattle.event_log.specs.Room.{exceeds, is_full};
+ghost use Rattle.event_log.specs.Room.{is_over_limit, is_full};
 
 use crate::answers::{arrival_owes, settled};
 use crate::engine::SequentialBook;
@@ -34,8 +34,8 @@ impl SequentialBook {
     }
 
     /// Whether one more entry, whose own slots owe `own` entries, exceeds what the history may hold.
-    pub(crate) fn exceeds(&self, own: u32) -> Result<bool, AllocError>
-        ensures { IfOk result (λ past. past ≡ exceeds self.now own) }
+    pub(crate) fn is_over_limit(&self, own: u32) -> Result<bool, AllocError>
+        ensures { IfOk result (λ past. past ≡ is_over_limit self.now own) }
     {
         let events_max = u64::from(self.events_max);
         let held = self.entries.len() as u64;
@@ -50,7 +50,7 @@ impl SequentialBook {
     {
         let channel = judged.channel();
         let raw = judged.raw().as_slice();
-        self.exceeds(arrival_owes(self.plan(), channel, raw, told, judged.verdict()))
+        self.is_over_limit(arrival_owes(self.plan(), channel, raw, told, judged.verdict()))
     }
 
     /// The answer to a take at d.

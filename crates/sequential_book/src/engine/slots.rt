@@ -6,7 +6,7 @@ ghost use Rattle.event_log.specs.Deployment.{deployments};
 ghost use Rattle.event_log.specs.History.{deliveries, is_queued, message_at, message_count, plan_in_force, queue, slot, state};
 ghost use Rattle.event_log.specs.Answers.{attempts_max, mask_where, waits};
 ghost use Rattle.event_log.specs.Room.{message_total, owed, slot_owed};
-ghost use Rattle.sequential_book.specs.Reading.{IsPlain};
+ghost use Rattle.sequential_book.specs.inner.Reading.{IsPlain};
 
 use crate::engine::SequentialBook;
 use crate::entries::{acceptances, deliveries, deployments, names, state};

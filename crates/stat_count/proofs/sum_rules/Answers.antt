@@ -1,5 +1,5 @@
 use Rattle.std.proofs.Common.{◌≡◌, ◌+◌, ℕ, ◌∙◌, add-zero, arith}
-use Rattle.stat_count.specs.Statistics.{filtered_one, accepted_one, refused_one, repeated_one, waits_one, taken_one, delivered_one, failed_one, again_one, cancelled_one}
+use Rattle.stat_count.specs.inner.Statistics.{filtered_one, accepted_one, refused_one, repeated_one, waits_one, taken_one, delivered_one, failed_one, again_one, cancelled_one}
 use Rattle.stat_count.proofs.SumLaws.{arrivals-more, takes-more, settlements-more}
 use Rattle.stat_count.proofs.sum_rules.Goals as goal
 

@@ -1,5 +1,5 @@
 use Rattle.std.proofs.Common.{◌≡◌, drop}
-use Rattle.stopped_step.specs.Stopping.{stop_in}
+use Rattle.stopped_step.specs.inner.Stopping.{stop_in}
 use Rattle.stopped_step.proofs.stop_in.Given as goal
 
 -- what the routes that are left give is what all of them give

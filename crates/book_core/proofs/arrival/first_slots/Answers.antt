@@ -1,5 +1,5 @@
 use Rattle.std.proofs.Common.{◌<◌, ◌++◌, ◌∷◌, [], length, arith, sym, ap, ◌∙◌}
-use Rattle.dest_queue.specs.Slots.{new_slot}
+use Rattle.dest_queue.specs.inner.Slots.{new_slot}
 use Rattle.book_core.proofs.Naming.{slots-more}
 use Rattle.book_core.proofs.arrival.first_slots.Goals as goal
 

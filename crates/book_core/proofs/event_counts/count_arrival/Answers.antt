@@ -6,8 +6,9 @@ use Rattle.std.proofs.lemmas.List.Folds.{list_any_more, list_any_none}
 use Rattle.judge_core.specs.declared.delivery.Delivery.{Delivery}
 use Rattle.judge_core.specs.Delivering.{destinations_of}
 use Rattle.event_log.specs.declared.entry.Told.{Told}
-use Rattle.stat_count.specs.Statistics.{Statistics, channel_at, destination_at, no_arrivals, no_slots, on_channel, on_destination, waits_one}
-use Rattle.book_core.specs.Counting.{CountsArrival, told_one}
+use Rattle.stat_count.specs.Statistics.{Statistics, channel_at, destination_at, no_arrivals, no_slots}
+use Rattle.stat_count.specs.inner.Statistics.{on_channel, on_destination, waits_one}
+use Rattle.book_core.specs.inner.Counting.{CountsArrival, told_one}
 use Rattle.book_core.proofs.CountedArrivals.{names-either}
 use Rattle.book_core.proofs.event_counts.count_arrival.Goals as goal
 use Rattle.book_core.proofs.event_counts.count_arrival.Goals.{in-Accepted, in-Filtered, in-Refused, in-Repeat}

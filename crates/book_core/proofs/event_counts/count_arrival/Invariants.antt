@@ -1,7 +1,8 @@
 use Rattle.std.proofs.Common.{◌≡◌, ◌==◌, ℕ, length, take}
 use Rattle.std.specs.Prelude.{if◌then◌else◌}
 use Rattle.std.specs.List.{list_any}
-use Rattle.stat_count.specs.Statistics.{destination_at, waits_one}
+use Rattle.stat_count.specs.Statistics.{destination_at}
+use Rattle.stat_count.specs.inner.Statistics.{waits_one}
 use Rattle.book_core.proofs.event_counts.count_arrival.Given as goal
 
 abbrev pub invariant-loop-delivery : goal.invariant-loop-delivery

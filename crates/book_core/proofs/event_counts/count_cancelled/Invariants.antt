@@ -1,7 +1,8 @@
 use Rattle.std.proofs.Common.{◌≡◌, ◌<◌, ◌≤◌, ◌==◌, ℕ, length}
 use Rattle.std.specs.Prelude.{if◌then◌else◌}
 use Rattle.std.specs.Int.{bit_at}
-use Rattle.stat_count.specs.Statistics.{destination_at, cancelled_one}
+use Rattle.stat_count.specs.Statistics.{destination_at}
+use Rattle.stat_count.specs.inner.Statistics.{cancelled_one}
 use Rattle.book_core.proofs.event_counts.count_cancelled.Given as goal
 
 abbrev pub invariant-loop-d : goal.invariant-loop-d

@@ -1,6 +1,6 @@
 use Rattle.std.proofs.Common.{◌≡◌, inl, inr, not, nat_lt, refl, sym, ◌∙◌, ap, arith}
 use Rattle.std.specs.Prelude.{filter}
-use Rattle.row_store.specs.Rows.{removed}
+use Rattle.row_store.specs.inner.Rows.{removed}
 use Rattle.event_log.proofs.OneMore.{lt-tells}
 use Rattle.book_core.proofs.PrunedRows.{dropped-next, none-dropped}
 use Rattle.book_core.proofs.pruning.forget_rows.Goals as goal

@@ -1,5 +1,5 @@
 use Rattle.std.proofs.Common.{◌≡◌, ◌+◌, ◌-◌, ◌++◌, ◌∷◌, [], length, sym, ◌∙◌, ap, arith, append_assoc}
-use Rattle.book_core.specs.Pruning.{since}
+use Rattle.book_core.specs.inner.Pruning.{since}
 use Rattle.book_core.proofs.Remembering.{below-floor, kept_of, none-kept, one-kept}
 use Rattle.book_core.proofs.pruning.recall_entries.Goals as goal
 use Rattle.book_core.proofs.pruning.recall_entries.Goals.{then-place-floor+in_ok-arrival+in-Some+in_ok-push, then-place-floor+in_ok-arrival+in_default, else-place-floor}

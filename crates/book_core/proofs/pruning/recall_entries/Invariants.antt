@@ -1,5 +1,5 @@
 use Rattle.std.proofs.Common.{◌≡◌, ◌-◌, ◌++◌}
-use Rattle.book_core.specs.Pruning.{since}
+use Rattle.book_core.specs.inner.Pruning.{since}
 use Rattle.book_core.proofs.Remembering.{kept_of}
 use Rattle.book_core.proofs.pruning.recall_entries.Given as goal
 

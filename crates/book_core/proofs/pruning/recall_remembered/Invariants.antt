@@ -1,6 +1,6 @@
 use Rattle.std.proofs.Common.{◌≡◌, map, take}
 use Rattle.event_log.proofs.Recalling.{renewed}
-use Rattle.book_core.specs.Pruning.{since}
+use Rattle.book_core.specs.inner.Pruning.{since}
 use Rattle.book_core.proofs.pruning.recall_remembered.Given as goal
 
 abbrev pub invariant-loop-arrival : goal.invariant-loop-arrival

@@ -1,5 +1,5 @@
 use Rattle.std.proofs.Common.{take}
-use Rattle.book_core.specs.Pruning.{LeavesOut}
+use Rattle.book_core.specs.inner.Pruning.{LeavesOut}
 use Rattle.book_core.proofs.pruning.unremembered.Given as goal
 
 abbrev pub invariant-loop-arrival : goal.invariant-loop-arrival

@@ -1,8 +1,8 @@
 use Rattle.std.proofs.Common.{◌≡◌, refl, sym, ◌∙◌, ap, arith}
 use Rattle.std.specs.Prelude.{slice_get}
-use Rattle.row_store.specs.Rows.{front_of}
+use Rattle.row_store.specs.inner.Rows.{front_of}
 use Rattle.event_log.specs.History.{queue}
-use Rattle.book_core.specs.Pruning.{lesser}
+use Rattle.book_core.specs.inner.Pruning.{lesser}
 use Rattle.book_core.proofs.FirstLive.{first-more, first-none, first_below}
 use Rattle.book_core.proofs.Rows.{kept-front}
 use Rattle.book_core.proofs.questions.first_queued.Goals as goal

@@ -1,6 +1,6 @@
 use Rattle.std.proofs.Common.{◌≡◌}
 use Rattle.event_log.specs.History.{History}
-use Rattle.book_core.specs.Parts.{RowsAgree}
+use Rattle.book_core.specs.inner.Parts.{RowsAgree}
 use Rattle.book_core.proofs.FirstLive.{first_below}
 use Rattle.book_core.proofs.questions.first_queued.Given as goal
 

@@ -1,5 +1,6 @@
-use Rattle.std.proofs.Common.{◌≡◌, ◌+◌, All, vec_len, vec_capacity}
-use Rattle.book_lock.specs.Shares.{no_calls}
+use Rattle.std.proofs.Common.{◌≡◌, ◌+◌, All, map, vec_len, vec_capacity}
+use Rattle.book_lock.specs.inner.Shares.{no_calls}
+use Rattle.book_lock.specs.inner.Log.{new_seats}
 use Rattle.book_lock.proofs.desks.open_stations.Given as goal
 
 abbrev pub invariant-loop : goal.invariant-loop
@@ -7,4 +8,5 @@ invariant-loop g l =
     (l.left_takes.parts + l.counter ≡ l.count + 1) × (l.left_takes.amount ≡ 0)
     × (l.left_settlements.parts + l.counter ≡ l.count + 1) × (l.left_settlements.amount ≡ 0)
     × (vec_len l.stations ≡ l.counter) × (vec_capacity l.stations ≡ l.count)
-    × All (λ made. made ≡ no_calls) l.stations.items
+    × All (λ s. s.counts ≡ no_calls) l.stations.items
+    × (l.log ≡ (l.initial.log.0, l.initial.log.1 + l.counter)) × (map (λ s. s.seat) l.stations.items ≡ new_seats l.initial.log.1 l.counter)

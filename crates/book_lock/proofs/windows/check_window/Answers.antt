@@ -1,5 +1,5 @@
 use Rattle.std.proofs.Common.{◌+◌, sym, ap, ◌∙◌, arith}
-use Rattle.book_lock.specs.Windows.{fault_at}
+use Rattle.book_lock.specs.inner.Windows.{fault_at}
 use Rattle.book_lock.proofs.Telling.{fault_open, right_more, right_open}
 use Rattle.book_lock.proofs.windows.check_window.Goals as goal
 

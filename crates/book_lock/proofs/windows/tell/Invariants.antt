@@ -1,5 +1,5 @@
 use Rattle.std.proofs.Common.{take}
-use Rattle.book_lock.specs.Windows.{Tells}
+use Rattle.book_lock.specs.inner.Windows.{Tells}
 use Rattle.book_lock.proofs.windows.tell.Given as goal
 
 abbrev pub invariant-loop-receipt : goal.invariant-loop-receipt

@@ -1,6 +1,6 @@
 use Rattle.std.proofs.Common.{◌≡◌, ◌+◌, ◌++◌, ℕ, List, length, subst}
 use Rattle.std.specs.Prelude.{IsFalse, IsTrue}
-use Rattle.conn_core.specs.Outcomes.{AppendsInPart, IsOutcome, MayBecome, dues_in, is_whole}
+use Rattle.conn_core.specs.inner.Outcomes.{AppendsInPart, IsOutcome, MayBecome, dues_in, is_whole}
 use Rattle.conn_core.specs.Replies.{numbered}
 use Rattle.conn_core.proofs.block_outcome.answer_block.Goals as goal
 

@@ -1,7 +1,7 @@
 use Rattle.std.proofs.Common.{◌≡◌, Some}
 use Rattle.std.specs.Io.KnownBytes.{Keeps}
-use Rattle.delivery_worker.specs.Calls.{CallsMore, CallsUpTo}
-use Rattle.delivery_worker.specs.Stream.{Receives}
+use Rattle.delivery_worker.specs.inner.Calls.{CallsMore, CallsUpTo}
+use Rattle.delivery_worker.specs.inner.Stream.{Receives}
 use Rattle.delivery_worker.proofs.connection.receive_answers.Given as goal
 
 -- what was received so far is read as far as there are answers in it, at first nothing was received, and nothing is sent

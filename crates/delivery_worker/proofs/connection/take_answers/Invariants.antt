@@ -1,4 +1,4 @@
-use Rattle.delivery_worker.specs.Stream.{ReadsOn}
+use Rattle.delivery_worker.specs.inner.Stream.{ReadsOn}
 use Rattle.delivery_worker.proofs.connection.take_answers.Given as goal
 
 -- the first events were read

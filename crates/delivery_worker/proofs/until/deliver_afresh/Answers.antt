@@ -1,7 +1,8 @@
-use Rattle.std.proofs.Common.{arith}
+use Rattle.std.proofs.Common.{arith, refl}
 use Rattle.std.proofs.KnownBytes.{Keeps-trans}
 use Rattle.delivery_worker.proofs.Afresh.{tries_afresh}
 use Rattle.delivery_worker.proofs.Calls.{calls_add, calls_up}
+use Rattle.delivery_worker.proofs.InLog.{no_turn}
 use Rattle.delivery_worker.proofs.until.deliver_afresh.Goals as goal
 
 pub returns-in-Err-clause-uncalled : goal.returns-in-Err-clause-uncalled
@@ -9,7 +10,7 @@ returns-in-Err-clause-uncalled g c = calls_up _ _ _ c.prepare.ensures.receives
 
 pub returns-in-Ok-take_turn-clause-attempt : goal.returns-in-Ok-take_turn-clause-attempt
 returns-in-Ok-take_turn-clause-attempt g c =
-    tries_afresh _ _ _ _ _ _ _ _ _ c.in-Ok.ensures.ready c.prepare.ensures.sent c.prepare.ensures.received c.in-Ok-take_turn.ensures.attempt
+    tries_afresh _ _ _ _ _ _ _ _ _ _ _ _ _ c.in-Ok.ensures.ready c.prepare.ensures.sent c.prepare.ensures.received c.in-Ok-take_turn.ensures.attempt
 
 pub returns-in-Ok-take_turn-clause-receives : goal.returns-in-Ok-take_turn-clause-receives
 returns-in-Ok-take_turn-clause-receives g c =
@@ -24,3 +25,6 @@ returns-in-Err-take_turn-clause-unused g c = (
 pub returns-in-Err-take_turn-clause-uncalled : goal.returns-in-Err-take_turn-clause-uncalled
 returns-in-Err-take_turn-clause-uncalled g c =
     calls_add _ _ _ _ _ _ (calls_up _ _ _ c.prepare.ensures.receives) c.in-Err-take_turn.ensures.uncalled (omega arith)
+
+pub returns-in-Err-clause-untaken : goal.returns-in-Err-clause-untaken
+returns-in-Err-clause-untaken g c = no_turn _ _ _ _ refl

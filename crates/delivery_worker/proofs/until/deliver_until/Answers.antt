@@ -4,12 +4,13 @@ use Rattle.delivery_worker.specs.declared.report.DeliverReport.{DeliverReport}
 use Rattle.delivery_worker.proofs.Afresh.{attempted, delivers, paused, starts}
 use Rattle.delivery_worker.proofs.Calls.{calls_add, calls_end, calls_none, calls_within}
 use Rattle.delivery_worker.proofs.Delivered.{counted_taken}
+use Rattle.delivery_worker.proofs.InLog.{no_turn}
 use Rattle.delivery_worker.proofs.until.deliver_until.Goals.{in-Ok, in-Err-NotYet}
 use Rattle.delivery_worker.proofs.until.deliver_until.Goals as goal
 
 pub turns-init : goal.turns-init
 turns-init g c = record {
-  so_far = starts _ _ _ _ c.new-report.ensures;
+  so_far = starts _ _ _ _ _ _ c.new-report.ensures;
   calls = calls_within _ _ 0 _ (calls_none _) (omega arith);
 }
 
@@ -19,26 +20,26 @@ turns-preserved g c =
       | in-Ok w ↦
           let is = w.report-is ∙ w.count.ensures in
           let taken = ap (λ (r : DeliverReport). r.taken) is ∙ counted_taken _ _ in record {
-            so_far = attempted _ _ _ _ _ _ _ _ _ _ _ _ _ _ c.turns.invariant.so_far w.in-Ok.ensures.attempt w.in-Ok.ensures.taken w.in-Ok.ensures.settled is;
+            so_far = attempted _ _ _ _ _ _ _ _ _ _ _ _ _ _ _ _ c.turns.invariant.so_far w.in-Ok.ensures.attempt w.in-Ok.ensures.taken w.in-Ok.ensures.settled is;
             calls = calls_add _ _ _ _ _ _ c.turns.invariant.calls w.in-Ok.ensures.receives (omega (arith, taken));
           }
       | in-Err-NotYet w ↦ record {
-        so_far = paused _ _ _ _ _ _ _ _ _ _ _ _ c.turns.invariant.so_far w.in-Err-NotYet.ensures.refused w.in-Err-NotYet.ensures.unused w.report-is;
+        so_far = paused _ _ _ _ _ _ _ _ _ _ _ _ _ _ c.turns.invariant.so_far w.in-Err-NotYet.ensures.refused w.in-Err-NotYet.ensures.untaken w.in-Err-NotYet.ensures.unused w.report-is;
         calls = calls_add _ _ _ _ _ _ c.turns.invariant.calls w.in-Err-NotYet.ensures.uncalled (omega (arith, ap (λ (r : DeliverReport). r.taken) w.report-is));
       }
     ]
 
 pub returns-then-is_halted-clause-attempts : goal.returns-then-is_halted-clause-attempts
 returns-then-is_halted-clause-attempts g c =
-    delivers _ _ _ _ _ _ _ _ _ _ _ c.turns.invariant.so_far c.finish.ensures.sent c.finish.ensures.received refl refl refl refl
+    delivers _ _ _ _ _ _ _ _ _ _ _ _ _ _ c.turns.invariant.so_far (no_turn _ _ _ _ refl) c.finish.ensures.sent c.finish.ensures.received refl refl refl refl
 
 pub returns-in-Err-Drained-clause-attempts : goal.returns-in-Err-Drained-clause-attempts
 returns-in-Err-Drained-clause-attempts g c =
-    delivers _ _ _ _ _ _ _ _ _ _ _ c.turns.invariant.so_far (Keeps-trans _ _ _ c.in-Err-Drained.ensures.unused.0 c.finish-in-Err-Drained.ensures.sent)
+    delivers _ _ _ _ _ _ _ _ _ _ _ _ _ _ c.turns.invariant.so_far c.in-Err-Drained.ensures.untaken (Keeps-trans _ _ _ c.in-Err-Drained.ensures.unused.0 c.finish-in-Err-Drained.ensures.sent)
     (Keeps-trans _ _ _ c.in-Err-Drained.ensures.unused.1 c.finish-in-Err-Drained.ensures.received) refl refl refl refl
 
 pub returns-clause-attempts : goal.returns-clause-attempts
-returns-clause-attempts g c = delivers _ _ _ _ _ _ _ _ _ _ _ c.turns.invariant.so_far c.finish-2.ensures.sent c.finish-2.ensures.received refl refl refl refl
+returns-clause-attempts g c = delivers _ _ _ _ _ _ _ _ _ _ _ _ _ _ c.turns.invariant.so_far (no_turn _ _ _ _ refl) c.finish-2.ensures.sent c.finish-2.ensures.received refl refl refl refl
 
 pub returns-then-is_halted-clause-receives : goal.returns-then-is_halted-clause-receives
 returns-then-is_halted-clause-receives g c = calls_end _ _ _ _ _ c.turns.invariant.calls (calls_none _) c.finish.ensures.receives

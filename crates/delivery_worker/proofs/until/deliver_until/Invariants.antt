@@ -1,13 +1,13 @@
 use Rattle.std.proofs.Common.{◌*◌}
 use Rattle.fixed_numbers.specs.declared.serving.TheConstants.{RECEIVES_MAX}
-use Rattle.delivery_worker.specs.Calls.{CallsUpTo}
+use Rattle.delivery_worker.specs.inner.Calls.{CallsUpTo}
 use Rattle.delivery_worker.proofs.Afresh.{SoFar}
 use Rattle.delivery_worker.proofs.until.deliver_until.Given as goal
 
--- the attempts so far are counted, and are the takes of the station, and bytes were asked for so many times at most
+-- the attempts so far are counted, and are the turns of the station, and few receives were made
 abbrev pub invariant-turns : goal.invariant-turns
 invariant-turns g l =
     record {
-      so_far : SoFar (g.L.Link.sent l.fn.link) (g.L.Link.sent l.link) (g.L.Link.received l.fn.link) (g.L.Link.received l.link) l.fn.station l.station l.counter l.report;
+      so_far : SoFar g.A.ArrivalLedger.opening l.d (g.L.Link.sent l.fn.link) (g.L.Link.sent l.link) (g.L.Link.received l.fn.link) (g.L.Link.received l.link) l.fn.station l.station l.counter l.report;
       calls : CallsUpTo (g.L.Link.receives l.fn.link) (g.L.Link.receives l.link) (RECEIVES_MAX * l.report.taken);
     }

@@ -1,6 +1,6 @@
 use Rattle.std.proofs.Common.{◌≡◌, ◌∙◌, sym, ap, arith, ℕ}
 use Rattle.std.specs.Option.{option_copied_mut}
-use Rattle.row_store.specs.Rows.{unlinked}
+use Rattle.row_store.specs.inner.Rows.{unlinked}
 use Rattle.row_store.proofs.Changes.{changed_at-none}
 use Rattle.dest_queue.proofs.QueueLemmas.{cancel-done, cancel-idle, fold-left, fold-stayed, bit-set, bit-clear, no_bits}
 use Rattle.dest_queue.proofs.queues.cancel_waiting.Goals as goal

@@ -1,7 +1,7 @@
 use Rattle.std.proofs.Common.{◌≡◌, ◌==◌, filter, fold}
 use Rattle.std.specs.Int.{bit_at}
 use Rattle.std.specs.List.{range_with_len}
-use Rattle.row_store.specs.Rows.{unlinked}
+use Rattle.row_store.specs.inner.Rows.{unlinked}
 use Rattle.dest_queue.proofs.queues.cancel_waiting.Given as goal
 
 abbrev pub invariant-loop-d : goal.invariant-loop-d

@@ -1,6 +1,6 @@
 use Rattle.std.proofs.Common.{◌≡◌, ◌==◌, ℕ, ◌++◌, take, drop}
 use Rattle.std.specs.Int.{bit_at}
-use Rattle.dest_queue.specs.Slots.{waits_at, cancelled}
+use Rattle.dest_queue.specs.inner.Slots.{waits_at, cancelled}
 use Rattle.dest_queue.proofs.slots.cancel_in.Given as goal
 
 abbrev pub invariant-loop-slot : goal.invariant-loop-slot

@@ -1,5 +1,5 @@
 use Rattle.std.proofs.Common.{◌≡◌, ◌++◌, take, drop}
-use Rattle.dest_queue.specs.Slots.{with_state}
+use Rattle.dest_queue.specs.inner.Slots.{with_state}
 use Rattle.dest_queue.proofs.slots.put_in.Given as goal
 
 abbrev pub invariant-loop-slot : goal.invariant-loop-slot

@@ -1,5 +1,5 @@
 use Rattle.std.proofs.Common.{◌≡◌, map, take}
-use Rattle.dry_run.specs.Ways.{way}
+use Rattle.dry_run.specs.inner.Ways.{way}
 use Rattle.dry_run.proofs.explanation.ways.Given as goal
 
 -- how it fares on the routes so far

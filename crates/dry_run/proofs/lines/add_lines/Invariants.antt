@@ -1,5 +1,5 @@
 use Rattle.std.proofs.Common.{◌≡◌, ◌++◌, drop, true}
-use Rattle.dry_run.specs.Lines.{lines_from}
+use Rattle.dry_run.specs.inner.Lines.{lines_from}
 use Rattle.dry_run.proofs.lines.add_lines.Given as goal
 
 -- the lines so far are written, and the rest follows them

@@ -1,5 +1,5 @@
 use Rattle.std.proofs.Common.{◌≡◌, ◌++◌, drop, false}
-use Rattle.dry_run.specs.Segments.{segments}
+use Rattle.dry_run.specs.inner.Segments.{segments}
 use Rattle.dry_run.proofs.text_input.segments_of.Given as goal
 
 -- the message so far is written, and the rest follows it

@@ -1,7 +1,7 @@
 use Rattle.std.proofs.Common.{◌≡◌, ◌&&◌, length}
 use Rattle.std.specs.Arc.{arc_value}
 use Rattle.std.specs.List.{list_all}
-use Rattle.dry_run.specs.Trying.{event_taken}
+use Rattle.dry_run.specs.inner.Trying.{event_taken}
 use Rattle.dry_run.proofs.trial.try_events.Given as goal
 
 -- what the events so far came to, and those to come

@@ -1,7 +1,7 @@
 use Rattle.std.proofs.Common.{◌≡◌, ◌∙◌, ap, rules, refl}
 use Rattle.std.specs.Prelude.{filter, nat_le}
 use Rattle.indexmap.proofs.CallerLemmas.{filter-RetainsPairs}
-use Rattle.dup_index.specs.Known.{from_place}
+use Rattle.dup_index.specs.inner.Known.{from_place}
 use Rattle.dup_index.proofs.Seen.{seen, from_place-seen, EachOnce-from_place, place_of-from_place}
 use Rattle.dup_index.proofs.Keys.drop_before.Goals as goal
 

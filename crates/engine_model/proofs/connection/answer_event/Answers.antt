@@ -1,7 +1,8 @@
 use Rattle.std.proofs.Common.{[], ◌∷◌, refl, sym, subst}
-use Rattle.mllp_frame.specs.Event.{broken, event_of}
+use Rattle.mllp_frame.specs.Event.{broken}
+use Rattle.mllp_frame.specs.inner.Event.{event_of}
 use Rattle.mllp_frame.specs.declared.FrameEvent.{FrameEvent}
-use Rattle.engine_model.specs.Handling.{Handles, HandlesFront}
+use Rattle.engine_model.specs.inner.Handling.{Handles, HandlesFront}
 use Rattle.engine_model.proofs.Handled.{handles-none, on_err_one}
 use Rattle.engine_model.proofs.connection.answer_event.Goals as goal
 

@@ -1,6 +1,7 @@
 use Rattle.std.proofs.Common.{◌≡◌, ◌+◌, ◌∷◌, [], ◌++◌, List, drop, length, refl, sym, ap, ◌∙◌, append_assoc, length-append, arith}
-use Rattle.mllp_frame.specs.Event.{Event, event_of}
-use Rattle.mllp_frame.specs.Framed.{Framed}
+use Rattle.mllp_frame.specs.Event.{FramingEvent}
+use Rattle.mllp_frame.specs.inner.Event.{event_of}
+use Rattle.mllp_frame.specs.inner.Framed.{Framed}
 use Rattle.engine_model.proofs.Handled.{first_event, front-more, handles-more, handles-nothing, handles-stop, on_err_always}
 use Rattle.engine_model.proofs.connection.answer_events.Goals as goal
 
@@ -32,8 +33,8 @@ returns-then-events-ge-FRAME_EVENTS_MAX-2-clause-err g c =
 
 pub loop-event-preserved : goal.loop-event-preserved
 loop-event-preserved g c =
-    let e : Event = event_of c.in-Some.event in
-    let before : List Event = c.loop-event.invariant.handled in
+    let e : FramingEvent = event_of c.in-Some.event in
+    let before : List FramingEvent = c.loop-event.invariant.handled in
     let first : c.loop-event.framer.to_come ≡ event_of c.in-Some.event ∷ drop 1 c.loop-event.framer.to_come = first_event c.loop-event.framer.to_come e c.in-Some.ensures.event in
     let rest : c.next.new.self.to_come ≡ drop 1 c.loop-event.framer.to_come = ap (λ (f : Framed). f.to_come) c.in-Some.ensures.rest in
     let size : length (c.loop-event.invariant.handled ++ event_of c.in-Some.event ∷ []) ≡ length c.loop-event.invariant.handled + 1 = length-append before (e ∷ []) in
@@ -57,7 +58,7 @@ loop-event-preserved g c =
 
 pub returns-in_err-answer_event-clause-err : goal.returns-in_err-answer_event-clause-err
 returns-in_err-answer_event-clause-err g c =
-    let e : Event = event_of c.in-Some.event in
+    let e : FramingEvent = event_of c.in-Some.event in
     let first : c.loop-event.framer.to_come ≡ event_of c.in-Some.event ∷ drop 1 c.loop-event.framer.to_come = first_event c.loop-event.framer.to_come e c.in-Some.ensures.event in
     on_err_always c.from_residual.result
     (front-more c.args.line.now.conn c.args.line.now.channel c.args.now c.loop-event.invariant.handled (e ∷ []) (drop 1 c.loop-event.framer.to_come) c.args.framer.now.to_come c.args.book.now c.loop-event.book c.answer_event.new.book c.args.words.now c.loop-event.words c.answer_event.new.words

@@ -1,9 +1,9 @@
 use Rattle.std.proofs.Common.{◌≡◌, ◌+◌, ◌*◌, ◌≤◌, [], ◌++◌, List, length}
 use Rattle.event_log.specs.History.{plan_in_force}
-use Rattle.mllp_frame.specs.Event.{Event}
-use Rattle.mllp_frame.specs.Framed.{Framed}
+use Rattle.mllp_frame.specs.Event.{FramingEvent}
+use Rattle.mllp_frame.specs.inner.Framed.{Framed}
 use Rattle.fixed_numbers.specs.declared.serving.TheConstants.{FRAME_EVENTS_MAX}
-use Rattle.engine_model.specs.Handling.{Handles, IsCounted}
+use Rattle.engine_model.specs.inner.Handling.{Handles, IsCounted}
 use Rattle.engine_model.proofs.connection.answer_events.Given as goal
 
 -- the events that are gone from the framer were handled
@@ -11,7 +11,7 @@ abbrev pub invariant-loop-event : goal.invariant-loop-event
 invariant-loop-event g l =
     let emptied : Framed → Framed = λ f. record f { to_come = [] } in
     record {
-      handled : List Event;
+      handled : List FramingEvent;
       whole : l.fn.framer.to_come ≡ handled ++ l.framer.to_come;
       does : Handles l.line.conn l.line.channel l.now handled l.fn.book l.book l.fn.words l.words;
       rest : emptied l.framer ≡ emptied l.fn.framer;

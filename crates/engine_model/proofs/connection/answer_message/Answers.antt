@@ -1,6 +1,6 @@
 use Rattle.std.proofs.Common.{◌≡◌, true, false, refl, ◌∙◌, subst}
 use Rattle.mllp_frame.specs.Framing.{IsBlockData}
-use Rattle.conn_core.specs.Replies.{told_by}
+use Rattle.conn_core.specs.inner.Replies.{told_by}
 use Rattle.engine_model.proofs.Handled.{handles-cut, handles-left, handles-message, is_booked, kept-on, on_err_always, plan-kept}
 use Rattle.engine_model.proofs.connection.answer_message.Goals as goal
 

@@ -1,7 +1,7 @@
 use Rattle.std.proofs.Common.{◌≡◌, [], ◌∷◌, refl, sym, ap, ◌∙◌, subst}
 use Rattle.judge_core.specs.Judging.{Judgement, is_bookable}
 use Rattle.mllp_frame.specs.Event.{block}
-use Rattle.engine_model.specs.Handling.{Handles, HandlesFront}
+use Rattle.engine_model.specs.inner.Handling.{Handles, HandlesFront}
 use Rattle.engine_model.proofs.Handled.{handles-none, handles-stop, no_message, on_err_always, on_err_one, on_ok_one}
 use Rattle.engine_model.proofs.connection.answer_text.Goals as goal
 

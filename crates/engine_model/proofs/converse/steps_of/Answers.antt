@@ -1,5 +1,5 @@
 use Rattle.std.proofs.Common.{◌≡◌, length, map, arith}
-use Rattle.engine_model.specs.View.{turn_by}
+use Rattle.engine_model.specs.inner.View.{turn_by}
 use Rattle.engine_model.proofs.Conversely.{at, came, reached-by, steps-all, steps-more}
 use Rattle.engine_model.proofs.converse.steps_of.Goals as goal
 

@@ -1,6 +1,6 @@
 use Rattle.std.proofs.Common.{◌≡◌, length, map, take, vec_len, vec_capacity}
-use Rattle.engine_model.specs.Converse.{step_of}
-use Rattle.engine_model.specs.View.{turn_by}
+use Rattle.engine_model.specs.inner.Converse.{step_of}
+use Rattle.engine_model.specs.inner.View.{turn_by}
 use Rattle.engine_model.proofs.converse.steps_of.Given as goal
 
 -- the steps of the entries so far

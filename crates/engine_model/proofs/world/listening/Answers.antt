@@ -1,7 +1,7 @@
 use Rattle.std.proofs.Common.{◌≡◌, ◌∷◌, [], ◌++◌, arith}
 use Rattle.std.proofs.lemmas.List.Elements.{All-push, All-same}
 use Rattle.engine_model.specs.declared.connection.Connected.{Connected}
-use Rattle.engine_model.specs.View.{IsOpen}
+use Rattle.engine_model.specs.inner.View.{IsOpen}
 use Rattle.engine_model.proofs.Conversely.{silent-more}
 use Rattle.engine_model.proofs.world.listening.Goals as goal
 

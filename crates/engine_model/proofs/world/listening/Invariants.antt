@@ -1,7 +1,7 @@
 use Rattle.std.proofs.Common.{◌≡◌, All, length, map, take, vec_len, vec_capacity}
 use Rattle.engine_model.specs.declared.connection.Connected.{Connected}
 use Rattle.engine_model.specs.Run.{silent}
-use Rattle.engine_model.specs.View.{IsOpen, connection_of}
+use Rattle.engine_model.specs.inner.View.{IsOpen, connection_of}
 use Rattle.engine_model.proofs.world.listening.Given as goal
 
 -- the connections so far

@@ -1,5 +1,5 @@
 use Rattle.std.proofs.Common.{◌≡◌, ◌++◌, map, take, drop}
-use Rattle.engine_model.specs.View.{with_folded}
+use Rattle.engine_model.specs.inner.View.{with_folded}
 use Rattle.engine_model.proofs.world.note_folding.Given as goal
 
 -- those so far were noted

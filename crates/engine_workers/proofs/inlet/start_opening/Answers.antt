@@ -5,8 +5,8 @@ use denote.Struct.Tuple.{Tuple}
 use denote.Param.Send.{sendable, arg_send, param_send, copied_sync}
 use Rattle.std.proofs.Crossing.{crosses}
 use Rattle.std.below.core.specs.contracts.marker.ClosureMark as ClosureMark
-use Rattle.engine_workers.specs.contracts.inlet.Inlet as Inlet
-use Rattle.engine_workers.proofs.inlet.Inlet.TheSendSync as inlet
+use Rattle.engine_workers.specs.contracts.inlet.ChannelWork as ChannelWork
+use Rattle.engine_workers.proofs.inlet.ChannelWork.TheSendSync as inlet
 use Rattle.engine_workers.proofs.Crossing.{at_place_send}
 use Rattle.engine_workers.proofs.inlet.start_opening.Goals as goal
 
@@ -15,7 +15,7 @@ spawn-requires-send-F g c κs within =
     let b = c.type_bounds in
     param_send 1 _ (arg_send _ no _ (
     at_place_send (param 1 g.row.A) (param 2 g.row.T) (param 3 g.row.U) (param 4 g.row.S) (copied 5 g.row.C) (param 6 g.row.H)
-    g.A.Opening g.A.Ledger g.T.Ledger g.U.Ledger g.S.RowStore _ _ _ _ _ _ (Inlet.the_row (param 1 g.row.A) (param 9 g.row.D) g.A.Opening g.A.Ledger)
+    g.A.ArrivalLedger g.A.Ledger g.A.Naming g.T.Ledger g.U.Ledger g.S.RowStore _ _ _ _ _ _ (ChannelWork.the_row (param 1 g.row.A) (param 9 g.row.D) g.A.ArrivalLedger g.A.Naming g.A.Ledger)
     (ClosureMark.the_row (Tuple (param 7 g.row.R ∷ param 8 g.row.W ∷ [])) ∷ [])
-    b.send-S (copied_sync 5 _ b.sync-C) b.sync-H (inlet.the_sync _ _ _ _ b.send-D) (search (sendable, crosses) depth 20, tt)
+    b.send-S (copied_sync 5 _ b.sync-C) b.sync-H (inlet.the_sync _ _ _ _ _ b.send-D) (search (sendable, crosses) depth 20, tt)
     ))

@@ -8,6 +8,7 @@ scoped-requires g c =
     let b = c.type_bounds in
     record {
       at = λ a. (
+        arg_send _ yes _ (param_send 0 _ (arg_send (layout g.row.A) no _ b.send-A)),
         arg_send _ yes _ (param_send 3 _ (arg_send (layout g.row.S) no _ b.send-S)),
         arg_send _ yes _ (param_send 6 _ (arg_send (layout g.row.R) no _ b.send-R)),
         arg_send _ yes _ (param_send 7 _ (arg_send (layout g.row.W) no _ b.send-W)),

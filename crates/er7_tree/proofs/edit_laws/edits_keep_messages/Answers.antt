@@ -1,5 +1,5 @@
 use Rattle.std.proofs.Common.{sym, subst, inl, inr}
-use Rattle.er7_tree.specs.Tree.{IsMessage}
+use Rattle.er7_tree.specs.inner.Tree.{IsMessage}
 use Rattle.er7_tree.proofs.EditLaws.{set_puts, copy_puts, clear_puts, remove_gives}
 use Rattle.er7_tree.proofs.EditedMessages.{removed}
 use Rattle.er7_tree.proofs.Editing.{set_kept, copy_kept, clear_kept}

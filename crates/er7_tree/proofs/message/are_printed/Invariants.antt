@@ -1,6 +1,6 @@
 use Rattle.std.proofs.Common.{◌≡◌, ◌≤◌, drop, length, map}
 use Rattle.std.specs.List.{flat_map}
-use Rattle.er7_tree.specs.Spans.{covered}
+use Rattle.er7_tree.specs.inner.Spans.{covered}
 use Rattle.er7_tree.specs.Tree.{ended}
 use Rattle.er7_tree.proofs.message.are_printed.Given as goal
 

@@ -1,6 +1,6 @@
 use Rattle.std.proofs.Common.{◌≡◌, ◌≤◌, ◌-◌, take, map, length}
 use Rattle.std.specs.List.{filter}
-use Rattle.er7_tree.specs.Spans.{covered}
+use Rattle.er7_tree.specs.inner.Spans.{covered}
 use Rattle.er7_tree.specs.Tree.{has_name}
 use Rattle.er7_tree.proofs.message.find_place.Given as goal
 

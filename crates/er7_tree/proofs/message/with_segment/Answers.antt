@@ -1,6 +1,6 @@
 use Rattle.std.proofs.Common.{◌≡◌, ◌+◌, ◌<◌, [], ◌∷◌, ◌++◌, List, ℕ, map, length, take, set, get_or, Bor, subst, sym, ap, ◌∙◌, arith}
 use Rattle.std.proofs.lemmas.List.{get_or-map, length-map}
-use Rattle.er7_tree.specs.Spans.{covered, InOrder}
+use Rattle.er7_tree.specs.inner.Spans.{covered, InOrder}
 use Rattle.er7_tree.proofs.Spanning.{span_at}
 use Rattle.er7_tree.proofs.Placing.{set_step, writes_more, writes_in_order}
 use Rattle.er7_tree.proofs.message.with_segment.Goals as goal
@@ -34,7 +34,7 @@ loop-index-preserved c =
     ] in
     let covers = writes_more changed segment moved target index c.len-start.result c.len-end.result starts ends so_far.in_order so_far.same next in
     let in_order = writes_in_order changed segment moved target index c.len-start.result c.len-end.result starts ends so_far.in_order in
-    let pushed = c.in_ok-push.ensures.items in
+    let pushed = c.in_ok-push.ensures.ok in
     record {
       same = ap (λ text. map (covered text) c.push.new.self.items) extended ∙ ap (map (covered (changed ++ segment))) pushed ∙ covers;
       in_order = subst (λ text. InOrder 0 (length text) c.push.new.self.items) (sym extended) (subst (InOrder 0 (length (changed ++ segment))) (sym pushed) in_order);

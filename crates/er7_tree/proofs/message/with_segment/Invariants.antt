@@ -1,5 +1,5 @@
 use Rattle.std.proofs.Common.{◌≡◌, take, length, map, slice_set}
-use Rattle.er7_tree.specs.Spans.{covered, InOrder}
+use Rattle.er7_tree.specs.inner.Spans.{covered, InOrder}
 use Rattle.er7_tree.proofs.message.with_segment.Given as goal
 
 abbrev pub invariant-loop-index : goal.invariant-loop-index

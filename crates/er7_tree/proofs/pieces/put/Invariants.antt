@@ -1,5 +1,6 @@
 use Rattle.std.proofs.Common.{◌≡◌, ◌-◌, ◌++◌}
-use Rattle.er7_tree.specs.Pieces.{join, put, put_after, pieces_left}
+use Rattle.er7_tree.specs.Pieces.{join, put, put_after}
+use Rattle.er7_tree.specs.inner.Pieces.{pieces_left}
 use Rattle.er7_tree.proofs.pieces.put.Given as goal
 
 abbrev pub invariant-loop : goal.invariant-loop

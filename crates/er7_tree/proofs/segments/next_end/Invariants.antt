@@ -1,5 +1,5 @@
 use Rattle.std.proofs.Common.{◌-◌, ◌≤◌, length}
-use Rattle.lane_scan.specs.Scan.{AreAhead}
+use Rattle.lane_scan.specs.inner.Scan.{AreAhead}
 use Rattle.er7_tree.proofs.segments.next_end.Given as goal
 
 abbrev pub invariant-ends : goal.invariant-ends

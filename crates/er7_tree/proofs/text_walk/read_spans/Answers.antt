@@ -1,10 +1,10 @@
-use Rattle.std.proofs.Common.{◌≡◌, ℕ, Bool, true, false, not, List, [], ◌∷◌, ◌++◌, map, drop, length, subst, sym, ap, ◌∙◌, cond, arith, append_assoc, Option, Some, None, is_some, ◌+◌}
+use Rattle.std.proofs.Common.{◌≡◌, ℕ, Bool, true, false, not, List, [], ◌∷◌, ◌++◌, map, drop, length, subst, sym, ap, ◌∙◌, arith, append_assoc, Option, Some, None, is_some, Result, Ok, Err, OnOk, is_ok, ◌+◌}
 use Rattle.std.proofs.lemmas.List.{map-append}
 use Rattle.std.specs.Option.{option_or}
 use Rattle.er7_tree.specs.Delims.{Delims}
 use Rattle.er7_tree.specs.Tree.{is_body, bad_name_place, segments_of}
 use Rattle.er7_tree.specs.declared.segments.Span.{Span}
-use Rattle.er7_tree.specs.Spans.{covered, InOrder}
+use Rattle.er7_tree.specs.inner.Spans.{covered, InOrder}
 use Rattle.er7_tree.proofs.Spanning.{in_order_push, in_order_to}
 use Rattle.er7_tree.proofs.text_walk.read_spans.Goals as goal
 use Rattle.er7_tree.proofs.text_walk.read_spans.Goals.{then-is_none+then-not-is_body, else-is_none, else-is_none-via-then-is_none+else-not-is_body, else-is_none-via-else-is_none}
@@ -16,9 +16,9 @@ covers_more text spans pushed span rest all is so_far =
     ap (λ spans. map (covered text) spans ++ rest) is ∙ ap (λ segments. segments ++ rest) (map-append (covered text) spans (span ∷ []))
     ∙ append_assoc (map (covered text) spans) (covered text span ∷ []) rest ∙ so_far
 
-pushed_is : (ok said : Bool) (pushed spans : List Span) (span : Span) → pushed ≡ cond ok (spans ++ span ∷ []) spans → said ≡ ok → said ≡ true → pushed ≡ spans ++ span ∷ []
-pushed_is true said pushed spans span is same yes_said = is
-pushed_is false said pushed spans span is same yes_said = cc
+pushed_is : {A B : Type 0} (r : Result A B) (said : Bool) (pushed spans : List Span) (span : Span) → OnOk r (pushed ≡ spans ++ span ∷ []) → said ≡ is_ok r → said ≡ true → pushed ≡ spans ++ span ∷ []
+pushed_is (Ok x) said pushed spans span is same yes_said = is
+pushed_is (Err e) said pushed spans span is same yes_said = cc
 
 -- the place of the first bad name, where this segment is the first bad one, where it is not bad, and where one stands before it
 found_here : (d : Delims) (n : ℕ) (bad : Option ℕ) (segment : List ℕ) (rest : List (List ℕ)) (all : Option ℕ) → is_some bad ≡ false → is_body d segment ≡ false
@@ -40,7 +40,7 @@ loop-span-preserved-then-kept c =
     let here = c.in-Some.ensures in
     let so_far = c.loop-span.invariant in
     let spans = c.loop-span.spans.items in
-    let pushed = pushed_is _ c.is_ok-kept-then-kept.result _ spans c.in-Some.span c.push-then-kept.ensures.items c.is_ok-kept-then-kept.ensures.value in
+    let pushed = pushed_is c.push-then-kept.result c.is_ok-kept-then-kept.result _ spans c.in-Some.span c.push-then-kept.ensures.ok c.is_ok-kept-then-kept.ensures.value in
     let covered_so_far = ap (λ segments. map (covered c.args.text.now) spans ++ segments) (sym here.segment) ∙ so_far.cut c.if-kept.true in
     let here_is = covered c.args.text.now c.in-Some.span in
     let left = segments_of (drop c.in-Some.span.end c.args.text.now) in

@@ -1,7 +1,7 @@
 use Rattle.std.proofs.Common.{◌≡◌, ◌+◌, ◌-◌, ◌≤◌, true, ◌++◌, length, drop, map}
 use Rattle.std.specs.Option.{option_or}
-use Rattle.lane_scan.specs.Scan.{AreAhead}
-use Rattle.er7_tree.specs.Spans.{covered, InOrder, IsNear}
+use Rattle.lane_scan.specs.inner.Scan.{AreAhead}
+use Rattle.er7_tree.specs.inner.Spans.{covered, InOrder, IsNear}
 use Rattle.er7_tree.specs.Tree.{segments_of, bad_name_place}
 use Rattle.er7_tree.proofs.text_walk.read_spans.Given as goal
 

@@ -1,6 +1,6 @@
 use Rattle.std.proofs.Common.{◌≡◌, ◌<◌, true, false, length, sym, ◌∙◌, arith}
 use Rattle.std.specs.Prelude.{slice_get}
-use Rattle.event_log.specs.Deployment.{same_at}
+use Rattle.event_log.specs.inner.Deployment.{same_at}
 use Rattle.event_log.proofs.Naming.{not-alike, rest-alike}
 use Rattle.event_log.proofs.deployment.same_channels.Goals as goal
 

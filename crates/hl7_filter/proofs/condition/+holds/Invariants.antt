@@ -1,6 +1,7 @@
 use Rattle.std.proofs.Common.{◌≡◌, true, drop}
-use Rattle.hl7_filter.specs.Condition.{all_true, any_true, all_compare_unescaped}
-use Rattle.hl7_filter.specs.View.{conditions_view}
+use Rattle.hl7_filter.specs.Condition.{all_true, any_true}
+use Rattle.hl7_filter.specs.inner.Condition.{all_compare_unescaped}
+use Rattle.hl7_filter.specs.inner.View.{conditions_view}
 use Rattle.hl7_filter.proofs.condition.+holds.Given as goal
 
 abbrev pub invariant-all_hold-loop-cond : goal.invariant-all_hold-loop-cond

@@ -1,6 +1,6 @@
 use Rattle.std.proofs.Common.{◌≡◌, drop, nat_le}
 use Rattle.hl7_filter.specs.Condition.{most_levels}
-use Rattle.hl7_filter.specs.View.{conditions_view}
+use Rattle.hl7_filter.specs.inner.View.{conditions_view}
 use Rattle.hl7_filter.proofs.condition.+levels.Given as goal
 
 abbrev pub invariant-all_within-loop-cond : goal.invariant-all_within-loop-cond

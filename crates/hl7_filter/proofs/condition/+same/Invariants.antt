@@ -1,5 +1,5 @@
 use Rattle.std.proofs.Common.{◌≡◌, drop}
-use Rattle.hl7_filter.specs.View.{conditions_view}
+use Rattle.hl7_filter.specs.inner.View.{conditions_view}
 use Rattle.hl7_filter.proofs.condition.+same.Given as goal
 
 abbrev pub invariant-same_conds-loop-cond : goal.invariant-same_conds-loop-cond

@@ -1,7 +1,7 @@
 use Rattle.std.proofs.Common.{◌≡◌, ℕ, ◌≤◌, Bool, false, refl, arith}
 use Rattle.std.proofs.lemmas.Bool.{false_from_ne_true}
 use Rattle.hl7_head.specs.Header.{header}
-use Rattle.hl7_head.specs.Laws.{AreControl}
+use Rattle.hl7_head.specs.inner.Laws.{AreControl}
 use Rattle.hl7_head.proofs.AckBytes.{ack_all}
 use Rattle.hl7_head.proofs.Bytes.{head_all, message_all}
 use Rattle.hl7_head.proofs.laws.ack_adds_no_control.Goals as goal

@@ -1,7 +1,7 @@
 use Rattle.std.proofs.Common.{◌≡◌, ◌<◌}
 use Rattle.er7_tree.specs.Pieces.{split}
-use Rattle.er7_tree.specs.Spans.{covered}
-use Rattle.lane_scan.specs.Scan.{AreAhead}
+use Rattle.er7_tree.specs.inner.Spans.{covered}
+use Rattle.lane_scan.specs.inner.Scan.{AreAhead}
 use Rattle.hl7_head.proofs.Cutting.{ReadsOn}
 use Rattle.hl7_head.proofs.places.fields.Given as goal
 

@@ -1,5 +1,5 @@
 use Rattle.er7_tree.specs.Pieces.{split}
-use Rattle.er7_tree.specs.Spans.{covered}
+use Rattle.er7_tree.specs.inner.Spans.{covered}
 use Rattle.hl7_head.proofs.Cutting.{ReadsOn}
 use Rattle.hl7_head.proofs.places.first_pieces.Given as goal
 

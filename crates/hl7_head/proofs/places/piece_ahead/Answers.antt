@@ -1,5 +1,4 @@
-use Rattle.std.proofs.Common.{◌≡◌, ◌+◌, arith, length}
-use Rattle.lane_scan.specs.Scan.{IsNext, IsNowhere}
+use Rattle.std.proofs.Common.{arith, length}
 use Rattle.hl7_head.proofs.Cutting.{reads_next, reads_past}
 use Rattle.hl7_head.proofs.places.piece_ahead.Goals as goal
 

@@ -2,8 +2,8 @@ use Rattle.std.proofs.Common.{◌≡◌, ◌∙◌, None, Some, true, false, sym
 use Rattle.std.specs.Prelude.{option_map}
 use Rattle.std.specs.Result.{result_ok}
 use Rattle.er7_tree.specs.Tree.{text_of}
-use Rattle.hl7_transform.specs.Step.{after}
-use Rattle.judge_core.specs.Outgoing.{listed}
+use Rattle.hl7_transform.specs.Step.{after_steps}
+use Rattle.judge_core.specs.inner.Outgoing.{listed}
 use Rattle.judge_core.specs.Judging.{passes}
 use Rattle.judge_core.proofs.Sending.{stopped-skip, all-skip, stopped-send, all-send, stopped-stop, all-stop}
 use Rattle.judge_core.proofs.delivery.by_routes.Goals.{then-branch+in_ok-text+in-Some+in_ok-all-in-Some, then-branch+in_ok-text+in-None, else-branch}
@@ -19,14 +19,14 @@ loop-route-preserved c =
     elim c.if-branch.branch [
       | then-branch+in_ok-text+in-Some+in_ok-all-in-Some w ↦
           let lets : passes t r.filter ≡ true = sym tested ∙ w.if-branch.true in
-          let text : Some w.in-Some.text ≡ option_map text_of (result_ok (after r.steps t)) = rw (← w.steps.ensures) (sym w.in-Some.is ∙ w.in_ok-text.ensures) in
+          let text : Some w.in-Some.text ≡ option_map text_of (result_ok (after_steps r.steps t)) = rw (← w.steps.ensures) (sym w.in-Some.is ∙ w.in_ok-text.ensures) in
           record {
             stopped = w.stopped-is ∙ (c.loop-route.invariant.stopped ∙ sym (stopped-send t routes i r c.loop-route-test.true c.route-item.is lets w.in-Some.text text));
             all = ap listed w.all-is ∙ (w.in_ok-all-in-Some.ensures ∙ rw (w.to.ensures, c.loop-route.invariant.all) (sym (all-send t routes i r c.loop-route-test.true c.route-item.is lets w.in-Some.text text)));
           }
       | then-branch+in_ok-text+in-None w ↦
           let lets : passes t r.filter ≡ true = sym tested ∙ w.if-branch.true in
-          let text : None ≡ option_map text_of (result_ok (after r.steps t)) = rw (← w.steps.ensures) (sym w.in-None.is ∙ w.in_ok-text.ensures) in
+          let text : None ≡ option_map text_of (result_ok (after_steps r.steps t)) = rw (← w.steps.ensures) (sym w.in-None.is ∙ w.in_ok-text.ensures) in
           record {
             stopped = w.stopped-is ∙ sym (stopped-stop t routes i r c.loop-route-test.true c.route-item.is lets text);
             all = ap listed w.all-is ∙ (c.loop-route.invariant.all ∙ sym (all-stop t routes i r c.loop-route-test.true c.route-item.is lets text));

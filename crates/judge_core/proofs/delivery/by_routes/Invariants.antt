@@ -1,6 +1,6 @@
 use Rattle.std.proofs.Common.{◌≡◌, take}
 use Rattle.std.specs.List.{list_any}
-use Rattle.judge_core.specs.Outgoing.{listed}
+use Rattle.judge_core.specs.inner.Outgoing.{listed}
 use Rattle.judge_core.specs.Judging.{deliveries_by, is_stopped, open_routes}
 use Rattle.judge_core.proofs.delivery.by_routes.Given as goal
 

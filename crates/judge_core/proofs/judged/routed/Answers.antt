@@ -1,8 +1,8 @@
 use Rattle.std.proofs.Common.{◌∙◌, ◌≡◌, ◌<◌, length, sym, ap, subst, arith}
 use Rattle.std.proofs.lemmas.Bool.Decides.{nat_tests}
 use Rattle.judge_core.specs.declared.judged.Verdict.TheVariants.{Accept}
-use Rattle.judge_core.specs.Delivering.{AreDeliveries}
-use Rattle.judge_core.specs.Outgoing.{listed}
+use Rattle.judge_core.specs.inner.Delivering.{AreDeliveries}
+use Rattle.judge_core.specs.inner.Outgoing.{listed}
 use Rattle.judge_core.proofs.Judgements.{routed-stopped, routed-sent, routed-nowhere}
 use Rattle.judge_core.proofs.judged.routed.Goals as goal
 

@@ -1,5 +1,5 @@
 use Rattle.std.proofs.Common.{arith, refl, subst, ◌≡◌, ◌<◌}
-use Rattle.lane_scan.specs.Scan.{IsNowhere}
+use Rattle.lane_scan.specs.inner.Scan.{IsNowhere}
 use Rattle.lane_scan.proofs.Bits.{lowest-next, ahead-behind, nowhere-on, next-from}
 use Rattle.lane_scan.proofs.Ahead.next.Goals as goal
 

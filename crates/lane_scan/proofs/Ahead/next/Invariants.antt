@@ -1,5 +1,5 @@
 use Rattle.std.proofs.Common.{◌-◌, ◌≤◌, length}
-use Rattle.lane_scan.specs.Scan.{AreAhead, IsNowhere}
+use Rattle.lane_scan.specs.inner.Scan.{AreAhead, IsNowhere}
 use Rattle.lane_scan.proofs.Ahead.next.Given as goal
 
 abbrev pub invariant-loop-ahead : goal.invariant-loop-ahead

@@ -1,9 +1,9 @@
 use Rattle.std.proofs.Common.{◌≡◌, [], ◌++◌, map, ap, sym, subst, ◌∙◌, Option, Some, None, is_none}
 use Rattle.std.specs.Option.{option_map_or}
 use Rattle.mllp_frame.specs.declared.stage.Stage.{Stage}
-use Rattle.mllp_frame.specs.Event.{event_of}
-use Rattle.mllp_frame.specs.Framed.{Framed, fed}
-use Rattle.mllp_frame.specs.Stage.{open_block, HoldsShortData}
+use Rattle.mllp_frame.specs.inner.Event.{event_of}
+use Rattle.mllp_frame.specs.inner.Framed.{Framed, fed}
+use Rattle.mllp_frame.specs.inner.Stage.{open_block, HoldsShortData}
 use Rattle.mllp_frame.proofs.DataLaws.{front_data, read_data}
 use Rattle.mllp_frame.proofs.Settled.{fed_is}
 use Rattle.mllp_frame.proofs.Framer.feed.Goals as goal

@@ -1,6 +1,6 @@
 use Rattle.std.proofs.Common.{◌≡◌, ◌-◌, ap, ◌∙◌, arith, length, min, ◌++◌, take}
 use Rattle.std.proofs.lemmas.Grind.{common_steps}
-use Rattle.mllp_frame.specs.Framing.{shortened, least_too_long}
+use Rattle.mllp_frame.specs.inner.Framing.{shortened, least_too_long}
 use Rattle.mllp_frame.proofs.Appending.{least_too_long_is}
 use Rattle.mllp_frame.proofs.Searching.{take_by}
 use Rattle.mllp_frame.proofs.stage.keep.Goals as goal

@@ -1,6 +1,6 @@
 use Rattle.std.proofs.Common.{map, ◌++◌}
-use Rattle.mllp_frame.specs.Event.{event_of}
-use Rattle.mllp_frame.specs.Stage.{Reads, HoldsShortData, IsQuiet, open_block, work}
+use Rattle.mllp_frame.specs.inner.Event.{event_of}
+use Rattle.mllp_frame.specs.inner.Stage.{Reads, HoldsShortData, IsQuiet, open_block, work}
 use Rattle.mllp_frame.proofs.stage.read.Given as goal
 
 -- what was read, and what is unfinished

@@ -1,6 +1,6 @@
 use Rattle.std.proofs.Common.{map}
 use Rattle.std.proofs.lemmas.List.{map-append}
-use Rattle.mllp_frame.specs.Event.{event_of}
+use Rattle.mllp_frame.specs.inner.Event.{event_of}
 use Rattle.mllp_frame.proofs.Steps.{whole_block, bad_end}
 use Rattle.mllp_frame.proofs.stage.read_ended.Goals as goal
 

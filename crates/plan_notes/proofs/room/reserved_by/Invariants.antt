@@ -1,7 +1,7 @@
 -- The entries of the routes so far.
 use Rattle.std.proofs.Common.{◌≡◌, ◌+◌, take}
 use Rattle.std.specs.Prelude.{sum_by}
-use Rattle.plan_notes.specs.Room.{owed_at}
+use Rattle.plan_notes.specs.inner.Room.{owed_at}
 use Rattle.plan_notes.proofs.room.reserved_by.Given as goal
 
 abbrev pub invariant-loop-route : goal.invariant-loop-route

@@ -1,7 +1,7 @@
 use Rattle.std.proofs.Common.{sym, ◌∙◌}
 use Rattle.std.specs.Cmp.Derive.Mapped.{pointwise-map}
-use Rattle.hl7_transform.specs.Same.{same_edit}
-use Rattle.hl7_transform.specs.View.{view}
+use Rattle.hl7_transform.specs.inner.Same.{same_edit}
+use Rattle.hl7_transform.specs.inner.View.{view}
 use Rattle.plan_text.proofs.channel.same_steps.Goals as goal
 
 pub returns : goal.returns

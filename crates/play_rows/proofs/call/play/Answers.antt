@@ -1,5 +1,5 @@
 use Rattle.std.proofs.Common.{refl}
-use Rattle.row_store.specs.Rows.{without}
+use Rattle.row_store.specs.inner.Rows.{without}
 use Rattle.play_rows.proofs.Below.{below_more, below_changed, below_removed}
 use Rattle.play_rows.proofs.call.play.Goals as goal
 

@@ -2,7 +2,7 @@ use Rattle.std.proofs.Common.{rules, tests, ◌∙◌}
 use Rattle.std.proofs.lemmas.Iterator.{YieldsList-from_slice}
 use Rattle.std.proofs.lemmas.Iterator.Consumers.{YieldsList-from_filter, count_from_yields_List}
 use Rattle.std.proofs.lemmas.List.Sums.{length-filter}
-use Rattle.sequential_book.specs.Reading.{is_acceptance}
+use Rattle.sequential_book.specs.inner.Reading.{is_acceptance}
 use Rattle.sequential_book.proofs.entries.acceptances.Goals as goal
 
 pub returns : goal.returns

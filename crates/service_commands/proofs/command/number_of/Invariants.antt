@@ -1,5 +1,5 @@
 use Rattle.std.proofs.Common.{◌≡◌, drop}
-use Rattle.service_commands.specs.Commands.{number_after}
+use Rattle.service_commands.specs.inner.Commands.{number_after}
 use Rattle.service_commands.proofs.command.number_of.Given as goal
 
 -- the digits so far wrote the number, and the rest follows them

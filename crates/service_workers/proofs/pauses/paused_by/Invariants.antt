@@ -1,4 +1,4 @@
-use Rattle.service_workers.specs.Pauses.{pauses_at}
+use Rattle.service_workers.specs.inner.Pauses.{pauses_at}
 use Rattle.service_workers.proofs.Masks.{IsMask}
 use Rattle.service_workers.proofs.pauses.paused_by.Given as goal
 

@@ -1,6 +1,7 @@
 use Rattle.std.proofs.Common.{refl, ◌≡◌, ◌+◌, ◌<◌, ◌≤◌, ◌^◌, lit<, lit≤}
 use Rattle.std.proofs.lemmas.List.Elements.{All-replicate}
-use Rattle.stat_count.specs.Statistics.{no_arrivals, no_slots, slots_of}
+use Rattle.stat_count.specs.Statistics.{no_arrivals, no_slots}
+use Rattle.stat_count.specs.inner.Statistics.{slots_of}
 use Rattle.stat_count.proofs.Counts.new.Goals as goal
 
 pub invariant_of-result : goal.invariant_of-result

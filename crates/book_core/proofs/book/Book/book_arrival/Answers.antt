@@ -14,13 +14,13 @@ gain_of-gain-requires g c = told-accepting c.self.inside.log.history c.args.judg
 pub add_arrival-requires-clause-room : goal.add_arrival-requires-clause-room
 add_arrival-requires-clause-room g c =
     let room : is_full c.self.inside.log.history c.args.judged.now.channel c.args.judged.now.raw ≡ false =
-    asked-full _ _ _ _ _ _ (gain-owed _ _ _ _ _ (control_id_of c.args.judged.now.raw) c.gain_of-gain.result _ (c.requires.same_plan ∙ ap plan_in_force (sym c.self.view_is)) c.told-told.ensures c.gain_of-gain.ensures c.own_of-own.ensures) c.room.ensures c.if-not-room.false in
+    asked-full _ _ _ _ _ _ (gain-owed _ _ _ _ _ (control_id_of c.args.judged.now.raw) c.gain_of-gain.result _ (c.requires.same_plan ∙ ap plan_in_force (sym c.self.view_is)) c.told-told.ensures c.gain_of-gain.ensures c.owed_by-own.ensures) c.room.ensures c.if-not-room.false in
     sym (ap (λ h. is_full h c.args.judged.now.channel c.args.judged.now.raw) c.self.view_is) ∙ room
 
 pub returns-then-not-room-clause-does : goal.returns-then-not-room-clause-does
 returns-then-not-room-clause-does g c =
     let past : is_full c.self.inside.log.history c.args.judged.now.channel c.args.judged.now.raw ≡ true =
-    asked-full _ _ _ _ _ _ (gain-owed _ _ _ _ _ (control_id_of c.args.judged.now.raw) c.gain_of-gain.result _ (c.requires.same_plan ∙ ap plan_in_force (sym c.self.view_is)) c.told-told.ensures c.gain_of-gain.ensures c.own_of-own.ensures) c.room.ensures c.if-not-room.true in
+    asked-full _ _ _ _ _ _ (gain-owed _ _ _ _ _ (control_id_of c.args.judged.now.raw) c.gain_of-gain.result _ (c.requires.same_plan ∙ ap plan_in_force (sym c.self.view_is)) c.told-told.ensures c.gain_of-gain.ensures c.owed_by-own.ensures) c.room.ensures c.if-not-room.true in
     record {
       possible = tt;
       replied = tt;
@@ -33,7 +33,7 @@ pub returns-in_err-add_arrival-clause-memory : goal.returns-in_err-add_arrival-c
 returns-in_err-add_arrival-clause-memory g c =
     let h = c.args.self.now in
     let room : is_full c.self.inside.log.history c.args.judged.now.channel c.args.judged.now.raw ≡ false =
-    asked-full _ _ _ _ _ _ (gain-owed _ _ _ _ _ (control_id_of c.args.judged.now.raw) c.gain_of-gain.result _ (c.requires.same_plan ∙ ap plan_in_force (sym c.self.view_is)) c.told-told.ensures c.gain_of-gain.ensures c.own_of-own.ensures) c.room.ensures c.if-not-room.false in
+    asked-full _ _ _ _ _ _ (gain-owed _ _ _ _ _ (control_id_of c.args.judged.now.raw) c.gain_of-gain.result _ (c.requires.same_plan ∙ ap plan_in_force (sym c.self.view_is)) c.told-told.ensures c.gain_of-gain.ensures c.owed_by-own.ensures) c.room.ensures c.if-not-room.false in
     memory-last (arrive c.args.conn c.args.judged.now.channel c.args.judged.now.raw) h _ c.told-told.result
     (arrival-answered h c.args.conn c.args.judged.now.channel c.args.judged.now.raw c.told-told.result
     (ap (λ h. is_full h c.args.judged.now.channel c.args.judged.now.raw) (sym c.self.view_is) ∙ room)

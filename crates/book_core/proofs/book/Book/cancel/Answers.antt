@@ -2,7 +2,7 @@ use Rattle.std.proofs.Common.{◌≡◌, ◌≤◌, true, refl, sym, ◌∙◌, 
 use Rattle.std.specs.Prelude.{is_ok}
 use Rattle.event_log.specs.Answers.{cancel_answer}
 use Rattle.event_log.specs.History.{plan_in_force, slot}
-use Rattle.book_core.specs.Sending.{owed_waiting}
+use Rattle.book_core.specs.inner.Sending.{owed_waiting}
 use Rattle.book_core.proofs.KeepingCancels.{asked-cancel, asked-row, cancelled-less, cancelled-owed, cancelled-waits, cancelled-within, kept-cancelled}
 use Rattle.book_core.proofs.book.Book.cancel.Goals as goal
 

@@ -5,7 +5,7 @@ use Rattle.event_log.specs.declared.entry.Entry.TheVariants.{Deploy}
 use Rattle.event_log.specs.Deployment.{deploy_answer, deployments}
 use Rattle.event_log.specs.History.{History, followed_by}
 use Rattle.event_log.proofs.Events.{Deployable}
-use Rattle.event_log.specs.Room.{exceeds, owed}
+use Rattle.event_log.specs.Room.{is_over_limit, owed}
 use Rattle.book_core.proofs.KeepingDeployments.{deployed-few, deployed-owed, has-room, kept-deployed, never-memory}
 use Rattle.book_core.proofs.book.Book.deploy.Goals as goal
 
@@ -19,7 +19,7 @@ deploy-requires-clause-few g c =
     let plan = arc_value c.args.plan in
     let good : IsPlan plan = subst IsPlan c.deref-2.ensures c.rules.ensures in
     let said : deploy_answer h plan ≡ None = ap (λ g. deploy_answer g plan) c.self.view_is ∙ (ap (deploy_answer c.args.self.now) (sym c.deref.ensures) ∙ (sym c.deploy_answer.ensures ∙ c.in_default.is)) in
-    let may : Deployable h plan = record { good = good; allowed = said; room = has-room (exceeds h 0) c.room.result c.room.ensures c.if-not-room.false } in
+    let may : Deployable h plan = record { good = good; allowed = said; room = has-room (is_over_limit h 0) c.room.result c.room.ensures c.if-not-room.false } in
     subst (λ (k : History). deployments k < 1000) (sym c.reserve.ensures.history) (deployed-few _ _ _ _ _ _ c.self.invariant plan may)
 
 pub deploy-requires-clause-owed : goal.deploy-requires-clause-owed
@@ -28,7 +28,7 @@ deploy-requires-clause-owed g c =
     let plan = arc_value c.args.plan in
     let good : IsPlan plan = subst IsPlan c.deref-2.ensures c.rules.ensures in
     let said : deploy_answer h plan ≡ None = ap (λ g. deploy_answer g plan) c.self.view_is ∙ (ap (deploy_answer c.args.self.now) (sym c.deref.ensures) ∙ (sym c.deploy_answer.ensures ∙ c.in_default.is)) in
-    let may : Deployable h plan = record { good = good; allowed = said; room = has-room (exceeds h 0) c.room.result c.room.ensures c.if-not-room.false } in
+    let may : Deployable h plan = record { good = good; allowed = said; room = has-room (is_over_limit h 0) c.room.result c.room.ensures c.if-not-room.false } in
     subst (λ (k : History). owed (followed_by k (Deploy plan)) ≡ owed k) (sym c.reserve.ensures.history) (deployed-owed _ _ _ _ _ _ c.self.invariant plan may)
 
 pub invariant_of-self-2 : goal.invariant_of-self-2
@@ -37,6 +37,6 @@ invariant_of-self-2 g c =
     let plan = arc_value c.args.plan in
     let good : IsPlan plan = subst IsPlan c.deref-2.ensures c.rules.ensures in
     let said : deploy_answer h plan ≡ None = ap (λ g. deploy_answer g plan) c.self.view_is ∙ (ap (deploy_answer c.args.self.now) (sym c.deref.ensures) ∙ (sym c.deploy_answer.ensures ∙ c.in_default.is)) in
-    let may : Deployable h plan = record { good = good; allowed = said; room = has-room (exceeds h 0) c.room.result c.room.ensures c.if-not-room.false } in
+    let may : Deployable h plan = record { good = good; allowed = said; room = has-room (is_over_limit h 0) c.room.result c.room.ensures c.if-not-room.false } in
     rw (c.deploy.ensures.history, c.reserve.ensures.history)
     (kept-deployed _ _ _ _ _ _ c.self.invariant plan may c.deploy.new.self.room (omega (arith, c.in_ok-reserve.ensures.ok, c.deploy.ensures.room)))

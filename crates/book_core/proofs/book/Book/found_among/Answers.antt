@@ -2,7 +2,7 @@ use Rattle.std.proofs.Common.{◌≡◌, ℕ, ◌+◌, ◌-◌, ◌≤◌, ◌++
 use Rattle.std.specs.Prelude.{filter}
 use Rattle.std.specs.List.{range_with_len}
 use Rattle.event_log.proofs.OneMore.{lt-tells}
-use Rattle.book_core.specs.Questions.{has_control_id}
+use Rattle.book_core.specs.inner.Questions.{has_control_id}
 use Rattle.book_core.proofs.Asked.{one-filtered, none-filtered}
 use Rattle.book_core.proofs.book.Book.found_among.Goals.{then-has_control_id+in_ok-push, else-has_control_id}
 use Rattle.book_core.proofs.book.Book.found_among.Goals as goal

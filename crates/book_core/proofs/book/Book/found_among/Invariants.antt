@@ -1,7 +1,7 @@
 use Rattle.std.proofs.Common.{◌≡◌, ◌-◌, ◌≤◌}
 use Rattle.std.specs.Prelude.{filter}
 use Rattle.std.specs.List.{range_with_len}
-use Rattle.book_core.specs.Questions.{has_control_id}
+use Rattle.book_core.specs.inner.Questions.{has_control_id}
 use Rattle.book_core.proofs.book.Book.found_among.Given as goal
 
 abbrev pub invariant-loop-number : goal.invariant-loop-number

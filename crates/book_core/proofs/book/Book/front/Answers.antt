@@ -1,5 +1,5 @@
 use Rattle.std.proofs.Common.{◌≡◌, None, sym, ◌∙◌, ap, rules}
-use Rattle.book_core.specs.Questions.{front_at}
+use Rattle.book_core.specs.inner.Questions.{front_at}
 use Rattle.book_core.proofs.Asked.{front-none, front-past, front-some}
 use Rattle.book_core.proofs.book.Book.front.Goals as goal
 

@@ -1,7 +1,7 @@
 use Rattle.std.proofs.Common.{◌≡◌, ℕ, Bool, true, false, sym, ◌∙◌, ap, arith, rules}
 use Rattle.std.specs.Prelude.{is_some}
 use Rattle.event_log.specs.History.{is_queued}
-use Rattle.book_core.specs.Questions.{queued_as}
+use Rattle.book_core.specs.inner.Questions.{queued_as}
 use Rattle.book_core.proofs.Asked.{queued-some}
 use Rattle.book_core.proofs.KeepingDeployments.{found-here, found-later, none-left}
 use Rattle.book_core.proofs.book.Book.live_at.Goals as goal

@@ -2,7 +2,7 @@ use Rattle.std.proofs.Common.{◌≡◌, None, Some, sym, ◌∙◌, ap, rules}
 use Rattle.std.specs.Prelude.{option_copied}
 use Rattle.std.specs.Option.{option_map}
 use Rattle.event_log.specs.History.{control_id, message_at}
-use Rattle.book_core.specs.Questions.{came_as}
+use Rattle.book_core.specs.inner.Questions.{came_as}
 use Rattle.book_core.proofs.Asked.{came-none, came-row}
 use Rattle.book_core.proofs.KeepingTakes.{kept-letter}
 use Rattle.book_core.proofs.book.Book.message.Goals as goal

@@ -6,7 +6,7 @@ use Rattle.event_log.specs.History.{begun, slot}
 use Rattle.event_log.proofs.FoldedAlike.{quiet}
 use Rattle.event_log.proofs.FoldedGood.{prunings-left}
 use Rattle.book_core.proofs.Settled.{not-live}
-use Rattle.book_core.specs.Pruning.{LeavesOut}
+use Rattle.book_core.specs.inner.Pruning.{LeavesOut}
 use Rattle.book_core.proofs.Folded.{closing-is, closing-owed, closing-places, kept-folded}
 use Rattle.book_core.proofs.book.Book.prune.Goals as goal
 

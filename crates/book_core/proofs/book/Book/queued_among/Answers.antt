@@ -2,7 +2,7 @@ use Rattle.std.proofs.Common.{◌≡◌, ℕ, ◌+◌, ◌-◌, ◌≤◌, ◌++
 use Rattle.std.specs.List.{filter_map, range_with_len}
 use Rattle.event_log.proofs.OneMore.{lt-tells}
 use Rattle.book_core.specs.declared.questions.Front.{Front}
-use Rattle.book_core.specs.Questions.{queued_as}
+use Rattle.book_core.specs.inner.Questions.{queued_as}
 use Rattle.book_core.proofs.Asked.{one-mapped, none-mapped}
 use Rattle.book_core.proofs.book.Book.queued_among.Goals.{in-Some+in_ok-push, in_default}
 use Rattle.book_core.proofs.book.Book.queued_among.Goals as goal

@@ -1,6 +1,6 @@
 use Rattle.std.proofs.Common.{◌≡◌, ◌-◌, ◌≤◌}
 use Rattle.std.specs.List.{filter_map, range_with_len}
-use Rattle.book_core.specs.Questions.{queued_as}
+use Rattle.book_core.specs.inner.Questions.{queued_as}
 use Rattle.book_core.proofs.book.Book.queued_among.Given as goal
 
 abbrev pub invariant-loop-number : goal.invariant-loop-number

@@ -3,7 +3,7 @@ use Rattle.std.specs.Option.{option_map_or}
 use Rattle.event_log.specs.declared.refusal.PruneRefusal.TheVariants.{TooMany}
 use Rattle.event_log.specs.Folding.{is_live_message, prune_answer}
 use Rattle.event_log.specs.History.{History, message_count}
-use Rattle.book_core.specs.Questions.{first_live}
+use Rattle.book_core.specs.inner.Questions.{first_live}
 use Rattle.book_core.proofs.Asked.{settled, settled-all, settled-answer}
 use Rattle.book_core.proofs.book.Book.settled_before.Goals.{then-newest-settled, else-newest-settled}
 use Rattle.book_core.proofs.book.Book.settled_before.Goals as goal

@@ -2,7 +2,7 @@ use Rattle.std.proofs.Common.{sym, ◌∙◌, ap}
 use Rattle.std.specs.Prelude.{is_ok, option_copied}
 use Rattle.event_log.specs.Answers.{cancel_answer}
 use Rattle.event_log.specs.History.{plan_in_force, slot}
-use Rattle.book_core.specs.Sending.{owed_waiting}
+use Rattle.book_core.specs.inner.Sending.{owed_waiting}
 use Rattle.book_core.proofs.KeepingCancels.{asked-none, asked-nothing, asked-owed, asked-some}
 use Rattle.book_core.proofs.book.Book.waiting_owed.Goals as goal
 

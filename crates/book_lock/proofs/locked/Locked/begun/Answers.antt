@@ -2,7 +2,7 @@ use Rattle.std.proofs.Common.{length, ap, ◌∙◌}
 use Rattle.stat_count.specs.Statistics.{Statistics}
 use Rattle.stat_count.specs.Sums.{takes}
 use Rattle.event_log.specs.Counting.{counted}
-use Rattle.book_lock.specs.Rises.{Held, taken, takes_rise}
+use Rattle.book_lock.specs.Rises.{SharedBook, taken, takes_rise}
 use Rattle.book_lock.proofs.Following.{taken-is, counted_destinations, rise_fits, rise_is}
 use Rattle.book_lock.proofs.locked.Locked.begun.Goals as goal
 
@@ -21,4 +21,4 @@ pub returns : goal.returns
 returns g c =
     rise_is (taken c.self.inside.book) (takes c.self.inside.opening) c.takes.result c.takes-2.result (takes (counted c.self.inside.book))
     (taken-is c.self.inside.book) (c.takes.ensures ∙ ap takes c.counts.ensures) c.takes-2.ensures
-    ∙ ap (λ (h : Held). takes_rise h) c.self.view_is
+    ∙ ap (λ (h : SharedBook). takes_rise h) c.self.view_is

@@ -2,7 +2,7 @@ use Rattle.std.proofs.Common.{length, ap, ◌∙◌}
 use Rattle.stat_count.specs.Statistics.{Statistics}
 use Rattle.stat_count.specs.Sums.{arrivals}
 use Rattle.event_log.specs.Counting.{counted}
-use Rattle.book_lock.specs.Rises.{Held, arrived, arrivals_rise}
+use Rattle.book_lock.specs.Rises.{SharedBook, arrived, arrivals_rise}
 use Rattle.book_lock.proofs.Following.{arrived-is, counted_channels, rise_fits, rise_is}
 use Rattle.book_lock.proofs.locked.Locked.came.Goals as goal
 
@@ -21,4 +21,4 @@ pub returns : goal.returns
 returns g c =
     rise_is (arrived c.self.inside.book) (arrivals c.self.inside.opening) c.arrivals.result c.arrivals-2.result (arrivals (counted c.self.inside.book))
     (arrived-is c.self.inside.book) (c.arrivals.ensures ∙ ap arrivals c.counts.ensures) c.arrivals-2.ensures
-    ∙ ap (λ (h : Held). arrivals_rise h) c.self.view_is
+    ∙ ap (λ (h : SharedBook). arrivals_rise h) c.self.view_is

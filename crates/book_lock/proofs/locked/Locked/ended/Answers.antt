@@ -2,7 +2,7 @@ use Rattle.std.proofs.Common.{length, ap, ◌∙◌}
 use Rattle.stat_count.specs.Statistics.{Statistics}
 use Rattle.stat_count.specs.Sums.{settlements}
 use Rattle.event_log.specs.Counting.{counted}
-use Rattle.book_lock.specs.Rises.{Held, settled, settlements_rise}
+use Rattle.book_lock.specs.Rises.{SharedBook, settled, settlements_rise}
 use Rattle.book_lock.proofs.Following.{settled-is, counted_destinations, rise_fits, rise_is}
 use Rattle.book_lock.proofs.locked.Locked.ended.Goals as goal
 
@@ -21,4 +21,4 @@ pub returns : goal.returns
 returns g c =
     rise_is (settled c.self.inside.book) (settlements c.self.inside.opening) c.settlements.result c.settlements-2.result (settlements (counted c.self.inside.book))
     (settled-is c.self.inside.book) (c.settlements.ensures ∙ ap settlements c.counts.ensures) c.settlements-2.ensures
-    ∙ ap (λ (h : Held). settlements_rise h) c.self.view_is
+    ∙ ap (λ (h : SharedBook). settlements_rise h) c.self.view_is

@@ -1,16 +1,17 @@
-use Rattle.std.proofs.Common.{◌∙◌, ap}
-use Rattle.book_lock.specs.Rises.{Held}
+use Rattle.std.proofs.Common.{refl, ◌∙◌, ap}
+use Rattle.book_lock.specs.Rises.{SharedBook}
 use Rattle.book_lock.proofs.Following.{unchanged}
-use Rattle.book_core.specs.Questions.{front_at}
+use Rattle.book_core.specs.inner.Questions.{front_at}
+use Rattle.book_lock.proofs.Logging.{book_same}
 use Rattle.book_lock.proofs.locked.Locked.front.Goals as goal
 
 pub invariant_of-self : goal.invariant_of-self
 invariant_of-self g c =
-    let h : Held = record { book = c.self.inside.book; opening = c.self.inside.opening; first = c.self.inside.first; admitted = c.self.inside.admitted } in
-    let n = unchanged h c.front.new.self g.A.Opening.counts g.A.Opening.first g.A.Opening.channels
+    let h : SharedBook = record { book = c.self.inside.book; opening = c.self.inside.opening; first = c.self.inside.first; admitted = c.self.inside.admitted } in
+    let n = unchanged h c.front.new.self g.A.ArrivalLedger.counts g.A.ArrivalLedger.first g.A.ArrivalLedger.channels
     c.self.inside.arrivals.total c.self.inside.takes.total c.self.inside.settlements.total
     c.front.ensures.unchanged c.self.invariant.0 c.self.invariant.1 in
-    (n.0, n.1, c.self.invariant.2, c.self.invariant.3, c.self.invariant.4)
+    (n.0, n.1, c.self.invariant.2, c.self.invariant.3, c.self.invariant.4, book_same g.A.ArrivalLedger.opening c.self.inside.log.0 c.self.inside.log.0 c.self.inside.book c.front.new.self c.self.invariant.5 refl c.front.ensures.unchanged, c.self.invariant.6, c.self.invariant.7)
 
 pub returns-clause-front : goal.returns-clause-front
-returns-clause-front g c = c.front.ensures.front ∙ ap (λ (h : Held). front_at h.book c.args.d) c.self.view_is
+returns-clause-front g c = c.front.ensures.front ∙ ap (λ (h : SharedBook). front_at h.book c.args.d) c.self.view_is

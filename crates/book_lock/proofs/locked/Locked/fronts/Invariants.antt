@@ -1,5 +1,5 @@
 use Rattle.std.proofs.Common.{◌≡◌}
-use Rattle.book_core.specs.Questions.{front_at}
+use Rattle.book_core.specs.inner.Questions.{front_at}
 use Rattle.book_lock.proofs.Filling.{IsFilled}
 use Rattle.book_lock.proofs.locked.Locked.fronts.Given as goal
 

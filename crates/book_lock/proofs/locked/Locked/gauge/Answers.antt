@@ -1,12 +1,12 @@
 use Rattle.std.proofs.Common.{◌-◌, refl, sym, ◌∙◌, ap, subst, arith}
 use Rattle.std.specs.List.{range_with_len}
-use Rattle.book_lock.specs.Rises.{Held}
-use Rattle.book_lock.specs.Showing.{IsGauge}
+use Rattle.book_lock.specs.Rises.{SharedBook}
+use Rattle.book_lock.specs.inner.Showing.{IsGauge}
 use Rattle.book_lock.proofs.locked.Locked.gauge.Goals as goal
 
 pub returns : goal.returns
 returns g c =
-    subst (λ (h : Held). IsGauge h (record {
+    subst (λ (h : SharedBook). IsGauge h (record {
       held = c.held.result;
       owed = c.owed.result;
       events_max = c.events_max.result;

@@ -1,31 +1,32 @@
-use Rattle.std.proofs.Common.{sym, ◌∙◌, ap, subst}
-use Rattle.book_lock.specs.Rises.{Held}
+use Rattle.std.proofs.Common.{refl, sym, ◌∙◌, ap, subst}
+use Rattle.book_lock.specs.Rises.{SharedBook}
 use Rattle.book_lock.proofs.Following.{unchanged}
 use Rattle.std.proofs.Common.{◌≤◌, ◌-◌, cond, nat_lt, None, Some}
 use Rattle.event_log.specs.declared.refusal.PruneRefusal.TheVariants.{TooMany}
 use Rattle.event_log.specs.Folding.{is_live_message, prune_answer}
 use Rattle.event_log.specs.History.{message_count}
-use Rattle.book_core.specs.Questions.{settled_before}
+use Rattle.book_core.specs.inner.Questions.{settled_before}
+use Rattle.book_lock.proofs.Logging.{book_same}
 use Rattle.book_lock.proofs.locked.Locked.settled_before.Goals as goal
 
 pub invariant_of-self : goal.invariant_of-self
 invariant_of-self g c =
-    let h : Held = record { book = c.self.inside.book; opening = c.self.inside.opening; first = c.self.inside.first; admitted = c.self.inside.admitted } in
-    let n = unchanged h c.settled_before.new.self g.A.Opening.counts g.A.Opening.first g.A.Opening.channels
+    let h : SharedBook = record { book = c.self.inside.book; opening = c.self.inside.opening; first = c.self.inside.first; admitted = c.self.inside.admitted } in
+    let n = unchanged h c.settled_before.new.self g.A.ArrivalLedger.counts g.A.ArrivalLedger.first g.A.ArrivalLedger.channels
     c.self.inside.arrivals.total c.self.inside.takes.total c.self.inside.settlements.total
     c.settled_before.ensures.unchanged c.self.invariant.0 c.self.invariant.1 in
-    (n.0, n.1, c.self.invariant.2, c.self.invariant.3, c.self.invariant.4)
+    (n.0, n.1, c.self.invariant.2, c.self.invariant.3, c.self.invariant.4, book_same g.A.ArrivalLedger.opening c.self.inside.log.0 c.self.inside.log.0 c.self.inside.book c.settled_before.new.self c.self.invariant.5 refl c.settled_before.ensures.unchanged, c.self.invariant.6, c.self.invariant.7)
 
 pub returns-clause-before : goal.returns-clause-before
-returns-clause-before g c = c.settled_before.ensures.before ∙ ap (λ (h : Held). settled_before c.args.keep h.book) c.self.view_is
+returns-clause-before g c = c.settled_before.ensures.before ∙ ap (λ (h : SharedBook). settled_before c.args.keep h.book) c.self.view_is
 
 pub returns-clause-kept : goal.returns-clause-kept
-returns-clause-kept g c = subst (λ (h : Held). c.settled_before.result ≤ message_count h.book - c.args.keep) c.self.view_is c.settled_before.ensures.kept
+returns-clause-kept g c = subst (λ (h : SharedBook). c.settled_before.result ≤ message_count h.book - c.args.keep) c.self.view_is c.settled_before.ensures.kept
 
 pub returns-clause-settled : goal.returns-clause-settled
-returns-clause-settled g c = λ n below. ap (λ (h : Held). is_live_message h.book n) (sym c.self.view_is) ∙ c.settled_before.ensures.settled n below
+returns-clause-settled g c = λ n below. ap (λ (h : SharedBook). is_live_message h.book n) (sym c.self.view_is) ∙ c.settled_before.ensures.settled n below
 
 pub returns-clause-answer : goal.returns-clause-answer
 returns-clause-answer g c =
-    ap (λ (h : Held). prune_answer h.book c.settled_before.result) (sym c.self.view_is)
-    ∙ (c.settled_before.ensures.answer ∙ ap (λ (h : Held). cond (nat_lt h.book.opening.prunings 1000) None (Some TooMany)) c.self.view_is)
+    ap (λ (h : SharedBook). prune_answer h.book c.settled_before.result) (sym c.self.view_is)
+    ∙ (c.settled_before.ensures.answer ∙ ap (λ (h : SharedBook). cond (nat_lt h.book.opening.prunings 1000) None (Some TooMany)) c.self.view_is)

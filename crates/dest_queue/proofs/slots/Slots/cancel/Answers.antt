@@ -1,4 +1,4 @@
-use Rattle.dest_queue.specs.Listed.{listed}
+use Rattle.dest_queue.specs.inner.Listed.{listed}
 use Rattle.dest_queue.proofs.SlotLemmas.{bounded-cancelled}
 use Rattle.dest_queue.proofs.slots.Slots.cancel.Goals as goal
 

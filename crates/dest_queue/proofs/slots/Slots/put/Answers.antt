@@ -1,4 +1,4 @@
-use Rattle.dest_queue.specs.Listed.{listed}
+use Rattle.dest_queue.specs.inner.Listed.{listed}
 use Rattle.dest_queue.proofs.SlotLemmas.{bounded-with_state}
 use Rattle.dest_queue.proofs.slots.Slots.put.Goals as goal
 

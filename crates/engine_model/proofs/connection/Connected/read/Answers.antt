@@ -1,6 +1,7 @@
 use Rattle.std.proofs.Common.{◌≡◌, ◌++◌, ◌∙◌, ap}
-use Rattle.mllp_frame.specs.Framed.{Framed}
-use Rattle.mllp_frame.specs.Framing.{blocks, open_end}
+use Rattle.mllp_frame.specs.inner.Framed.{Framed}
+use Rattle.mllp_frame.specs.Framing.{blocks}
+use Rattle.mllp_frame.specs.inner.Framing.{open_end}
 use Rattle.engine_model.specs.Steps.{frame_events_max}
 use Rattle.engine_model.proofs.Handled.{on_err_always, on_err_one}
 use Rattle.engine_model.proofs.PieceRead.{on_ok_three, read-front, read-lost, read-none, read-whole}

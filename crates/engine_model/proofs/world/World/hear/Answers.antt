@@ -1,7 +1,7 @@
 use Rattle.std.proofs.Common.{◌≡◌, set, is_some, true, false, ap, subst}
 use Rattle.engine_model.specs.Steps.{Steps}
 use Rattle.engine_model.specs.Turn.{chunk}
-use Rattle.engine_model.specs.View.{run_of}
+use Rattle.engine_model.specs.inner.View.{run_of}
 use Rattle.engine_model.proofs.Worlds.{get-of, heard-by, heard-nowhere, none-at, world-heard}
 use Rattle.engine_model.proofs.world.World.hear.Goals as goal
 

@@ -3,7 +3,7 @@ use Rattle.engine_model.specs.declared.connection.Connected.{Connected}
 use Rattle.engine_model.specs.Run.{Run}
 use Rattle.engine_model.specs.Steps.{Steps}
 use Rattle.engine_model.specs.Turn.{prune}
-use Rattle.engine_model.specs.View.{run_of}
+use Rattle.engine_model.specs.inner.View.{run_of}
 use Rattle.engine_model.proofs.Worlds.{all-noted, pruned-by, when-ok, world-folded}
 use Rattle.engine_model.proofs.world.World.prune.Goals as goal
 

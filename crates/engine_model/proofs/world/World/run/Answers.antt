@@ -1,4 +1,4 @@
-use Rattle.engine_model.specs.View.{turn_by}
+use Rattle.engine_model.specs.inner.View.{turn_by}
 use Rattle.engine_model.proofs.Worlds.{runs-more}
 use Rattle.engine_model.proofs.world.World.run.Goals as goal
 

@@ -1,6 +1,6 @@
 use Rattle.std.proofs.Common.{map, take}
 use Rattle.engine_model.specs.Steps.{Runs}
-use Rattle.engine_model.specs.View.{turn_by}
+use Rattle.engine_model.specs.inner.View.{turn_by}
 use Rattle.engine_model.proofs.world.World.run.Given as goal
 
 -- the steps so far were taken

@@ -2,7 +2,7 @@ use Rattle.std.proofs.Common.{subst}
 use Rattle.event_log.specs.Event as event
 use Rattle.engine_model.specs.Steps.{Steps}
 use Rattle.engine_model.specs.Turn as turn
-use Rattle.engine_model.specs.View.{run_of}
+use Rattle.engine_model.specs.inner.View.{run_of}
 use Rattle.engine_model.proofs.Worlds.{does-step, world-on}
 use Rattle.engine_model.proofs.world.World.settle.Goals as goal
 

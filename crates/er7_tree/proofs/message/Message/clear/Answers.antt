@@ -1,6 +1,7 @@
 use Rattle.std.proofs.Common.{rules, ap, sym, ◌∙◌, Ok, length, ◌≤◌, ◌-◌}
 use Rattle.std.specs.List.{filter}
-use Rattle.er7_tree.specs.Tree.{IsOccurrence, has_name}
+use Rattle.er7_tree.specs.Tree.{has_name}
+use Rattle.er7_tree.specs.inner.Tree.{IsOccurrence}
 use Rattle.er7_tree.specs.Edit.{has_in, field_levels}
 use Rattle.er7_tree.proofs.Editing.{clear_none, clear_absent, clear_gives, clear_kept, clear_there}
 use Rattle.er7_tree.proofs.message.Message.clear.Goals as goal

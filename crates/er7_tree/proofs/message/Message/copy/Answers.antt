@@ -2,7 +2,8 @@ use Rattle.std.proofs.Common.{rules, ◌≡◌, ap, sym, subst, ◌∙◌, Ok, E
 use Rattle.std.proofs.lemmas.Result.{err_from_is_err_and}
 use Rattle.std.specs.List.{filter}
 use Rattle.er7_tree.specs.declared.refusal.Refusal.TheVariants.{NoSuchSegment}
-use Rattle.er7_tree.specs.Tree.{IsMessage, IsOccurrence, has_name}
+use Rattle.er7_tree.specs.Tree.{has_name}
+use Rattle.er7_tree.specs.inner.Tree.{IsMessage, IsOccurrence}
 use Rattle.er7_tree.specs.Edit.{with_piece}
 use Rattle.er7_tree.proofs.Editing.{copy_kept, copy_gives, copy_none, ok}
 use Rattle.er7_tree.proofs.message.Message.copy.Goals as goal

@@ -1,5 +1,5 @@
 use Rattle.std.proofs.Common.{ℕ, Vec, Global, sym, ◌∙◌, ap, subst}
-use Rattle.er7_tree.specs.Spans.{AreSpans}
+use Rattle.er7_tree.specs.inner.Spans.{AreSpans}
 use Rattle.er7_tree.proofs.Messages.{tree_is}
 use Rattle.er7_tree.proofs.message.Message.parse.Goals as goal
 

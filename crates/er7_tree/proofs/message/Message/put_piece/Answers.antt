@@ -1,6 +1,6 @@
 use Rattle.std.proofs.Common.{sym, ap, subst, ◌∙◌}
 use Rattle.std.proofs.lemmas.Result.{on_ok_weaker}
-use Rattle.er7_tree.specs.Tree.{IsMessage}
+use Rattle.er7_tree.specs.inner.Tree.{IsMessage}
 use Rattle.er7_tree.specs.Edit.{put_field}
 use Rattle.er7_tree.proofs.Editing.{placed}
 use Rattle.er7_tree.proofs.message.Message.put_piece.Goals as goal

@@ -2,8 +2,9 @@ use Rattle.std.proofs.Common.{◌≡◌, Vec, Global, List, ℕ, not, map, subst
 use Rattle.std.specs.Arc.{arc_value}
 use Rattle.std.specs.List.{filter}
 use Rattle.er7_tree.specs.declared.segments.Span.{Span}
-use Rattle.er7_tree.specs.Spans.{InOrder, covered, spanned}
-use Rattle.er7_tree.specs.Tree.{Tree, has_name, IsMessage}
+use Rattle.er7_tree.specs.inner.Spans.{InOrder, covered, spanned}
+use Rattle.er7_tree.specs.Tree.{Tree, has_name}
+use Rattle.er7_tree.specs.inner.Tree.{IsMessage}
 use Rattle.er7_tree.proofs.Spanning.{in_order_filter}
 use Rattle.er7_tree.proofs.EditedMessages.{removed}
 use Rattle.er7_tree.proofs.Messages.{delims_are}

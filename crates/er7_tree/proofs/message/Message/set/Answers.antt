@@ -1,6 +1,6 @@
 use Rattle.std.proofs.Common.{rules, ap, sym, subst, ◌∙◌, Ok}
 use Rattle.std.proofs.lemmas.Result.{err_from_is_err_and}
-use Rattle.er7_tree.specs.Tree.{IsMessage, IsOccurrence}
+use Rattle.er7_tree.specs.inner.Tree.{IsMessage, IsOccurrence}
 use Rattle.er7_tree.specs.Edit.{with_piece}
 use Rattle.er7_tree.specs.Escape.{escape}
 use Rattle.er7_tree.proofs.Editing.{set_kept, set_gives, ok}

@@ -2,21 +2,22 @@ use Rattle.std.proofs.Common.{◌≡◌, ℕ, ◌+◌, ◌<◌, Bool, true, fals
 use Rattle.std.specs.Prelude.{position}
 use Rattle.std.proofs.lemmas.Bool.Decides.{nat_tests}
 use Rattle.event_log.specs.Folding.{arrival_place}
-use Rattle.event_log.specs.History.{History, continued, is_arrival_of, message_count, next_place}
-use Rattle.event_log.specs.Kept.{Kept}
+use Rattle.event_log.specs.History.{History, of_snapshot, message_count, next_place}
+use Rattle.event_log.specs.inner.History.{is_arrival_of}
+use Rattle.event_log.specs.inner.Kept.{Kept}
 use Rattle.event_log.proofs.ArrivalPlaces.{came-nowhere, came-remembered, came-since}
 use Rattle.event_log.proofs.log.Log.arrival_place.Goals as goal
 
 pub returns-in-Some : goal.returns-in-Some
 returns-in-Some c =
-    let h : History = continued c.self.inside.opening c.self.inside.entries.items in
+    let h : History = of_snapshot c.self.inside.opening c.self.inside.entries.items in
     let is : h ≡ c.args.self.now.history = ap (λ (k : Kept). k.history) c.self.view_is in
     came-remembered h c.args.number c.in-Some.place (sym c.arrival_place.ensures ∙ c.in-Some.is)
     ∙ ap (λ (g : History). arrival_place g c.args.number) is
 
 pub returns-in-Some-index_of_arrival : goal.returns-in-Some-index_of_arrival
 returns-in-Some-index_of_arrival c =
-    let h : History = continued c.self.inside.opening c.self.inside.entries.items in
+    let h : History = of_snapshot c.self.inside.opening c.self.inside.entries.items in
     let is : h ≡ c.args.self.now.history = ap (λ (k : Kept). k.history) c.self.view_is in
     let places : c.first_place.result ≡ h.opening.places = c.first_place.ensures.value ∙ sym (ap (λ (g : History). g.opening.places) is) in
     let since : position (is_arrival_of c.args.number) h.entries ≡ Some c.in-Some-index_of_arrival.k
@@ -27,7 +28,7 @@ returns-in-Some-index_of_arrival c =
 
 pub returns-then-number-message_count : goal.returns-then-number-message_count
 returns-then-number-message_count c =
-    let h : History = continued c.self.inside.opening c.self.inside.entries.items in
+    let h : History = of_snapshot c.self.inside.opening c.self.inside.entries.items in
     let is : h ≡ c.args.self.now.history = ap (λ (k : Kept). k.history) c.self.view_is in
     let since : position (is_arrival_of c.args.number) h.entries ≡ None
     = ap (position (is_arrival_of c.args.number)) (sym c.deref.ensures.value) ∙ (sym c.index_of_arrival.ensures ∙ c.in_default-index_of_arrival.is) in
@@ -40,7 +41,7 @@ returns-then-number-message_count c =
 
 pub returns-else-number-message_count : goal.returns-else-number-message_count
 returns-else-number-message_count c =
-    let h : History = continued c.self.inside.opening c.self.inside.entries.items in
+    let h : History = of_snapshot c.self.inside.opening c.self.inside.entries.items in
     let is : h ≡ c.args.self.now.history = ap (λ (k : Kept). k.history) c.self.view_is in
     let since : position (is_arrival_of c.args.number) h.entries ≡ None
     = ap (position (is_arrival_of c.args.number)) (sym c.deref.ensures.value) ∙ (sym c.index_of_arrival.ensures ∙ c.in_default-index_of_arrival.is) in

@@ -2,15 +2,15 @@ use Rattle.std.proofs.Common.{rules, true, ◌≡◌, ◌+◌, length, length-ap
 use Rattle.std.specs.Arc.{arc_value}
 use Rattle.std.specs.Result.{is_ok}
 use Rattle.event_log.specs.declared.entry.Entry.TheVariants.{Deploy}
-use Rattle.event_log.specs.History.{History, continued, followed_by}
-use Rattle.event_log.specs.Kept.{Kept}
+use Rattle.event_log.specs.History.{History, of_snapshot, followed_by}
+use Rattle.event_log.specs.inner.Kept.{Kept}
 use Rattle.event_log.specs.Room.{owed}
 use Rattle.event_log.proofs.Following.{accepted-kept, deployments-more, message_count-same, plan-followed_by}
 use Rattle.event_log.proofs.log.Log.deploy.Goals as goal
 
 pub invariant_of-self : goal.invariant_of-self
 invariant_of-self c =
-    let h : History = continued c.self.inside.opening c.self.inside.entries.items in
+    let h : History = of_snapshot c.self.inside.opening c.self.inside.entries.items in
     let is : h ≡ c.args.self.now.history = ap (λ (k : Kept). k.history) c.self.view_is in
     let ok : is_ok c.push.result ≡ true = search rules in
     let entry : c.new.result ≡ arc_value c.args.plan = c.new.ensures ∙ c.requires.same in

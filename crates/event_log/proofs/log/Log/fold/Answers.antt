@@ -2,19 +2,19 @@ use Rattle.std.proofs.Common.{rules, ◌≡◌, ◌+◌, length, refl, sym, ◌�
 use Rattle.std.specs.Arc.{arc_value}
 use Rattle.std.specs.Option.{option_map_or}
 use Rattle.event_log.specs.Folding.{closing}
-use Rattle.event_log.specs.History.{History, begun, continued}
-use Rattle.event_log.specs.Kept.{Kept}
+use Rattle.event_log.specs.History.{History, begun, of_snapshot}
+use Rattle.event_log.specs.inner.Kept.{Kept}
 use Rattle.event_log.specs.Room.{owed}
 use Rattle.event_log.proofs.Totals.{accepted-entries}
 use Rattle.event_log.proofs.log.Log.fold.Goals as goal
 
 pub invariant_of-self : goal.invariant_of-self
 invariant_of-self c =
-    let h : History = continued c.self.inside.opening c.self.inside.entries.items in
+    let h : History = of_snapshot c.self.inside.opening c.self.inside.entries.items in
     let is : h ≡ c.args.self.now.history = ap (λ (k : Kept). k.history) c.self.view_is in
     let many : c.len.result ≡ length c.self.inside.entries.items = search rules in
-    let closed : c.go_on.new.self ≡ closing h c.args.forgotten c.args.remembered.items
-    = c.go_on.ensures ∙ (λ i. record {
+    let closed : c.advance.new.self ≡ closing h c.args.forgotten c.args.remembered.items
+    = c.advance.ensures ∙ (λ i. record {
       plan = (ap (λ d. option_map_or (λ p. arc_value p) d h.opening.plan) c.take.ensures.value ∙ c.self.invariant.plan_is) i;
       events_max = h.opening.events_max;
       places = h.opening.places + many i;

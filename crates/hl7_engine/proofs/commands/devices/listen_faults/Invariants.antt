@@ -1,6 +1,7 @@
 use Rattle.std.proofs.Common.{◌≡◌, Some, map, take}
 use Rattle.std.specs.List.{filter_map, zip}
-use Rattle.engine_report.specs.Findings.{failed_channel, listening}
+use Rattle.engine_report.specs.Findings.{failed_channel}
+use Rattle.engine_report.specs.inner.Findings.{listening}
 use Rattle.hl7_engine.proofs.commands.devices.listen_faults.Given as goal
 
 abbrev pub invariant-loop-place : goal.invariant-loop-place

@@ -1,9 +1,9 @@
 use Rattle.std.proofs.Common.{ℕ, List, Vec, Global, sym, ap, ◌∙◌}
 use Rattle.std.specs.Arc.{arc_value}
 use Rattle.er7_tree.specs.Delims.{Delims}
-use Rattle.er7_tree.specs.Spans.{covered}
-use Rattle.hl7_head.specs.Places.{pieces_at}
-use Rattle.hl7_head.specs.Segment.{header_in}
+use Rattle.er7_tree.specs.inner.Spans.{covered}
+use Rattle.hl7_head.specs.inner.Places.{pieces_at}
+use Rattle.hl7_head.specs.inner.Segment.{header_in}
 use Rattle.hl7_head.proofs.HeaderSegment.{header_by_segment}
 use Rattle.hl7_head.proofs.header.Header.read.Goals as goal
 

@@ -1,6 +1,6 @@
 use Rattle.std.proofs.Common.{arith, get_or, refl}
 use Rattle.er7_tree.specs.declared.segments.Span.{Span}
-use Rattle.er7_tree.specs.Spans.{covered}
+use Rattle.er7_tree.specs.inner.Spans.{covered}
 use Rattle.hl7_head.proofs.HeaderSegment.{field_read, component_read}
 use Rattle.hl7_head.proofs.places.Places.of.Goals as goal
 

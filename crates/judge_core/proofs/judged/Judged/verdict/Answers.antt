@@ -1,5 +1,6 @@
 use Rattle.std.proofs.Common.{◌∙◌, ap}
-use Rattle.judge_core.specs.Judging.{is_booked, is_bookable}
+use Rattle.judge_core.specs.Judging.{is_bookable}
+use Rattle.judge_core.specs.inner.Judging.{is_booked}
 use Rattle.judge_core.proofs.Judgements.{booked-verdict}
 use Rattle.judge_core.proofs.judged.Judged.verdict.Goals as goal
 

@@ -41,8 +41,8 @@ use Rattle.libc.specs.Heap.{chunk}
 use Rattle.std_alloc.proofs.RcSteps.{word, word-Good}
 use Rattle.std_alloc.specs.Box.Ownership.{box_owns}
 use Rattle.std.specs.declared.option.Option.TheVariants.{None}
-use Rattle.node_heap.specs.Held.{held_at, find_node}
-use Rattle.node_heap.specs.Ownership.{nodes_own}
+use Rattle.node_heap.specs.inner.Held.{held_at, find_node}
+use Rattle.node_heap.specs.inner.Ownership.{nodes_own}
 use Rattle.node_heap.proofs.Memory.{args, R, Node, Nr, Np, Heap, Lo, alloc_of, word_made, knows, fresh, says_both, nodes_glue}
 use Rattle.node_heap.proofs.Parts.{parts, parts_good, parts_had}
 use Rattle.node_heap.specs.contracts.nodes.Nodes.attach.Key.{name as #self}

@@ -33,8 +33,8 @@ use denote.Triple.Table.{entered, run_framed}
 use denote.Triple.Walked.{needs, Stays, stay_dropped, stay_ref, walk_of, ends_at, Goes-dropped, Goes-ref, walk_Meets}
 use Rattle.std_alloc.proofs.RcSteps.{word, word-Good}
 use Rattle.std.specs.declared.option.Option.TheVariants.{Some}
-use Rattle.node_heap.specs.Held.{held_at, find_node, drop_node, IsHeld}
-use Rattle.node_heap.specs.Ownership.{node_owns, nodes_own}
+use Rattle.node_heap.specs.inner.Held.{held_at, find_node, drop_node, IsHeld}
+use Rattle.node_heap.specs.inner.Ownership.{node_owns, nodes_own}
 use Rattle.node_heap.proofs.Cut.{Cut, cut_at}
 use Rattle.node_heap.proofs.Memory.{args, R, Node, Nr, Np, Heap, Lo, alloc_of, word_had, says_both, nodes_cut}
 use Rattle.node_heap.proofs.Parts.{parts, ptr_good, parts_good, parts_made}

@@ -36,8 +36,8 @@ use denote.Triple.Walked.{says, needs, Stays, stay_dropped, walk_of, ends_at, Go
 use Rattle.std_alloc.proofs.VecSteps.Shapes.{after}
 use Rattle.std_alloc.proofs.RcSteps.{word, word-Good}
 use Rattle.std.specs.declared.option.Option.TheVariants.{Some}
-use Rattle.node_heap.specs.Held.{held_at, find_node, IsHeld}
-use Rattle.node_heap.specs.Ownership.{nodes_lent}
+use Rattle.node_heap.specs.inner.Held.{held_at, find_node, IsHeld}
+use Rattle.node_heap.specs.inner.Ownership.{nodes_lent}
 use Rattle.node_heap.proofs.Cut.{Cut, cut_at}
 use Rattle.node_heap.proofs.Memory.{args, R, Node, Nr, Np, word_had, node_seen}
 use Rattle.node_heap.specs.contracts.nodes.Nodes.get.Key.{name as #self}

@@ -39,9 +39,9 @@ use Rattle.libc.specs.Heap.{chunk}
 use Rattle.std_alloc.proofs.VecSteps.Shapes.{after}
 use Rattle.std_alloc.proofs.RcSteps.{word, word-Good}
 use Rattle.std.specs.declared.option.Option.TheVariants.{Some}
-use Rattle.node_heap.specs.Held.{held_at, find_node, IsHeld}
-use Rattle.node_heap.specs.Lends.{with_node}
-use Rattle.node_heap.specs.Ownership.{node_owns, nodes_own}
+use Rattle.node_heap.specs.inner.Held.{held_at, find_node, IsHeld}
+use Rattle.node_heap.specs.inner.Lends.{with_node}
+use Rattle.node_heap.specs.inner.Ownership.{node_owns, nodes_own}
 use Rattle.node_heap.proofs.Cut.{Cut, cut_at}
 use Rattle.node_heap.proofs.Memory.{args, R, Node, Nr, Np, Mark, word_had, nodes_cut, nodes_glue}
 use Rattle.node_heap.specs.contracts.nodes.Nodes.get_mut.Key.{name as #self}

@@ -1,6 +1,6 @@
 use Rattle.std.proofs.Common.{◌≡◌, Ok, length, rules}
 use Rattle.toml.specs.View.{view, array_view}
-use Rattle.hl7_filter.specs.View.{view as condition_view}
+use Rattle.hl7_filter.specs.inner.View.{view as condition_view}
 use Rattle.plan_text.specs.Keys.{each, member_path}
 use Rattle.plan_text.specs.Conditions.{condition}
 use Rattle.plan_text.proofs.Items.{goes_on_seen}

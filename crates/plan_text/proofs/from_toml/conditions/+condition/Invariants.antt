@@ -1,6 +1,6 @@
 use Rattle.std.proofs.Common.{◌≡◌, ◌+◌, ◌*◌, drop, map}
 use Rattle.toml.specs.View.{items_view, array_view}
-use Rattle.hl7_filter.specs.View.{view as condition_view}
+use Rattle.hl7_filter.specs.inner.View.{view as condition_view}
 use Rattle.plan_text.specs.Keys.{each, each_after}
 use Rattle.plan_text.specs.Conditions.{condition}
 use Rattle.plan_text.proofs.from_toml.conditions.+condition.Given as goal

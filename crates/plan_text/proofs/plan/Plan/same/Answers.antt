@@ -1,5 +1,5 @@
 use Rattle.std.proofs.lemmas.Bool.Decides.{Decides-at}
-use Rattle.plan_text.specs.Same.{same_plan-Decides}
+use Rattle.plan_text.specs.inner.Same.{same_plan-Decides}
 use Rattle.plan_text.proofs.plan.Plan.same.Goals as goal
 
 pub returns-else-eq : goal.returns-else-eq

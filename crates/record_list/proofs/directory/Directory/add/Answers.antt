@@ -1,5 +1,5 @@
 use Rattle.std.proofs.Common.{[], ◌∷◌, sym, subst}
-use Rattle.record_list.specs.Listed.{IsListed, NumbersAscend}
+use Rattle.record_list.specs.inner.Listed.{IsListed, NumbersAscend}
 use Rattle.record_list.proofs.Listing.{listed_longer, ascend-push}
 use Rattle.record_list.proofs.directory.Directory.add.Goals as goal
 

@@ -1,6 +1,6 @@
 use Rattle.std.proofs.Common.{◌∙◌, sym, subst, ap}
 use Rattle.std.proofs.lemmas.List.Edits.{length-remove}
-use Rattle.record_list.specs.Listed.{NumbersAscend, without_number}
+use Rattle.record_list.specs.inner.Listed.{NumbersAscend, without_number}
 use Rattle.record_list.proofs.Listing.{without-unlisted, without-at, first_at, ascend-remove}
 use Rattle.record_list.proofs.directory.Directory.remove.Goals as goal
 

@@ -1,12 +1,12 @@
 use Rattle.std.proofs.Common.{◌≡◌, ◌≢◌, ◌<◌, ◌%◌, ℕ, arith, sym, ap, ◌∙◌, subst, slice_index_or}
 use Rattle.std.specs.Int.{trailing_zeros, w32}
 use Rattle.std.specs.declared.option.Option.TheVariants.{None}
-use Rattle.row_store.specs.Rows.{without}
+use Rattle.row_store.specs.inner.Rows.{without}
 use Rattle.row_store.proofs.Bits.{without-set}
 use Rattle.record_list.specs.declared.link_table.QueueSeat.{QueueSeat}
-use Rattle.record_list.specs.Packing.{link_of, slot_of, table_of}
-use Rattle.record_list.specs.Seating.{queue_seat_of, queue_ends_of, others_of}
-use Rattle.record_list.specs.Stands.{stands, new_link}
+use Rattle.record_list.specs.inner.Packing.{link_of, slot_of, table_of}
+use Rattle.record_list.specs.inner.Seating.{queue_seat_of, queue_ends_of, others_of}
+use Rattle.record_list.specs.inner.Stands.{stands, new_link}
 use Rattle.record_list.proofs.Table.{alone_in_all, in_no_other}
 use Rattle.record_list.proofs.link_table.LinkTable.for_queues.Goals as goal
 use Rattle.record_list.proofs.link_table.LinkTable.for_queues.Goals.{then-in_queue, else-in_queue, then-rest-eq0, else-rest-eq0+in_ok-new}

@@ -1,7 +1,7 @@
 use Rattle.std.proofs.Common.{sym, ap, ◌∙◌, slice_index_or}
 use Rattle.std.specs.declared.option.Option.TheVariants.{None}
-use Rattle.record_list.specs.Packing.{link_of, slot_of}
-use Rattle.record_list.specs.Seating.{queue_seat_of, others_of}
+use Rattle.record_list.specs.inner.Packing.{link_of, slot_of}
+use Rattle.record_list.specs.inner.Seating.{queue_seat_of, others_of}
 use Rattle.record_list.proofs.Table.{read_first, read_other}
 use Rattle.record_list.proofs.link_table.LinkTable.get.Goals as goal
 

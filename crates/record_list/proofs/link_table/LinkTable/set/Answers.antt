@@ -1,8 +1,8 @@
 use Rattle.std.proofs.Common.{◌≡◌, true, false, sym, ap, ◌∙◌, slice_index_or, slice_set}
 use Rattle.std.specs.Option.{is_some}
 use Rattle.std.specs.declared.option.Option.TheVariants.{None}
-use Rattle.record_list.specs.Packing.{link_of, slot_of, table_of}
-use Rattle.record_list.specs.Seating.{queue_seat_of, queue_ends_of, others_of, table_by}
+use Rattle.record_list.specs.inner.Packing.{link_of, slot_of, table_of}
+use Rattle.record_list.specs.inner.Seating.{queue_seat_of, queue_ends_of, others_of, table_by}
 use Rattle.record_list.proofs.Table.{read_other, write_first, write_other}
 use Rattle.record_list.proofs.link_table.LinkTable.set.Goals as goal
 

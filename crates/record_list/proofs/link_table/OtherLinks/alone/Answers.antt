@@ -1,7 +1,7 @@
 use Rattle.std.proofs.Common.{arith, ap, ◌∙◌}
 use Rattle.std.specs.declared.option.Option.TheVariants.{None}
-use Rattle.record_list.specs.Packing.{slot_of}
-use Rattle.record_list.specs.Stands.{stands, new_link}
+use Rattle.record_list.specs.inner.Packing.{slot_of}
+use Rattle.record_list.specs.inner.Stands.{stands, new_link}
 use Rattle.record_list.proofs.Packing.{link_read}
 use Rattle.record_list.proofs.Table.{slot_lt, queue_at_slot}
 use Rattle.record_list.proofs.link_table.OtherLinks.alone.Goals as goal

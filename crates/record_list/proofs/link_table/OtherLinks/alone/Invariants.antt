@@ -1,14 +1,14 @@
 use Rattle.std.proofs.Common.{◌≡◌, ◌<◌, ℕ, length, slice_index_or}
 use Rattle.std.specs.declared.option.Option.TheVariants.{None}
-use Rattle.record_list.specs.declared.link_table.Ends.{Ends}
-use Rattle.record_list.specs.declared.link_table.Seat.TheVariants.{Absent}
-use Rattle.record_list.specs.Packing.{link_of}
-use Rattle.record_list.specs.Stands.{stands, new_link}
+use Rattle.record_list.specs.declared.link_table.Neighbours.{Neighbours}
+use Rattle.record_list.specs.declared.link_table.LinkKind.TheVariants.{Absent}
+use Rattle.record_list.specs.inner.Packing.{link_of}
+use Rattle.record_list.specs.inner.Stands.{stands, new_link}
 use Rattle.record_list.proofs.Table.{queue_at}
 use Rattle.record_list.proofs.link_table.OtherLinks.alone.Given as goal
 
 abbrev pub invariant-loop-slot : goal.invariant-loop-slot
 invariant-loop-slot l = record {
   few : length l.seats ≡ 31;
-  alone : (k : ℕ) → k < l.slot → (ends : Ends) → link_of (slice_index_or l.seats k Absent) ends ≡ new_link (stands (queue_at l.queue k) l.mask) None;
+  alone : (k : ℕ) → k < l.slot → (ends : Neighbours) → link_of (slice_index_or l.seats k Absent) ends ≡ new_link (stands (queue_at l.queue k) l.mask) None;
 }

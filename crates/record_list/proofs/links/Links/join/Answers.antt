@@ -1,5 +1,5 @@
 use Rattle.std.proofs.Common.{rules}
-use Rattle.record_list.specs.Chain.{chain}
+use Rattle.record_list.specs.inner.Chain.{chain}
 use Rattle.record_list.proofs.Join.{before_held, after_is_held, linked_joined, members_joined, others_joined, items_joined}
 use Rattle.std.specs.declared.option.Option.TheVariants.{None}
 use Rattle.record_list.proofs.links.Links.join.Goals as goal

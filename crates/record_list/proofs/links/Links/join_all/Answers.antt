@@ -1,6 +1,6 @@
 use Rattle.std.proofs.Common.{rules, sym, subst, ◌∙◌, ◌+◌}
 use Rattle.std.specs.declared.option.Option.TheVariants.{Some}
-use Rattle.record_list.specs.Linked.{IsOpen}
+use Rattle.record_list.specs.inner.Linked.{IsOpen}
 use Rattle.record_list.proofs.Closing.{Closed, same_open, step_closed, skip_closed}
 use Rattle.record_list.proofs.links.Links.join_all.Goals as goal
 use Rattle.record_list.proofs.links.Links.join_all.Goals.{in-Some, in_default}

@@ -1,7 +1,7 @@
 use Rattle.std.proofs.Common.{◌≡◌, min, ◌+◌, ◌-◌, ◌^◌, refl, sym, ap, ◌∙◌}
-use Rattle.node_heap.specs.Held.{set_node}
-use Rattle.record_list.specs.Chain.{items_at, change_node, without_link}
-use Rattle.record_list.specs.Linked.{IsSameChain}
+use Rattle.node_heap.specs.inner.Held.{set_node}
+use Rattle.record_list.specs.inner.Chain.{items_at, change_node, without_link}
+use Rattle.record_list.specs.inner.Linked.{IsSameChain}
 use Rattle.record_list.proofs.Leave.{set_same, held_left, apart_left, others_left, gap_left, linked_like, same_like, same_then}
 use Rattle.record_list.proofs.links.Links.leave.Goals as goal
 

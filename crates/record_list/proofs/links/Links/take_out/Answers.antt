@@ -1,8 +1,8 @@
 use Rattle.std.proofs.Common.{sym, ap, subst, ◌∙◌}
-use Rattle.node_heap.specs.Held.{find_node, drop_node}
-use Rattle.record_list.specs.Chain.{items_at}
-use Rattle.record_list.specs.Linked.{IsApart, places}
-use Rattle.record_list.specs.Stands.{AreMarked}
+use Rattle.node_heap.specs.inner.Held.{find_node, drop_node}
+use Rattle.record_list.specs.inner.Chain.{items_at}
+use Rattle.record_list.specs.inner.Linked.{IsApart, places}
+use Rattle.record_list.specs.inner.Stands.{AreMarked}
 use Rattle.record_list.proofs.Closing.{opened}
 use Rattle.record_list.proofs.Join.{apart_like}
 use Rattle.record_list.proofs.Kept.{apart_dropped, marked_dropped}

@@ -1,7 +1,7 @@
 use Rattle.std.proofs.Common.{◌≡◌, sym, ap, subst, ◌∙◌, arith, MatchOption}
 use Rattle.std.specs.declared.option.Option.TheVariants.{Some}
-use Rattle.row_store.specs.Rows.{front_of}
-use Rattle.record_list.specs.Listed.{place_of}
+use Rattle.row_store.specs.inner.Rows.{front_of}
+use Rattle.record_list.specs.inner.Listed.{place_of}
 use Rattle.record_list.proofs.Found.{listed_held}
 use Rattle.record_list.proofs.Kept.{front_none, front_some, front_beyond}
 use Rattle.record_list.proofs.record_list.RecordListRowStore.front.Goals as goal

@@ -1,8 +1,8 @@
 use Rattle.std.proofs.Common.{◌≡◌, sym, ap, subst, ◌∙◌, refl}
 use Rattle.std.specs.declared.option.Option.TheVariants.{Some}
-use Rattle.node_heap.specs.Held.{set_node}
-use Rattle.record_list.specs.Chain.{entries, rows_of, items_at}
-use Rattle.record_list.specs.Stands.{IsKept}
+use Rattle.node_heap.specs.inner.Held.{set_node}
+use Rattle.record_list.specs.inner.Chain.{entries, rows_of, items_at}
+use Rattle.record_list.specs.inner.Stands.{IsKept}
 use Rattle.record_list.proofs.Change.{set_change}
 use Rattle.record_list.proofs.Chains.{entries_kept}
 use Rattle.record_list.proofs.Enter.{same_linked}

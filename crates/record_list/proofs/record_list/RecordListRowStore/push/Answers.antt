@@ -1,8 +1,8 @@
 use Rattle.std.proofs.Common.{◌≡◌, ◌<◌, ◌++◌, ◌∷◌, [], sym, ap, subst, ◌∙◌}
 use Rattle.std.specs.Prelude.{All}
 use Rattle.std.specs.declared.option.Option.TheVariants.{Some}
-use Rattle.node_heap.specs.Held.{held_at, find_node, drop_node}
-use Rattle.record_list.specs.Chain.{rows_of, items_at}
+use Rattle.node_heap.specs.inner.Held.{held_at, find_node, drop_node}
+use Rattle.record_list.specs.inner.Chain.{rows_of, items_at}
 use Rattle.record_list.proofs.Kept.{kept_from, drop_last, last_held, listed_below, rows_like}
 use Rattle.record_list.proofs.Leave.{linked_like}
 use Rattle.record_list.proofs.Store.{on_ok, on_err, apart_pushed, hangs_pushed, linked_pushed, rows_longer, kept_pushed}

@@ -1,7 +1,7 @@
 use Rattle.std.proofs.Common.{◌≡◌, rules, sym, ap, ◌∙◌, refl}
 use Rattle.std.specs.declared.option.Option.TheVariants.{Some}
-use Rattle.node_heap.specs.Held.{drop_node}
-use Rattle.row_store.specs.Rows.{removed}
+use Rattle.node_heap.specs.inner.Held.{drop_node}
+use Rattle.row_store.specs.inner.Rows.{removed}
 use Rattle.record_list.proofs.Kept.{rows_like}
 use Rattle.record_list.proofs.Store.{node_of, absent_of, kept_removed}
 use Rattle.record_list.proofs.record_list.RecordListRowStore.remove.Goals as goal

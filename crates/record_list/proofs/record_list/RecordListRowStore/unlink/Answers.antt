@@ -1,9 +1,9 @@
 use Rattle.std.proofs.Common.{◌≡◌, ◌<◌, arith, sym, ap, subst, ◌∙◌, refl, MatchOption}
 use Rattle.std.specs.Option.{is_some}
-use Rattle.node_heap.specs.Held.{held_at}
-use Rattle.row_store.specs.Rows.{is_linked, unlinked, without}
-use Rattle.record_list.specs.Chain.{link_at, without_link, change_node}
-use Rattle.record_list.specs.Stands.{IsKept}
+use Rattle.node_heap.specs.inner.Held.{held_at}
+use Rattle.row_store.specs.inner.Rows.{is_linked, unlinked, without}
+use Rattle.record_list.specs.inner.Chain.{link_at, without_link, change_node}
+use Rattle.record_list.specs.inner.Stands.{IsKept}
 use Rattle.record_list.proofs.Kept.{in_queue, linked_beyond, unlinked_beyond, rows_like}
 use Rattle.record_list.proofs.Store.{node_of, absent_of, marked_found, kept_changed, marks_left, left_items, left_linked}
 use Rattle.record_list.proofs.record_list.RecordListRowStore.unlink.Goals as goal

@@ -1,5 +1,5 @@
 use Rattle.std.proofs.Common.{ap, sym, refl}
-use Rattle.row_store.specs.Rows.{without}
+use Rattle.row_store.specs.inner.Rows.{without}
 use Rattle.row_store.proofs.Places.{only_at, changed_at-missing, changed_at-at, numbers-changed_at, is_linked-missing, is_linked-at}
 use Rattle.row_store.proofs.plain_rows.PlainRowsRowStore.unlink.Goals as goal
 

@@ -1,8 +1,9 @@
 use Rattle.std.proofs.Common.{length, sym, subst}
 use Rattle.std.specs.Arc.{arc_value}
-use Rattle.event_log.specs.History.{History, history_of}
+use Rattle.event_log.specs.History.{History}
+use Rattle.event_log.specs.inner.History.{history_of}
 use Rattle.event_log.specs.Legal.{MayFollow}
-use Rattle.sequential_book.specs.Reading.{IsJudgeable}
+use Rattle.sequential_book.specs.inner.Reading.{IsJudgeable}
 use Rattle.sequential_book.proofs.Following.{plain-followed_by}
 use Rattle.sequential_book.proofs.engine.SequentialBook.book.Goals as goal
 

@@ -12,5 +12,5 @@ book-requires-clause-judgeable c =
     let plan = arc_value c.args.plan in
     let good : IsPlan plan = subst IsPlan c.deref-2.ensures c.rules-2.ensures in
     let said : deploy_answer c.args.self.now plan ≡ None = ap (deploy_answer c.args.self.now) (sym c.deref.ensures) ∙ (sym c.in_ok-refusal.ensures ∙ c.in_default.is) in
-    let may : Deployable c.args.self.now plan = record { good = good; allowed = said; room = sym c.in_ok-exceeds.ensures ∙ c.if-branch.false } in
+    let may : Deployable c.args.self.now plan = record { good = good; allowed = said; room = sym c.in_ok-is_over_limit.ensures ∙ c.if-branch.false } in
     ap (λ (p : PlanEntry). length p.channels) c.new.ensures ∙ (channels-same c.args.self.now plan may ∙ channels-kept c.args.self.now c.rules.ensures)

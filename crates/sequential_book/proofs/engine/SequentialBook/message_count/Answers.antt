@@ -1,7 +1,8 @@
 use Rattle.std.proofs.Common.{◌≡◌, ◌≤◌, ◌∙◌, sym, ap, arith}
 use Rattle.std.specs.Prelude.{is_some}
 use Rattle.std.specs.Arc.{arc_value}
-use Rattle.event_log.specs.History.{History, history_of, message_at, message_count}
+use Rattle.event_log.specs.History.{History, message_at, message_count}
+use Rattle.event_log.specs.inner.History.{history_of}
 use Rattle.sequential_book.proofs.Blank.{count-blank, there-blank}
 use Rattle.sequential_book.proofs.Following.{few-messages}
 use Rattle.sequential_book.proofs.Messages.{count-accepted}

@@ -1,0 +1,23 @@
+use Rattle.std.proofs.Common.{◌≡◌, ◌+◌, ◌++◌, ◌∷◌, [], ℕ, map, ap, arith, rules, ◌∙◌, ◌<◌, length, get_or}
+use Rattle.std.proofs.Common.{All, refl, subst, sym}
+use Rattle.std.proofs.lemmas.List.Elements.{All-append, All-cons, All-nil}
+use Rattle.book_lock.specs.inner.Shares.{no_calls}
+use Rattle.book_lock.specs.Log.{Log, SeatView}
+use Rattle.book_lock.specs.Shares.{StationView}
+use Rattle.book_lock.proofs.Logging.{new_seat_is, one_issued, seats_more}
+use Rattle.book_lock.proofs.desks.open_stations.Goals as goal
+
+pub loop-preserved : goal.loop-preserved
+loop-preserved g c =
+    let inv = c.loop.invariant in (
+      search rules,
+      search rules,
+      search rules,
+      search rules,
+      search rules,
+      search rules,
+      subst (All (λ (d : StationView). d.counts ≡ no_calls)) (sym c.push_reserved.ensures.items) (All-append (λ (d : StationView). d.counts ≡ no_calls) c.loop.stations.items _ inv.6 (All-cons (λ (d : StationView). d.counts ≡ no_calls) _ [] refl (All-nil (λ (d : StationView). d.counts ≡ no_calls)))),
+      one_issued c.args.log.now c.loop.log c.issue.new.self c.loop.counter inv.7 c.issue.ensures.log,
+      ap (map (λ (d : StationView). d.seat)) c.push_reserved.ensures.items
+          ∙ seats_more (λ (d : StationView). d.seat) c.loop.stations.items _ c.args.log.now.1 c.loop.counter inv.8 (new_seat_is c.issue.result c.loop.log c.args.log.now c.loop.counter c.issue.ensures.seat inv.7),
+    )

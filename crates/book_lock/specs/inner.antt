@@ -1,0 +1,11 @@
+-- What proofs alone use: no claim rests on these pages.
+pub mod Auditing
+pub mod Closing
+pub mod Coding
+pub mod Log
+pub mod Rises
+pub mod Shares
+pub mod Showing
+pub mod Sound
+pub mod Tidies
+pub mod Windows

@@ -1,0 +1,65 @@
+-- What becomes of a block.
+use Rattle.std.specs.Prelude.{◌≡◌, ℕ, ◌+◌, ◌<◌, Bool, true, List, [], ◌++◌, Some, Result, IsTrue, ⊤, length, take}
+use Rattle.std.specs.Result.{IfOk}
+use Rattle.book_core.specs.declared.receipt.NotBooked.{NotBooked}
+use Rattle.book_core.specs.declared.receipt.Receipt.{Receipt}
+use Rattle.event_log.specs.declared.entry.Told.{Told}
+use Rattle.hl7_head.specs.Header.{Msh, header_of}
+use Rattle.judge_core.specs.Judging.{Judgement, is_bookable, is_unreadable, is_stray}
+use Rattle.mllp_frame.specs.Framing.{IsData}
+use Rattle.conn_core.specs.declared.block_outcome.BlockOutcome.{BlockOutcome}
+use Rattle.conn_core.specs.declared.block_outcome.BlockOutcome.TheVariants.{Unreadable, Stray, Message}
+use Rattle.conn_core.specs.inner.Booking.{receipts_of}
+use Rattle.plan_text.specs.Entries.{PlanEntry}
+use Rattle.conn_core.specs.declared.replies.Replies.{Replies}
+use Rattle.conn_core.specs.Replies.{Due, dues_of, numbered}
+use Rattle.conn_core.specs.inner.Replies.{answer_to, told_by}
+
+-- This is the header of a message that was received in a block, so that its acknowledgments can be framed.
+pub record CameInBlock (h : Msh) : Type 0 where
+  pub raw : List ℕ
+  pub header_is : header_of raw ≡ Some h
+  pub plain : IsData raw
+
+-- Memory was refused for an acknowledgment: those before it were appended, each a whole block with its number, and no more.
+pub record AppendsInPart (conn : ℕ) (dues : List Due) (old new : Replies) : Type 0 where
+  pub count : ℕ
+  pub fewer : count < length dues
+  pub made : new.made ≡ old.made + count
+  pub bytes : new.bytes.items ≡ old.bytes.items ++ numbered conn (old.made + 1) (take count dues)
+
+-- The outcome says what the block is. The receipt of a booked message has the connection, the channel and the bytes.
+abbrev pub IsOutcome : ℕ → ℕ → List ℕ → BlockOutcome → Type 0
+IsOutcome conn channel raw Unreadable = IsTrue (is_unreadable raw)
+IsOutcome conn channel raw Stray = IsTrue (is_stray raw)
+IsOutcome conn channel raw (Message booked) =
+    IsTrue (is_bookable raw) × IfOk booked.outcome (λ r. (r.conn ≡ conn) × (r.channel ≡ channel) × (r.raw ≡ raw))
+
+-- The message was judged for the channel by a plan to judge by, and its outcome is one that it may have.
+pub record IsJudgedSo (judges : PlanEntry → Type 0) (outcomes : Judgement → Result Told NotBooked → Type 0) (channel : ℕ)
+    (raw : List ℕ) (outcome : Result Told NotBooked) : Type 0 where
+  pub judged : Judgement
+  pub by_plan : judges judged.plan
+  pub for_channel : judged.channel ≡ channel
+  pub of_text : judged.raw ≡ raw
+  pub may : outcomes judged outcome
+
+-- The outcome of a message is one that it may have; another block has none.
+abbrev pub MayBecome : (PlanEntry → Type 0) → (Judgement → Result Told NotBooked → Type 0) → ℕ → List ℕ → BlockOutcome → Type 0
+MayBecome judges outcomes channel raw (Message booked) = IsJudgedSo judges outcomes channel raw (told_by booked.outcome)
+MayBecome judges outcomes channel raw _ = ⊤
+
+-- whether all replies to the block were made
+abbrev pub is_whole : BlockOutcome → Bool
+is_whole (Message booked) = booked.whole
+is_whole _ = true
+
+-- the receipt of a message that was booked
+abbrev pub receipts_in : BlockOutcome → List Receipt
+receipts_in (Message booked) = receipts_of booked.outcome
+receipts_in _ = []
+
+-- the acknowledgments that a message is due; another block is due none
+abbrev pub dues_in : List ℕ → ℕ → BlockOutcome → List Due
+dues_in raw moment (Message booked) = dues_of (answer_to raw booked.outcome moment)
+dues_in raw moment _ = []

@@ -1,0 +1,15 @@
+-- What proofs use beside the page Replies.
+use Rattle.std.specs.Prelude.{ℕ, List, Result, Ok, Err}
+use Rattle.book_core.specs.declared.receipt.NotBooked.{NotBooked}
+use Rattle.book_core.specs.declared.receipt.Receipt.{Receipt}
+use Rattle.event_log.specs.declared.entry.Told.{Told}
+use Rattle.conn_core.specs.Replies.{Answer}
+
+-- what became of a message, by the receipt of its booking
+abbrev pub told_by : Result Receipt NotBooked → Result Told NotBooked
+told_by (Ok r) = Ok r.told
+told_by (Err refusal) = Err refusal
+
+-- the answer to a message with this outcome
+abbrev pub answer_to : List ℕ → Result Receipt NotBooked → ℕ → Answer
+answer_to raw outcome moment = record { raw = raw; outcome = told_by outcome; moment = moment }

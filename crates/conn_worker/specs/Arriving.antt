@@ -1,0 +1,41 @@
+-- The arrivals at a seat of a shared book, one call after another, and what they add to the book's log.
+use Rattle.std.specs.Prelude.{◌≡◌, List, [], ◌∷◌, ◌++◌, map, ℕ, Ok, Err}
+use mathlib.Core.List.{IsPrefix}
+use Rattle.judge_core.specs.Judging.{Judgement}
+use Rattle.event_log.specs.History.{History}
+use Rattle.book_core.specs.declared.receipt.NotBooked.{NotBooked}
+use Rattle.book_core.specs.declared.receipt.Receipt.{Receipt}
+use Rattle.ghost_log.specs.Seats.{entries_of}
+use Rattle.book_lock.specs.declared.log_entry.LogEntry.{LogEntry}
+use Rattle.book_lock.specs.declared.log_entry.LogEntry.TheVariants as log_entry
+use Rattle.book_lock.specs.Log.{Arrives, IsLegalLog, SeatView}
+use Rattle.conn_core.specs.Booking.{arrival_by}
+
+-- the log's entry of the arrival that a receipt is of
+abbrev pub arrival_entry : Receipt → LogEntry
+arrival_entry receipt = log_entry.Booked (arrival_by receipt)
+
+-- Arrivals at a seat, one after another, from its first view to its last, with the receipts of those that were booked, in
+-- their order. A refused arrival has no receipt.
+pub data ArrivesInTurn (opening : History) : SeatView → SeatView → List Receipt → Type 0 where
+  no_arrival : (seat : SeatView) → ArrivesInTurn opening seat seat []
+  booked_first : (old between new : SeatView) (conn : ℕ) (judged : Judgement)
+      (receipt : Receipt) (receipts : List Receipt)
+      → Arrives opening conn judged old between (Ok receipt)
+      → ArrivesInTurn opening between new receipts
+      → ArrivesInTurn opening old new (receipt ∷ receipts)
+  refused_first : (old between new : SeatView) (conn : ℕ) (judged : Judgement)
+      (refusal : NotBooked) (receipts : List Receipt)
+      → Arrives opening conn judged old between (Err refusal)
+      → ArrivesInTurn opening between new receipts
+      → ArrivesInTurn opening old new receipts
+
+-- What was booked at a seat since an earlier view of it: the entries that it added to the log since are those of the
+-- arrivals of these receipts, in their order, and no others. Each arrival was answered as the sequential engine answers it
+-- at that moment, and its receipt has the index that was then the next one of the book.
+pub record BooksInLog (opening : History) (old new : SeatView) (receipts : List Receipt) : Type 0 where
+  pub number : new.number ≡ old.number
+  pub own : entries_of old.number new.seen ≡ entries_of old.number old.seen ++ map arrival_entry receipts
+  pub seen : IsPrefix old.seen new.seen
+  pub legal : IsLegalLog opening old.seen → IsLegalLog opening new.seen
+  pub in_turn : ArrivesInTurn opening old new receipts

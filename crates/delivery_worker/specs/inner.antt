@@ -1,0 +1,4 @@
+-- What proofs alone use: no claim rests on these pages.
+pub mod Calls
+pub mod Delivering
+pub mod Stream

@@ -1,0 +1,6 @@
+-- What proofs alone use: no claim rests on these pages.
+pub mod Listed
+pub mod Queues
+pub mod Slots
+pub mod SlotsBy
+pub mod States

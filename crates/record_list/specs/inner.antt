@@ -1,0 +1,8 @@
+-- What proofs alone use: no claim rests on these pages.
+pub mod Chain
+pub mod Linked
+pub mod Listed
+pub mod Packing
+pub mod Seating
+pub mod Stands
+pub mod Visit

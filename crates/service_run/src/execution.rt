@@ -1,0 +1,109 @@
+//! The commands on standard input.
+
+use crate::output::{answer, say};
+use crate::questions::{
+    ask_find, ask_message, ask_metrics, ask_status, ask_waiting, do_cancel, do_deploy, do_prune,
+};
+use crate::settings::Settings;
+use crate::workers::Workers;
+use book_lock::ArrivalLedger;
+use log::{Log, info};
+use service_commands::{Command, Input, UNKNOWN, read_command, read_line};
+use service_workers::{Crew, Gate, Site, Stage, StandardInput, has_ended, stop};
+use std::str;
+use std::sync::ledger::Ledger;
+use std::time::Duration;
+
+/// The most bytes of a line that is a command.
+const LINE_BYTES: usize = 4_096;
+
+/// How many milliseconds one look at the workers waits, once no command can follow.
+const LOOK_MILLIS: u64 = 100;
+
+/// Puts the plan in a file in force, where the path is text, and prints the result.
+fn deploy<A: ArrivalLedger, T: Ledger, U: Ledger, H: Crew>(
+    rt: &HostRuntime,
+    site: &Site<'_, A, T, U, H>,
+    gates: &[Gate],
+    path: &[u8],
+) {
+    match str::from_utf8(path) {
+        Ok(path) => answer(rt, do_deploy(rt, site, gates, path)),
+        Err(_) => say(rt, "refused: the path is not UTF-8\n\n"),
+    }
+}
+
+/// Executes a command, and prints its answer.
+fn execute<A: ArrivalLedger, T: Ledger, U: Ledger, H: Crew>(
+    rt: &HostRuntime,
+    site: &Site<'_, A, T, U, H>,
+    workers: &Workers<A, T, U>,
+    settings: &Settings,
+    started: u64,
+    command: Command<&[u8]>,
+) {
+    match command {
+        Command::Status => answer(rt, ask_status(site, started)),
+        Command::Metrics => answer(rt, ask_metrics(site, started)),
+        Command::Message(number) => answer(rt, ask_message(site, number)),
+        Command::Find(id) => answer(rt, ask_find(site, id)),
+        Command::Waiting(name) => answer(rt, ask_waiting(site, name)),
+        Command::Deploy(path) => deploy(rt, site, &workers.gates, path),
+        Command::Prune => answer(rt, do_prune(site)),
+        Command::Cancel(number) => answer(rt, do_cancel(site, number)),
+        Command::Stop => begin_stop(rt, site, workers, true, settings.grace),
+        Command::StopNow => begin_stop(rt, site, workers, false, settings.grace),
+        Command::Unknown => say(rt, UNKNOWN),
+    }
+}
+
+/// Begins to end all workers, and prints that.
+fn begin_stop<A: ArrivalLedger, T: Ledger, U: Ledger, H: Crew>(
+    rt: &HostRuntime,
+    site: &Site<'_, A, T, U, H>,
+    workers: &Workers<A, T, U>,
+    drains: bool,
+    grace: u32,
+) {
+    if drains {
+        info!(site.rt; "stopping once nothing waits for delivery");
+    } else {
+        info!(site.rt; "stopping now");
+    }
+    say(rt, "stopping\n\n");
+    let grace = Duration::from_secs(u64::from(grace));
+    stop(site, &workers.gates, &workers.places, drains, grace);
+}
+
+/// Waits until all workers have ended.
+fn wait_for_end<A: ArrivalLedger, T: Ledger, U: Ledger, H: Crew>(site: &Site<'_, A, T, U, H>) {
+    for _ in site.rt.forever() {
+        if site.stage() != Stage::Open && has_ended(site) {
+            return;
+        }
+        site.rt.sleep(Duration::from_millis(LOOK_MILLIS));
+    }
+}
+
+/// Obeys the commands on standard input, one after another, until the workers have ended. Where no command can follow any more,
+/// it waits for that.
+pub(crate) fn execute_all<A: ArrivalLedger, T: Ledger, U: Ledger, H: Crew>(
+    rt: &HostRuntime,
+    site: &Site<'_, A, T, U, H>,
+    workers: &Workers<A, T, U>,
+    settings: &Settings,
+    started: u64,
+) {
+    let mut reader = StandardInput::new(site, rt.stdin());
+    let mut line = [0u8; LINE_BYTES];
+    for _ in site.rt.forever() {
+        match read_line(&mut reader, &mut line) {
+            Ok(Input::Line(len)) => {
+                let command = read_command(&line[..len]);
+                execute(rt, site, workers, settings, started, command);
+            }
+            Ok(Input::TooLong) => say(rt, UNKNOWN),
+            Ok(Input::End) | Err(_) => return wait_for_end(site),
+        }
+    }
+}
