@@ -10,7 +10,7 @@ ghost use Rattle.conn_core.specs.Replies.{numbered, dues_by, told_of};
 use ack_rule::{AckMode, Verdictum, parts};
 use book_core::NotBooked;
 use event_log::Told;
-use hl7_head::{AckPart, Cause, Header, Moment, append_ack};
+use hl7_head::{AckPart, Cause, Header, Moment, StampedMoment, append_stamped_ack};
 use mllp_frame::{CARRIAGE_RETURN, END_BLOCK, START_BLOCK};
 use std::alloc::{AllocError, Global};
 
@@ -21,6 +21,8 @@ pub struct Replies {
     pub made: u32,
     /// The blocks of those that are not written yet.
     pub bytes: Vec<u8>,
+    /// The moment of the last one with its stamp, which those of one second share (MSH-7).
+    stamped: StampedMoment,
 }
 
 /// What is acknowledged of an outcome.
@@ -42,15 +44,16 @@ fn append_block(
     bytes: &mut Vec<u8>,
     header: &Header,
     part: &AckPart,
-    now: Moment,
+    stamped: &StampedMoment,
     conn: u32,
     number: u32,
 ) -> Result<(), AllocError>
-    ensures ok { OnOk result (bytes.new.items ≡ bytes.old.items ++ block_bytes (ack header.now part.now now conn number)) }
+    ensures ok { OnOk result (bytes.new.items
+        ≡ bytes.old.items ++ block_bytes (ack header.now part.now stamped.now conn number)) }
     ensures err { OnErr result (take (length bytes.old.items) bytes.new.items ≡ bytes.old.items) }
 {
     bytes.push(START_BLOCK)?;
-    append_ack(bytes, header, part, now, conn, number)?;
+    append_stamped_ack(bytes, header, part, stamped, conn, number)?;
     bytes.extend_from_slice(&[END_BLOCK, CARRIAGE_RETURN])
 }
 
@@ -63,6 +66,7 @@ impl Replies {
         Replies {
             made: 0,
             bytes: Vec::new(alloc),
+            stamped: StampedMoment::new(Moment::epoch()),
         }
     }
 
@@ -87,7 +91,9 @@ impl Replies {
             return Ok(());
         };
         let before = self.bytes.len();
-        let appended = append_block(&mut self.bytes, header, &part, now, conn, self.made + 1);
+        let number = self.made + 1;
+        self.stamped.set(now);
+        let appended = append_block(&mut self.bytes, header, &part, &self.stamped, conn, number);
         if appended.is_err() {
             self.bytes.truncate(before);
         } else {

@@ -23,9 +23,10 @@ use fixed_numbers::{MAX_ANSWERS, RECEIVES_MAX};
 use hl7_head::Msa;
 use mllp_frame::{END_BLOCK, FrameEvent, Framer, START_BLOCK, longer_streams, write_block};
 use std::alloc::{AllocError, Global};
+use std::sync::Arc;
 
 /// The most bytes that one receive requests.
-const PIECE: usize = 4_096;
+const PIECE: usize = 1_024;
 
 /// A connection can't be used any more.
 #[derive(Clone, Copy)]
@@ -62,6 +63,8 @@ pub struct Connection {
     framer: Option<Framer>,
     /// What the answers to the last sending said.
     reply: Reply,
+    /// The block of the last sending. Its memory is used again for the next.
+    block: Vec<u8>,
 }
 
 /// Whether a text can be framed: it holds neither of the two framing bytes.
@@ -78,8 +81,9 @@ fn read_answer(alloc: Global, event: FrameEvent) -> Result<Option<Msa>, AllocErr
     let FrameEvent::Block(text) = event else {
         return Ok(None);
     };
-    match Message::parse(alloc, &text) {
-        Ok(message) => Msa::read(alloc, &message),
+    let text = Arc::new(alloc, text)?;
+    match Message::parse_shared(alloc, &text) {
+        Ok((message, _)) => Msa::read(alloc, &message),
         Err(Refusal::NoMemory) => Err(AllocError),
         Err(_) => Ok(None),
     }
@@ -184,8 +188,8 @@ fn receive_answers<L: Link>(
     }
 }
 
-/// Sends a text as one block over the open connection.
-fn send_block<L: Link>(alloc: Global, link: &mut L, payload: &[u8]) -> Result<(), Lost>
+/// Sends a text as one block over the open connection. The block is made in the memory that is handed in.
+fn send_block<L: Link>(block: &mut Vec<u8>, link: &mut L, payload: &[u8]) -> Result<(), Lost>
     ensures sent { OnOk result (Appends (L.sent link.old) (L.sent link.new) (block_bytes payload.now)) }
     ensures unsent { OnErr result (Keeps (L.sent link.old) (L.sent link.new)) }
     ensures received { Keeps (L.received link.old) (L.received link.new) }
@@ -195,12 +199,12 @@ fn send_block<L: Link>(alloc: Global, link: &mut L, payload: &[u8]) -> Result<()
     if !is_data(payload) {
         return Err(Lost::Failed);
     }
-    let mut block = Vec::new(alloc);
-    match write_block(payload, &mut block) {
+    block.clear();
+    match write_block(payload, block) {
         Ok(()) => {}
         Err(_) => return Err(Lost::Failed),
     }
-    match link.send(&block) {
+    match link.send(block) {
         Ok(()) => Ok(()),
         Err(LinkFault) => Err(lost_by(link)),
     }
@@ -215,6 +219,7 @@ impl Connection {
             alloc,
             framer: None,
             reply: Reply::Nothing,
+            block: Vec::new(alloc),
         }
     }
 
@@ -272,7 +277,7 @@ impl Connection {
         ensures listened { IfErr result (λ lost. Keeps (L.sent link.old) (L.sent link.new) ⊎ (lost.receives ≡ 1)) }
         ensures receives { CallsUpTo (L.receives link.old) (L.receives link.new) limit }
     {
-        match send_block(self.alloc, link, job.payload.as_slice()) {
+        match send_block(&mut self.block, link, job.payload.as_slice()) {
             Ok(()) => {}
             Err(Lost::Unanswered) => return Err(Unanswered { receives: 0 }),
             Err(Lost::Failed) => return Ok(Outcome::Again),

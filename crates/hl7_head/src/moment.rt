@@ -43,6 +43,13 @@ impl Moment {
         }
     }
 
+    /// The moment at which the year 1970 began.
+    pub fn epoch() -> Moment
+        ensures { result ≡ 0 }
+    {
+        Moment { seconds: 0 }
+    }
+
     /// The seconds since the year 1970 began.
     pub fn secs(self) -> u64
         ensures value { result ≡ self }
