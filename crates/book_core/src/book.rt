@@ -401,8 +401,14 @@ impl<S: RowStore<Queued<Outbound>>> Book<S> {
         self.book_arrival(conn, judged)
     }
 
-    /// Books a message that was judged by the plan in force.
-    fn book_arrival(&mut self, conn: u32, judged: &Judged) -> Result<Receipt, NotBooked>
+    /// Books a message that was judged by the plan in force, as [`arrive`](Book::arrive) does. It exists for speed: whoever
+    /// has judged by that plan needs no comparison, which takes time in proportion to the plan's text.
+    ///
+    /// # Errors
+    ///
+    /// `Full` where there is no room for it and its deliveries, and then `NoMemory` where a growth was refused. A refusal
+    /// leaves the book as it was.
+    pub fn book_arrival(&mut self, conn: u32, judged: &Judged) -> Result<Receipt, NotBooked>
         requires bookable { IsTrue (is_bookable judged.now.raw) }
         requires same_plan { judged.now.plan ≡ plan_in_force self.old }
         ensures does { Does (arrive conn judged.now.channel judged.now.raw)

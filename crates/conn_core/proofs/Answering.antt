@@ -80,6 +80,13 @@ module _ (book new : History) (judged : Judgement) (conn : ℕ) where
       (λ e. (same refl, past), λ p. refl)
   full_said (Err PlanChanged) does last plan same = (λ e. absurd cc, λ p. absurd (plan.0 refl p.0))
 
+-- a message that was judged by the plan in force is not refused for another one
+pub never_changed : (book : History) (judged : Judgement) (r : Result Receipt NotBooked) → r ≢ Err PlanChanged
+    → judged.plan ≡ plan_in_force book → (IsErrOf r PlanChanged ↔ judged.plan ≢ plan_in_force book)
+never_changed book judged (Ok receipt) never same = (λ e. absurd cc, λ other. absurd (other same))
+never_changed book judged (Err refusal) never same =
+    (λ e. let is : refusal ≡ PlanChanged = cc in absurd (never (ap Err is)), λ other. absurd (other same))
+
 -- what holds of the one receipt, or of none, holds of the receipts that an outcome brings
 pub booked_in : (P : List Receipt → Type 0) (o : Result Receipt NotBooked) → IfOk o (λ r. P (r ∷ [])) → OnErr o (P []) → P (receipts_of o)
 booked_in P (Ok r) booked none = booked

@@ -96,6 +96,40 @@ pub fn book_and_reply<B: Booking>(
     Booked { outcome, whole }
 }
 
+/// Books a message that was judged by the plan to judge by, and appends its replies, as [`book_and_reply`] does.
+fn book_judged<B: Booking>(
+    line: &ConnectionId,
+    book: &mut B,
+    judged: &Judged,
+    now: Moment,
+    replies: &mut Replies,
+) -> Booked
+    requires bookable { IsTrue (is_bookable judged.now.raw) }
+    requires by_plan { B.judges book.old judged.now.plan }
+    requires few { replies.old.made + 2 ≤ u32.MAX }
+    ensures receipt { IfOk result.outcome (λ receipt.
+        (receipt.conn ≡ line.now.conn) × (receipt.channel ≡ judged.now.channel) × (receipt.raw ≡ judged.now.raw)) }
+    ensures booked { IfOk result.outcome (λ receipt. B.books book.old book.new (receipt ∷ [])) }
+    ensures unbooked { OnErr result.outcome (B.books book.old book.new []) }
+    ensures told { IfOk result.outcome (λ receipt. B.outcomes book.old judged.now (Ok receipt.told)) }
+    ensures refused { IfErr result.outcome (λ refusal. B.outcomes book.old judged.now (Err refusal)) }
+    ensures replies { IsTrue result.whole → replies.new.bytes.items ≡ replies.old.bytes.items
+        ++ numbered line.now.conn (replies.old.made + 1) (dues_of (answer_to judged.now.raw result.outcome now)) }
+    ensures counted { IsTrue result.whole → replies.new.made ≡ replies.old.made
+        + length (dues_of (answer_to judged.now.raw result.outcome now)) }
+    ensures in_part { IsFalse result.whole →
+        AppendsInPart line.now.conn (dues_of (answer_to judged.now.raw result.outcome now)) replies.old replies.new }
+    ensures few { replies.new.made ≤ replies.old.made + 2 }
+{
+    let Some(header) = judged.header() else {
+        unreachable!();
+    };
+    let outcome = book.arrive_judged(line.conn, judged);
+    let told = told_by(&outcome);
+    let whole = replies.append(line.conn, header, told, now).is_ok();
+    Booked { outcome, whole }
+}
+
 /// The text of a block, judged by the plan of where it is booked.
 fn judged_by<B: Booking>(line: &ConnectionId, book: &B, raw: Vec<u8>) -> Result<Judged, AllocError>
     requires channel { line.now.channel < B.channels book.now }
@@ -136,7 +170,7 @@ fn answer_judged<B: Booking>(
         book.pass_over(line.conn, judged);
         return BlockOutcome::Stray;
     }
-    BlockOutcome::Message(book_and_reply(line, book, judged, now, replies))
+    BlockOutcome::Message(book_judged(line, book, judged, now, replies))
 }
 
 /// Answers a block that was received over a connection: what is no message, and what is an acknowledgment, is passed

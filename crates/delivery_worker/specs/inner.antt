@@ -1,4 +1,5 @@
 -- What proofs alone use: no claim rests on these pages.
+pub mod Answers
 pub mod Calls
 pub mod Delivering
 pub mod Stream

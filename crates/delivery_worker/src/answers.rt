@@ -1,8 +1,9 @@
-ghost use Rattle.std.specs.Prelude.{◌≡◌, find};
+ghost use Rattle.std.specs.Prelude.{◌≡◌, false, find};
 ghost use Rattle.std.specs.List.{flat_map};
-ghost use Rattle.std.specs.Option.{option_copied, option_to_list};
+ghost use Rattle.std.specs.Option.{option_copied, option_map, option_map_or, option_to_list};
 ghost use Rattle.delivery_worker.specs.Answers.{answers_to, code_outcome, outcome_of};
 
+use crate::answer::Answer;
 use dest_queue::Outcome;
 use fixed_numbers::MAX_ANSWERS;
 use hl7_head::{AckCode, Msa};
@@ -71,12 +72,43 @@ fn known_code(code: &[u8]) -> Option<AckCode> {
     }
 }
 
-/// What the answers that [`outcome_of`] looks at say of the message with this raw control id.
-pub(crate) fn reply_to(control_id: &[u8], answers: &[Option<Msa>]) -> Reply {
+/// Whether an answer decides what becomes of the message with this control id.
+pub(crate) fn decides(control_id: &[u8], answer: &Answer) -> bool
+    ensures { result ≡ option_map_or (answers_to control_id.now) answer.now false }
+{
+    answer.code_for(control_id).is_some()
+}
+
+/// MSA-1 of the first acknowledgment of the message with this control id.
+fn first_code<'a>(control_id: &[u8], answers: &'a [Answer]) -> Option<&'a [u8]>
+    ensures { option_copied result ≡ option_map (λ msa. msa.code)
+        (find (answers_to control_id.now) (flat_map option_to_list answers.now)) }
+{
+    for answer in answers {
+        if let Some(code) = answer.code_for(control_id) {
+            return Some(code);
+        }
+    }
+    None
+}
+
+/// What [`outcome_of`] says of the answers as they were received.
+pub(crate) fn outcome_by(control_id: &[u8], answers: &[Answer]) -> Outcome
+    ensures { result ≡ outcome_of control_id.now answers.now }
+{
     let read = &answers[..MAX_ANSWERS.min(answers.len())];
-    match acknowledgment(control_id, read) {
-        Some(msa) => Reply::Code(known_code(&msa.code)),
-        None if read.iter().any(|answer| answer.is_some()) => Reply::OfOthers,
+    match first_code(control_id, read) {
+        Some(code) => code_outcome(code),
+        None => Outcome::Again,
+    }
+}
+
+/// What the answers that [`outcome_by`] looks at say of the message with this raw control id.
+pub(crate) fn reply_to(control_id: &[u8], answers: &[Answer]) -> Reply {
+    let read = &answers[..MAX_ANSWERS.min(answers.len())];
+    match first_code(control_id, read) {
+        Some(code) => Reply::Code(known_code(code)),
+        None if read.iter().any(|answer| answer.is_acknowledgment()) => Reply::OfOthers,
         None if read.is_empty() => Reply::Nothing,
         None => Reply::NoAcknowledgment,
     }

@@ -1,29 +1,24 @@
 //! One attempt after another over a link's connection.
 
 ghost use Rattle.std.specs.Prelude.{◌≡◌, ◌↔◌, ◌⊎◌, ℕ, List, [], false, true, None, Some, is_some, IfOk, IfErr, IsFalse, IsTrue, OnOk, OnErr, ◌≤◌};
-ghost use Rattle.std.specs.Option.{option_map_or};
 ghost use Rattle.std.specs.Io.KnownBytes.{Appends, Keeps};
 ghost use Rattle.dest_queue.specs.declared.Outcome.TheVariants.{Again};
 ghost use Rattle.fixed_numbers.specs.declared.serving.TheConstants.{RECEIVES_MAX};
-ghost use Rattle.mllp_frame.specs.inner.Event.{event_of};
 ghost use Rattle.mllp_frame.specs.Framing.{IsData, block_bytes};
 ghost use Rattle.mllp_frame.specs.inner.Framed.{blank, fed};
-ghost use Rattle.delivery_worker.specs.Answers.{answer_in, answers_to};
 ghost use Rattle.delivery_worker.specs.inner.Calls.{CallsMore, CallsUpTo};
 ghost use Rattle.delivery_worker.specs.inner.Stream.{ReadsFront, ReadsOn, Receives};
 ghost use Rattle.delivery_worker.specs.Delivering.{IsSendingOf};
 ghost use Rattle.delivery_worker.specs.inner.Delivering.{Sends, Spends, Tries};
 
-use crate::answers::{Reply, outcome_of, reply_to};
+use crate::answer::Answer;
+use crate::answers::{Reply, decides, outcome_by, reply_to};
 use crate::link::{Link, LinkFault};
 use book_core::Job;
 use dest_queue::Outcome;
-use er7_tree::{Message, Refusal};
 use fixed_numbers::{MAX_ANSWERS, RECEIVES_MAX};
-use hl7_head::Msa;
-use mllp_frame::{END_BLOCK, FrameEvent, Framer, START_BLOCK, longer_streams, write_block};
+use mllp_frame::{END_BLOCK, Framer, START_BLOCK, longer_streams, write_block};
 use std::alloc::{AllocError, Global};
-use std::sync::Arc;
 
 /// The most bytes that one receive requests.
 const PIECE: usize = 1_024;
@@ -74,36 +69,12 @@ fn is_data(text: &[u8]) -> bool
     !text.iter().any(|b| *b == START_BLOCK || *b == END_BLOCK)
 }
 
-/// The acknowledgment that a block holds; none where it can't be read, or is none.
-fn read_answer(alloc: Global, event: FrameEvent) -> Result<Option<Msa>, AllocError>
-    ensures { IfOk result (λ answer. answer ≡ answer_in (event_of event)) }
-{
-    let FrameEvent::Block(text) = event else {
-        return Ok(None);
-    };
-    let text = Arc::new(alloc, text)?;
-    match Message::parse_shared(alloc, &text) {
-        Ok((message, _)) => Msa::read(alloc, &message),
-        Err(Refusal::NoMemory) => Err(AllocError),
-        Err(_) => Ok(None),
-    }
-}
-
-/// Whether an answer decides what becomes of the message with this control id.
-fn decides(control_id: &[u8], answer: &Option<Msa>) -> bool
-    ensures { result ≡ option_map_or (answers_to control_id.now) answer.now false }
-{
-    answer
-        .as_ref()
-        .is_some_and(|msa| msa.control_id.as_slice() == control_id)
-}
-
 /// Reads the answers received so far, up to the one that decides and up to the ninth, and returns whether that was reached.
 fn take_answers(
     alloc: Global,
     framer: &mut Framer,
     control_id: &[u8],
-    answers: &mut Vec<Option<Msa>>,
+    answers: &mut Vec<Answer>,
 ) -> Result<bool, AllocError>
     ensures read { OnOk result (ReadsOn framer.old framer.new answers.old.items answers.new.items) }
     ensures more { IfOk result (λ enough. IsFalse enough → framer.new.to_come ≡ []) }
@@ -113,7 +84,7 @@ fn take_answers(
         let Some(event) = framer.next() else {
             return Ok(false);
         };
-        let answer = match read_answer(alloc, event) {
+        let answer = match Answer::read(alloc, event) {
             Ok(answer) => answer,
             Err(fault) => return Err(fault),
         };
@@ -157,7 +128,7 @@ fn receive_answers<L: Link>(
     link: &mut L,
     framer: &mut Framer,
     control_id: &[u8],
-    answers: &mut Vec<Option<Msa>>,
+    answers: &mut Vec<Answer>,
     limit: u32,
 ) -> Result<(), Lost>
     ensures ok { OnOk result (Receives framer.old (Some framer.new) (L.received link.old) (L.received link.new) answers.old.items answers.new.items) }
@@ -302,7 +273,7 @@ impl Connection {
             Err(Lost::Unanswered) => return Err(Unanswered { receives: 1 }),
         }
         self.reply = reply_to(control_id, &answers);
-        Ok(outcome_of(control_id, &answers))
+        Ok(outcome_by(control_id, &answers))
     }
 
     /// Sends a message over the connection that is open, and is still so by a look at it.

@@ -1,6 +1,7 @@
 //! Deliveries: sending the messages of a destination's queue, and what its answers mean.
 #![tactic(auto)]
 
+mod answer;
 mod answers;
 mod connection;
 mod laws;

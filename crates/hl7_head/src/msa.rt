@@ -1,4 +1,5 @@
-ghost use Rattle.std.specs.Prelude.{◌≡◌, IfOk, None, Ok};
+ghost use Rattle.std.specs.Prelude.{◌≡◌, IfOk, None, Ok, option_map};
+ghost use Rattle.hl7_head.specs.Msa.{msa};
 
 use crate::places::first_pieces;
 use er7_tree::{Message, Span};
@@ -7,6 +8,9 @@ use std::marker::Model;
 
 /// MSA is read up to its third field; its name precedes the first.
 const PIECES_READ: usize = 4;
+
+/// What an answer decides by is read up to its second field.
+const ANSWER_READ: usize = 3;
 
 /// The fields of a message acknowledgment segment, MSA, raw.
 #[derive(Drop)]
@@ -25,6 +29,23 @@ impl Model for Msa {
     ghost Value = { MsaFields };
 
     ghost view = { λ m. record { code = m.code.items; control_id = m.control_id.items; text = m.text.items } };
+}
+
+/// MSA-1 and MSA-2 of the first MSA of a message, where it has one. It exists for speed: they lie in the message's text, and
+/// nothing is copied.
+pub fn answered(message: &Message) -> Option<(&[u8], &[u8])>
+    ensures code { option_map (λ p. p.0.now) result ≡ option_map (λ m. m.code) (msa message.now) }
+    ensures control_id { option_map (λ p. p.1.now) result ≡ option_map (λ m. m.control_id) (msa message.now) }
+{
+    let Some(segment) = message.segment(b"MSA") else {
+        return None;
+    };
+    let [_name, code, control_id] = first_pieces::<ANSWER_READ>(
+        segment,
+        Span::whole(segment),
+        message.delims().field(),
+    );
+    Some((code.of(segment), control_id.of(segment)))
 }
 
 impl Msa {

@@ -7,12 +7,12 @@ use Rattle.conn_core.proofs.block_outcome.answer_judged.Goals as goal
 pub returns-clause-kind : goal.returns-clause-kind
 returns-clause-kind g c =
     let bookable : IsTrue (is_bookable c.args.judged.now.raw) = search rules in
-    (bookable, c.book_and_reply.ensures.receipt)
+    (bookable, c.book_judged.ensures.receipt)
 
 pub returns-clause-booked : goal.returns-clause-booked
 returns-clause-booked g c =
-    booked_in (g.B.Booking.books c.args.book.now c.book_and_reply.new.book) c.book_and_reply.result.outcome c.book_and_reply.ensures.booked
-    c.book_and_reply.ensures.unbooked
+    booked_in (g.B.Booking.books c.args.book.now c.book_judged.new.book) c.book_judged.result.outcome c.book_judged.ensures.booked
+    c.book_judged.ensures.unbooked
 
 pub returns-clause-told : goal.returns-clause-told
 returns-clause-told g c =
@@ -22,18 +22,18 @@ returns-clause-told g c =
       for_channel = refl;
       of_text = refl;
       may =
-          told_either (g.B.Booking.outcomes c.args.book.now c.args.judged.now) c.book_and_reply.result.outcome c.book_and_reply.ensures.told
-          c.book_and_reply.ensures.refused;
+          told_either (g.B.Booking.outcomes c.args.book.now c.args.judged.now) c.book_judged.result.outcome c.book_judged.ensures.told
+          c.book_judged.ensures.refused;
     }
 
 pub returns-clause-replies : goal.returns-clause-replies
-returns-clause-replies g c = c.book_and_reply.ensures.replies
+returns-clause-replies g c = c.book_judged.ensures.replies
 
 pub returns-clause-counted : goal.returns-clause-counted
-returns-clause-counted g c = c.book_and_reply.ensures.counted
+returns-clause-counted g c = c.book_judged.ensures.counted
 
 pub returns-clause-in_part : goal.returns-clause-in_part
-returns-clause-in_part g c = c.book_and_reply.ensures.in_part
+returns-clause-in_part g c = c.book_judged.ensures.in_part
 
 pub returns-clause-few : goal.returns-clause-few
-returns-clause-few g c = c.book_and_reply.ensures.few
+returns-clause-few g c = c.book_judged.ensures.few
