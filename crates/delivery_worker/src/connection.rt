@@ -58,8 +58,9 @@ pub struct Connection {
     framer: Option<Framer>,
     /// What the answers to the last sending said.
     reply: Reply,
-    /// The block of the last sending. Its memory is used again for the next.
+    /// The block of the last sending, and the answers to it. Their memory is used again for the next.
     block: Vec<u8>,
+    answers: Vec<Answer>,
 }
 
 /// Whether a text can be framed: it holds neither of the two framing bytes.
@@ -191,6 +192,7 @@ impl Connection {
             framer: None,
             reply: Reply::Nothing,
             block: Vec::new(alloc),
+            answers: Vec::new(alloc),
         }
     }
 
@@ -259,21 +261,21 @@ impl Connection {
             return Ok(Outcome::Delivered);
         }
         let control_id = job.control_id.as_slice();
-        let mut answers = Vec::new(self.alloc);
+        self.answers.clear();
         match receive_answers(
             self.alloc,
             link,
             &mut framer,
             control_id,
-            &mut answers,
+            &mut self.answers,
             limit,
         ) {
             Ok(()) => self.framer = Some(framer),
             Err(Lost::Failed) => {}
             Err(Lost::Unanswered) => return Err(Unanswered { receives: 1 }),
         }
-        self.reply = reply_to(control_id, &answers);
-        Ok(outcome_by(control_id, &answers))
+        self.reply = reply_to(control_id, &self.answers);
+        Ok(outcome_by(control_id, &self.answers))
     }
 
     /// Sends a message over the connection that is open, and is still so by a look at it.

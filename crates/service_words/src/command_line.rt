@@ -127,7 +127,7 @@ fn idle_option<'a>(alloc: Global) -> Arg<'a>
     ensures local { result.global ≡ false }
 {
     let help =
-        "Ends a connection that sends nothing for so long, 0 to 86400; 0: never [default: 0]";
+        "Ends a connection that sends nothing for this many seconds, 0 to 86400; 0: never [default: 0]";
     number_option(alloc, "idle", "SECONDS", idle_seconds(), help)
 }
 

@@ -25,8 +25,10 @@ returns-clause-ok g c =
     let decides = c.outcome_by.ensures ∙ ap (λ (id : List ℕ). outcome_of id c.deref-2.result.now) c.as_slice-control_id.ensures ∙ ap (outcome_of c.args.job.now.control_id) c.deref-2.ensures.value in
     elim c.match-receive_answers.branch [
       | in-Ok-receive_answers w ↦ tried_reading _ _ _ _ _ _ _ _ _ _ _ _ _ _ _ _ c.in-Ok.ensures.sent c.as_slice.ensures c.receive_answers.ensures.kept c.send_block.ensures.received
-          w.in-Ok-receive_answers.ensures.ok c.new-answers.ensures.items (ap (λ (s : Connection). s.framer) w.self-is) decides c.if-not-job.false
+          w.in-Ok-receive_answers.ensures.ok c.clear.ensures.items (ap (λ (s : Connection). s.framer) w.self-is)
+          (decides ∙ ap (λ (s : Connection). outcome_of c.args.job.now.control_id s.answers.items) w.self-is) c.if-not-job.false
       | in-Err-Failed-receive_answers w ↦ tried_reading _ _ _ _ _ _ _ _ _ _ _ _ _ _ _ _ c.in-Ok.ensures.sent c.as_slice.ensures c.receive_answers.ensures.kept c.send_block.ensures.received
-          (rw w.in-Err-Failed-receive_answers.field-0-is at w.in-Err-Failed-receive_answers.ensures.failed refl) c.new-answers.ensures.items
-          (ap (λ (s : Connection). s.framer) w.self-is ∙ c.requires.none) decides c.if-not-job.false
+          (rw w.in-Err-Failed-receive_answers.field-0-is at w.in-Err-Failed-receive_answers.ensures.failed refl) c.clear.ensures.items
+          (ap (λ (s : Connection). s.framer) w.self-is ∙ c.requires.none)
+          (decides ∙ ap (λ (s : Connection). outcome_of c.args.job.now.control_id s.answers.items) w.self-is) c.if-not-job.false
     ]
