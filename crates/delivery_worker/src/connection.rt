@@ -17,6 +17,7 @@ use crate::link::{Link, LinkFault};
 use book_core::Job;
 use dest_queue::Outcome;
 use fixed_numbers::{MAX_ANSWERS, RECEIVES_MAX};
+use memchr::memchr2;
 use mllp_frame::{END_BLOCK, Framer, START_BLOCK, longer_streams, write_block};
 use std::alloc::{AllocError, Global};
 
@@ -67,7 +68,10 @@ pub struct Connection {
 fn is_data(text: &[u8]) -> bool
     ensures { IsTrue result ↔ IsData text.now }
 {
-    !text.iter().any(|b| *b == START_BLOCK || *b == END_BLOCK)
+    match memchr2(START_BLOCK, END_BLOCK, text) {
+        Some(_) => false,
+        None => true,
+    }
 }
 
 /// Reads the answers received so far, up to the one that decides and up to the ninth, and returns whether that was reached.
