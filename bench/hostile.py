@@ -7,7 +7,7 @@ Usage: bench/hostile.py [PROGRAM] [--quick]
 
 PROGRAM is the built program, crates/hl7_engine/out/hl7_engine where left out ('rt run' in crates/hl7_engine builds it). Each stream is
 answered in two sizes under valgrind's callgrind, and the difference of the instructions is divided by that of the bytes: so the
-start of the program is left aside. Where valgrind isn't installed it is the difference of the user processor times, of longer streams.
+start of the program is left aside. Where valgrind isn't installed it is the difference of the processor times, of longer streams.
 That each stream is what it says is seen by its acknowledgments. With --quick the streams are shorter.
 
 A block costs something for itself, however short it is. What the shortest blocks cost a byte is printed too, without a bound.
@@ -22,7 +22,7 @@ from typing import Callable, NamedTuple
 
 import meter
 from answer import FOUR_ROUTES, ONE_ATTEMPT, PROGRAM, Bench, framed, shorter
-from meter import COUNTS, MIB, UNIT
+from meter import COUNTS, MIB, TIMES, UNIT
 
 DATA_MAX = MIB  # the most bytes of data that a block may hold
 SEGMENTS_MAX = 4_096
@@ -106,7 +106,8 @@ def answered(bench, stream, units):
     with open(bench.source, 'wb') as file:
         for n in range(units):
             file.write(stream.made(n))
-    took = meter.from_file([bench.program, 'answer', bench.plan, '--now', '1700000000'], bench.source, bench.sink)
+    command = [bench.program, 'answer', bench.plan, '--now', '1700000000']
+    took = min(meter.from_file(command, bench.source, bench.sink) for _ in range(TIMES))
     with open(bench.sink, 'rb') as file:
         accepted = file.read().count(b'\rMSA|CA|')
     if accepted != stream.accepted * units:
@@ -115,8 +116,8 @@ def answered(bench, stream, units):
 
 
 def a_byte(bench, stream, quick):
-    """What a byte of a stream takes: instructions, or nanoseconds of user processor time where valgrind isn't installed."""
-    few = max(stream.few // 8, 1) if quick else stream.few * LONGER
+    """What a byte of a stream takes: instructions, or nanoseconds of processor time where valgrind isn't installed."""
+    few = max(stream.few * LONGER // (8 if quick else 1), 1)
     (fewer, short), (more, long) = answered(bench, stream, few), answered(bench, stream, 2 * few)
     return more.more_than(fewer, long - short).work
 

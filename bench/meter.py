@@ -1,5 +1,6 @@
 """What one run of a program takes: its instructions and its system calls, as valgrind's callgrind counts them. Other work on the
-machine doesn't change these. Where valgrind isn't installed it is the user processor time in nanoseconds, and no system calls.
+machine doesn't change these. Where valgrind isn't installed it is the processor time in nanoseconds, the system's share included, and
+no system calls; a measure then takes the least of several runs.
 
 For bench/hostile.py, bench/cuts.py and bench/growth.py; it has no command line of its own.
 """
@@ -16,8 +17,9 @@ from typing import NamedTuple
 LIMIT = 600  # the longest that one run may last, in seconds
 MIB = 1024 * 1024
 COUNTS = shutil.which('valgrind') is not None
-UNIT = 'instructions' if COUNTS else 'nanoseconds of user processor time'
+UNIT = 'instructions' if COUNTS else 'nanoseconds of processor time'
 UNDER = ['valgrind', '--tool=callgrind', '--callgrind-out-file=/dev/null', '--collect-systime=yes'] if COUNTS else []
+TIMES = 1 if COUNTS else 5  # runs of which a measure takes the least
 
 
 class Taken(NamedTuple):
@@ -41,8 +43,9 @@ def counted(lines, seconds):
 
 
 def children_seconds():
-    """User processor seconds of all processes that this one has waited for."""
-    return resource.getrusage(resource.RUSAGE_CHILDREN).ru_utime
+    """Processor seconds of all processes that this one has waited for."""
+    usage = resource.getrusage(resource.RUSAGE_CHILDREN)
+    return usage.ru_utime + usage.ru_stime
 
 
 def write_all(pipe, piece):
@@ -73,7 +76,7 @@ def taken(command, source, sink, feed=None):
         printed = lines.read().decode(errors='replace')
     if child.returncode != 0:
         raise RuntimeError(f'status {child.returncode}: {printed[-500:]}')
-    return counted(printed, usage.ru_utime)
+    return counted(printed, usage.ru_utime + usage.ru_stime)
 
 
 def from_file(command, path, sink):
