@@ -6,8 +6,8 @@ Usage: bench/cuts.py [PROGRAM] [--quick]
 
 PROGRAM is the built program, crates/hl7_engine/out/hl7_engine where left out ('rt run' in crates/hl7_engine builds it). Messages of 676
 bytes are sent under valgrind's callgrind: none, a number of them, and twice the number. The difference of the last two, divided by the
-bytes, is what a byte takes. The difference of the last and the first, over that of the second and the first, is twice the work for
-twice the bytes where it is linear.
+bytes, is what a byte takes. What the last takes more than the first, a byte, over what the second takes more than the first, a byte, is
+1 where it is linear. The same is measured for one long message and one that is twice as long.
 
 `answer` reads a pipe that brings one piece a read (pieces of 1 MiB: what is there, and a read requests 16 KiB). `run` is sent to over
 one connection on 127.0.0.1 and delivers to one destination; a piece of 1 or 100 bytes is sent once the one before it has been read, as
@@ -38,6 +38,7 @@ MOST = 1.1  # twice the number of messages over the number, a byte
 # How many messages are sent first, by the size of the pieces; then twice as many.
 ANSWERED = {1: 150, 100: 1_000, MIB: 6_000}
 SERVED = {1: 60, 100: 300, MIB: 3_000}
+LONG = {1: 65_536, 100: 262_144, MIB: 524_288}  # bytes of one message, and then twice as many
 OUTSIDE = 10_000  # bytes outside of blocks
 NAMES = {1: '1 byte', 100: '100 bytes', MIB: '1 MiB'}
 SOCK_DIAG, BY_FAMILY, ASKED = 4, 20, 1  # netlink's numbers
@@ -46,6 +47,12 @@ SOCK_DIAG, BY_FAMILY, ASKED = 4, 20, 1  # netlink's numbers
 def messages(count):
     """Messages of 676 bytes, in their blocks."""
     return b''.join(framed(shorter(n)) for n in range(count))
+
+
+def one_message(size):
+    """One message of this number of bytes, in its block, and the number 1; nothing for no bytes."""
+    front = shorter(0) + b'NTE|1||'
+    return (framed(front + b'x' * (size - len(front) - 1) + b'\r'), 1) if size else (b'', 0)
 
 
 def cut(stream, size):
@@ -141,19 +148,13 @@ def least(way, *given):
     return min(way(*given) for _ in range(TIMES))
 
 
-def of_a_read(bench, way, number):
-    """What one read takes that brings a byte outside of blocks."""
-    nothing, fewer, more = (least(way, bench, b'A' * count, 1, 0) for count in (0, number, 2 * number))
-    cost = more.more_than(fewer, number)
-    ratio = more.more_than(nothing, 2).work / fewer.more_than(nothing, 1).work
-    return cost, ratio
-
-
-def of_a_byte(bench, way, size, count):
-    """What a byte takes in pieces of a size, and that for twice the number of messages over that for the number."""
-    nothing, fewer, more = (least(way, bench, messages(number), size, number) for number in (0, count, 2 * count))
-    cost = more.more_than(fewer, len(messages(count)))
-    ratio = more.more_than(nothing, 2).work / fewer.more_than(nothing, 1).work
+def of_a_byte(bench, way, size, made, number):
+    """What a byte takes in pieces of a size, and that for twice the bytes over that for the bytes. `made` gives a stream for a number,
+    and how many messages it holds."""
+    (nothing, _), (fewer, short), (more, long) = (
+        (least(way, bench, stream, size, count), len(stream)) for stream, count in map(made, (0, number, 2 * number)))
+    cost = more.more_than(fewer, long - short)
+    ratio = more.more_than(nothing, long).work / fewer.more_than(nothing, short).work
     return cost, ratio
 
 
@@ -162,22 +163,36 @@ def and_calls(cost, unit=''):
     return f', {cost.calls:.4f} system calls{unit}' if COUNTS else ''
 
 
+def tell_twice(bench, line, ratio):
+    """Prints what a byte takes where there are twice the bytes, over what it takes otherwise."""
+    bench.tell(f'        {line}: {ratio:.3f} (at most {MOST})', ratio <= MOST)
+
+
 def measure(bench, name, way, counts, outside):
     """Prints what a byte takes by `answer` or `run`, for each size of the pieces."""
-    read, ratio = of_a_read(bench, way, outside)
+    read, ratio = of_a_byte(bench, way, 1, lambda number: (b'A' * number, 0), outside)
     bench.tell(f'{name}, a read that brings one byte outside of blocks: {read.work:,.1f} {UNIT}{and_calls(read)}')
-    bench.tell(f'        at {2 * outside:,} reads over one at {outside:,}: {ratio:.3f} (at most {MOST})', ratio <= MOST)
+    tell_twice(bench, f'at {2 * outside:,} reads over one at {outside:,}', ratio)
     costs = {}
     for size, count in counts.items():
-        cost, ratio = of_a_byte(bench, way, size, count)
+        cost, ratio = of_a_byte(bench, way, size, lambda number: (messages(number), number), count)
         costs[size] = cost.work, cost.work - read.work / min(size, READ)
         bench.tell(f'{name}, messages in pieces of {NAMES[size]}: {cost.work:,.2f} {UNIT} a byte{and_calls(cost, " a byte")}')
-        bench.tell(f'        a byte of {2 * count:,} messages over one of {count:,}: {ratio:.3f} (at most {MOST})', ratio <= MOST)
+        tell_twice(bench, f'a byte of {2 * count:,} messages over one of {count:,}', ratio)
     whole, rest = costs[MIB]
     for size in (size for size in counts if size != MIB):
         # Without valgrind the system's share of a read differs too much from read to read.
         without = f'; without what reads take: {costs[size][1]:,.2f} over {rest:,.2f}, {costs[size][1] / rest:.2f} times' if COUNTS else ''
         bench.tell(f'{name}, a byte in pieces of {NAMES[size]} over one in pieces of 1 MiB: {costs[size][0] / whole:.2f} times{without}')
+
+
+def measure_long(bench, fewer):
+    """Prints what a byte of one long message takes by `answer`, for each size of the pieces."""
+    for size, length in LONG.items():
+        length //= fewer
+        cost, ratio = of_a_byte(bench, answered, size, one_message, length)
+        bench.tell(f'answer, one message in pieces of {NAMES[size]}: {cost.work:,.2f} {UNIT} a byte{and_calls(cost, " a byte")}')
+        tell_twice(bench, f'a byte of one message of {2 * length // 1024:,} KiB over one of {length // 1024:,} KiB', ratio)
 
 
 def main():
@@ -192,6 +207,7 @@ def main():
         bench.give_plan(ONE_ATTEMPT)
         for name, way, counts in (('answer', answered, ANSWERED), ('run', served, SERVED)):
             measure(bench, name, way, {size: count * longer // fewer for size, count in counts.items()}, OUTSIDE * longer // fewer)
+        measure_long(bench, 4 if given.quick else 1)
     print(f'cores: {os.cpu_count()}')
     return 1 if bench.missed else 0
 
