@@ -8,7 +8,8 @@ PROGRAM is the built program, crates/hl7_engine/out/hl7_engine where left out ('
 history first: one in 40 of its messages is accepted, the others are filtered, which take an entry and owe none, so that the book has
 room; each has a control id of its own, which the book remembers. Once all are acknowledged, batches of 100 messages of 676 bytes are
 written at once, and the program's processor time is read before and behind each (/proc/PID/schedstat, nanoseconds, the system's share
-included; the clock where there is no such file). The figure is the median of all batches of all runs, with the least and the most.
+included; the clock where there is no such file). The runs of all lengths take turns. The figure is the median of all batches of all
+runs, with the quartiles.
 
 Where valgrind is installed, the instructions of messages behind all but the longest history are counted by callgrind: those of the
 history with the messages, less those of the history alone, each up to its last acknowledgment. Other work on the machine doesn't
@@ -45,13 +46,15 @@ NO_MORE = 1.1  # instructions at 100,000 entries over those at 1,000
 class Length(NamedTuple):
     """A length of history, and what is measured behind it."""
     entries: int
-    runs: int
+    runs: int  # in each turn
     batches: int  # in each run
     counted: int  # messages that callgrind counts, 0 for none
 
 
-LENGTHS = [Length(10, 41, 1, 100), Length(1_000, 41, 1, 1_000), Length(100_000, 9, 10, 1_000), Length(900_000, 5, 10, 0)]
-QUICK = [Length(10, 5, 1, 100), Length(1_000, 5, 1, 100), Length(20_000, 2, 5, 0)]
+TURNS = 7
+LENGTHS = [Length(10, 10, 1, 100), Length(1_000, 10, 1, 1_000), Length(100_000, 2, 10, 1_000), Length(900_000, 1, 10, 0)]
+QUICK_TURNS = 2
+QUICK = [Length(10, 3, 1, 100), Length(1_000, 3, 1, 100), Length(20_000, 1, 5, 0)]
 
 
 def history(entries):
@@ -147,25 +150,35 @@ def instructions_behind(bench, length):
 
 
 class Figure(NamedTuple):
-    """What a message costs behind a number of entries: the median, least and most microseconds, and instructions or None."""
+    """What a message costs behind a number of entries: the median and the quartiles of the microseconds, and instructions or None."""
     entries: int
     median: float
-    least: float
-    most: float
+    low: float
+    high: float
     instructions: float | None
 
 
-def figure(bench, length):
-    """Measures behind one length of history, and prints a line."""
-    found = [one for _ in range(length.runs) for one in batches_behind(bench, length)]
+def figure(bench, length, found, turns):
+    """Prints a line for one length of history, from what its batches took."""
     works, clocks = zip(*found)
+    low, median, high = statistics.quantiles(works, n=4, method='inclusive')
     counts = COUNTS and length.counted > 0
-    made = Figure(length.entries, statistics.median(works), min(works), max(works), instructions_behind(bench, length) if counts else None)
+    made = Figure(length.entries, median, low, high, instructions_behind(bench, length) if counts else None)
     counted = f'; {made.instructions:,.0f} instructions (the mean of {length.counted:,})' if counts else ''
-    bench.tell(f'a message behind {made.entries:>7,} entries: {made.median:.2f} microseconds of processor time ({made.least:.2f} to '
-               f'{made.most:.2f}, the median of {len(works)} batches in {length.runs} runs), {statistics.median(clocks):.2f} on the '
+    bench.tell(f'a message behind {made.entries:>7,} entries: {made.median:.2f} microseconds of processor time (half of {len(works)} '
+               f'batches in {length.runs * turns} runs {made.low:.2f} to {made.high:.2f}), {statistics.median(clocks):.2f} on the '
                f'clock{counted}')
     return made
+
+
+def measured(bench, lengths, turns):
+    """The figures of all lengths of history, whose runs take turns: what else the machine does falls on all of them."""
+    found = {length: [] for length in lengths}
+    for _ in range(turns):
+        for length, batches in found.items():
+            for _ in range(length.runs):
+                batches += batches_behind(bench, length)
+    return [figure(bench, length, batches, turns) for length, batches in found.items()]
 
 
 # The drawing: two panels side by side, over the entries in a logarithmic scale.
@@ -184,7 +197,7 @@ def text(x, y, words, anchor='middle', size=12, more=''):
 
 
 def axes(left, title, top):
-    """The frame of a panel, its title, and the marks on both axes; the vertical one goes from 0 to `top`."""
+    """The frame of a panel, its title, and the words and marks of both axes; the vertical one goes from 0 to `top`."""
     parts = [text(left + WIDE / 2, TOP - 16, title, size=13, more=' font-weight="bold"'),
              text(left + WIDE / 2, TOP + HIGH + 42, 'entries of history before (log scale)'),
              f'<path d="M{left} {TOP}V{TOP + HIGH}H{left + WIDE}" fill="none" stroke="#333"/>']
@@ -200,12 +213,12 @@ def axes(left, title, top):
 
 
 def panel(left, title, points, form):
-    """A panel of points as (entries, value, least, most), with a line through the values."""
+    """A panel of points as (entries, value, low, high), with a line through the values and a bar from low to high."""
     top = nice(1.25 * max(most for *_, most in points))
     parts, line = axes(left, title, top), []
     for entries, value, least, most in points:
         x, y, low, high = left + across(entries), *(TOP + HIGH * (1 - part / top) for part in (value, least, most))
-        parts.append(f'<path d="M{x:.0f} {low:.1f}V{high:.1f}" stroke="#1f6fb2" stroke-opacity=".5"/>')
+        parts.append(f'<path d="M{x:.0f} {low:.1f}V{high:.1f}" stroke="#1f6fb2" stroke-width="3" stroke-opacity=".4"/>')
         parts.append(f'<circle cx="{x:.0f}" cy="{y:.1f}" r="3.5" fill="#1f6fb2"/>')
         parts.append(text(x, min(y, high) - 8, format(value, form), size=11))
         line.append(f'{x:.0f} {y:.1f}')
@@ -222,9 +235,9 @@ def nice(most):
 
 def drawn(figures):
     """The drawing of all figures."""
-    times = [(one.entries, one.median, one.least, one.most) for one in figures]
+    times = [(one.entries, one.median, one.low, one.high) for one in figures]
     counts = [(one.entries, *3 * (one.instructions,)) for one in figures if one.instructions is not None]
-    parts = panel(LEFT, 'microseconds a message, median (least to most)', times, '.2f')
+    parts = panel(LEFT, 'microseconds a message: median, quartiles', times, '.2f')
     if counts:
         parts += panel(LEFT + APART, 'instructions a message', counts, ',.0f')
     return '\n'.join([f'<svg xmlns="http://www.w3.org/2000/svg" width="{WIDTH}" height="{HEIGHT}" viewBox="0 0 {WIDTH} {HEIGHT}" '
@@ -254,7 +267,7 @@ def main():
     with tempfile.TemporaryDirectory() as folder:
         bench = Bench(os.path.abspath(given.program), folder)
         bench.give_plan(PLAN)
-        figures = [figure(bench, length) for length in (QUICK if given.quick else LENGTHS)]
+        figures = measured(bench, *(QUICK, QUICK_TURNS) if given.quick else (LENGTHS, TURNS))
         bounds(bench, figures)
     plot = given.plot or (None if given.quick else PLOT)
     if plot is not None:

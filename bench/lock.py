@@ -18,6 +18,7 @@ Plain Python 3, no packages; Linux on x86-64. There is no bound: the exit status
 import argparse
 import collections
 import multiprocessing
+import multiprocessing.connection
 import os
 import sys
 import tempfile
@@ -27,36 +28,48 @@ from run import IN_FLIGHT, PROGRAM, Engine, Server, free_ports, one_channel, sen
 
 LIMIT = 120  # the longest that one crowd of senders is sampled, in seconds
 CONNECTIONS = (1, 8, 64)
-MESSAGES, RUNS = 160_000, 3
+MESSAGES, RUNS = 240_000, 5  # of each run; a book holds 250,000
 MOST_SAMPLES = 200_000  # of one run
 READS, WRITES, FUTEX = {'0', '45', '47'}, {'1', '44', '46'}, '202'  # read, recvfrom, recvmsg; write, sendto, sendmsg; futex
 
 
-def threads(engine):
-    """The numbers of the program's threads."""
-    return os.listdir(f'/proc/{engine.process.pid}/task')
+class Watch:
+    """The calls that the threads of a program are in, read from /proc/PID/task/TID/syscall, which is kept open for each."""
+
+    def __init__(self, process):
+        self.first = str(process.pid)
+        folder = f'/proc/{process.pid}/task'
+        self._files = {thread: os.open(f'{folder}/{thread}/syscall', os.O_RDONLY | os.O_CLOEXEC) for thread in os.listdir(folder)}
+
+    def __enter__(self):
+        return self
+
+    def __exit__(self, *_):
+        for file in self._files.values():
+            os.close(file)
+
+    def calls(self):
+        """For each thread the number of the call that it is in, and that call's first argument; ('running', '') where it is in none.
+        Threads that have ended are left out."""
+        for thread, file in self._files.items():
+            try:
+                words = os.pread(file, 256, 0).split()
+            except ProcessLookupError:
+                continue
+            yield thread, (words[0].decode(), words[1].decode()) if len(words) > 2 else ('running', '')
 
 
-def call_of(engine, thread):
-    """The call that a thread is in, by its number, and that call's first argument; ('running', '') where it is in none, and None where
-    the thread has ended."""
-    try:
-        with open(f'/proc/{engine.process.pid}/task/{thread}/syscall', encoding='ascii') as file:
-            words = file.read().split()
-    except (FileNotFoundError, ProcessLookupError):
-        return None
-    return (words[0], words[1]) if len(words) > 2 else ('running', '')
-
-
-def serving_threads(engine, connections):
-    """The threads that wait in a read, one for each connection, before anything is sent."""
+def watched(engine, connections):
+    """A watch over the program's threads, and those that wait in a read: one for each connection, before anything is sent."""
     until = time.monotonic() + 30
     while time.monotonic() < until:
-        found = [thread for thread in threads(engine) if (call_of(engine, thread) or ('', ''))[0] in READS]
-        if len(found) == connections:
-            return found
+        watch = Watch(engine.process)
+        serving = {thread for thread, (call, _) in watch.calls() if call in READS}
+        if len(serving) == connections:
+            return watch, serving
+        watch.__exit__()
         time.sleep(0.05)
-    raise RuntimeError(f'{len(found)} threads wait in a read, not {connections}')
+    raise RuntimeError(f'{len(serving)} threads wait in a read, not {connections}')
 
 
 class Crowd:
@@ -86,7 +99,7 @@ class Crowd:
 
     def at_work(self):
         """Whether none has ended yet: from then on a share would be of a smaller crowd."""
-        return all(sender.is_alive() for sender in self._senders)
+        return not multiprocessing.connection.wait([sender.sentinel for sender in self._senders], 0)
 
     def seconds(self):
         """The time from the first send to the last acknowledgment, in seconds."""
@@ -94,16 +107,16 @@ class Crowd:
         return max(end for _, end in times) - min(begin for begin, _ in times)
 
 
-def sampled(engine, crowd, serving):
-    """How often each thread was seen in each call, from the start of the senders until the first of them has ended."""
-    others = [thread for thread in threads(engine) if thread not in serving and int(thread) != engine.process.pid]
-    seen, until = collections.Counter(), time.monotonic() + LIMIT
+def sampled(watch, crowd):
+    """How often each thread was seen in each call, from the start of the senders until the first of them has ended. The program's first
+    thread, which waits for the others' ends, is left out."""
+    seen, until, samples = collections.Counter(), time.monotonic() + LIMIT, 0
     crowd.go()
-    while crowd.at_work() and time.monotonic() < until and seen.total() < MOST_SAMPLES:
-        for thread in (*serving, *others):
-            found = call_of(engine, thread)
-            if found is not None:
+    while crowd.at_work() and time.monotonic() < until and samples < MOST_SAMPLES:
+        for thread, found in watch.calls():
+            if thread != watch.first:
                 seen[thread, *found] += 1
+                samples += 1
     return seen
 
 
@@ -112,9 +125,11 @@ def one_run(program, folder, connections, messages):
     port, = free_ports(1)
     with Server('acknowledged') as sink:
         plan = one_channel(port, [('D0', sink.port, ['attempts = 1'])])
-        with Engine(program, plan, connections, folder) as engine, Crowd(port, connections, messages) as crowd:
-            serving = serving_threads(engine, connections)
-            seen = sampled(engine, crowd, serving)
+        # The destination ends first, which has more to receive than is waited for.
+        with Engine(program, plan, connections, folder) as engine, Crowd(port, connections, messages) as crowd, sink:
+            watch, serving = watched(engine, connections)
+            with watch:
+                seen = sampled(watch, crowd)
             rate = messages // connections * connections / crowd.seconds()
     return serving, seen, rate
 
@@ -150,8 +165,8 @@ def measure(program, folder, connections, messages, runs):
     kinds = ('lock', 'other address', 'read', 'write', 'running', 'elsewhere')
     of_all = {kind: 100 * found[kind] / max(found.total(), 1) for kind in kinds}
     busy = 100 * found['lock'] / max(found.total() - found['read'], 1)
-    print(f'{connections:>2} connections wait for the lock for {of_all["lock"]:.2f} % of the time ({100 * least:.2f} to {100 * most:.2f} in '
-          f'{runs} runs, {found.total():,} samples), {busy:.2f} % of the time in which they do not wait for their sender')
+    print(f'connections {connections:>2}: waiting for the lock {of_all["lock"]:.2f} % of the time ({100 * least:.2f} to {100 * most:.2f} in '
+          f'{runs} runs, {found.total():,} samples), {busy:.2f} % of that in which no sender is waited for')
     print(f'        at another address {of_all["other address"]:.2f} %, reading {of_all["read"]:.1f} %, writing {of_all["write"]:.1f} %, '
           f'running or ready to {of_all["running"]:.1f} %, elsewhere {of_all["elsewhere"]:.1f} %; {min(rates):,.0f} to {max(rates):,.0f} '
           f'messages a second acknowledged', flush=True)
