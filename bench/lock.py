@@ -17,6 +17,7 @@ Plain Python 3, no packages; Linux on x86-64. There is no bound: the exit status
 """
 import argparse
 import collections
+import contextlib
 import multiprocessing
 import multiprocessing.connection
 import os
@@ -39,7 +40,10 @@ class Watch:
     def __init__(self, process):
         self.first = str(process.pid)
         folder = f'/proc/{process.pid}/task'
-        self._files = {thread: os.open(f'{folder}/{thread}/syscall', os.O_RDONLY | os.O_CLOEXEC) for thread in os.listdir(folder)}
+        self._files = {}
+        for thread in os.listdir(folder):
+            with contextlib.suppress(FileNotFoundError):  # it has ended
+                self._files[thread] = os.open(f'{folder}/{thread}/syscall', os.O_RDONLY | os.O_CLOEXEC)
 
     def __enter__(self):
         return self
@@ -108,13 +112,14 @@ class Crowd:
 
 
 def sampled(watch, crowd):
-    """How often each thread was seen in each call, from the start of the senders until the first of them has ended. The program's first
-    thread, which waits for the others' ends, is left out."""
-    seen, until, samples = collections.Counter(), time.monotonic() + LIMIT, 0
+    """How often each thread was seen in each call, from when it is first seen elsewhere than in a read, which is when its sender has
+    begun, until the first sender has ended. The program's first thread, which waits for the others' ends, is left out."""
+    seen, begun, until, samples = collections.Counter(), set(), time.monotonic() + LIMIT, 0
     crowd.go()
     while crowd.at_work() and time.monotonic() < until and samples < MOST_SAMPLES:
         for thread, found in watch.calls():
-            if thread != watch.first:
+            if thread != watch.first and (thread in begun or found[0] not in READS):
+                begun.add(thread)
                 seen[thread, *found] += 1
                 samples += 1
     return seen
