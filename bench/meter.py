@@ -1,0 +1,109 @@
+"""What one run of a program takes: its instructions and its system calls, as valgrind's callgrind counts them. Other work on the
+machine doesn't change these. Where valgrind isn't installed it is the processor time in nanoseconds, the system's share included, and
+no system calls; a measure then takes the least of several runs.
+
+For bench/hostile.py, bench/cuts.py and bench/growth.py; it has no command line of its own.
+"""
+import fcntl
+import os
+import re
+import resource
+import shutil
+import subprocess
+import tempfile
+import threading
+from typing import NamedTuple
+
+LIMIT = 600  # the longest that one run may last, in seconds
+MIB = 1024 * 1024
+COUNTS = shutil.which('valgrind') is not None
+UNIT = 'instructions' if COUNTS else 'nanoseconds of processor time'
+UNDER = ['valgrind', '--tool=callgrind', '--callgrind-out-file=/dev/null', '--collect-systime=yes'] if COUNTS else []
+TIMES = 1 if COUNTS else 5  # runs of which a measure takes the least
+
+
+class Taken(NamedTuple):
+    """Instructions (nanoseconds where valgrind isn't installed) and system calls."""
+    work: float
+    calls: float
+
+    def more_than(self, other, number):
+        """What this run took more than another one, divided by a number of bytes, messages or reads."""
+        return Taken((self.work - other.work) / number, (self.calls - other.calls) / number)
+
+
+def counted(lines, seconds):
+    """What callgrind printed in these lines; the processor seconds where there is no valgrind."""
+    if not COUNTS:
+        return Taken(1e9 * seconds, 0)
+    found = re.search(r'Collected : ([0-9]+) ([0-9]+)', lines)
+    if found is None:
+        raise RuntimeError(f'valgrind counted nothing: {lines[-500:]}')
+    return Taken(int(found[1]), int(found[2]))
+
+
+def children_seconds():
+    """Processor seconds of all processes that this one has waited for."""
+    usage = resource.getrusage(resource.RUSAGE_CHILDREN)
+    return usage.ru_utime + usage.ru_stime
+
+
+def write_all(pipe, piece):
+    """Writes a whole piece to a pipe."""
+    rest = memoryview(piece)
+    while rest:
+        rest = rest[os.write(pipe, rest):]
+
+
+def taken(command, source, sink, feed=None):
+    """What a program takes that reads `source`, an open file or pipe, and writes to the file at `sink`. `feed`, where it is given,
+    is called once the program runs. The program is killed at the limit, and has to end with status 0."""
+    with open(sink, 'wb') as out, tempfile.TemporaryFile() as lines:
+        child = subprocess.Popen([*UNDER, *command], stdin=source, stdout=out, stderr=lines)
+        limit = threading.Timer(LIMIT, child.kill)
+        limit.start()
+        try:
+            if feed is not None:
+                feed()
+            _, status, usage = os.wait4(child.pid, 0)
+            child.returncode = os.waitstatus_to_exitcode(status)
+        finally:
+            limit.cancel()
+            if child.returncode is None:
+                child.kill()
+                child.wait(30)
+        lines.seek(0)
+        printed = lines.read().decode(errors='replace')
+    if child.returncode != 0:
+        raise RuntimeError(f'status {child.returncode}: {printed[-500:]}')
+    return counted(printed, usage.ru_utime + usage.ru_stime)
+
+
+def from_file(command, path, sink):
+    """What a program takes to read a file to its end."""
+    with open(path, 'rb') as source:
+        return taken(command, source, sink)
+
+
+def from_pipe(command, pieces, sink, packets):
+    """What a program takes to read pieces from a pipe that holds 1 MiB. With `packets` each read brings exactly one piece, of at most
+    4,096 bytes; without it a read brings what is there."""
+    reads, writes = os.pipe2(os.O_CLOEXEC | (os.O_DIRECT if packets else 0))
+    fcntl.fcntl(writes, fcntl.F_SETPIPE_SZ, MIB)
+
+    def feed():
+        """Writes the pieces, and ends the pipe."""
+        nonlocal writes, reads
+        os.close(reads)
+        reads = None
+        for piece in pieces:
+            write_all(writes, piece)
+        os.close(writes)
+        writes = None
+
+    try:
+        return taken(command, reads, sink, feed)
+    finally:
+        for end in (reads, writes):
+            if end is not None:
+                os.close(end)
