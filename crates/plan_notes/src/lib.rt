@@ -24,6 +24,3 @@ pub use line::Line;
 pub use plan_warnings::warnings;
 pub use room::room_notes;
 pub use shown::ShownFault;
-
-#[cfg(test)]
-mod tests;

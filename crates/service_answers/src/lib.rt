@@ -19,6 +19,3 @@ pub use plans::{
 pub use prunings::pruned_text;
 pub use status::status_text;
 pub use time::Utc;
-
-#[cfg(test)]
-mod tests;

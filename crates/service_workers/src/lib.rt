@@ -23,15 +23,12 @@ mod way;
 
 pub use gate::Gate;
 pub use hold::Hold;
-pub use pauses::paused_by;
+pub use pauses::{PauseCause, pause_cause, paused_by};
 pub use place::{Place, work_place};
 pub use post::{Post, work_post};
 pub use site::{Crew, ServiceRows, Site};
 pub use stage::Stage;
 pub use standard_input::StandardInput;
 pub use stopping::{has_ended, stop};
-pub use tallies::Unbooked;
+pub use tallies::{Tallies, Unbooked};
 pub use warden::work_warden;
-
-#[cfg(test)]
-mod tests;

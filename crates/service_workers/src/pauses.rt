@@ -73,7 +73,7 @@ fn crowded_route(plan: &Plan, status: &Status, channel: &Channel) -> Option<u32>
 }
 
 /// Why the reading of a channel of this plan has to begin to pause, if it has to.
-pub(crate) fn pause_cause(
+pub fn pause_cause(
     plan: &Plan,
     status: &Status,
     keep: u32,

@@ -1,12 +1,12 @@
 //! The answers to made-up states of a service.
 
-use crate::{
-    Figures, Unbooked, Utc, found_text, metrics_text, pruned_text, status_text, waiting_text,
-};
 use book_core::Front;
 use book_lock::{Gauge, Status};
 use dest_queue::SlotState;
 use plan_text::{Plan, PlanFault};
+use service_answers::{
+    Figures, Unbooked, Utc, found_text, metrics_text, pruned_text, status_text, waiting_text,
+};
 use stat_count::Counts;
 use std::alloc::AllocError;
 

@@ -1,6 +1,6 @@
 //! A few plans with their lines; tests/plan_notes.py has one for each fault and each kind of key.
 
-use crate::{ShownFault, fault_notes, room_notes, warnings};
+use plan_notes::{ShownFault, fault_notes, room_notes, warnings};
 use plan_text::Plan;
 use std::alloc::AllocError;
 

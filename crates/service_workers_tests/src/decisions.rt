@@ -1,11 +1,9 @@
 //! Tests of what is decided without a socket.
 
-use crate::pauses::{PauseCause, pause_cause, paused_by};
-use crate::stage::Stage;
-use crate::tallies::{Tallies, Unbooked};
 use book_core::NotBooked;
 use book_lock::{Gauge, Status};
 use plan_text::Plan;
+use service_workers::{PauseCause, Stage, Tallies, Unbooked, pause_cause, paused_by};
 use stat_count::Counts;
 use std::alloc::AllocError;
 

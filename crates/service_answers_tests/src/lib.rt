@@ -1,0 +1,5 @@
+//! Tests of the answers to commands.
+#![tactic(auto)]
+
+#[cfg(test)]
+mod answers;
