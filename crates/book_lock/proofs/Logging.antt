@@ -29,8 +29,7 @@ use Rattle.book_lock.specs.declared.log_entry.LogEntry.{LogEntry}
 use Rattle.book_lock.specs.declared.log_entry.LogEntry.TheVariants as log_entry
 use Rattle.book_lock.specs.Log.{Arrives, Calls, IsBookOf, IsJob, IsLegalLog, Log, MayComeNext, SeatView, Takes, after_log, book_at, own_entry, with_entry, IsCalled, IsPruned}
 use Rattle.book_lock.specs.inner.Log.{new_seats}
-use Rattle.book_lock.specs.Shares.{DeskView, StationView}
-use Rattle.book_lock.specs.inner.Shares.{seats_of}
+use Rattle.book_lock.specs.Shares.{DeskView, StationView, seats_of}
 
 after_more : (h : History) (log : Log) (x : ℕ × LogEntry) → after_log h (log ++ x ∷ []) ≡ with_entry (after_log h log) x.1
 after_more h [] x = refl

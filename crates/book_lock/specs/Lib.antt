@@ -1,5 +1,6 @@
 pub mod Log
 pub mod Outcomes
+pub mod Callers
 pub mod Shares
 pub mod Rises
 pub mod Auditing

@@ -1,5 +1,5 @@
 -- What contracts see of a desk and of a station.
-use Rattle.std.specs.Prelude.{ℕ, List, sum_by}
+use Rattle.std.specs.Prelude.{ℕ, List, ◌++◌, map, sum_by}
 use Rattle.book_lock.specs.Log.{SeatView}
 
 -- the takes and the settlements that were made at a station
@@ -27,3 +27,7 @@ takes_of stations = sum_by (λ s. s.counts.takes) stations
 
 abbrev pub settlements_of : List StationView → ℕ
 settlements_of stations = sum_by (λ s. s.counts.settlements) stations
+
+-- the seats of desks and of stations
+abbrev pub seats_of : List DeskView → List StationView → List SeatView
+seats_of desks stations = map (λ d. d.seat) desks ++ map (λ s. s.seat) stations

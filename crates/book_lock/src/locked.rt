@@ -16,7 +16,8 @@ ghost use Rattle.book_lock.specs.Rises.{AddsUp, arrivals_rise, settlements_rise,
 ghost use Rattle.book_lock.specs.inner.Rises.{with_book};
 ghost use Rattle.book_lock.specs.Log.{Arrives, Calls, Linearizes, Takes, IsCalled, IsPruned};
 ghost use Rattle.book_lock.specs.Outcomes.{IsAccountedFor};
-ghost use Rattle.book_lock.specs.inner.Shares.{seats_of, with_settlement, with_take};
+ghost use Rattle.book_lock.specs.inner.Shares.{with_settlement, with_take};
+ghost use Rattle.book_lock.specs.Shares.{seats_of};
 ghost use Rattle.book_lock.specs.inner.Showing.{IsGauge, IsStatus};
 ghost use Rattle.book_lock.specs.inner.Tidies.{IsSettledRefusal, IsTidying, left_by};
 

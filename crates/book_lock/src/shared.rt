@@ -12,7 +12,8 @@ ghost use Rattle.book_lock.specs.Rises.{AddsUp};
 ghost use Rattle.book_lock.specs.Log.{Arrives, Calls, Linearizes, Takes, IsCalled, IsPruned};
 ghost use Rattle.book_lock.specs.Outcomes.{IsAccountedFor};
 ghost use Rattle.book_lock.specs.inner.Log.{new_seats};
-ghost use Rattle.book_lock.specs.inner.Shares.{no_calls, seats_of, with_settlement, with_take};
+ghost use Rattle.book_lock.specs.inner.Shares.{no_calls, with_settlement, with_take};
+ghost use Rattle.book_lock.specs.Shares.{seats_of};
 
 use crate::desks::{Desk, Station, open_desks, open_stations};
 use crate::locked::{ArrivalLedger, Closed, Locked};

@@ -1,11 +1,6 @@
 -- What proofs use beside the page Shares.
-use Rattle.std.specs.Prelude.{◌+◌, List, ◌++◌, map}
-use Rattle.book_lock.specs.Log.{SeatView}
-use Rattle.book_lock.specs.Shares.{Made, DeskView, StationView}
-
--- the seats of desks and stations
-abbrev pub seats_of : List DeskView → List StationView → List SeatView
-seats_of desks stations = map (λ d. d.seat) desks ++ map (λ s. s.seat) stations
+use Rattle.std.specs.Prelude.{◌+◌}
+use Rattle.book_lock.specs.Shares.{Made}
 
 abbrev pub no_calls : Made
 no_calls = record { takes = 0; settlements = 0 }

@@ -3,7 +3,7 @@ use Rattle.ghost_log.specs.Seats.{Agrees}
 use Rattle.book_lock.specs.Log.{IsBookOf, Linearizes, Log}
 use Rattle.book_lock.specs.Rises.{SharedBook}
 use Rattle.book_lock.specs.Shares.{StationView}
-use Rattle.book_lock.specs.inner.Shares.{seats_of}
+use Rattle.book_lock.specs.Shares.{seats_of}
 use Rattle.book_lock.proofs.Logging.{agreed_all, book_same, within_seats}
 use Rattle.book_lock.proofs.Outcomes.{accounted}
 use Rattle.book_lock.proofs.locked.Locked.shares_add_up.Goals as goal
