@@ -43,7 +43,7 @@ impl Answer {
         };
         let text = Arc::new(alloc, text)?;
         match Message::parse_shared(alloc, &text) {
-            Ok((message, _)) => Ok(Answer {
+            Ok(message) => Ok(Answer {
                 message: Some(message),
             }),
             Err(Refusal::NoMemory) => Err(AllocError),

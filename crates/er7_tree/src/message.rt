@@ -176,29 +176,31 @@ impl Message {
         })
     }
 
-    /// The message that a shared text says, which it keeps as one more owner, and whether that text is
-    /// the message as it is printed.
-    ///
-    /// It exists for speed: the text isn't copied, and a caller that knows it to be the print needs no other.
+    /// The message that a shared text says, which it keeps as one more owner. It exists for speed: the text isn't copied.
     ///
     /// # Errors
     ///
     /// The refusals are those of [`parse`](Message::parse).
-    pub fn parse_shared(alloc: Global, text: &Arc<Vec<u8>>) -> Result<(Message, bool), Refusal>
-        ensures value { MatchResult result
-            (λ read. tree (arc_value text.now).items ≡ Ok read.0)
-            (λ refusal. Gives (Err refusal) (tree (arc_value text.now).items)) }
-        ensures printed { IfOk result (λ read. IsTrue read.1 → text_of read.0 ≡ (arc_value text.now).items) }
+    pub fn parse_shared(alloc: Global, text: &Arc<Vec<u8>>) -> Result<Message, Refusal>
+        ensures value { Gives result (tree (arc_value text.now).items) }
+        ensures message { IfOk result IsMessage }
     {
         let (delims, spans) = spans_of(alloc, text.as_slice())?;
-        let printed = are_printed(text.as_slice(), &spans);
         let text = Arc::try_clone(text)?;
-        let message = Message {
+        Ok(Message {
             delims,
             text,
             spans,
-        };
-        Ok((message, printed))
+        })
+    }
+
+    /// The text that the message keeps, where that is the message as it is printed: a caller that needs the print may share
+    /// it. It exists for speed: nothing is copied.
+    pub fn printed_text(&self) -> Option<&Arc<Vec<u8>>>
+        ensures { IfSome result (λ text. (arc_value text.now).items ≡ text_of self.now) }
+    {
+        let is_print = are_printed(self.text.as_slice(), &self.spans);
+        is_print.then_some(&self.text)
     }
 
     /// The delimiters that the message declares.

@@ -88,13 +88,12 @@ impl Model for Judged {
     } };
 }
 
-/// The message that a text says, if it says one, and whether the text is that message as it is printed.
-fn read(alloc: Global, text: &Arc<Vec<u8>>) -> Result<Option<(Message, bool)>, AllocError>
-    ensures message { IfOk result (λ read. option_map (λ r. r.0) read ≡ result_ok (tree (arc_value text.now).items)) }
-    ensures printed { IfOk result (λ read. IfSome read (λ r. IsTrue r.1 → text_of r.0 ≡ (arc_value text.now).items)) }
+/// The message that a text says, if it says one.
+fn read(alloc: Global, text: &Arc<Vec<u8>>) -> Result<Option<Message>, AllocError>
+    ensures { IfOk result (λ read. read ≡ result_ok (tree (arc_value text.now).items)) }
 {
     match Message::parse_shared(alloc, text) {
-        Ok(read) => Ok(Some(read)),
+        Ok(message) => Ok(Some(message)),
         Err(Refusal::NoMemory) => Err(AllocError),
         Err(_) => Ok(None),
     }
@@ -121,14 +120,12 @@ fn header_fault(channel: &Channel, header: &Header) -> Option<Cause>
     }
 }
 
-/// The message as it is printed, which shares the received bytes where they are the same. Where it is known before that
-/// they are, nothing is printed.
-fn payload_of(alloc: Global, message: &Message, raw: &Text, same: bool) -> Result<Text, AllocError>
-    requires { IsTrue same → text_of message.now ≡ raw.now }
+/// The message as it is printed, which shares the received bytes where they are the same.
+fn payload_of(alloc: Global, message: &Message, raw: &Text) -> Result<Text, AllocError>
     ensures { IfOk result (λ text. text ≡ text_of message.now) }
 {
-    if same {
-        return raw.share();
+    if let Some(text) = message.printed_text() {
+        return Ok(Text::of(Arc::try_clone(text)?));
     }
     let printed = message.print()?;
     if printed.as_slice() == raw.as_slice() {
@@ -181,39 +178,50 @@ fn routed(
     Ok(Verdict::Accept(Deliveries::new(alloc, deliveries)?))
 }
 
-/// What becomes of a message that passes the channel's filter; `printed` where it is known that the received text is the
-/// message as it is printed.
+/// What becomes of a message by routes, which share the received bytes where it is printed so.
+fn sent_by(
+    alloc: Global,
+    routes: &[Route],
+    message: &Message,
+    raw: &Text,
+) -> Result<Verdict, AllocError>
+    requires stand { All (λ r. AllStand r.steps) routes.now }
+    requires goes { AreDeliveries (deliveries_by routes.now message.now) }
+    ensures { IfOk result (λ verdict. verdict ≡ routed routes.now message.now) }
+{
+    let payload = payload_of(alloc, message, raw)?;
+    routed(alloc, routes, message, &payload)
+}
+
+/// What becomes of a message that passes the channel's filter. One that the channel doesn't change is not moved.
 fn stepped(
     alloc: Global,
     channel: &Channel,
     message: Message,
     raw: &Text,
-    printed: bool,
 ) -> Result<Verdict, AllocError>
-    requires printed { IsTrue printed → text_of message ≡ raw.now }
     requires stand { AllStand channel.now.steps }
     requires routes_stand { All (λ r. AllStand r.steps) channel.now.routes }
     requires goes { IfOk (after_steps channel.now.steps message) (λ t. AreDeliveries (deliveries_by channel.now.routes t)) }
     ensures { IfOk result (λ verdict. verdict ≡ stepped channel.now.routes (after_steps channel.now.steps message)) }
 {
+    if channel.steps().is_empty() {
+        return sent_by(alloc, channel.routes(), &message, raw);
+    }
     let Some(message) = transformed(channel.steps(), message)? else {
         return Ok(Verdict::Refuse(Cause::SourceTransform));
     };
-    let same = printed && channel.steps().is_empty();
-    let payload = payload_of(alloc, &message, raw, same)?;
-    routed(alloc, channel.routes(), &message, &payload)
+    sent_by(alloc, channel.routes(), &message, raw)
 }
 
-/// What a channel decides of a message; `printed` where it is known that the received text is the message as it is printed.
+/// What a channel decides of a message.
 fn decide(
     alloc: Global,
     channel: &Channel,
     message: Message,
     header: &Header,
     raw: &Text,
-    printed: bool,
 ) -> Result<Verdict, AllocError>
-    requires printed { IsTrue printed → text_of message ≡ raw.now }
     requires stand { AllStand channel.now.steps }
     requires routes_stand { All (λ r. AllStand r.steps) channel.now.routes }
     requires goes { IfOk (after_steps channel.now.steps message) (λ t. AreDeliveries (deliveries_by channel.now.routes t)) }
@@ -228,7 +236,7 @@ fn decide(
     if !passes(channel.filter(), &message)? {
         return Ok(Verdict::Filtered);
     }
-    stepped(alloc, channel, message, raw, printed)
+    stepped(alloc, channel, message, raw)
 }
 
 /// Judges a text that arrived on a channel of the plan.
@@ -251,7 +259,7 @@ pub fn judge(
     let plan = Arc::try_clone(plan)?;
     let read = read(alloc, &shared)?;
     let raw = Text::of(shared);
-    let Some((message, printed)) = read else {
+    let Some(message) = read else {
         return Ok(Judged {
             plan,
             channel,
@@ -266,7 +274,7 @@ pub fn judge(
     let control_id = control_id_of(&header)?;
     let key = key_bytes(alloc, channel as u8, &header)?;
     let rules = plan.channel(channel).unwrap();
-    let verdict = decide(alloc, rules, message, &header, &raw, printed)?;
+    let verdict = decide(alloc, rules, message, &header, &raw)?;
     Ok(Judged {
         plan,
         channel,

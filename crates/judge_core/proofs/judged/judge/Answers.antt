@@ -13,7 +13,7 @@ use Rattle.judge_core.proofs.judged.judge.Goals as goal
 pub invariant_of-result : goal.invariant_of-result
 invariant_of-result c =
     let came = c.of-raw.ensures ∙ ap (λ (v : Vec ℕ Global). v.items) c.in_ok-shared.ensures.ok in
-    let read = ap (option_map (λ (r : Tree × Bool). r.0)) (sym c.in_default.is) ∙ c.in_ok-read.ensures.message ∙ ap (λ (text : List ℕ). result_ok (tree text)) (sym c.of-raw.ensures) in
+    let read = sym c.in_default.is ∙ c.in_ok-read.ensures ∙ ap (λ (text : List ℕ). result_ok (tree text)) (sym c.of-raw.ensures) in
     let nothing = says-nothing (arc_value c.in_ok-plan.plan) c.args.channel c.of-raw.result read in
     record {
       known = rw c.in_ok-plan.ensures c.requires.known;
@@ -53,7 +53,7 @@ decide-requires-clause-routes_stand c =
 pub decide-requires-clause-goes : goal.decide-requires-clause-goes
 decide-requires-clause-goes c =
     let came = c.of-raw.ensures ∙ ap (λ (v : Vec ℕ Global). v.items) c.in_ok-shared.ensures.ok in
-    let read = ap (option_map (λ (r : Tree × Bool). r.0)) (sym c.in-Some.is) ∙ c.in_ok-read.ensures.message ∙ ap (λ (text : List ℕ). result_ok (tree text)) (sym c.of-raw.ensures) in
+    let read = sym c.in-Some.is ∙ c.in_ok-read.ensures ∙ ap (λ (text : List ℕ). result_ok (tree text)) (sym c.of-raw.ensures) in
     let message = says (arc_value c.in_ok-plan.plan) c.args.channel c.of-raw.result c.in-Some.message read in
     goes-after (arc_value c.args.plan.now) c.args.channel c.unwrap-rules.result.now c.of-raw.result c.in-Some.message (rules-of c) (found-of c) message.read
     (rw came c.requires.fits.plain)
@@ -61,7 +61,7 @@ decide-requires-clause-goes c =
 pub invariant_of-result-2 : goal.invariant_of-result-2
 invariant_of-result-2 c =
     let came = c.of-raw.ensures ∙ ap (λ (v : Vec ℕ Global). v.items) c.in_ok-shared.ensures.ok in
-    let read = ap (option_map (λ (r : Tree × Bool). r.0)) (sym c.in-Some.is) ∙ c.in_ok-read.ensures.message ∙ ap (λ (text : List ℕ). result_ok (tree text)) (sym c.of-raw.ensures) in
+    let read = sym c.in-Some.is ∙ c.in_ok-read.ensures ∙ ap (λ (text : List ℕ). result_ok (tree text)) (sym c.of-raw.ensures) in
     let message = says (arc_value c.in_ok-plan.plan) c.args.channel c.of-raw.result c.in-Some.message read in
     let found : slice_get (arc_value c.in_ok-plan.plan).channels c.args.channel ≡ Some c.unwrap-rules.result.now =
     sym (rw c.deref-2.ensures at c.channel.ensures) ∙ ap option_copied c.unwrap-rules.ensures in
