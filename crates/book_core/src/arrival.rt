@@ -24,7 +24,7 @@ use row_store::RowStore;
 use std::alloc::{AllocError, Global};
 
 /// The answer to a message: its key is looked up before its verdict is used.
-pub fn told(log: &Log, keys: &Keys, judged: &Judged) -> Told
+pub(crate) fn told(log: &Log, keys: &Keys, judged: &Judged) -> Told
     requires bookable { IsTrue (is_bookable judged.now.raw) }
     requires same_plan { judged.now.plan ≡ plan_in_force log.now.history }
     requires keys { KeysAgree log.now.history keys.now.known }
@@ -54,7 +54,7 @@ pub enum Addition<'a> {
 
 /// What an arrival with this answer adds.
 #[tactic(auto, using(crate::proofs::Gains::id_known, crate::proofs::Gains::id_missing))]
-pub fn gain_of(told: Told, judged: &Judged) -> Addition<'_>
+pub(crate) fn gain_of(told: Told, judged: &Judged) -> Addition<'_>
     requires { IsAccepting told (verdict judged.now.plan judged.now.channel judged.now.raw) }
     ensures { IsAddition told (control_id_of judged.now.raw) (verdict judged.now.plan judged.now.channel judged.now.raw) result }
 {
@@ -86,7 +86,7 @@ impl<'a> Addition<'a> {
 }
 
 /// The entries that the slots owe that are added.
-pub fn owed_by(log: &Log, gain: Addition<'_>) -> u32
+pub(crate) fn owed_by(log: &Log, gain: Addition<'_>) -> u32
     ensures { result ≡ committed_by_new (plan_in_force log.now.history) (destinations_of (goes_to gain.entry)) }
 {
     committed_by_new(log.plan(), gain.deliveries())
@@ -172,7 +172,7 @@ fn key_to_add(alloc: Global, keys: &mut Keys, key: &Key) -> Result<Key, AllocErr
 /// # Errors
 ///
 /// Where memory is refused; rows and keys are as they were.
-pub fn add_gain<S: RowStore<Queued<Outbound>>>(
+pub(crate) fn add_gain<S: RowStore<Queued<Outbound>>>(
     alloc: Global,
     rows: &mut S,
     keys: &mut Keys,

@@ -13,7 +13,7 @@ use plan_text::{Await, Plan};
 use row_store::QUEUES;
 
 /// The text for d among deliveries.
-pub fn payload(deliveries: &[Delivery], d: u32) -> Option<&Text>
+pub(crate) fn payload(deliveries: &[Delivery], d: u32) -> Option<&Text>
     ensures { option_copied result ≡ option_map (λ x. x.payload) (find (λ x. x.destination == d) deliveries.now) }
 {
     deliveries
@@ -23,7 +23,7 @@ pub fn payload(deliveries: &[Delivery], d: u32) -> Option<&Text>
 }
 
 /// Whether destination d answers with an acknowledgment.
-pub fn awaits_ack(plan: &Plan, d: u32) -> bool
+pub(crate) fn awaits_ack(plan: &Plan, d: u32) -> bool
     ensures { result ≡ awaits_ack plan.now d }
 {
     match plan.destination(d) {
@@ -33,7 +33,7 @@ pub fn awaits_ack(plan: &Plan, d: u32) -> bool
 }
 
 /// What the slots of a message owe where they wait: nothing where none does.
-pub fn owed_waiting(plan: &Plan, slots: &Slots) -> u32
+pub(crate) fn owed_waiting(plan: &Plan, slots: &Slots) -> u32
     ensures { result ≡ owed_waiting plan.now (λ d. state_at d slots.now) }
 {
     let mut owed = 0;

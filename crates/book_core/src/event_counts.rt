@@ -14,7 +14,7 @@ use judge_core::Delivery;
 use stat_count::{CHANNELS, Counts, DESTINATIONS};
 
 /// Counts an arrival on a channel, and the slots that wait from then on.
-pub fn count_arrival(counts: &mut Counts, channel: u32, told: Told, deliveries: &[Delivery])
+pub(crate) fn count_arrival(counts: &mut Counts, channel: u32, told: Told, deliveries: &[Delivery])
     requires channel { channel < CHANNELS }
     requires within { All (λ x. x.destination < DESTINATIONS) deliveries.now }
     requires once { AllPairs (λ x y. x.destination ≢ y.destination) deliveries.now }
@@ -37,7 +37,7 @@ pub fn count_arrival(counts: &mut Counts, channel: u32, told: Told, deliveries: 
 }
 
 /// Counts a settlement at a destination, which left the slot in a state.
-pub fn count_settled(counts: &mut Counts, d: u32, state: SlotState)
+pub(crate) fn count_settled(counts: &mut Counts, d: u32, state: SlotState)
     requires place { d < DESTINATIONS }
     requires inflight { 0 < (destination_at d counts.old).inflight }
     ensures { counts.new ≡ on_destination d (settled_one state) counts.old }
@@ -51,7 +51,7 @@ pub fn count_settled(counts: &mut Counts, d: u32, state: SlotState)
 }
 
 /// Counts a cancellation at each destination of the mask.
-pub fn count_cancelled(counts: &mut Counts, mask: u32)
+pub(crate) fn count_cancelled(counts: &mut Counts, mask: u32)
     requires waits { (d : ℕ) → d < DESTINATIONS → (bit_at mask d == 1) ≡ true → 0 < (destination_at d counts.old).waiting }
     requires slots { length counts.old.destinations ≡ 32 }
     ensures { CountsCancel mask counts.old counts.new }

@@ -21,7 +21,7 @@ use stat_count::{Counts, DESTINATIONS};
 use std::alloc::{AllocError, Global};
 
 /// The lesser of two numbers, or the one that there is.
-pub fn lesser(a: Option<u32>, b: Option<u32>) -> Option<u32>
+pub(crate) fn lesser(a: Option<u32>, b: Option<u32>) -> Option<u32>
     ensures { result ≡ lesser a b }
 {
     match (a, b) {
@@ -32,7 +32,7 @@ pub fn lesser(a: Option<u32>, b: Option<u32>) -> Option<u32>
 }
 
 /// Why the messages below `before` aren't forgotten, before memory is requested.
-pub fn prune_refusal<S: RowStore<Queued<Outbound>>>(
+pub(crate) fn prune_refusal<S: RowStore<Queued<Outbound>>>(
     log: &Log,
     rows: &mut S,
     before: u32,
@@ -52,7 +52,7 @@ pub fn prune_refusal<S: RowStore<Queued<Outbound>>>(
 }
 
 /// The number of the first message that isn't forgotten, or of the next one where all are.
-pub fn first_kept<S: RowStore<Queued<Outbound>>>(log: &Log, rows: &S) -> u32
+pub(crate) fn first_kept<S: RowStore<Queued<Outbound>>>(log: &Log, rows: &S) -> u32
     requires sound { IsSound log.now.history }
     requires agree { RowsAgree log.now.history (S.rows rows.now) }
     ensures count { result + length (S.rows rows.now) ≡ message_count log.now.history }
@@ -62,7 +62,7 @@ pub fn first_kept<S: RowStore<Queued<Outbound>>>(log: &Log, rows: &S) -> u32
 }
 
 /// Drops the rows of the messages below `before`, where none is below `first`.
-pub fn forget_rows<S: RowStore<Queued<Outbound>>>(rows: &mut S, first: u32, before: u32)
+pub(crate) fn forget_rows<S: RowStore<Queued<Outbound>>>(rows: &mut S, first: u32, before: u32)
     requires { All (λ row. first ≤ row.number) (S.rows rows.old) }
     ensures { S.rows rows.new ≡ filter (λ row. not (nat_lt row.number before)) (S.rows rows.old) }
 {
@@ -187,7 +187,7 @@ fn recall_entries<S: RowStore<Queued<Outbound>>>(
 /// # Errors
 ///
 /// Where memory is refused.
-pub fn recall_since<S: RowStore<Queued<Outbound>>>(
+pub(crate) fn recall_since<S: RowStore<Queued<Outbound>>>(
     alloc: Global,
     log: &Log,
     rows: &S,
@@ -228,7 +228,7 @@ fn leave_out(counts: &mut Counts, arrival: &Remembered)
 }
 
 /// What is counted and isn't remembered: a tally without the arrivals that are.
-pub fn unremembered(counts: &Counts, remembered: &[Remembered]) -> Counts
+pub(crate) fn unremembered(counts: &Counts, remembered: &[Remembered]) -> Counts
     requires { length counts.now.destinations ≡ 32 }
     ensures { LeavesOut remembered.now counts.now result }
 {

@@ -21,7 +21,7 @@ pub struct Front {
 }
 
 /// The first message that is still to be delivered. It is the least at the front of a queue, so no row is searched.
-pub fn first_queued<S: RowStore<Queued<Outbound>>>(rows: &mut S) -> Option<u32>
+pub(crate) fn first_queued<S: RowStore<Queued<Outbound>>>(rows: &mut S) -> Option<u32>
     ensures first { (h : History) → RowsAgree h (S.rows rows.old) → result ≡ first_live h }
     ensures unchanged { S.rows rows.new ≡ S.rows rows.old }
 {

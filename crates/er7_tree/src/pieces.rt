@@ -13,7 +13,7 @@ use memchr::memchr;
 use std::alloc::{AllocError, Global};
 
 /// The text up to the first separator, and what follows that separator, where there is one.
-pub fn cut(text: &[u8], separator: u8) -> (&[u8], Option<&[u8]>)
+pub(crate) fn cut(text: &[u8], separator: u8) -> (&[u8], Option<&[u8]>)
     ensures pieces { MatchOption result.1 (split separator text.now ≡ result.0.now ∷ [])
         (λ rest. split separator text.now ≡ result.0.now ∷ split separator rest.now) }
     ensures first { result.0.now ≡ before_first (λ b. b == separator) text.now }
@@ -26,7 +26,7 @@ pub fn cut(text: &[u8], separator: u8) -> (&[u8], Option<&[u8]>)
 }
 
 /// The `n`th piece between separators, empty where there is none.
-pub fn piece(text: &[u8], separator: u8, n: usize) -> &[u8]
+pub(crate) fn piece(text: &[u8], separator: u8, n: usize) -> &[u8]
     ensures { result.now ≡ piece_at n (split separator text.now) }
 {
     let mut rest = text;
@@ -40,7 +40,7 @@ pub fn piece(text: &[u8], separator: u8, n: usize) -> &[u8]
 }
 
 /// Whether there are at least `n` pieces between separators.
-pub fn has_piece(text: &[u8], separator: u8, n: usize) -> bool
+pub(crate) fn has_piece(text: &[u8], separator: u8, n: usize) -> bool
     ensures { result ≡ nat_le n (length (split separator text.now)) }
 {
     let mut rest = text;
@@ -54,7 +54,7 @@ pub fn has_piece(text: &[u8], separator: u8, n: usize) -> bool
 }
 
 /// A part of a field.
-pub fn part_of(delims: Delims, part: Part, field: &[u8]) -> &[u8]
+pub(crate) fn part_of(delims: Delims, part: Part, field: &[u8]) -> &[u8]
     ensures { result.now ≡ part_of delims part field.now }
 {
     match part {
@@ -77,7 +77,7 @@ pub fn part_of(delims: Delims, part: Part, field: &[u8]) -> &[u8]
 /// # Errors
 ///
 /// Where memory is refused.
-pub fn put(
+pub(crate) fn put(
     alloc: Global,
     text: &[u8],
     separator: u8,
@@ -110,7 +110,7 @@ pub fn put(
 }
 
 /// Whether a part of a field is there.
-pub fn has_part(delims: Delims, part: Part, field: &[u8]) -> bool
+pub(crate) fn has_part(delims: Delims, part: Part, field: &[u8]) -> bool
     ensures { result ≡ has_in (levels delims part) field.now }
 {
     match part {
@@ -136,7 +136,7 @@ pub fn has_part(delims: Delims, part: Part, field: &[u8]) -> bool
 /// # Errors
 ///
 /// Where memory is refused.
-pub fn put_part(
+pub(crate) fn put_part(
     alloc: Global,
     delims: Delims,
     part: Part,

@@ -100,7 +100,7 @@ fn next_end(text: &[u8], from: usize, ends: Ahead) -> (Ahead, usize)
 /// The first segment at or behind an offset. Reading goes on at its end, and so does the search for ends. It is inlined for
 /// speed, which saves some 150 instructions in a message of six segments.
 #[inline(always)]
-pub fn next_span(text: &[u8], from: usize, ends: &mut Ahead) -> Option<Span>
+pub(crate) fn next_span(text: &[u8], from: usize, ends: &mut Ahead) -> Option<Span>
     requires within { from ≤ length text.now }
     requires ends { AreAhead segment_end text.now ends.old.at ends.old.end ends.old.bits }
     requires near { IsNear text.now from ends.old.at }
@@ -141,7 +141,7 @@ pub fn is_header(segment: &[u8]) -> bool
 
 /// The index of a field among the pieces of its segment between field separators, counted from 1. The name is the first
 /// piece, and MSH counts the field separator behind its name as a field (HL7 v2.5.1, 2.15.9.1).
-pub fn field_place(segment: &[u8], field: u32) -> usize
+pub(crate) fn field_place(segment: &[u8], field: u32) -> usize
     ensures { result ≡ field_place segment.now field }
 {
     if is_header(segment) {
@@ -152,7 +152,7 @@ pub fn field_place(segment: &[u8], field: u32) -> usize
 }
 
 /// Whether a segment may follow the header.
-pub fn is_body(delims: Delims, segment: &[u8]) -> bool
+pub(crate) fn is_body(delims: Delims, segment: &[u8]) -> bool
     ensures { result ≡ is_body delims segment.now }
 {
     let [a, b, c, rest @ ..] = segment else {

@@ -18,7 +18,7 @@ use std::alloc::Global;
 /// # Errors
 ///
 /// The first refusal of the text, as [`Message::parse`](crate::Message::parse) orders them.
-pub fn read_header(text: &[u8]) -> Result<(Span, Delims, Ahead), Refusal>
+pub(crate) fn read_header(text: &[u8]) -> Result<(Span, Delims, Ahead), Refusal>
     ensures value { MatchResult result
         (λ read. tree text.now ≡ checked_tree (record { delims = read.1; segments = segments_of text.now }))
         (λ refusal. Gives (Err refusal) (tree text.now)) }
@@ -44,7 +44,7 @@ pub fn read_header(text: &[u8]) -> Result<(Span, Delims, Ahead), Refusal>
 /// # Errors
 ///
 /// `TooManySegments`, then `BadSegmentName`; `NoMemory` where memory is refused and neither applies.
-pub fn read_spans(
+pub(crate) fn read_spans(
     alloc: Global,
     text: &[u8],
     header: Span,

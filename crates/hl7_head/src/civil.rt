@@ -7,7 +7,7 @@ use jiff_core::civil::Date;
 pub const LAST_DAY: u32 = 2_932_531;
 
 /// The date that many days after 1 January 1970.
-pub fn civil(days: u32) -> Date
+pub(crate) fn civil(days: u32) -> Date
     requires { days ≤ LAST_DAY }
     ensures { civil_date days ≡ record { year = unsigned_abs result.year; month = result.month; day = result.day } }
 {

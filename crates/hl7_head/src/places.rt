@@ -29,7 +29,7 @@ fn first_piece(text: &[u8], part: Span, separator: u8) -> Span
 }
 
 /// The first `N` pieces of a part of a text between separators. A piece that isn't there is empty.
-pub fn first_pieces<const N: usize>(text: &[u8], part: Span, separator: u8) -> [Span; N]
+pub(crate) fn first_pieces<const N: usize>(text: &[u8], part: Span, separator: u8) -> [Span; N]
     requires { IsBetween 0 (length text.now) part }
     ensures { AreFirstPieces text.now (split separator (covered text.now part)) result }
 {
