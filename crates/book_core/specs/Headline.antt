@@ -31,7 +31,8 @@ pub record KeepsItsPromise (h : History) (rows : List (Row (Queued Outbound))) (
   pub arrived : (n : ℕ) (m : Accepted) → message_at h n ≡ Some m → HasArrival h n m ⊎ IsRemembered h n m
   -- an arrival acknowledged as filtered goes nowhere, and is no message
   pub filtered : (place conn channel : ℕ) (raw : List ℕ) → entry_at h place ≡ Some (Arrival conn channel raw told.Filtered)
-      → (deliveries_of (decided (plan_in_force (before h place)) channel raw) ≡ []) × (accepted (before h (place + 1)) ≡ accepted (before h place))
+      → (deliveries_of (decided (plan_in_force (before h place)) channel raw) ≡ [])
+      × (accepted (before h (place + 1)) ≡ accepted (before h place))
   -- an arrival acknowledged as a repeat repeats an arrival before it, or one that is remembered: of the same message,
   -- answered Accepted or Filtered, and byte for byte the same
   pub repeated : (place conn channel first : ℕ) (raw : List ℕ) → entry_at h place ≡ Some (Arrival conn channel raw (told.Repeat first))

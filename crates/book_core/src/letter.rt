@@ -31,7 +31,13 @@ impl Outbound {
         control_id: &TextPiece,
         deliveries: &Deliveries,
     ) -> Result<Outbound, AllocError>
-        ensures { IfOk result (λ letter. letter ≡ record { place = place; channel = channel; raw = raw.now; control_id = control_id.now; deliveries = deliveries.now }) }
+        ensures { IfOk result (λ letter. letter ≡ record {
+          place = place;
+          channel = channel;
+          raw = raw.now;
+          control_id = control_id.now;
+          deliveries = deliveries.now;
+        }) }
     {
         Ok(Outbound {
             place,

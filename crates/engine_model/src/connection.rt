@@ -84,7 +84,8 @@ fn answer_message<S: RowStore<Queued<Outbound>>>(
     requires counted { IsCounted words.old }
     requires few { words.old.replies.made + 2 ≤ u32.MAX }
     ensures ok { OnOk result (Handles line.now.conn judged.now.channel now (block judged.now.raw ∷ []) book.old book.new words.old words.new) }
-    ensures err { OnErr result (HandlesFront line.now.conn judged.now.channel now (block judged.now.raw ∷ []) book.old book.new words.old words.new) }
+    ensures err { OnErr result (HandlesFront line.now.conn judged.now.channel now (block judged.now.raw ∷ [])
+        book.old book.new words.old words.new) }
     ensures counted { OnOk result (IsCounted words.new) }
     ensures few { words.new.replies.made ≤ words.old.replies.made + 2 }
     ensures plan { plan_in_force book.new ≡ plan_in_force book.old }

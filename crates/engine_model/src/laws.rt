@@ -46,5 +46,6 @@ pub fn run_rules()
         NoneLacked one.new → NoneLacked other.new → (g ≡ g') × (d ≡ d') }
 
     // What a connection that has ended was sent is a prefix of its replies.
-    ensures front { (conn : ℕ) (answers : List Answer) (text : List ℕ) → RepliesFront conn 1 answers text → IsFrontOf text (replies conn answers) }
+    ensures front { (conn : ℕ) (answers : List Answer) (text : List ℕ) → RepliesFront conn 1 answers text
+        → IsFrontOf text (replies conn answers) }
 {}

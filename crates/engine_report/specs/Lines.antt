@@ -16,13 +16,15 @@ word_and_number word number = codes " " ++ word ++ codes " " ++ decimal number
 unfoldable pub channel_line : List ℕ → ChannelCounts → List ℕ
 channel_line name c =
     codes "channel " ++ name ++ word_and_number (codes "received") c.received ++ word_and_number (codes "filtered") c.filtered
-    ++ word_and_number (codes "accepted") c.accepted ++ word_and_number (codes "refused") c.refused ++ word_and_number (codes "repeats") c.repeats ++ codes "\n"
+    ++ word_and_number (codes "accepted") c.accepted ++ word_and_number (codes "refused") c.refused
+    ++ word_and_number (codes "repeats") c.repeats ++ codes "\n"
 
 -- a destination and its counters
 unfoldable pub destination_line : List ℕ → DestinationCounts → List ℕ
 destination_line name d =
     codes "destination " ++ name ++ word_and_number (codes "waiting") d.waiting ++ word_and_number (codes "inflight") d.inflight
-    ++ word_and_number (codes "delivered") d.delivered ++ word_and_number (codes "failed") d.failed ++ word_and_number (codes "attempts") d.attempts ++ codes "\n"
+    ++ word_and_number (codes "delivered") d.delivered ++ word_and_number (codes "failed") d.failed
+    ++ word_and_number (codes "attempts") d.attempts ++ codes "\n"
 
 -- a line for each item, by its index and what it is
 abbrev pub lines_from : {X : Type 0} → (ℕ → X → List ℕ) → ℕ → List X → List ℕ

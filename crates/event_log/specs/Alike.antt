@@ -44,7 +44,8 @@ pub record IsAlike (aside : Aside) (h k : History) : Type 0 where
   pub message : (n : ℕ) → aside.messages n ≡ false → message_at k n ≡ message_at h n
   pub slots : (n d : ℕ) → aside.messages n ≡ false → slot k n d ≡ slot h n d
   pub keys : (key : List ℕ) → aside.keys key ≡ false → known k key ≡ known h key
-  pub bytes : (key raw : List ℕ) (place : ℕ) → aside.keys key ≡ false → known h key ≡ Some place → brings_at k raw place ≡ brings_at h raw place
+  pub bytes : (key raw : List ℕ) (place : ℕ) → aside.keys key ≡ false → known h key ≡ Some place →
+      brings_at k raw place ≡ brings_at h raw place
 
 -- an event names nothing that is left aside: not the key of the text that arrived, and not the message of a
 -- settlement or a cancellation

@@ -51,7 +51,9 @@ slots_added plan channel raw (told.Repeat place) = []
 
 -- what the slots of an arrival would owe
 abbrev pub own : History → ℕ → List ℕ → ℕ
-own h channel raw = option_map_or (λ told. committed_by_new (plan_in_force h) (slots_added (plan_in_force h) channel raw told)) (arrival_answer h channel raw) 0
+own h channel raw =
+    option_map_or (λ told. committed_by_new (plan_in_force h) (slots_added (plan_in_force h) channel raw told))
+    (arrival_answer h channel raw) 0
 
 -- one more entry, whose own slots owe `own`, exceeds what the history may hold; folded entries take no room
 abbrev pub is_over_limit : History → ℕ → Bool

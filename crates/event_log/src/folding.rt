@@ -19,7 +19,8 @@ use fixed_numbers::EVENTS_MAX;
 /// The laws of pruning, for every history and every number of messages that are forgotten of it.
 pub fn folding_rules()
     // A pruned history is alike the one that was pruned, but for what was forgotten.
-    ensures folded { (h : History) (bound : ℕ) → IsSound h → prune_answer h bound ≡ None → IsAlike (forgotten_by bound h) h (pruned bound h) }
+    ensures folded { (h : History) (bound : ℕ) → IsSound h → prune_answer h bound ≡ None
+        → IsAlike (forgotten_by bound h) h (pruned bound h) }
 
     // It has the same bound of entries.
     ensures bound_kept { (h : History) (bound : ℕ) → (pruned bound h).opening.events_max ≡ h.opening.events_max }
@@ -31,12 +32,14 @@ pub fn folding_rules()
     ensures numbers { (h : History) (bound : ℕ) → IsSound h → IsStrictlyIncreasing (filter_map number_of (folded bound h).remembered) }
     ensures numbers_within { (h : History) (bound : ℕ) → IsSound h →
         All (λ n. n < message_count h) (filter_map number_of (folded bound h).remembered) }
-    ensures keys { (h : History) (bound : ℕ) → IsSound h → AllPairs (λ r s. has_key (key_of r.channel r.raw) s ≡ false) (folded bound h).remembered }
+    ensures keys { (h : History) (bound : ℕ) → IsSound h
+        → AllPairs (λ r s. has_key (key_of r.channel r.raw) s ≡ false) (folded bound h).remembered }
     ensures owes { (h : History) (bound : ℕ) → IsSound h → prune_answer h bound ≡ None → owed (pruned bound h) ≡ owed h }
 
     // A key is known where it stood, from the arrival of the first message on that isn't forgotten; those before are unknown.
     ensures known { (h : History) (bound : ℕ) (key : List ℕ) → IsSound h → prune_answer h bound ≡ None
-        → known (pruned bound h) key ≡ option_and_then (λ place. if nat_le (arrival_place h bound) place then Some place else None) (known h key) }
+        → known (pruned bound h) key
+        ≡ option_and_then (λ place. if nat_le (arrival_place h bound) place then Some place else None) (known h key) }
 
     // So a book may go on from it, where no more messages were delivered or are in flight at a destination than attempts were begun.
     ensures good { (h : History) (bound : ℕ) → IsSound h → prune_answer h bound ≡ None → h.opening.events_max ≤ EVENTS_MAX

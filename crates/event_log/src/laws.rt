@@ -42,8 +42,10 @@ pub fn history_rules()
         let after = followed_by h (Cancel number mask) in next_place after + owed after ≤ next_place h + owed h }
 
     // A key is known where it is remembered, else at the first entry that keeps it, and unknown where there is neither.
-    ensures known_inside { (h : History) (key : List ℕ) (place : ℕ) → IsGoodOpening h.opening → known h key ≡ Some place → place < next_place h }
-    ensures known_remembered { (h : History) (key : List ℕ) (place : ℕ) → known_before h.opening key ≡ Some place → known h key ≡ Some place }
+    ensures known_inside { (h : History) (key : List ℕ) (place : ℕ) → IsGoodOpening h.opening
+        → known h key ≡ Some place → place < next_place h }
+    ensures known_remembered { (h : History) (key : List ℕ) (place : ℕ) → known_before h.opening key ≡ Some place
+        → known h key ≡ Some place }
     ensures known_there { (h : History) (key : List ℕ) (place : ℕ) →
         known_before h.opening key ≡ None → known h key ≡ Some (h.opening.places + place) →
         HoldsAt (λ e. IsTrue (keeps key e)) h.entries place }

@@ -163,7 +163,8 @@ pub(crate) fn by_routes(
     requires stand { All (λ r. AllStand r.steps) routes.now }
     requires payload { payload.now ≡ text_of message.now }
     ensures { IfOk result (λ all. MatchOption all (list_any (is_stopped message.now) (open_routes routes.now message.now) ≡ true)
-        (λ ds. (list_any (is_stopped message.now) (open_routes routes.now message.now) ≡ false) × (listed ds ≡ deliveries_by routes.now message.now))) }
+        (λ ds. (list_any (is_stopped message.now) (open_routes routes.now message.now) ≡ false)
+        × (listed ds ≡ deliveries_by routes.now message.now))) }
 {
     let mut all = Outgoing::Nowhere;
     let mut stopped = false;

@@ -30,7 +30,8 @@ IsAccepting (told.Refused cause) v = Unit {0}
 IsAccepting (told.Repeat place) v = Unit {0}
 
 -- a row was added for a message of this number, which was received so and waits wherever it goes
-pub record AddsRow (number channel : ℕ) (raw control_id : List ℕ) (deliveries : List Delivery) (old new : List (Row (Queued Outbound))) : Type 0 where
+pub record AddsRow (number channel : ℕ) (raw control_id : List ℕ) (deliveries : List Delivery)
+    (old new : List (Row (Queued Outbound))) : Type 0 where
   pub place : ℕ
   pub mask : ℕ
   pub stands : (d : ℕ) → d < 32 → (bit_at mask d == 1) ≡ names d deliveries

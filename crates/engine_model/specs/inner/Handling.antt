@@ -19,7 +19,8 @@ abbrev pub answer_with : List ℕ → Result Told NotBooked → ℕ → Answer
 answer_with raw outcome now = record { raw = raw; outcome = outcome; moment = now }
 
 -- a message has this outcome, is booked so, and its answer is kept
-pub record IsBooked (conn channel now : ℕ) (raw : List ℕ) (outcome : Result Told NotBooked) (h h' : History) (old new : List Answered) : Type 0 where
+pub record IsBooked (conn channel now : ℕ) (raw : List ℕ) (outcome : Result Told NotBooked) (h h' : History)
+    (old new : List Answered) : Type 0 where
   pub may : IsAnswered conn channel h raw outcome
   pub booked : h' ≡ history_with conn channel h raw outcome
   pub kept : map answer_of new ≡ map answer_of old ++ answer_with raw outcome now ∷ []

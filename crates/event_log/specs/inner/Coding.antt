@@ -60,4 +60,6 @@ history_code =
 
 -- one with room as the history and the room
 abbrev pub kept_code : Coded Kept
-kept_code = code_by (History × ℕ) (coded× history_code coded_ℕ) (λ k. (k.history, k.room)) (λ p. record { history = p.0; room = p.1 }) (λ _. refl)
+kept_code =
+    code_by (History × ℕ) (coded× history_code coded_ℕ)
+    (λ k. (k.history, k.room)) (λ p. record { history = p.0; room = p.1 }) (λ _. refl)

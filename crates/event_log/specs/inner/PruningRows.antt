@@ -106,7 +106,9 @@ one_waits = refl
 
 -- the first was delivered and is forgotten, and then the second arrived, under a plan that filtered it
 abbrev pub delivered : History
-delivered = history_of built_in 100 (Arrival 0 0 first (Accepted 0) ∷ (Take (attempt 1) 0 ∷ (Settle outcome.Delivered (attempt 1) 0 Delivered ∷ [])))
+delivered =
+    history_of built_in 100
+    (Arrival 0 0 first (Accepted 0) ∷ (Take (attempt 1) 0 ∷ (Settle outcome.Delivered (attempt 1) 0 Delivered ∷ [])))
 
 abbrev pub filtered_later : History
 filtered_later = of_snapshot (folded 1 delivered) (Arrival 0 0 second Filtered ∷ [])

@@ -13,7 +13,8 @@ text_of segments = flat_map (λ segment. segment ++ 13 ∷ []) segments
 -- an admission with this type, control id, processing id and version
 abbrev pub admission : List ℕ → List ℕ → List ℕ → List ℕ → List ℕ
 admission type id processing version =
-    text_of ((codes "MSH|^~\\&|REG|HOSP|ENG|HUB|20231114221300||" ++ type ++ codes "|" ++ id ++ codes "|" ++ processing ++ codes "|" ++ version ++ codes "|||AL|NE")
+    text_of ((codes "MSH|^~\\&|REG|HOSP|ENG|HUB|20231114221300||" ++ type ++ codes "|" ++ id
+    ++ codes "|" ++ processing ++ codes "|" ++ version ++ codes "|||AL|NE")
     ∷ codes "PID|1||77^^^H" ∷ [])
 
 abbrev pub first : List ℕ

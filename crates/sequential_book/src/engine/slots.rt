@@ -108,7 +108,8 @@ impl SequentialBook {
 
     /// What the slot of a message at d owes.
     fn slot_owes(&self, number: u32, d: u32) -> Result<u32, AllocError>
-        ensures value { IfOk result (λ owes. owes ≡ option_map_or (slot_owed (attempts_max (plan_in_force self.now) d)) (slot self.now number d) 0) }
+        ensures value { IfOk result (λ owes.
+            owes ≡ option_map_or (slot_owed (attempts_max (plan_in_force self.now) d)) (slot self.now number d) 0) }
         ensures bound { IfOk result (λ owes. owes ≤ 202) }
     {
         match self.slot(number, d)? {
@@ -119,7 +120,8 @@ impl SequentialBook {
 
     /// What the slots of a message owe.
     fn message_owes(&self, number: u32) -> Result<u64, AllocError>
-        ensures value { IfOk result (λ owes. owes ≡ message_total (λ d. slot_owed (attempts_max (plan_in_force self.now) d)) (slot self.now number)) }
+        ensures value { IfOk result (λ owes. owes
+            ≡ message_total (λ d. slot_owed (attempts_max (plan_in_force self.now) d)) (slot self.now number)) }
         ensures bound { IfOk result (λ owes. owes ≤ 6464) }
     {
         let mut owes = 0;
