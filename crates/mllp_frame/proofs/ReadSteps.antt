@@ -105,6 +105,3 @@ pub on_err_always : {T E : Type 0} {P : Type 0} (r : Result T E) → P → OnErr
 on_err_always (Ok x) p = tt
 on_err_always (Err e) p = p
 
-pub on_err_weaker : {T E : Type 0} {P Q : Type 0} (r : Result T E) → (P → Q) → OnErr r P → OnErr r Q
-on_err_weaker (Ok x) f p = tt
-on_err_weaker (Err e) f p = f p

@@ -50,7 +50,7 @@ fn are_plain(piece: &[u8], at: usize) -> bool
     requires { at + 64 ≤ length piece.now }
     ensures { IsTrue result → Nowhere (Passes (is_byte2 start_block end_block) piece.now) at (at + 64) }
 {
-    lacks(piece, at, START_BLOCK) && lacks(piece, at, END_BLOCK)
+    lacks(piece, at, START_BLOCK) & lacks(piece, at, END_BLOCK)
 }
 
 /// How many of the 64 bytes from an index on come before a byte; all 64 where it is not among them.
@@ -69,15 +69,13 @@ fn before_byte(piece: &[u8], at: usize, byte: u8) -> usize
     }
 }
 
-/// The index of the first framing byte among the 64 bytes from an index on.
-#[inline(always)]
+/// The index of the first framing byte among the 64 bytes from an index on. It is a function of its own so that the loop that
+/// passes bytes by 64 compares them alone, and makes no bits.
+#[inline(never)]
 fn find_among(piece: &[u8], at: usize) -> Option<usize>
     requires { at + 64 ≤ length piece.now }
     ensures { IsFirst (Passes (is_byte2 start_block end_block) piece.now) at (at + 64) result }
 {
-    if are_plain(piece, at) {
-        return None;
-    }
     let before = before_byte(piece, at, START_BLOCK).min(before_byte(piece, at, END_BLOCK));
     if before < LANES {
         Some(at + before)
@@ -93,7 +91,9 @@ fn find_in_lanes(piece: &[u8]) -> Option<usize>
 {
     let mut at = 0;
     'lanes: while piece.len() - at >= LANES {
-        if let Some(found) = find_among(piece, at) {
+        if !are_plain(piece, at)
+            && let Some(found) = find_among(piece, at)
+        {
             return Some(found);
         }
         at += LANES;
@@ -101,15 +101,26 @@ fn find_in_lanes(piece: &[u8]) -> Option<usize>
     find_among(piece, piece.len() - LANES)
 }
 
-/// The index of the first framing byte. It exists for speed: a framing byte that the piece begins with is seen at once, and
-/// `memchr2`, which takes some 100 instructions to find a byte among the next 64, searches shorter pieces alone.
-#[inline]
+/// The index of the first framing byte. `memchr2`, which takes some 100 instructions to find a byte among the next 64, searches
+/// shorter pieces alone.
+#[inline(never)]
+fn find_later(piece: &[u8]) -> Option<usize>
+    ensures { IsFirstByte (is_byte2 start_block end_block) piece.now result }
+{
+    if piece.len() >= LANES {
+        find_in_lanes(piece)
+    } else {
+        memchr2(START_BLOCK, END_BLOCK, piece)
+    }
+}
+
+/// The index of the first framing byte. It exists for speed: one that the piece begins with is seen without a search.
+#[inline(always)]
 pub(crate) fn find_framing(piece: &[u8]) -> Option<usize>
     ensures { IsFirstByte (is_byte2 start_block end_block) piece.now result }
 {
     match piece {
         [START_BLOCK | END_BLOCK, ..] => Some(0),
-        _ if piece.len() >= LANES => find_in_lanes(piece),
-        _ => memchr2(START_BLOCK, END_BLOCK, piece),
+        _ => find_later(piece),
     }
 }

@@ -1,10 +1,10 @@
 use Rattle.std.proofs.Common.{◌≡◌, ◌++◌, [], map, subst, ap, arith}
-use Rattle.std.proofs.lemmas.Result.{IfOk-weaker}
+use Rattle.std.proofs.lemmas.Result.{IfOk-weaker, on_err_weaker}
 use Rattle.mllp_frame.specs.inner.Event.{event_of}
 use Rattle.mllp_frame.specs.Framing.{blocks}
 use Rattle.mllp_frame.specs.inner.Framed.{AddsFront}
 use Rattle.mllp_frame.specs.inner.Stage.{Reads, open_block}
-use Rattle.mllp_frame.proofs.ReadSteps.{reads_on, reads_front, on_err_weaker}
+use Rattle.mllp_frame.proofs.ReadSteps.{reads_on, reads_front}
 use Rattle.mllp_frame.proofs.Steps.{no_start, some_start}
 use Rattle.mllp_frame.proofs.stage.read_outside.Goals as goal
 
