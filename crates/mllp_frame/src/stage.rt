@@ -60,11 +60,12 @@ fn read_ended<'a>(
     ensures nearer { IfOk result (λ next. work next.0 next.1.now < 2 * length piece.now + 1) }
     ensures err { OnErr result (events.new.items ≡ events.old.items) }
 {
+    events.reserve(1)?;
     if piece[0] != CARRIAGE_RETURN {
-        events.push_back(FrameEvent::Broken(Break::BadEnd))?;
+        events.push_back_reserved(FrameEvent::Broken(Break::BadEnd));
         return Ok((Stage::Outside, piece));
     }
-    events.push_back(closed(bytes))?;
+    events.push_back_reserved(closed(bytes));
     Ok((Stage::Outside, &piece[1..]))
 }
 
@@ -179,8 +180,9 @@ fn take_block(
     if data[at] != END_BLOCK || data[at + 1] != CARRIAGE_RETURN {
         return Ok(0);
     }
+    events.reserve(1)?;
     let bytes = Vec::from_slice(alloc, &data[..at])?;
-    events.push_back(FrameEvent::Block(bytes))?;
+    events.push_back_reserved(FrameEvent::Block(bytes));
     Ok(at + 3)
 }
 
