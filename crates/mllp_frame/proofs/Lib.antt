@@ -11,3 +11,4 @@ pub mod DataLaws
 pub mod Rows
 pub mod OneByte
 pub mod Continuing
+pub mod Lanes

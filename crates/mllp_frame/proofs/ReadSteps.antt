@@ -1,9 +1,10 @@
 -- What the steps of a framer read.
-use Rattle.std.proofs.Common.{◌≡◌, ℕ, false, ◌==◌, List, [], ◌∷◌, ◌++◌, Some, refl, sym, ap, ◌∙◌, subst, append_assoc, append-nil}
+use Rattle.std.proofs.Common.{◌≡◌, ℕ, false, ◌==◌, List, [], ◌∷◌, ◌++◌, Some, Result, Ok, Err, OnErr, refl, sym, ap, ◌∙◌, subst, append_assoc, append-nil}
 use Rattle.mllp_frame.specs.declared.Break.TheVariants.{NewStart, BadEnd}
 use Rattle.mllp_frame.specs.Event.{FramingEvent, broken}
 use Rattle.mllp_frame.specs.Framing.{start_block, end_block, carriage_return, ended_block, decision, block_outcome, blocks}
 use Rattle.mllp_frame.specs.inner.Framing.{shortened, open_end, begun_block, ending_block}
+use Rattle.mllp_frame.specs.inner.Framed.{AddsFront}
 use Rattle.mllp_frame.specs.inner.Stage.{Reads}
 use Rattle.mllp_frame.proofs.Cuts.{Plain, Plain-append, NoStart, NoStart-plain, NoStart-append, outcome_of-cut, blocks-quiet, open_end-quiet}
 use Rattle.mllp_frame.proofs.Appending.{GoesOn, goes_on_plain, blocks-resumed, open_end-resumed, blocks-decided, open_end-closed, blocks-none, open_end-none}
@@ -18,6 +19,14 @@ module _ (old : List FramingEvent) where
     events = two.events ∙ ap (λ l. l ++ two.added) one.events ∙ append_assoc old one.added two.added;
     front = one.front ∙ ap (λ l. one.added ++ l) two.front ∙ sym (append_assoc one.added two.added (blocks c));
     end = one.end ∙ two.end;
+  }
+
+  pub reads_front : (new last : List FramingEvent) (a b : List ℕ) → Reads old new a b → AddsFront new last (blocks b) → AddsFront old last (blocks a)
+  reads_front new last a b one more = record {
+    added = one.added ++ more.added;
+    missed = more.missed;
+    grows = more.grows ∙ ap (λ l. l ++ more.added) one.events ∙ append_assoc old one.added more.added;
+    front = one.front ∙ ap (λ l. one.added ++ l) more.front ∙ sym (append_assoc one.added more.added more.missed);
   }
 
   -- nothing is decided
@@ -91,3 +100,8 @@ module _ (old : List FramingEvent) where
       (outcome_of-cut d (end_block ∷ c ∷ rest) plain refl ∙ decision-bad d rest c other)
       (ap blocks front ∙ blocks-quiet (d ++ end_block ∷ []) (c ∷ rest) quiet)
       (ap open_end front ∙ open_end-quiet (d ++ end_block ∷ []) (c ∷ rest) quiet))
+
+pub on_err_always : {T E : Type 0} {P : Type 0} (r : Result T E) → P → OnErr r P
+on_err_always (Ok x) p = tt
+on_err_always (Err e) p = p
+

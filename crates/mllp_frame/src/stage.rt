@@ -1,9 +1,10 @@
 //! How a framer reads a piece of its stream: outside of blocks, in a block's data, and behind an end block character.
 
-ghost use Rattle.std.specs.Prelude.{◌≡◌, ◌+◌, ◌*◌, ◌<◌, ◌≤◌, List, ◌++◌, drop, length, map, OnOk, OnErr, IfOk, IsOk, IsOkAnd};
+ghost use Rattle.std.specs.Prelude.{◌≡◌, ◌≢◌, ◌+◌, ◌*◌, ◌<◌, ◌≤◌, List, ◌++◌, drop, length, map, slice_index, OnOk, OnErr, IfOk, IfSome, IsOk, IsOkAnd};
+ghost use Rattle.memchr.specs.Find.{IsFirstByte, is_byte2};
 ghost use Rattle.mllp_frame.specs.Event.{FramingEvent};
 ghost use Rattle.mllp_frame.specs.inner.Event.{event_of};
-ghost use Rattle.mllp_frame.specs.Framing.{blocks, ended_block};
+ghost use Rattle.mllp_frame.specs.Framing.{blocks, ended_block, start_block, end_block};
 ghost use Rattle.mllp_frame.specs.inner.Framing.{HasNoStart, least_too_long, shortened, begun_block, ending_block};
 ghost use Rattle.mllp_frame.specs.inner.Framed.{AddsFront};
 ghost use Rattle.mllp_frame.specs.inner.Stage.{Reads, HoldsShortData, IsQuiet, IsShortData, open_block, work};
@@ -59,11 +60,12 @@ fn read_ended<'a>(
     ensures nearer { IfOk result (λ next. work next.0 next.1.now < 2 * length piece.now + 1) }
     ensures err { OnErr result (events.new.items ≡ events.old.items) }
 {
+    events.reserve(1)?;
     if piece[0] != CARRIAGE_RETURN {
-        events.push_back(FrameEvent::Broken(Break::BadEnd))?;
+        events.push_back_reserved(FrameEvent::Broken(Break::BadEnd));
         return Ok((Stage::Outside, piece));
     }
-    events.push_back(closed(bytes))?;
+    events.push_back_reserved(closed(bytes));
     Ok((Stage::Outside, &piece[1..]))
 }
 
@@ -87,7 +89,40 @@ fn read_end<'a>(
     read_ended(bytes, events, piece)
 }
 
-/// Reads on in a block's data, up to the byte that ends or breaks it, and past the block's end where that is read too.
+/// Reads the part of a block's data up to its last start block character before another framing byte: each breaks the block and
+/// opens the next one. What is left is returned, with the index of its end block character, if it has one.
+///
+/// It exists for speed: no stage is kept between two start block characters, which saves some 120 instructions each.
+fn read_starts<'a>(
+    bytes: &mut Vec<u8>,
+    events: &mut VecDeque<FrameEvent>,
+    piece: &'a [u8],
+) -> Result<(&'a [u8], Option<usize>), AllocError>
+    requires { IsShortData bytes.old.items }
+    ensures reads { IfOk result (λ next.
+        Reads (map event_of events.old.items) (map event_of events.new.items)
+        (begun_block bytes.old.items ++ piece.now) (begun_block bytes.new.items ++ next.0.now)) }
+    ensures short { OnOk result (IsShortData bytes.new.items) }
+    ensures first { IfOk result (λ next. IsFirstByte (is_byte2 start_block end_block) next.0.now next.1) }
+    ensures ends { IfOk result (λ next. IfSome next.1 (λ at. slice_index next.0.now at ≢ start_block)) }
+    ensures nearer { IfOk result (λ next. length next.0.now ≤ length piece.now) }
+    ensures err { OnErr result (AddsFront (map event_of events.old.items) (map event_of events.new.items)
+        (blocks (begun_block bytes.old.items ++ piece.now))) }
+{
+    let mut rest = piece;
+    'starts: loop {
+        let at = match find_framing(rest) {
+            Some(at) if rest[at] == START_BLOCK => at,
+            end => return Ok((rest, end)),
+        };
+        events.reserve(1)?;
+        events.push_back_reserved(FrameEvent::Broken(Break::NewStart));
+        bytes.clear();
+        rest = &rest[at + 1..];
+    }
+}
+
+/// Reads on in a block's data, up to its end or the piece's, and past the block's end where that is read too.
 fn read_inside<'a>(
     mut bytes: Vec<u8>,
     events: &mut VecDeque<FrameEvent>,
@@ -100,21 +135,18 @@ fn read_inside<'a>(
     ensures short { IfOk result (λ next. HoldsShortData next.0) }
     ensures nearer { IfOk result (λ next. 0 < length piece.now → work next.0 next.1.now < 2 * length piece.now) }
     ensures most { IfOk result (λ next. work next.0 next.1.now ≤ 2 * length piece.now) }
-    ensures err { OnErr result (events.new.items ≡ events.old.items) }
+    ensures err { OnErr result (AddsFront (map event_of events.old.items) (map event_of events.new.items)
+        (blocks (begun_block bytes.items ++ piece.now))) }
 {
-    match find_framing(piece) {
+    let (rest, end) = read_starts(&mut bytes, events, piece)?;
+    match end {
         None => {
-            keep(&mut bytes, piece)?;
+            keep(&mut bytes, rest)?;
             Ok((Stage::Inside(bytes), &[]))
         }
-        Some(at) if piece[at] == START_BLOCK => {
-            events.push_back(FrameEvent::Broken(Break::NewStart))?;
-            bytes.clear();
-            Ok((Stage::Inside(bytes), &piece[at + 1..]))
-        }
         Some(at) => {
-            keep(&mut bytes, &piece[..at])?;
-            read_end(bytes, events, &piece[at + 1..])
+            keep(&mut bytes, &rest[..at])?;
+            read_end(bytes, events, &rest[at + 1..])
         }
     }
 }
@@ -148,8 +180,9 @@ fn take_block(
     if data[at] != END_BLOCK || data[at + 1] != CARRIAGE_RETURN {
         return Ok(0);
     }
+    events.reserve(1)?;
     let bytes = Vec::from_slice(alloc, &data[..at])?;
-    events.push_back(FrameEvent::Block(bytes))?;
+    events.push_back_reserved(FrameEvent::Block(bytes));
     Ok(at + 3)
 }
 
@@ -163,7 +196,7 @@ fn read_outside<'a>(
         Reads (map event_of events.old.items) (map event_of events.new.items) piece.now (open_block next.0 ++ next.1.now)) }
     ensures short { IfOk result (λ next. HoldsShortData next.0) }
     ensures nearer { IfOk result (λ next. 0 < length piece.now → work next.0 next.1.now < 2 * length piece.now) }
-    ensures err { OnErr result (events.new.items ≡ events.old.items) }
+    ensures err { OnErr result (AddsFront (map event_of events.old.items) (map event_of events.new.items) (blocks piece.now)) }
     ensures quiet { HasNoStart piece.now → IsOkAnd result (λ next. IsQuiet (open_block next.0) next.1.now) }
 {
     let taken = take_block(alloc, events, piece)?;
@@ -189,7 +222,8 @@ fn advance<'a>(
         Reads (map event_of events.old.items) (map event_of events.new.items) (open_block stage ++ piece.now) (open_block next.0 ++ next.1.now)) }
     ensures short { IfOk result (λ next. HoldsShortData next.0) }
     ensures nearer { IfOk result (λ next. work next.0 next.1.now < work stage piece.now) }
-    ensures err { OnErr result (events.new.items ≡ events.old.items) }
+    ensures err { OnErr result (AddsFront (map event_of events.old.items) (map event_of events.new.items)
+        (blocks (open_block stage ++ piece.now))) }
     ensures quiet { IsQuiet (open_block stage) piece.now → IsOkAnd result (λ next. IsQuiet (open_block next.0) next.1.now) }
 {
     match stage {

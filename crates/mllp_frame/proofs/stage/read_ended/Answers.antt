@@ -6,10 +6,10 @@ use Rattle.mllp_frame.proofs.stage.read_ended.Goals as goal
 
 pub returns-then-piece-ne-CARRIAGE_RETURN-clause-reads : goal.returns-then-piece-ne-CARRIAGE_RETURN-clause-reads
 returns-then-piece-ne-CARRIAGE_RETURN-clause-reads c =
-    rw (c.in_ok-push_back.ensures.items, map-append)
+    rw (c.push_back_reserved.ensures.items, c.in_ok-reserve.ensures.items, map-append)
     (bad_end (map event_of c.args.events.now.items) c.args.piece.now c.args.bytes.items c.requires.short c.requires.some c.if-piece-ne-CARRIAGE_RETURN.true)
 
 pub returns-clause-reads : goal.returns-clause-reads
 returns-clause-reads c =
-    rw (c.in_ok-push_back-2.ensures.items, map-append, c.closed.ensures)
+    rw (c.push_back_reserved-2.ensures.items, c.in_ok-reserve.ensures.items, map-append, c.closed.ensures)
     (whole_block (map event_of c.args.events.now.items) c.args.piece.now c.args.bytes.items c.requires.short c.requires.some c.if-piece-ne-CARRIAGE_RETURN.false)

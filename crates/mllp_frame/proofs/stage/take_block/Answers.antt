@@ -12,5 +12,5 @@ returns-clause-reads c =
     let found = c.in-Some.ensures in
     let some : 0 < length piece = omega arith in
     let front = first_of old piece start_block some c.if-piece-ne-START_BLOCK.false in
-    rw (c.in_ok-push_back.ensures.items, map-append, c.in_ok-bytes.ensures.items)
+    rw (c.push_back_reserved.ensures.items, c.in_ok-reserve.ensures.items, map-append, c.in_ok-bytes.ensures.items)
     (taken_block old piece (behind piece 1) c.in-Some.at front found.0 (omega (arith, length-take c.in-Some.at (behind piece 1), c.if-at-gt-DATA_MAX.false)) (omega (arith, c.if-at-data.false)) c.if-data-at-ne-END_BLOCK.false c.if-data-at-ne-CARRIAGE_RETURN.false)
