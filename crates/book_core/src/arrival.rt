@@ -14,13 +14,12 @@ ghost use Rattle.event_log.specs.Room.{committed_by_new};
 ghost use Rattle.book_core.specs.inner.Parts.{KeysAgree};
 ghost use Rattle.book_core.specs.inner.Sending.{AddsGain, AddsRow, HasRoomFor, IsAccepting, IsAddition, goes_to, has_key};
 
-use crate::letter::Outbound;
+use crate::letter::{BookRows, Outbound};
 use dest_queue::{Queued, Slots};
 use dup_index::{Key, Keys};
 use event_log::{Log, Told, committed_by_new, told_first};
 use hl7_head::Cause;
 use judge_core::{Deliveries, Delivery, Judged, Text, TextPiece, Verdict};
-use row_store::RowStore;
 use std::alloc::{AllocError, Global};
 
 /// The answer to a message: its key is looked up before its verdict is used.
@@ -135,7 +134,7 @@ fn first_item(
 }
 
 /// Adds the row of a message, which waits wherever it goes.
-fn add_row<S: RowStore<Queued<Outbound>>>(
+fn add_row<S: BookRows>(
     alloc: Global,
     rows: &mut S,
     number: u32,
@@ -172,7 +171,7 @@ fn key_to_add(alloc: Global, keys: &mut Keys, key: &Key) -> Result<Key, AllocErr
 /// # Errors
 ///
 /// Where memory is refused; rows and keys are as they were.
-pub(crate) fn add_gain<S: RowStore<Queued<Outbound>>>(
+pub(crate) fn add_gain<S: BookRows>(
     alloc: Global,
     rows: &mut S,
     keys: &mut Keys,

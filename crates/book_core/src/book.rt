@@ -26,13 +26,13 @@ ghost use Rattle.book_core.specs.inner.Sending.{IsAddition, goes_to, owed_waitin
 use crate::arrival::{Addition, add_gain, gain_of, owed_by, told};
 use crate::dispatch::{awaits_ack, owed_waiting, payload};
 use crate::event_counts::{count_arrival, count_cancelled, count_settled};
-use crate::letter::{Job, Outbound};
+use crate::letter::{BookRows, Job, Outbound};
 use crate::pruning::{first_kept, forget_rows, prune_refusal, recall_since, unremembered};
 use crate::questions::{Front, first_queued, is_tight};
 use crate::receipt::{NotBooked, Receipt};
 use dest_queue::{
-    Outcome, Queued, SettleRefusal, SlotState, begin_attempt, cancel_waiting, front_state,
-    settle_slot, slot_of,
+    Outcome, SettleRefusal, SlotState, begin_attempt, cancel_waiting, front_state, settle_slot,
+    slot_of,
 };
 use dup_index::Keys;
 use event_log::{
@@ -43,7 +43,7 @@ use event_log::{
 use hl7_head::Moment;
 use judge_core::{Judged, Text, TextPiece};
 use plan_text::Plan;
-use row_store::{QUEUES, RowStore};
+use row_store::QUEUES;
 use stat_count::Counts;
 use std::alloc::{AllocError, Global};
 use std::hash::RandomState;
@@ -53,7 +53,7 @@ use std::sync::Arc;
 /// All that was booked, and what is kept beside it so that the next answer is found without reading it again: a row for
 /// each accepted message, the keys by which repeats are known, the statistics, and how many attempts are under way.
 #[derive(Drop)]
-pub struct Book<S: RowStore<Queued<Outbound>>> {
+pub struct Book<S: BookRows> {
     alloc: Global,
     log: Log,
     rows: S,
@@ -62,7 +62,7 @@ pub struct Book<S: RowStore<Queued<Outbound>>> {
     flights: u32,
 }
 
-impl<S: RowStore<Queued<Outbound>>> Model for Book<S> {
+impl<S: BookRows> Model for Book<S> {
     ghost use Rattle.event_log.specs.History.{History};
     ghost use Rattle.event_log.specs.inner.Coding.{history_code};
     ghost use Rattle.book_core.specs.inner.Parts.{IsKept};
@@ -76,7 +76,7 @@ impl<S: RowStore<Queued<Outbound>>> Model for Book<S> {
     ghost invariant = { λ b. IsKept b.log.history (S.rows b.rows) b.keys.known b.counts b.flights b.log.room };
 }
 
-impl<S: RowStore<Queued<Outbound>>> Book<S> {
+impl<S: BookRows> Book<S> {
     /// An empty book that may hold `events_max` entries. Its keys are hashed by `hasher`.
     pub fn new(alloc: Global, plan: Arc<Plan>, events_max: u32, hasher: RandomState) -> Book<S>
         requires some { 1 ≤ events_max }

@@ -3,8 +3,10 @@
 ghost use Rattle.std.specs.Prelude.{◌≡◌, IfOk};
 ghost use Rattle.std.specs.Option.{option_map_or};
 
+use dest_queue::Queued;
 use event_log::Ticket;
 use judge_core::{Deliveries, Text, TextPiece};
+use row_store::RowStore;
 use std::alloc::AllocError;
 
 /// What a book keeps of an accepted message: the bytes received, its control id, and the text for each destination.
@@ -21,6 +23,11 @@ pub struct Outbound {
     /// Where it goes, and the text for each destination.
     pub deliveries: Deliveries,
 }
+
+/// A store of a book's rows: what it keeps of each accepted message, in the queues of the message's destinations.
+pub trait BookRows: RowStore<Queued<Outbound>> {}
+
+impl<S: RowStore<Queued<Outbound>>> BookRows for S {}
 
 impl Outbound {
     /// A letter that shares what is sent with its arrival.

@@ -17,6 +17,6 @@ pub use event_log::{
     PruneRefusal, TakeRefusal, Ticket, Told,
 };
 pub use laws::three_sums;
-pub use letter::{Job, Outbound};
+pub use letter::{BookRows, Job, Outbound};
 pub use questions::{Front, is_tight};
 pub use receipt::{NotBooked, Receipt};

@@ -11,12 +11,11 @@ ghost use Rattle.event_log.specs.inner.Legal.{IsSound};
 ghost use Rattle.book_core.specs.inner.Parts.{RowsAgree};
 ghost use Rattle.book_core.specs.inner.Pruning.{LeavesOut, left_out, lesser, since};
 
-use crate::letter::Outbound;
+use crate::letter::{BookRows, Outbound};
 use crate::questions::first_queued;
 use dest_queue::{Queued, SlotState, Slots};
 use event_log::{Entry, Log, PRUNINGS_MAX, PruneRefusal, Remembered, Told};
 use judge_core::Text;
-use row_store::RowStore;
 use stat_count::{Counts, DESTINATIONS};
 use std::alloc::{AllocError, Global};
 
@@ -32,7 +31,7 @@ pub(crate) fn lesser(a: Option<u32>, b: Option<u32>) -> Option<u32>
 }
 
 /// Why the messages below `before` aren't forgotten, before memory is requested.
-pub(crate) fn prune_refusal<S: RowStore<Queued<Outbound>>>(
+pub(crate) fn prune_refusal<S: BookRows>(
     log: &Log,
     rows: &mut S,
     before: u32,
@@ -52,7 +51,7 @@ pub(crate) fn prune_refusal<S: RowStore<Queued<Outbound>>>(
 }
 
 /// The number of the first message that isn't forgotten, or of the next one where all are.
-pub(crate) fn first_kept<S: RowStore<Queued<Outbound>>>(log: &Log, rows: &S) -> u32
+pub(crate) fn first_kept<S: BookRows>(log: &Log, rows: &S) -> u32
     requires sound { IsSound log.now.history }
     requires agree { RowsAgree log.now.history (S.rows rows.now) }
     ensures count { result + length (S.rows rows.now) ≡ message_count log.now.history }
@@ -62,7 +61,7 @@ pub(crate) fn first_kept<S: RowStore<Queued<Outbound>>>(log: &Log, rows: &S) -> 
 }
 
 /// Drops the rows of the messages below `before`, where none is below `first`.
-pub(crate) fn forget_rows<S: RowStore<Queued<Outbound>>>(rows: &mut S, first: u32, before: u32)
+pub(crate) fn forget_rows<S: BookRows>(rows: &mut S, first: u32, before: u32)
     requires { All (λ row. first ≤ row.number) (S.rows rows.old) }
     ensures { S.rows rows.new ≡ filter (λ row. not (nat_lt row.number before)) (S.rows rows.old) }
 {
@@ -79,7 +78,7 @@ fn is_kept(told: Told) -> bool
 }
 
 /// What is kept of the message that was accepted with this reply, if it is such a reply and the message isn't forgotten.
-fn message_told<S: RowStore<Queued<Outbound>>>(rows: &S, told: Told) -> Option<&Queued<Outbound>>
+fn message_told<S: BookRows>(rows: &S, told: Told) -> Option<&Queued<Outbound>>
     ensures { option_copied result ≡ option_and_then (λ number. item_at number (S.rows rows.now)) (number_told told) }
 {
     match told {
@@ -89,7 +88,7 @@ fn message_told<S: RowStore<Queued<Outbound>>>(rows: &S, told: Told) -> Option<&
 }
 
 /// An arrival as it is remembered from now on, with the deliveries and the slots of its message.
-fn recall<S: RowStore<Queued<Outbound>>>(
+fn recall<S: BookRows>(
     alloc: Global,
     rows: &S,
     place: usize,
@@ -109,7 +108,7 @@ fn recall<S: RowStore<Queued<Outbound>>>(
 }
 
 /// What is remembered from now on of the entry at an index: an arrival answered `Accepted` or `Filtered`.
-fn recall_at<S: RowStore<Queued<Outbound>>>(
+fn recall_at<S: BookRows>(
     alloc: Global,
     log: &Log,
     rows: &S,
@@ -132,7 +131,7 @@ fn recall_at<S: RowStore<Queued<Outbound>>>(
 }
 
 /// The arrivals remembered so far whose index is `floor` or a later one, as they are remembered from now on.
-fn recall_remembered<S: RowStore<Queued<Outbound>>>(
+fn recall_remembered<S: BookRows>(
     alloc: Global,
     log: &Log,
     rows: &S,
@@ -160,7 +159,7 @@ fn recall_remembered<S: RowStore<Queued<Outbound>>>(
 }
 
 /// Adds what is remembered from now on of the entries with the index `floor` or a later one.
-fn recall_entries<S: RowStore<Queued<Outbound>>>(
+fn recall_entries<S: BookRows>(
     alloc: Global,
     log: &Log,
     rows: &S,
@@ -187,7 +186,7 @@ fn recall_entries<S: RowStore<Queued<Outbound>>>(
 /// # Errors
 ///
 /// Where memory is refused.
-pub(crate) fn recall_since<S: RowStore<Queued<Outbound>>>(
+pub(crate) fn recall_since<S: BookRows>(
     alloc: Global,
     log: &Log,
     rows: &S,

@@ -6,10 +6,10 @@ ghost use Rattle.event_log.specs.History.{History};
 ghost use Rattle.book_core.specs.inner.Parts.{RowsAgree};
 ghost use Rattle.book_core.specs.inner.Questions.{first_live};
 
-use crate::letter::Outbound;
+use crate::letter::BookRows;
 use crate::pruning::lesser;
-use dest_queue::{Queued, SlotState};
-use row_store::{QUEUES, RowStore};
+use dest_queue::SlotState;
+use row_store::QUEUES;
 
 /// A message in the queue of a destination, with its state there.
 #[derive(Clone, Copy, Debug, PartialEq, Eq)]
@@ -21,7 +21,7 @@ pub struct Front {
 }
 
 /// The first message that is still to be delivered. It is the least at the front of a queue, so no row is searched.
-pub(crate) fn first_queued<S: RowStore<Queued<Outbound>>>(rows: &mut S) -> Option<u32>
+pub(crate) fn first_queued<S: BookRows>(rows: &mut S) -> Option<u32>
     ensures first { (h : History) → RowsAgree h (S.rows rows.old) → result ≡ first_live h }
     ensures unchanged { S.rows rows.new ≡ S.rows rows.old }
 {

@@ -5,20 +5,15 @@
 pub mod answers;
 pub mod words;
 
-use book_core::{Book, Outbound};
-use dest_queue::Queued;
+use book_core::{Book, BookRows};
 use plan_text::Plan;
 use play_script::shown;
-use row_store::RowStore;
 use stat_count::{CHANNELS, DESTINATIONS};
 use std::alloc::AllocError;
 use std::fmt::Write;
 
 /// Appends how full a book is.
-fn push_size<S: RowStore<Queued<Outbound>>>(
-    told: &mut String,
-    book: &Book<S>,
-) -> Result<(), AllocError> {
+fn push_size<S: BookRows>(told: &mut String, book: &Book<S>) -> Result<(), AllocError> {
     write!(
         told,
         "{} entries from {}, {} held, {} owed, {} messages from {}, {} prunings, {} deployments",
@@ -44,10 +39,7 @@ fn push_plan(told: &mut String, plan: &Plan) -> Result<(), AllocError> {
 }
 
 /// Appends what was counted of each channel on which anything arrived, and of each destination that anything goes to.
-fn push_counts<S: RowStore<Queued<Outbound>>>(
-    told: &mut String,
-    book: &Book<S>,
-) -> Result<(), AllocError> {
+fn push_counts<S: BookRows>(told: &mut String, book: &Book<S>) -> Result<(), AllocError> {
     let counts = book.counts();
     for channel in 0..CHANNELS {
         let here = counts.channel(channel);
@@ -66,7 +58,7 @@ fn push_counts<S: RowStore<Queued<Outbound>>>(
 }
 
 /// Appends the slots of a message.
-fn push_slots<S: RowStore<Queued<Outbound>>>(
+fn push_slots<S: BookRows>(
     told: &mut String,
     book: &Book<S>,
     number: u32,
@@ -80,10 +72,7 @@ fn push_slots<S: RowStore<Queued<Outbound>>>(
 }
 
 /// Appends what is kept of each message, and its slots.
-fn push_messages<S: RowStore<Queued<Outbound>>>(
-    told: &mut String,
-    book: &Book<S>,
-) -> Result<(), AllocError> {
+fn push_messages<S: BookRows>(told: &mut String, book: &Book<S>) -> Result<(), AllocError> {
     for number in 0..book.message_count() {
         if let Some(letter) = book.message(number) {
             let text = shown(*told.allocator(), letter.raw.as_slice())?;
@@ -100,10 +89,7 @@ fn push_messages<S: RowStore<Queued<Outbound>>>(
 }
 
 /// Appends the message at the front of each queue.
-fn push_fronts<S: RowStore<Queued<Outbound>>>(
-    told: &mut String,
-    book: &mut Book<S>,
-) -> Result<(), AllocError> {
+fn push_fronts<S: BookRows>(told: &mut String, book: &mut Book<S>) -> Result<(), AllocError> {
     for d in 0..DESTINATIONS {
         if let Some(front) = book.front(d) {
             write!(told, "; front of {d}: {front:?}")?;
@@ -117,10 +103,7 @@ fn push_fronts<S: RowStore<Queued<Outbound>>>(
 /// # Errors
 ///
 /// Where memory is refused.
-pub fn push_held<S: RowStore<Queued<Outbound>>>(
-    told: &mut String,
-    book: &Book<S>,
-) -> Result<(), AllocError> {
+pub fn push_held<S: BookRows>(told: &mut String, book: &Book<S>) -> Result<(), AllocError> {
     push_size(told, book)?;
     push_plan(told, book.plan())?;
     push_counts(told, book)?;
@@ -132,10 +115,7 @@ pub fn push_held<S: RowStore<Queued<Outbound>>>(
 /// # Errors
 ///
 /// Where memory is refused.
-pub fn push_book<S: RowStore<Queued<Outbound>>>(
-    told: &mut String,
-    book: &mut Book<S>,
-) -> Result<(), AllocError> {
+pub fn push_book<S: BookRows>(told: &mut String, book: &mut Book<S>) -> Result<(), AllocError> {
     push_held(told, book)?;
     push_fronts(told, book)
 }

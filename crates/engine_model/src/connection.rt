@@ -13,15 +13,13 @@ ghost use Rattle.engine_model.specs.Run.{silent};
 ghost use Rattle.engine_model.specs.Steps.{EndsWithin, ReadsOn};
 ghost use Rattle.engine_model.specs.inner.View.{IsFit, IsOpen, connection_of};
 
-use book_core::{Book, NotBooked, Outbound, Receipt};
+use book_core::{Book, BookRows, NotBooked, Receipt};
 use conn_core::{ConnectionId, Replies, book_and_reply};
-use dest_queue::Queued;
 use event_log::Told;
 use fixed_numbers::FRAME_EVENTS_MAX;
 use hl7_head::Moment;
 use judge_core::{Judged, Text, judge};
 use mllp_frame::{FrameEvent, Framer, longer_streams};
-use row_store::RowStore;
 use std::alloc::{AllocError, Global};
 
 /// A message that was answered.
@@ -72,7 +70,7 @@ fn told_by(outcome: &Result<Receipt, NotBooked>) -> Result<Told, NotBooked>
 
 /// Books a message that was judged by the plan in force, keeps its answer, for which room is made first, and sends its
 /// acknowledgments, each as a whole block; where memory is refused for one of them, those before it.
-fn answer_message<S: RowStore<Queued<Outbound>>>(
+fn answer_message<S: BookRows>(
     line: &ConnectionId,
     book: &mut Book<S>,
     judged: &Judged,
@@ -105,7 +103,7 @@ fn answer_message<S: RowStore<Queued<Outbound>>>(
 }
 
 /// Answers a block, if it is a message.
-fn answer_text<S: RowStore<Queued<Outbound>>>(
+fn answer_text<S: BookRows>(
     line: &ConnectionId,
     book: &mut Book<S>,
     raw: Vec<u8>,
@@ -130,7 +128,7 @@ fn answer_text<S: RowStore<Queued<Outbound>>>(
 }
 
 /// Handles an event: a broken block gets no answer.
-fn answer_event<S: RowStore<Queued<Outbound>>>(
+fn answer_event<S: BookRows>(
     line: &ConnectionId,
     book: &mut Book<S>,
     event: FrameEvent,
@@ -154,7 +152,7 @@ fn answer_event<S: RowStore<Queued<Outbound>>>(
 }
 
 /// Handles all events to come, up to the bound over the whole connection.
-fn answer_events<S: RowStore<Queued<Outbound>>>(
+fn answer_events<S: BookRows>(
     line: &ConnectionId,
     book: &mut Book<S>,
     framer: &mut Framer,
@@ -210,7 +208,7 @@ impl Connected {
     }
 
     /// Reads a piece. The connection has to end where this fails.
-    fn read<S: RowStore<Queued<Outbound>>>(
+    fn read<S: BookRows>(
         &mut self,
         alloc: Global,
         conn: u32,
@@ -249,7 +247,7 @@ impl Connected {
     }
 
     /// Hears a piece of its stream. A connection that has ended hears nothing.
-    pub fn hear<S: RowStore<Queued<Outbound>>>(
+    pub fn hear<S: BookRows>(
         &mut self,
         alloc: Global,
         conn: u32,

@@ -6,11 +6,9 @@ ghost use Rattle.engine_model.specs.inner.Converse.{CameInBlock, KeepsTo, step_o
 ghost use Rattle.engine_model.specs.inner.View.{turn_by};
 
 use crate::step::Step;
-use book_core::{Book, Entry, Outbound};
-use dest_queue::Queued;
+use book_core::{Book, BookRows, Entry};
 use hl7_head::Moment;
 use mllp_frame::write_block;
-use row_store::RowStore;
 use std::alloc::{AllocError, Global};
 use std::sync::Arc;
 
@@ -57,10 +55,7 @@ fn step_of(alloc: Global, entry: &Entry, first: Moment) -> Result<Step, AllocErr
 /// # Errors
 ///
 /// Where memory is refused, or a plan has more owners than can be counted.
-pub fn steps_of<S: RowStore<Queued<Outbound>>>(
-    alloc: Global,
-    book: &Book<S>,
-) -> Result<Vec<Step>, AllocError>
+pub fn steps_of<S: BookRows>(alloc: Global, book: &Book<S>) -> Result<Vec<Step>, AllocError>
     ensures steps { IfOk result (λ steps. map turn_by steps.items ≡ steps_of book.now) }
     ensures reached { IfOk result (λ steps. (channels : List ℕ) → KeepsTo channels book.now.entries →
         IsRunOf (map turn_by steps.items) book.now channels) }

@@ -12,12 +12,11 @@ ghost use Rattle.engine_model.specs.inner.View.{IsOpen, connection_of, turn_by, 
 
 use crate::connection::Connected;
 use crate::step::Step;
-use book_core::{Book, EVENTS_MAX, Outbound};
-use dest_queue::{Outcome, Queued};
+use book_core::{Book, BookRows, EVENTS_MAX};
+use dest_queue::Outcome;
 use event_log::Ticket;
 use hl7_head::Moment;
 use plan_text::Plan;
-use row_store::RowStore;
 use std::alloc::{AllocError, Global};
 use std::hash::RandomState;
 use std::marker::Model;
@@ -26,13 +25,13 @@ use std::sync::Arc;
 /// The whole engine on one thread: a book, and connections, numbered from 0. It holds the streams and the answers of
 /// all connections for its whole life.
 #[derive(Drop)]
-pub struct World<S: RowStore<Queued<Outbound>>> {
+pub struct World<S: BookRows> {
     alloc: Global,
     book: Book<S>,
     connections: Vec<Connected>,
 }
 
-impl<S: RowStore<Queued<Outbound>>> Model for World<S> {
+impl<S: BookRows> Model for World<S> {
     ghost use Rattle.engine_model.specs.inner.Coding.{run_code};
     ghost use Rattle.engine_model.specs.Run.{Run};
     ghost use Rattle.engine_model.specs.inner.View.{IsWorld, run_of};
@@ -46,7 +45,7 @@ impl<S: RowStore<Queued<Outbound>>> Model for World<S> {
     ghost invariant = { λ w. IsWorld w.book w.connections.items };
 }
 
-impl<S: RowStore<Queued<Outbound>>> World<S> {
+impl<S: BookRows> World<S> {
     /// A world with nothing booked yet, and a connection on each of these channels, on which nothing was received
     /// yet. The book may hold `events_max` entries, and its keys are hashed by `hasher`.
     ///

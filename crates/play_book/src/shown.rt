@@ -1,11 +1,10 @@
 //! How messages, receipts, jobs and entries are written.
 
-use book_core::{Book, Front, Job, Outbound, Receipt};
-use dest_queue::{Outcome, Queued, SlotState};
+use book_core::{Book, BookRows, Front, Job, Outbound, Receipt};
+use dest_queue::{Outcome, SlotState};
 use event_log::{Entry, Ticket, Told};
 use hl7_head::Moment;
 use plan_text::Plan;
-use row_store::RowStore;
 use std::alloc::{AllocError, Global};
 
 /// The bytes 0x0D of a message, as a script writes them.
@@ -81,7 +80,7 @@ pub(crate) fn letter_shown(
 /// # Errors
 ///
 /// Where memory is refused.
-pub(crate) fn gauge_shown<S: RowStore<Queued<Outbound>>>(
+pub(crate) fn gauge_shown<S: BookRows>(
     alloc: Global,
     book: &Book<S>,
 ) -> Result<String, AllocError> {
