@@ -9,6 +9,8 @@ use Rattle.hl7_head.specs.declared.ack.Cause.TheVariants.{UnsupportedType, Sourc
 use Rattle.hl7_head.specs.Header.{Msh, header, header_of, header_where}
 use Rattle.hl7_transform.specs.declared.fault.StepFault.{StepFault}
 use Rattle.hl7_transform.specs.Step.{after_steps}
+use Rattle.hl7_transform.specs.declared.step.Step.{Step}
+use Rattle.hl7_transform.specs.inner.View.{steps_view}
 use Rattle.std.specs.List.{list_any}
 use Rattle.plan_text.specs.Entries.{PlanEntry, ChannelEntry, RouteEntry}
 use Rattle.judge_core.specs.declared.delivery.Delivery.{Delivery}
@@ -100,6 +102,11 @@ verdict-stepped channel h t new good lets = rw (new, good, lets) refl
 pub stepped-routed : (routes : List RouteEntry) (r : Result Tree StepFault) (t : Tree) → Some t ≡ result_ok r → stepped routes r ≡ routed routes t
 stepped-routed routes (Ok u) t made = let same : u ≡ t = cc in ap (routed routes) same
 stepped-routed routes (Err stop) t made = absurd cc
+
+-- no steps change no message
+pub stepped-as-is : (steps : List Step) (t : Tree) → length steps ≡ 0 → Some t ≡ result_ok (after_steps (steps_view steps) t)
+stepped-as-is [] t none = refl
+stepped-as-is (step ∷ steps) t none = absurd (omega (arith, none))
 
 -- a message that they can't change as they say
 pub stepped-stopped : (routes : List RouteEntry) (r : Result Tree StepFault) → None ≡ result_ok r → stepped routes r ≡ Refuse SourceTransform

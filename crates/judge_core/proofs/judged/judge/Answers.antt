@@ -1,8 +1,8 @@
-use Rattle.std.proofs.Common.{◌≡◌, Bool, ℕ, List, Vec, Global, ◌<◌, ◌≤◌, ◌∙◌, Some, length, sym, ap, arith, rules}
+use Rattle.std.proofs.Common.{◌≡◌, ℕ, List, Vec, Global, ◌<◌, ◌≤◌, ◌∙◌, Some, length, sym, ap, arith, rules}
 use Rattle.std.specs.Prelude.{slice_get, option_copied, option_map}
 use Rattle.std.specs.Arc.{arc_value}
 use Rattle.std.specs.Result.{result_ok}
-use Rattle.er7_tree.specs.Tree.{Tree, tree}
+use Rattle.er7_tree.specs.Tree.{tree}
 use Rattle.hl7_head.specs.Header.{Msh, header}
 use Rattle.judge_core.specs.Judging.{verdict_of}
 use Rattle.plan_text.specs.Entries.{IsPlan}
