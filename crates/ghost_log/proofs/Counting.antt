@@ -26,6 +26,10 @@ module _ {X : Type 0} where
   all_front P [] ys h = All-nil P
   all_front P (x ∷ xs) ys h = All-cons P x xs (All-head P x (xs ++ ys) h) (all_front P xs ys (All-tail P x (xs ++ ys) h))
 
+  pub all_back : (P : X → Type 0) (xs ys : List X) → All P (xs ++ ys) → All P ys
+  all_back P [] ys h = h
+  all_back P (x ∷ xs) ys h = all_back P xs ys (All-tail P x (xs ++ ys) h)
+
   pub pairs_front : (R : X → X → Type 0) (xs ys : List X) → AllPairs R (xs ++ ys) → AllPairs R xs
   pairs_front R [] ys h = pairs_none R
   pairs_front R (x ∷ xs) ys h = AllPairs-cons R x xs (all_front (R x) xs ys (pairs_head R x (xs ++ ys) h)) (pairs_front R xs ys (pairs_tail R x (xs ++ ys) h))
@@ -34,26 +38,32 @@ module _ {X : Type 0} where
   pairs_back R [] ys h = h
   pairs_back R (x ∷ xs) ys h = pairs_back R xs ys (pairs_tail R x (xs ++ ys) h)
 
-  module _ {Y : Type 0} (f : X → Y) where
-    pub all_of_map : (P : Y → Type 0) (xs : List X) → All P (map f xs) → All (λ x. P (f x)) xs
-    all_of_map P [] h = All-nil (λ x. P (f x))
-    all_of_map P (x ∷ xs) h = All-cons (λ x. P (f x)) x xs (All-head P (f x) (map f xs) h) (all_of_map P xs (All-tail P (f x) (map f xs) h))
-
-    pub all_in_map : (P : Y → Type 0) (xs : List X) → All (λ x. P (f x)) xs → All P (map f xs)
-    all_in_map P [] h = All-nil P
-    all_in_map P (x ∷ xs) h = All-cons P (f x) (map f xs) (All-head (λ x. P (f x)) x xs h) (all_in_map P xs (All-tail (λ x. P (f x)) x xs h))
-
-    pub pairs_in_map : (R : Y → Y → Type 0) (xs : List X) → AllPairs (λ x y. R (f x) (f y)) xs → AllPairs R (map f xs)
-    pairs_in_map R [] h = λ i j d before inside. absurd (omega arith)
-    pairs_in_map R (x ∷ xs) h =
-        let S : X → X → Type 0 = λ x y. R (f x) (f y) in
-        AllPairs-cons R (f x) (map f xs) (all_in_map (R (f x)) xs (pairs_head S x xs h)) (pairs_in_map R xs (pairs_tail S x xs h))
-
   -- what holds of each element holds of the one at an index
   pub all_at : (P : X → Type 0) (xs : List X) (x : X) (k : ℕ) → All P xs → slice_get xs k ≡ Some x → P x
   all_at P [] x k h at = absurd cc
   all_at P (y ∷ ys) x zero h at = let same : y ≡ x = cc in subst P same (All-head P y ys h)
   all_at P (y ∷ ys) x (suc k) h at = all_at P ys x k (All-tail P y ys h) at
+
+module _ {X Y : Type 0} (f : X → Y) where
+  pub all_of_map : (P : Y → Type 0) (xs : List X) → All P (map f xs) → All (λ x. P (f x)) xs
+  all_of_map P [] h = All-nil (λ x. P (f x))
+  all_of_map P (x ∷ xs) h = All-cons (λ x. P (f x)) x xs (All-head P (f x) (map f xs) h) (all_of_map P xs (All-tail P (f x) (map f xs) h))
+
+  pub all_in_map : (P : Y → Type 0) (xs : List X) → All (λ x. P (f x)) xs → All P (map f xs)
+  all_in_map P [] h = All-nil P
+  all_in_map P (x ∷ xs) h = All-cons P (f x) (map f xs) (All-head (λ x. P (f x)) x xs h) (all_in_map P xs (All-tail (λ x. P (f x)) x xs h))
+
+  pub pairs_of_map : (R : Y → Y → Type 0) (xs : List X) → AllPairs R (map f xs) → AllPairs (λ x y. R (f x) (f y)) xs
+  pairs_of_map R [] h = λ i j d before inside. absurd (omega arith)
+  pairs_of_map R (x ∷ xs) h =
+      let S : X → X → Type 0 = λ x y. R (f x) (f y) in
+      AllPairs-cons S x xs (all_of_map (R (f x)) xs (pairs_head R (f x) (map f xs) h)) (pairs_of_map R xs (pairs_tail R (f x) (map f xs) h))
+
+  pub pairs_in_map : (R : Y → Y → Type 0) (xs : List X) → AllPairs (λ x y. R (f x) (f y)) xs → AllPairs R (map f xs)
+  pairs_in_map R [] h = λ i j d before inside. absurd (omega arith)
+  pairs_in_map R (x ∷ xs) h =
+      let S : X → X → Type 0 = λ x y. R (f x) (f y) in
+      AllPairs-cons R (f x) (map f xs) (all_in_map (R (f x)) xs (pairs_head S x xs h)) (pairs_in_map R xs (pairs_tail S x xs h))
 
 -- ---- numbers
 
