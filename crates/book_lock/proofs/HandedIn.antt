@@ -3,6 +3,7 @@ use Rattle.std.proofs.Common.{◌≡◌, ◌≢◌, ℕ, ◌+◌, ◌-◌, ◌<�
 use Rattle.std.specs.Prelude.{AllPairs, slice_get, sum_by, true}
 use Rattle.std.specs.List.{Contains}
 use Rattle.std.proofs.lemmas.List.{append-nil, map-append}
+use Rattle.std.proofs.Math.Seq.{take-append_seam}
 use Rattle.std.proofs.lemmas.List.Elements.{All-append, All-cons, All-nil}
 use Rattle.std.proofs.lemmas.Simd.{map-map}
 use Rattle.stat_count.specs.Sums.{arrivals, settlements, takes}
@@ -187,8 +188,4 @@ pub lent : {X : Type 0} (xs now new : List X) (n : ℕ) → now ≡ xs → lengt
 lent xs now new n is long same =
     let whole : new ≡ xs = same ∙ is in
     let count : n ≡ length xs = sym long ∙ ap length is in
-    ap (λ l. take n (l ++ drop (length l) xs)) whole ∙ (ap (λ m. take m (xs ++ drop (length xs) xs)) count ∙ take_front xs (drop (length xs) xs))
-  where
-    take_front : {X : Type 0} (xs ys : List X) → take (length xs) (xs ++ ys) ≡ xs
-    take_front [] ys = refl
-    take_front (x ∷ xs) ys = ap (λ l. x ∷ l) (take_front xs ys)
+    ap (λ l. take n (l ++ drop (length l) xs)) whole ∙ (ap (λ m. take m (xs ++ drop (length xs) xs)) count ∙ take-append_seam xs (drop (length xs) xs))

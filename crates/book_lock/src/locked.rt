@@ -14,7 +14,7 @@ ghost use Rattle.book_core.specs.Receiving.{IsReceipt, arrival_reply};
 ghost use Rattle.book_core.specs.Sending.{awaits_ack};
 ghost use Rattle.book_lock.specs.Rises.{AddsUp, arrivals_rise, settlements_rise, takes_rise};
 ghost use Rattle.book_lock.specs.inner.Rises.{with_book};
-ghost use Rattle.book_lock.specs.Log.{Arrives, Calls, Linearizes, Takes, IsCalled, IsPruned};
+ghost use Rattle.book_lock.specs.Log.{Arrives, Calls, Linearizes, Takes, IsCalled, IsPruneRefused, IsPruned, IsTidiedInLog};
 ghost use Rattle.book_lock.specs.Callers.{IsClosedBy};
 ghost use Rattle.book_lock.specs.inner.Shares.{with_settlement, with_take};
 ghost use Rattle.book_lock.specs.Shares.{seats_of};
@@ -446,6 +446,8 @@ impl<A: ArrivalLedger, T: Ledger, U: Ledger, S: RowStore<Queued<Outbound>>> Lock
         ensures settled { IfOk result (λ before. (n : ℕ) → n < before → is_live_message self.old.book n ≡ false) }
         ensures left { OnOk result (self.old.book.opening.prunings < 1000) }
         ensures refused { IfErr result (IsSettledRefusal self.old) }
+        ensures call { IfOk result (λ before. IsPruned A.opening before (Ok tt)) }
+        ensures refused_call { IfErr result (IsPruneRefused A.opening) }
         ensures err { OnErr result (self.new ≡ self.old) }
     {
         let before = self.settled_before(keep);
@@ -457,6 +459,7 @@ impl<A: ArrivalLedger, T: Ledger, U: Ledger, S: RowStore<Queued<Outbound>>> Lock
     fn tidy(&mut self, keep: u32) -> Tidying
         ensures tidying { IsTidying keep self.old result }
         ensures left { self.new ≡ left_by self.old result }
+        ensures in_log { IsTidiedInLog A.opening result }
     {
         if !self.book.is_tight() {
             return Tidying::NotTight;
@@ -484,6 +487,7 @@ impl<A: ArrivalLedger, T: Ledger, U: Ledger, S: RowStore<Queued<Outbound>>> Lock
     ) -> Tidied
         requires { IsTrue (is_bookable judged.now.raw) }
         ensures tidying { IsTidying keep self.old result.tidying }
+        ensures in_log { IsTidiedInLog A.opening result.tidying }
         ensures does { Does (arrive conn judged.now.channel judged.now.raw)
             (left_by self.old result.tidying).book self.new.book (arrival_reply result.receipt) }
         ensures memory { MemoryIsLast (arrive conn judged.now.channel judged.now.raw)

@@ -1,6 +1,6 @@
 //! The book that threads share, and its end.
 
-ghost use Rattle.std.specs.Prelude.{◌≡◌, ◌+◌, ◌-◌, ◌<◌, ◌≤◌, ◌↔◌, ◌⊎◌, ℕ, Some, All, length, map, vec_len, slice_get, IfOk, IfErr, IfSome, IsOk, OnOk, OnErr, IsTrue};
+ghost use Rattle.std.specs.Prelude.{◌≡◌, ◌+◌, ◌-◌, ◌<◌, ◌≤◌, ◌↔◌, ◌⊎◌, ℕ, Ok, Some, All, length, map, vec_len, slice_get, IfOk, IfErr, IfSome, IsOk, OnOk, OnErr, IsTrue};
 ghost use Rattle.std.specs.Arc.{arc_value};
 ghost use Rattle.judge_core.specs.Judging.{is_bookable};
 ghost use Rattle.stat_count.specs.Sums.{arrivals};
@@ -9,7 +9,7 @@ ghost use Rattle.event_log.specs.Counting.{counted};
 ghost use Rattle.event_log.specs.Event.{cancel, deploy, settle};
 ghost use Rattle.book_lock.specs.inner.Closing.{HandsBack};
 ghost use Rattle.book_lock.specs.Rises.{AddsUp};
-ghost use Rattle.book_lock.specs.Log.{Arrives, Calls, Linearizes, Takes, IsCalled, IsPruned};
+ghost use Rattle.book_lock.specs.Log.{Arrives, Calls, Linearizes, Takes, IsCalled, IsPruneRefused, IsPruned, IsTidiedInLog};
 ghost use Rattle.book_lock.specs.Callers.{IsClosedBy};
 ghost use Rattle.book_lock.specs.inner.Log.{new_seats};
 ghost use Rattle.book_lock.specs.inner.Shares.{no_calls, with_settlement, with_take};
@@ -331,6 +331,8 @@ impl<A: ArrivalLedger, T: Ledger, U: Ledger, S: RowStore<Queued<Outbound>>> Shar
     /// `TooMany` where `PRUNINGS_MAX` prunings were made, and then `NoMemory`. A refusal leaves the book as it was.
     pub fn prune_settled<H: Wait>(&self, rt: &H, keep: u32) -> Result<u32, PruneRefusal>
         ensures refused { IfErr result (λ e. (e ≡ PruneRefusal.TooMany) ⊎ (e ≡ PruneRefusal.NoMemory)) }
+        ensures call { IfOk result (λ before. IsPruned A.opening before (Ok tt)) }
+        ensures refused_call { IfErr result (IsPruneRefused A.opening) }
     {
         self.locked.lock(rt).prune_settled(keep)
     }
@@ -354,6 +356,7 @@ impl<A: ArrivalLedger, T: Ledger, U: Ledger, S: RowStore<Queued<Outbound>>> Shar
         ensures conn { IfOk result.receipt (λ receipt. receipt.conn ≡ conn) }
         ensures channel { IfOk result.receipt (λ receipt. receipt.channel ≡ judged.now.channel) }
         ensures raw { IfOk result.receipt (λ receipt. receipt.raw ≡ judged.now.raw) }
+        ensures tidying { IsTidiedInLog A.opening result.tidying }
         ensures call { Arrives A.opening conn judged.now
             desk.old.seat desk.new.seat result.receipt }
         ensures counted { OnOk result.receipt (desk.new.made ≡ desk.old.made + 1) }

@@ -1,5 +1,4 @@
 use Rattle.std.proofs.Common.{◌≡◌, ◌∙◌, ◌+◌, ◌-◌, List, sym, subst}
-use Rattle.event_log.specs.History.{History}
 use Rattle.book_lock.specs.Callers.{IsClosedBy}
 use Rattle.book_lock.specs.Log.{Linearizes}
 use Rattle.book_lock.specs.Rises.{AddsUp, SharedBook}
