@@ -22,7 +22,7 @@ use Rattle.dest_queue.specs.declared.Outcome.{Outcome}
 use Rattle.dest_queue.specs.declared.SettleRefusal.{SettleRefusal}
 use Rattle.dest_queue.specs.declared.SlotState.{SlotState}
 use Rattle.event_log.specs.declared.entry.Ticket.{Ticket}
-use Rattle.ghost_log.specs.Seats.{Agrees, entries_of}
+use Rattle.ghost_log.specs.Seats.{Agrees}
 use Rattle.ghost_log.specs.inner.Seats.{entries_by}
 use Rattle.ghost_log.proofs.Seats.{rest_none}
 use Rattle.book_lock.specs.declared.log_entry.LogEntry.{LogEntry}

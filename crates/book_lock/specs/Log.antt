@@ -19,6 +19,8 @@ use Rattle.book_core.specs.declared.receipt.Receipt.{Receipt}
 use Rattle.ghost_log.specs.Seats.{Agrees, entries_of}
 use Rattle.book_lock.specs.declared.log_entry.LogEntry.{LogEntry}
 use Rattle.book_lock.specs.declared.log_entry.LogEntry.TheVariants as log
+use Rattle.book_lock.specs.declared.tidying.Tidying.{Tidying}
+use Rattle.book_lock.specs.declared.tidying.Tidying.TheVariants.{NotTight, Pruned, Refused}
 
 -- ---- the log
 
@@ -116,6 +118,17 @@ pub record IsPruned (opening : History) (before : ℕ) (result : Result (Unit {0
   pub refused : IfErr result (λ refusal.
       (prune_answer (after_log opening entries) before ≡ Some refusal)
       ⊎ (prune_answer (after_log opening entries) before ≡ None) × (refusal ≡ prune_refusal.NoMemory))
+
+-- A pruning that the lock was to make, at some number, and that was refused.
+pub record IsPruneRefused (opening : History) (refusal : PruneRefusal) : Type 0 where
+  pub before : ℕ
+  pub call : IsPruned opening before (Err refusal)
+
+-- What was done about a tight book before an arrival, if anything, is a pruning that the lock made, or that was refused.
+abbrev pub IsTidiedInLog : History → Tidying → Type 0
+IsTidiedInLog opening NotTight = Unit {0}
+IsTidiedInLog opening (Pruned before) = IsPruned opening before (Ok tt)
+IsTidiedInLog opening (Refused refusal) = IsPruneRefused opening refusal
 
 -- ---- the end
 

@@ -1,6 +1,6 @@
 //! The book that threads share, and its end.
 
-ghost use Rattle.std.specs.Prelude.{◌≡◌, ◌+◌, ◌-◌, ◌<◌, ◌≤◌, ◌↔◌, ◌⊎◌, ℕ, Some, All, length, map, vec_len, slice_get, IfOk, IfErr, IfSome, IsOk, OnOk, OnErr, IsTrue};
+ghost use Rattle.std.specs.Prelude.{◌≡◌, ◌+◌, ◌-◌, ◌<◌, ◌≤◌, ◌↔◌, ◌⊎◌, ℕ, Ok, Some, All, length, map, vec_len, slice_get, IfOk, IfErr, IfSome, IsOk, OnOk, OnErr, IsTrue};
 ghost use Rattle.std.specs.Arc.{arc_value};
 ghost use Rattle.judge_core.specs.Judging.{is_bookable};
 ghost use Rattle.stat_count.specs.Sums.{arrivals};
@@ -9,8 +9,8 @@ ghost use Rattle.event_log.specs.Counting.{counted};
 ghost use Rattle.event_log.specs.Event.{cancel, deploy, settle};
 ghost use Rattle.book_lock.specs.inner.Closing.{HandsBack};
 ghost use Rattle.book_lock.specs.Rises.{AddsUp};
-ghost use Rattle.book_lock.specs.Log.{Arrives, Calls, Linearizes, Takes, IsCalled, IsPruned};
-ghost use Rattle.book_lock.specs.Outcomes.{IsAccountedFor};
+ghost use Rattle.book_lock.specs.Log.{Arrives, Calls, Linearizes, Takes, IsCalled, IsPruneRefused, IsPruned, IsTidiedInLog};
+ghost use Rattle.book_lock.specs.Callers.{IsClosedBy};
 ghost use Rattle.book_lock.specs.inner.Log.{new_seats};
 ghost use Rattle.book_lock.specs.inner.Shares.{no_calls, with_settlement, with_take};
 ghost use Rattle.book_lock.specs.Shares.{seats_of};
@@ -331,6 +331,8 @@ impl<A: ArrivalLedger, T: Ledger, U: Ledger, S: RowStore<Queued<Outbound>>> Shar
     /// `TooMany` where `PRUNINGS_MAX` prunings were made, and then `NoMemory`. A refusal leaves the book as it was.
     pub fn prune_settled<H: Wait>(&self, rt: &H, keep: u32) -> Result<u32, PruneRefusal>
         ensures refused { IfErr result (λ e. (e ≡ PruneRefusal.TooMany) ⊎ (e ≡ PruneRefusal.NoMemory)) }
+        ensures call { IfOk result (λ before. IsPruned A.opening before (Ok tt)) }
+        ensures refused_call { IfErr result (IsPruneRefused A.opening) }
     {
         self.locked.lock(rt).prune_settled(keep)
     }
@@ -354,6 +356,7 @@ impl<A: ArrivalLedger, T: Ledger, U: Ledger, S: RowStore<Queued<Outbound>>> Shar
         ensures conn { IfOk result.receipt (λ receipt. receipt.conn ≡ conn) }
         ensures channel { IfOk result.receipt (λ receipt. receipt.channel ≡ judged.now.channel) }
         ensures raw { IfOk result.receipt (λ receipt. receipt.raw ≡ judged.now.raw) }
+        ensures tidying { IsTidiedInLog A.opening result.tidying }
         ensures call { Arrives A.opening conn judged.now
             desk.old.seat desk.new.seat result.receipt }
         ensures counted { OnOk result.receipt (desk.new.made ≡ desk.old.made + 1) }
@@ -511,7 +514,8 @@ impl<A: ArrivalLedger, T: Ledger, U: Ledger, S: RowStore<Queued<Outbound>>> Shar
 
     /// Takes the book out of the lock, where the shares handed in add up to what rose in its statistics. Where all desks
     /// and stations are handed in, they do. The log accounts for what the book then says of each message: it is delivered
-    /// where a seat settled it so, and an attempt that was taken and not settled is in flight.
+    /// where a seat settled it so, and an attempt that was taken and not settled is in flight. Each arrival of the log was
+    /// booked at one of these desks, and each take and each settlement was made at one of these stations.
     ///
     /// # Errors
     ///
@@ -528,9 +532,8 @@ impl<A: ArrivalLedger, T: Ledger, U: Ledger, S: RowStore<Queued<Outbound>>> Shar
         ensures one_history { IfOk result (λ closed.
             Linearizes A.opening (A.parts + T.parts - 1)
             (seats_of desks.items stations.items) closed.book) }
-        ensures accounted { IfOk result (λ closed.
-            IsAccountedFor A.opening (A.parts + T.parts - 1)
-            (seats_of desks.items stations.items) closed.book) }
+        ensures closed { IfOk result (λ closed.
+            IsClosedBy A.opening (A.parts + T.parts - 1) desks.items stations.items closed.book) }
         ensures back { IfErr result (HandsBack self desks.items stations.items) }
     {
         let Shared {
@@ -540,7 +543,7 @@ impl<A: ArrivalLedger, T: Ledger, U: Ledger, S: RowStore<Queued<Outbound>>> Shar
         } = self;
         let mut locked = locked.into_inner();
         if locked.shares_add_up(&mut desks, &mut stations) {
-            return Ok(locked.close());
+            return Ok(locked.close(desks, stations));
         }
         Err(NotClosed::SharesMissing {
             shared: Shared {

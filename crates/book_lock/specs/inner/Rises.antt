@@ -1,5 +1,5 @@
 -- What proofs use beside the page Rises.
-use Rattle.std.specs.Prelude.{◌≡◌, ℕ, ◌+◌, ◌-◌, ◌≤◌, length}
+use Rattle.std.specs.Prelude.{◌≡◌, ℕ, ◌+◌, ◌≤◌, length}
 use Rattle.stat_count.specs.Statistics.{Statistics}
 use Rattle.stat_count.specs.Sums.{arrivals, settlements, takes}
 use Rattle.event_log.specs.History.{History, next_place, plan_in_force}
