@@ -30,15 +30,15 @@ use crate::status::{Gauge, Status};
 use crate::sums::{arrivals, settlements, takes};
 use crate::tidying::{Tidied, Tidying};
 use book_core::{
-    Book, CancelRefusal, DeployRefusal, Entry, Front, Job, NotBooked, Outbound, PruneRefusal,
+    Book, BookRows, CancelRefusal, DeployRefusal, Entry, Front, Job, NotBooked, PruneRefusal,
     Receipt, TakeRefusal, Ticket, three_sums,
 };
-use dest_queue::{Outcome, Queued, SettleRefusal, SlotState};
+use dest_queue::{Outcome, SettleRefusal, SlotState};
 use ghost_log::{GhostLog, Naming, Roll, Seat};
 use hl7_head::Moment;
 use judge_core::Judged;
 use plan_text::Plan;
-use row_store::{QUEUES, RowStore};
+use row_store::QUEUES;
 use stat_count::Counts;
 use std::marker::{Brand, Model};
 use std::sync::ledger::{Ledger, Share};
@@ -80,7 +80,7 @@ impl ArrivalLedger for Brand {
 /// The book, with the log of all that was done to it since it was shared, and the ledgers of its arrivals, takes and
 /// settlements since then. What is done to it for no desk or station is logged by the seat that is kept here.
 #[derive(Drop)]
-pub struct Locked<A: ArrivalLedger, T: Ledger, U: Ledger, S: RowStore<Queued<Outbound>>> {
+pub struct Locked<A: ArrivalLedger, T: Ledger, U: Ledger, S: BookRows> {
     book: Book<S>,
     opening: Counts,
     first: usize,
@@ -96,8 +96,7 @@ pub struct Locked<A: ArrivalLedger, T: Ledger, U: Ledger, S: RowStore<Queued<Out
     rung: u32,
 }
 
-impl<A: ArrivalLedger, T: Ledger, U: Ledger, S: RowStore<Queued<Outbound>>> Model
-    for Locked<A, T, U, S> {
+impl<A: ArrivalLedger, T: Ledger, U: Ledger, S: BookRows> Model for Locked<A, T, U, S> {
     ghost use Rattle.std.specs.Prelude.{◌≡◌, ◌+◌};
     ghost use Rattle.book_lock.specs.Log.{IsBookOf};
     ghost use Rattle.book_lock.specs.Rises.{SharedBook};
@@ -126,14 +125,14 @@ impl<A: ArrivalLedger, T: Ledger, U: Ledger, S: RowStore<Queued<Outbound>>> Mode
 
 /// A book out of its lock.
 #[derive(Drop)]
-pub struct Closed<S: RowStore<Queued<Outbound>>> {
+pub struct Closed<S: BookRows> {
     book: Book<S>,
     opening: Counts,
     first: usize,
     admitted: u32,
 }
 
-impl<S: RowStore<Queued<Outbound>>> Model for Closed<S> {
+impl<S: BookRows> Model for Closed<S> {
     ghost use Rattle.std.specs.Prelude.{◌≤◌};
     ghost use Rattle.event_log.specs.History.{next_place};
     ghost use Rattle.book_lock.specs.Rises.{SharedBook};
@@ -148,7 +147,7 @@ impl<S: RowStore<Queued<Outbound>>> Model for Closed<S> {
     ghost invariant = { λ c. c.first ≤ next_place c.book };
 }
 
-impl<S: RowStore<Queued<Outbound>>> Closed<S> {
+impl<S: BookRows> Closed<S> {
     /// The book.
     pub fn book(&self) -> &Book<S>
         ensures { result.now ≡ self.now.book }
@@ -186,7 +185,7 @@ impl<S: RowStore<Queued<Outbound>>> Closed<S> {
     }
 }
 
-impl<A: ArrivalLedger, T: Ledger, U: Ledger, S: RowStore<Queued<Outbound>>> Locked<A, T, U, S> {
+impl<A: ArrivalLedger, T: Ledger, U: Ledger, S: BookRows> Locked<A, T, U, S> {
     /// Begins to log and to count for a book. The log is empty, and its last seat is the one kept here. Each ledger is new,
     /// and each share left over has one part.
     pub fn new(
@@ -683,7 +682,7 @@ impl<A: ArrivalLedger, T: Ledger, U: Ledger, S: RowStore<Queued<Outbound>>> Lock
 }
 
 /// Whether the shares of these desks and stations add up to what rose in the statistics since the book was shared.
-pub fn add_up<A: ArrivalLedger, T: Ledger, U: Ledger, S: RowStore<Queued<Outbound>>>(
+pub fn add_up<A: ArrivalLedger, T: Ledger, U: Ledger, S: BookRows>(
     locked: &Locked<A, T, U, S>,
     desks: &[Desk<A>],
     stations: &[Station<A, T, U>],

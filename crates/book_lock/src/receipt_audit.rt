@@ -8,9 +8,7 @@ ghost use Rattle.book_lock.specs.inner.Auditing.{fault_code};
 
 use crate::locked::Closed;
 use crate::windows::{ReceiptMatch, WINDOW, check_windows};
-use book_core::{Outbound, Receipt};
-use dest_queue::Queued;
-use row_store::RowStore;
+use book_core::{BookRows, Receipt};
 use thiserror::Error;
 
 /// What is wrong with the receipts, and the index of the history at which it is.
@@ -46,10 +44,7 @@ impl AuditFault {
 /// # Errors
 ///
 /// The fault at the least index that is wrong.
-pub fn audit<S: RowStore<Queued<Outbound>>>(
-    closed: &Closed<S>,
-    receipts: &[Receipt],
-) -> Result<(), AuditFault>
+pub fn audit<S: BookRows>(closed: &Closed<S>, receipts: &[Receipt]) -> Result<(), AuditFault>
     ensures ok { IsOk result ↔ IsPermutation (unfolded closed.now receipts.now) (receipts_due closed.now) }
     ensures fault { IfErr result (IsFirstFault closed.now receipts.now) }
 {
@@ -70,10 +65,7 @@ pub fn rising(receipts: &[Receipt]) -> bool
 }
 
 /// The first index at which the receipts are not those that are due.
-fn first_fault<S: RowStore<Queued<Outbound>>>(
-    closed: &Closed<S>,
-    receipts: &[Receipt],
-) -> Result<(), AuditFault>
+fn first_fault<S: BookRows>(closed: &Closed<S>, receipts: &[Receipt]) -> Result<(), AuditFault>
     ensures right { OnOk result ((p : _) → IsRightAt closed.now receipts.now p) }
     ensures fault { IfErr result (IsFirstFault closed.now receipts.now) }
 {
@@ -83,10 +75,7 @@ fn first_fault<S: RowStore<Queued<Outbound>>>(
 }
 
 /// Whether no receipt names an index past the history, where all indices of the history are right.
-fn check_rest<S: RowStore<Queued<Outbound>>>(
-    closed: &Closed<S>,
-    receipts: &[Receipt],
-) -> Result<(), AuditFault>
+fn check_rest<S: BookRows>(closed: &Closed<S>, receipts: &[Receipt]) -> Result<(), AuditFault>
     requires { (p : _) → p < next_place closed.now.book → IsRightAt closed.now receipts.now p }
     ensures right { OnOk result ((p : _) → IsRightAt closed.now receipts.now p) }
     ensures fault { IfErr result (IsFirstFault closed.now receipts.now) }

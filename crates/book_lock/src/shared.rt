@@ -22,15 +22,15 @@ use crate::message::{Found, Message};
 use crate::status::{Gauge, Status};
 use crate::tidying::Tidied;
 use book_core::{
-    Book, CancelRefusal, DeployRefusal, Front, Job, NotBooked, Outbound, PruneRefusal, Receipt,
+    Book, BookRows, CancelRefusal, DeployRefusal, Front, Job, NotBooked, PruneRefusal, Receipt,
     TakeRefusal, Ticket, Told,
 };
-use dest_queue::{Outcome, Queued, SettleRefusal, SlotState};
+use dest_queue::{Outcome, SettleRefusal, SlotState};
 use ghost_log::{BlankLog, GhostLog};
 use hl7_head::Moment;
 use judge_core::{Delivery, Judged, Verdict};
 use plan_text::Plan;
-use row_store::{QUEUES, RowStore};
+use row_store::QUEUES;
 use stat_count::Counts;
 use std::alloc::{AllocError, Global};
 use std::sync::atomic::{AtomicBool, Ordering};
@@ -43,7 +43,7 @@ const NAP: u64 = 250;
 
 /// The book under one lock. Each call takes the lock for a moment, and none waits for anything else but `bell`.
 #[derive(Drop)]
-pub struct Shared<A: ArrivalLedger, T: Ledger, U: Ledger, S: RowStore<Queued<Outbound>>> {
+pub struct Shared<A: ArrivalLedger, T: Ledger, U: Ledger, S: BookRows> {
     locked: Mutex<Locked<A, T, U, S>>,
     bells: Vec<Condvar>,
     finished: AtomicBool,
@@ -54,7 +54,7 @@ pub type Opened<A, T, U, S> = (Shared<A, T, U, S>, Vec<Desk<A>>, Vec<Station<A, 
 
 /// Why a shared book was not closed.
 #[derive(Drop)]
-pub enum NotClosed<A: ArrivalLedger, T: Ledger, U: Ledger, S: RowStore<Queued<Outbound>>> {
+pub enum NotClosed<A: ArrivalLedger, T: Ledger, U: Ledger, S: BookRows> {
     /// The shares handed in don't add up to what rose in the statistics. All that was handed in is returned.
     SharesMissing {
         shared: Shared<A, T, U, S>,
@@ -89,16 +89,13 @@ fn not_kept(number: u32, count: u32) -> Found {
 }
 
 /// The end of the `most` numbers from `from` on, or of the numbers of all messages where that is less.
-fn end_of<S: RowStore<Queued<Outbound>>>(book: &Book<S>, from: u32, most: u32) -> u32 {
+fn end_of<S: BookRows>(book: &Book<S>, from: u32, most: u32) -> u32 {
     book.message_count().min(from.saturating_add(most))
 }
 
 /// The states of a message, by destination.
 #[tactic(auto, using(crate::proofs::Filling::filled_more, crate::proofs::Filling::none_filled))]
-fn states_of<S: RowStore<Queued<Outbound>>>(
-    book: &Book<S>,
-    number: u32,
-) -> [Option<SlotState>; QUEUES as usize]
+fn states_of<S: BookRows>(book: &Book<S>, number: u32) -> [Option<SlotState>; QUEUES as usize]
     ensures { (d : ℕ) → d < 32 → slice_get result d ≡ Some (slot book.now number d) }
 {
     let mut states = [None; QUEUES as usize];
@@ -128,7 +125,7 @@ fn hang_bells(alloc: Global) -> Result<Vec<Condvar>, AllocError> {
     Ok(bells)
 }
 
-impl<A: ArrivalLedger, T: Ledger, U: Ledger, S: RowStore<Queued<Outbound>>> Shared<A, T, U, S> {
+impl<A: ArrivalLedger, T: Ledger, U: Ledger, S: BookRows> Shared<A, T, U, S> {
     /// Shares the book among that many desks and stations. The log's blank has no entries, and each ledger's blank has one
     /// part more than there are shares.
     ///

@@ -8,9 +8,7 @@ ghost use Rattle.book_lock.specs.inner.Windows.{Tells, fault_at, named_again};
 
 use crate::locked::Closed;
 use crate::receipt_audit::AuditFault;
-use book_core::{Entry, Outbound, Receipt};
-use dest_queue::Queued;
-use row_store::RowStore;
+use book_core::{BookRows, Entry, Receipt};
 
 /// How many indices the audit looks at in one pass over the receipts.
 pub const WINDOW: usize = 65_536;
@@ -46,7 +44,7 @@ impl ReceiptMatch {
 /// # Errors
 ///
 /// The fault at the least index of the history that is wrong.
-pub fn check_windows<S: RowStore<Queued<Outbound>>>(
+pub fn check_windows<S: BookRows>(
     closed: &Closed<S>,
     receipts: &[Receipt],
     table: &mut [ReceiptMatch],
@@ -70,7 +68,7 @@ pub fn check_windows<S: RowStore<Queued<Outbound>>>(
 /// # Errors
 ///
 /// The fault at the least of these indices that is wrong.
-fn check_window<S: RowStore<Queued<Outbound>>>(
+fn check_window<S: BookRows>(
     closed: &Closed<S>,
     receipts: &[Receipt],
     from: usize,
@@ -95,11 +93,7 @@ fn check_window<S: RowStore<Queued<Outbound>>>(
 
 /// How an index is named. One that was folded since the book was shared is left aside: nothing is due there, and
 /// none is taken to name it.
-fn named_at<S: RowStore<Queued<Outbound>>>(
-    closed: &Closed<S>,
-    place: usize,
-    named: ReceiptMatch,
-) -> ReceiptMatch
+fn named_at<S: BookRows>(closed: &Closed<S>, place: usize, named: ReceiptMatch) -> ReceiptMatch
     ensures { result ≡ (if is_folded closed.now place then ReceiptMatch.Never else named) }
 {
     if closed.first() <= place && place < closed.book().first_place() {
@@ -121,7 +115,7 @@ fn fault_at(place: usize, named: ReceiptMatch, is_due: bool) -> Option<AuditFaul
 }
 
 /// Fills the table with how the receipts name the indices from `from` on.
-fn tell<S: RowStore<Queued<Outbound>>>(
+fn tell<S: BookRows>(
     closed: &Closed<S>,
     receipts: &[Receipt],
     from: usize,
@@ -141,7 +135,7 @@ fn tell<S: RowStore<Queued<Outbound>>>(
 }
 
 /// Whether a receipt is the one that is due at the index that it names.
-fn is_due<S: RowStore<Queued<Outbound>>>(closed: &Closed<S>, receipt: &Receipt) -> bool
+fn is_due<S: BookRows>(closed: &Closed<S>, receipt: &Receipt) -> bool
     ensures { IsTrue result ↔ (receipt.now ∷ [] ≡ naming receipt.now.entry (receipts_due closed.now)) }
 {
     let place = receipt.entry;
@@ -155,7 +149,7 @@ fn is_due<S: RowStore<Queued<Outbound>>>(closed: &Closed<S>, receipt: &Receipt) 
 }
 
 /// Whether a receipt is due at an index.
-fn is_due_at<S: RowStore<Queued<Outbound>>>(closed: &Closed<S>, place: usize) -> bool
+fn is_due_at<S: BookRows>(closed: &Closed<S>, place: usize) -> bool
     ensures { IsTrue result ↔ (naming place (receipts_due closed.now) ≢ []) }
 {
     if place < closed.first() {

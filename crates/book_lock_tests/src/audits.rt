@@ -5,16 +5,14 @@ ghost use Rattle.event_log.specs.History.{next_place, plan_in_force};
 ghost use Rattle.event_log.specs.Counting.{counted};
 
 use crate::stage::{M1, M2, Rows, bring, waiting};
-use book_core::{Book, EVENTS_MAX, Outbound, Receipt, Told};
+use book_core::{Book, BookRows, EVENTS_MAX, Receipt, Told};
 use book_lock::{
     ArrivalLedger, AuditFault, Closed, Desk, LogEntry, NotClosed, Shared, Station, audit, rising,
 };
 use conn_worker::nearest;
-use dest_queue::Queued;
 use ghost_log::BlankLog;
 use judge_core::Text;
 use log::Log;
-use row_store::RowStore;
 use std::alloc::Global;
 use std::marker::Brand;
 use std::sync::Wait;
@@ -173,7 +171,7 @@ const AUDITS: [Audit; 10] = [
 
 /// A day's end: how many desks and stations were returned where the first close was refused, and the book.
 #[derive(Drop)]
-struct Day<S: RowStore<Queued<Outbound>>> {
+struct Day<S: BookRows> {
     back: Option<(usize, usize)>,
     closed: Closed<S>,
 }
@@ -205,7 +203,7 @@ fn add<A: ArrivalLedger, T: Ledger, U: Ledger>(
 }
 
 /// Closes a book at last, with the shares that were kept.
-fn close_at_last<A: ArrivalLedger, T: Ledger, U: Ledger, S: RowStore<Queued<Outbound>> + Drop>(
+fn close_at_last<A: ArrivalLedger, T: Ledger, U: Ledger, S: BookRows + Drop>(
     missing: NotClosed<A, T, U, S>,
     kept: &mut Shares<A, T, U>,
 ) -> Result<Day<S>, Fail> {
@@ -224,7 +222,7 @@ fn close_at_last<A: ArrivalLedger, T: Ledger, U: Ledger, S: RowStore<Queued<Outb
 }
 
 /// Closes a book with the shares that are handed in, and with the others too where that was refused.
-fn close_twice<A: ArrivalLedger, T: Ledger, U: Ledger, S: RowStore<Queued<Outbound>> + Drop>(
+fn close_twice<A: ArrivalLedger, T: Ledger, U: Ledger, S: BookRows + Drop>(
     shared: Shared<A, T, U, S>,
     handed: Shares<A, T, U>,
     kept: &mut Shares<A, T, U>,
@@ -247,7 +245,7 @@ fn keep<A: ArrivalLedger, T: Ledger, U: Ledger>(
 }
 
 /// Whether a message is booked by connection 5.
-fn books<A: ArrivalLedger, T: Ledger, U: Ledger, S: RowStore<Queued<Outbound>>, H: Wait + Log>(
+fn books<A: ArrivalLedger, T: Ledger, U: Ledger, S: BookRows, H: Wait + Log>(
     rt: &H,
     alloc: Global,
     shared: &Shared<A, T, U, S>,
@@ -258,7 +256,7 @@ fn books<A: ArrivalLedger, T: Ledger, U: Ledger, S: RowStore<Queued<Outbound>>, 
 }
 
 /// Books a message at the first desk, takes it at the first station, and books another. Whether all of that was done.
-fn work<A: ArrivalLedger, T: Ledger, U: Ledger, S: RowStore<Queued<Outbound>>, H: Wait + Log>(
+fn work<A: ArrivalLedger, T: Ledger, U: Ledger, S: BookRows, H: Wait + Log>(
     rt: &H,
     alloc: Global,
     shared: &Shared<A, T, U, S>,
@@ -273,13 +271,7 @@ fn work<A: ArrivalLedger, T: Ledger, U: Ledger, S: RowStore<Queued<Outbound>>, H
 }
 
 /// Works at one of two desks and at a station, and keeps back the shares that are not given.
-fn work_and_keep<
-    A: ArrivalLedger,
-    T: Ledger,
-    U: Ledger,
-    S: RowStore<Queued<Outbound>>,
-    H: Wait + Log,
->(
+fn work_and_keep<A: ArrivalLedger, T: Ledger, U: Ledger, S: BookRows, H: Wait + Log>(
     rt: &H,
     alloc: Global,
     shared: &Shared<A, T, U, S>,
@@ -295,13 +287,7 @@ fn work_and_keep<
 
 /// Works at the first desk and the station, and closes the book, a second time with all shares where the first close was
 /// refused.
-fn end_with<
-    A: ArrivalLedger,
-    T: Ledger,
-    U: Ledger,
-    S: RowStore<Queued<Outbound>> + Drop,
-    H: Wait + Log,
->(
+fn end_with<A: ArrivalLedger, T: Ledger, U: Ledger, S: BookRows + Drop, H: Wait + Log>(
     rt: &H,
     alloc: Global,
     shared: Shared<A, T, U, S>,
@@ -314,13 +300,7 @@ fn end_with<
 }
 
 /// Shares a book between two desks and a station, works at one desk and the station, and closes it.
-fn end_day<
-    A: ArrivalLedger,
-    T: Ledger,
-    U: Ledger,
-    S: RowStore<Queued<Outbound>> + Drop,
-    H: Wait + Log,
->(
+fn end_day<A: ArrivalLedger, T: Ledger, U: Ledger, S: BookRows + Drop, H: Wait + Log>(
     rt: &H,
     alloc: Global,
     book: Book<S>,
@@ -363,10 +343,7 @@ fn receipts(alloc: Global, slips: &[Slip]) -> Result<Vec<Receipt>, Fail> {
 }
 
 /// The first audit that comes out otherwise than it is to.
-fn unmet<S: RowStore<Queued<Outbound>>>(
-    alloc: Global,
-    closed: &Closed<S>,
-) -> Result<Option<usize>, Fail> {
+fn unmet<S: BookRows>(alloc: Global, closed: &Closed<S>) -> Result<Option<usize>, Fail> {
     for (place, case) in AUDITS.iter().enumerate() {
         let receipts = receipts(alloc, case.slips)?;
         let answer = audit(closed, receipts.as_slice());
@@ -378,7 +355,7 @@ fn unmet<S: RowStore<Queued<Outbound>>>(
 }
 
 /// A day at a book, of which these shares are handed in.
-fn day_at<S: RowStore<Queued<Outbound>> + Drop, H: Wait + Log>(
+fn day_at<S: BookRows + Drop, H: Wait + Log>(
     rt: &H,
     alloc: Global,
     book: Book<S>,
@@ -398,16 +375,12 @@ fn day_at<S: RowStore<Queued<Outbound>> + Drop, H: Wait + Log>(
 }
 
 /// Whether as many shares were returned as are due, and each audit has the expected result.
-fn is_right<S: RowStore<Queued<Outbound>>>(
-    alloc: Global,
-    given: &Given,
-    day: &Day<S>,
-) -> Result<bool, Fail> {
+fn is_right<S: BookRows>(alloc: Global, given: &Given, day: &Day<S>) -> Result<bool, Fail> {
     Ok(day.back == given.back && unmet(alloc, &day.closed)?.is_none())
 }
 
 /// Whether a day at a book, of which these shares are handed in, comes out as it is to.
-fn comes_out<S: RowStore<Queued<Outbound>> + Drop, H: Wait + Log>(
+fn comes_out<S: BookRows + Drop, H: Wait + Log>(
     rt: &H,
     alloc: Global,
     book: Book<S>,

@@ -1,13 +1,12 @@
 //! Calls of a shared book answer as the book's do.
 
 use crate::stage::{Done, M1, M2, Rows, Task, UPDATE, comes_out, waiting};
-use book_core::{Book, CancelRefusal, EVENTS_MAX, Outbound, TakeRefusal, Ticket};
+use book_core::{Book, BookRows, CancelRefusal, EVENTS_MAX, TakeRefusal, Ticket};
 use book_lock::{ArrivalLedger, Desk, Shared, Station};
 use conn_worker::nearest;
-use dest_queue::{FailCause, Outcome, Queued, SettleRefusal, SlotState};
+use dest_queue::{FailCause, Outcome, SettleRefusal, SlotState};
 use log::Log;
 use plan_text::Plan;
-use row_store::RowStore;
 use stat_count::Counts;
 use std::alloc::Global;
 use std::sync::ledger::Ledger;
@@ -176,7 +175,7 @@ const CASES: [Case; 3] = [
 ];
 
 /// Whether a take returns a job with this control id and this text.
-fn sends<A: ArrivalLedger, T: Ledger, U: Ledger, S: RowStore<Queued<Outbound>>, H: Wait + Log>(
+fn sends<A: ArrivalLedger, T: Ledger, U: Ledger, S: BookRows, H: Wait + Log>(
     rt: &H,
     shared: &Shared<A, T, U, S>,
     station: &mut Station<A, T, U>,
@@ -194,7 +193,7 @@ fn sends<A: ArrivalLedger, T: Ledger, U: Ledger, S: RowStore<Queued<Outbound>>, 
 }
 
 /// Whether a take returns this ticket, or is refused so.
-fn takes<A: ArrivalLedger, T: Ledger, U: Ledger, S: RowStore<Queued<Outbound>>, H: Wait + Log>(
+fn takes<A: ArrivalLedger, T: Ledger, U: Ledger, S: BookRows, H: Wait + Log>(
     rt: &H,
     shared: &Shared<A, T, U, S>,
     station: &mut Station<A, T, U>,
@@ -209,7 +208,7 @@ fn takes<A: ArrivalLedger, T: Ledger, U: Ledger, S: RowStore<Queued<Outbound>>, 
 }
 
 /// Whether a call is answered as is due.
-fn is_met<A: ArrivalLedger, T: Ledger, U: Ledger, S: RowStore<Queued<Outbound>>, H: Wait + Log>(
+fn is_met<A: ArrivalLedger, T: Ledger, U: Ledger, S: BookRows, H: Wait + Log>(
     rt: &H,
     shared: &Shared<A, T, U, S>,
     station: &mut Station<A, T, U>,
@@ -228,13 +227,7 @@ fn is_met<A: ArrivalLedger, T: Ledger, U: Ledger, S: RowStore<Queued<Outbound>>,
 }
 
 /// The first of these calls that is answered otherwise than is due; those behind it aren't made.
-fn first_unmet<
-    A: ArrivalLedger,
-    T: Ledger,
-    U: Ledger,
-    S: RowStore<Queued<Outbound>>,
-    H: Wait + Log,
->(
+fn first_unmet<A: ArrivalLedger, T: Ledger, U: Ledger, S: BookRows, H: Wait + Log>(
     rt: &H,
     shared: &Shared<A, T, U, S>,
     station: &mut Station<A, T, U>,
@@ -260,7 +253,7 @@ struct Answers {
 impl Task for Case {
     type Answer = Answers;
 
-    fn work<A: ArrivalLedger, T: Ledger, U: Ledger, S: RowStore<Queued<Outbound>>, H: Wait + Log>(
+    fn work<A: ArrivalLedger, T: Ledger, U: Ledger, S: BookRows, H: Wait + Log>(
         &self,
         rt: &H,
         _: Global,
@@ -278,7 +271,7 @@ impl Task for Case {
 
     /// Whether each call was answered as is due, the slots are as they are to be, the statistics shown before the close are
     /// those of the closed book, and the plan shown is its plan.
-    fn is_right<S: RowStore<Queued<Outbound>>>(&self, done: &Done<Answers, S>) -> bool {
+    fn is_right<S: BookRows>(&self, done: &Done<Answers, S>) -> bool {
         let (answers, book, slots) = (&done.answer, done.closed.book(), self.slots);
         answers.unmet.is_none()
             && answers.shown == *book.counts()

@@ -1,13 +1,11 @@
 //! Plans and prunings that a shared book refuses, and messages that come after a deployment.
 
 use crate::stage::{Done, M1, M2, Rows, Task, bring, comes_out, plan_of, waiting};
-use book_core::{Book, DeployRefusal, EVENTS_MAX, Outbound, PruneRefusal, Told};
+use book_core::{Book, BookRows, DeployRefusal, EVENTS_MAX, PruneRefusal, Told};
 use book_lock::{ArrivalLedger, Desk, Shared, Station};
-use dest_queue::Queued;
 use hl7_head::Cause;
 use log::Log;
 use plan_text::Plan;
-use row_store::RowStore;
 use std::alloc::Global;
 use std::sync::ledger::Ledger;
 use std::sync::{Arc, Wait};
@@ -164,7 +162,7 @@ const CASES: [Case; 4] = [
 ];
 
 /// Whether a deployment of a plan is answered as is due.
-fn deploys<A: ArrivalLedger, T: Ledger, U: Ledger, S: RowStore<Queued<Outbound>>, H: Wait + Log>(
+fn deploys<A: ArrivalLedger, T: Ledger, U: Ledger, S: BookRows, H: Wait + Log>(
     rt: &H,
     alloc: Global,
     shared: &Shared<A, T, U, S>,
@@ -178,13 +176,13 @@ fn deploys<A: ArrivalLedger, T: Ledger, U: Ledger, S: RowStore<Queued<Outbound>>
 }
 
 /// Whether as many deployments of a plan as this are made.
-fn deploys_all<
-    A: ArrivalLedger,
-    T: Ledger,
-    U: Ledger,
-    S: RowStore<Queued<Outbound>>,
-    H: Wait + Log,
->(rt: &H, alloc: Global, shared: &Shared<A, T, U, S>, count: u32, said: Said) -> bool {
+fn deploys_all<A: ArrivalLedger, T: Ledger, U: Ledger, S: BookRows, H: Wait + Log>(
+    rt: &H,
+    alloc: Global,
+    shared: &Shared<A, T, U, S>,
+    count: u32,
+    said: Said,
+) -> bool {
     for _ in 0..count {
         if !deploys(rt, alloc, shared, said, Ok(())) {
             return false;
@@ -194,7 +192,7 @@ fn deploys_all<
 }
 
 /// Whether as many prunings as this are made.
-fn prunes_all<A: ArrivalLedger, T: Ledger, U: Ledger, S: RowStore<Queued<Outbound>>, H: Wait + Log>(
+fn prunes_all<A: ArrivalLedger, T: Ledger, U: Ledger, S: BookRows, H: Wait + Log>(
     rt: &H,
     shared: &Shared<A, T, U, S>,
     count: u32,
@@ -209,7 +207,7 @@ fn prunes_all<A: ArrivalLedger, T: Ledger, U: Ledger, S: RowStore<Queued<Outboun
 }
 
 /// Whether a call is answered as is due.
-fn is_met<A: ArrivalLedger, T: Ledger, U: Ledger, S: RowStore<Queued<Outbound>>, H: Wait + Log>(
+fn is_met<A: ArrivalLedger, T: Ledger, U: Ledger, S: BookRows, H: Wait + Log>(
     rt: &H,
     alloc: Global,
     shared: &Shared<A, T, U, S>,
@@ -229,13 +227,7 @@ fn is_met<A: ArrivalLedger, T: Ledger, U: Ledger, S: RowStore<Queued<Outbound>>,
 }
 
 /// The first of these calls that is answered otherwise than is due; those behind it aren't made.
-fn first_unmet<
-    A: ArrivalLedger,
-    T: Ledger,
-    U: Ledger,
-    S: RowStore<Queued<Outbound>>,
-    H: Wait + Log,
->(
+fn first_unmet<A: ArrivalLedger, T: Ledger, U: Ledger, S: BookRows, H: Wait + Log>(
     rt: &H,
     alloc: Global,
     shared: &Shared<A, T, U, S>,
@@ -262,7 +254,7 @@ struct Answers {
 impl Task for Case {
     type Answer = Answers;
 
-    fn work<A: ArrivalLedger, T: Ledger, U: Ledger, S: RowStore<Queued<Outbound>>, H: Wait + Log>(
+    fn work<A: ArrivalLedger, T: Ledger, U: Ledger, S: BookRows, H: Wait + Log>(
         &self,
         rt: &H,
         alloc: Global,
@@ -279,7 +271,7 @@ impl Task for Case {
     }
 
     /// Whether each call was answered as is due, and the plan in force and the number of entries are as they should be.
-    fn is_right<S: RowStore<Queued<Outbound>>>(&self, done: &Done<Answers, S>) -> bool {
+    fn is_right<S: BookRows>(&self, done: &Done<Answers, S>) -> bool {
         let (answers, book) = (&done.answer, done.closed.book());
         answers.unmet.is_none()
             && answers.plan.same(&answers.due)

@@ -1,12 +1,10 @@
 //! Plans that are deployed in a shared book.
 
 use crate::stage::{Done, M1, Rows, Task, comes_out, plan, plan_of, waiting};
-use book_core::{Book, DeployRefusal, EVENTS_MAX, Outbound};
+use book_core::{Book, BookRows, DeployRefusal, EVENTS_MAX};
 use book_lock::{ArrivalLedger, Desk, Shared, Station};
-use dest_queue::Queued;
 use log::Log;
 use plan_text::Plan;
-use row_store::RowStore;
 use std::alloc::Global;
 use std::sync::ledger::Ledger;
 use std::sync::{Arc, Wait};
@@ -33,7 +31,7 @@ struct Deployments {
 impl Task for Deployments {
     type Answer = Answers;
 
-    fn work<A: ArrivalLedger, T: Ledger, U: Ledger, S: RowStore<Queued<Outbound>>, H: Wait + Log>(
+    fn work<A: ArrivalLedger, T: Ledger, U: Ledger, S: BookRows, H: Wait + Log>(
         &self,
         rt: &H,
         alloc: Global,
@@ -50,7 +48,7 @@ impl Task for Deployments {
     }
 
     /// Whether the first plan was refused for a destination in use, and the slower one is in force and in the history.
-    fn is_right<S: RowStore<Queued<Outbound>>>(&self, done: &Done<Answers, S>) -> bool {
+    fn is_right<S: BookRows>(&self, done: &Done<Answers, S>) -> bool {
         let (answers, book) = (&done.answer, done.closed.book());
         answers.first == Some(DeployRefusal::DestinationInUse(0))
             && answers.second.is_none()

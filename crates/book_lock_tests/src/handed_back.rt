@@ -5,12 +5,10 @@ ghost use Rattle.event_log.specs.History.{next_place, plan_in_force};
 ghost use Rattle.event_log.specs.Counting.{counted};
 
 use crate::stage::{M1, Rows, bring, waiting};
-use book_core::{Book, EVENTS_MAX, Outbound};
+use book_core::{Book, BookRows, EVENTS_MAX};
 use book_lock::{ArrivalLedger, LogEntry, NotClosed, Shared};
-use dest_queue::Queued;
 use ghost_log::BlankLog;
 use log::Log;
-use row_store::RowStore;
 use std::alloc::Global;
 use std::marker::Brand;
 use std::sync::Wait;
@@ -19,13 +17,7 @@ use std::test::Fail;
 
 /// Books a message, notes that none will follow where that is asked for, and closes the book without its desk. Whether the
 /// shared book that comes back has the note; None where the close is not refused.
-fn noted_after_close<
-    A: ArrivalLedger,
-    T: Ledger,
-    U: Ledger,
-    S: RowStore<Queued<Outbound>> + Drop,
-    H: Wait + Log,
->(
+fn noted_after_close<A: ArrivalLedger, T: Ledger, U: Ledger, S: BookRows + Drop, H: Wait + Log>(
     rt: &H,
     alloc: Global,
     book: Book<S>,
@@ -57,7 +49,7 @@ fn noted_after_close<
 }
 
 /// The same with brands of their own.
-fn noted<S: RowStore<Queued<Outbound>> + Drop, H: Wait + Log>(
+fn noted<S: BookRows + Drop, H: Wait + Log>(
     rt: &H,
     alloc: Global,
     book: Book<S>,

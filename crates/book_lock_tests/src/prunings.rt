@@ -1,12 +1,11 @@
 //! A shared book of which messages are forgotten.
 
 use crate::stage::{Done, M1, M2, Rows, Task, bring, comes_out, waiting};
-use book_core::{Book, CancelRefusal, EVENTS_MAX, Outbound, PruneRefusal, Receipt, Told};
+use book_core::{Book, BookRows, CancelRefusal, EVENTS_MAX, PruneRefusal, Receipt, Told};
 use book_lock::{ArrivalLedger, Desk, Shared, Station, audit};
 use conn_worker::nearest;
-use dest_queue::{Outcome, Queued, SlotState};
+use dest_queue::{Outcome, SlotState};
 use log::Log;
-use row_store::RowStore;
 use std::alloc::Global;
 use std::slice;
 use std::sync::Wait;
@@ -28,7 +27,7 @@ struct Prunings;
 impl Task for Prunings {
     type Answer = Answers;
 
-    fn work<A: ArrivalLedger, T: Ledger, U: Ledger, S: RowStore<Queued<Outbound>>, H: Wait + Log>(
+    fn work<A: ArrivalLedger, T: Ledger, U: Ledger, S: BookRows, H: Wait + Log>(
         &self,
         rt: &H,
         alloc: Global,
@@ -46,7 +45,7 @@ impl Task for Prunings {
     }
 
     /// Whether the second message was not forgotten, and the first was and is accepted again as a new one.
-    fn is_right<S: RowStore<Queued<Outbound>>>(&self, done: &Done<Answers, S>) -> bool {
+    fn is_right<S: BookRows>(&self, done: &Done<Answers, S>) -> bool {
         let answers = &done.answer;
         answers.first == Err(PruneRefusal::StillLive(1))
             && answers.second == Ok(())
@@ -58,13 +57,13 @@ impl Task for Prunings {
 }
 
 /// Has the front of queue 0 delivered. None where that is refused.
-fn deliver_front<S: RowStore<Queued<Outbound>>>(book: &mut Book<S>) -> Option<SlotState> {
+fn deliver_front<S: BookRows>(book: &mut Book<S>) -> Option<SlotState> {
     let ticket = book.take(0, nearest(0)).ok()?.ticket;
     book.settle(&ticket, Outcome::Delivered, nearest(0)).ok()
 }
 
 /// A book of two messages, of which the first was delivered.
-fn half_delivered<S: RowStore<Queued<Outbound>> + Drop>(rt: &HostRuntime) -> Result<Book<S>, Fail> {
+fn half_delivered<S: BookRows + Drop>(rt: &HostRuntime) -> Result<Book<S>, Fail> {
     let mut book = waiting(rt, false, EVENTS_MAX, &[M1, M2])?;
     match deliver_front(&mut book) {
         Some(SlotState::Delivered) => Ok(book),

@@ -4,14 +4,12 @@ ghost use Rattle.std.specs.Prelude.{◌≡◌, IfSome, IsTrue};
 ghost use Rattle.judge_core.specs.Judging.{is_bookable};
 
 use crate::stage::{Done, M1, M2, Rows, Task, comes_out, judged, plan, waiting};
-use book_core::{Book, NotBooked, Outbound};
+use book_core::{Book, BookRows, NotBooked};
 use book_lock::{ArrivalLedger, Desk, Shared, Station};
 use conn_core::{Booked, ConnectionId, Replies, book_and_reply};
 use conn_worker::{AtDesk, nearest};
-use dest_queue::Queued;
 use judge_core::Judged;
 use log::Log;
-use row_store::RowStore;
 use stat_count::Counts;
 use std::alloc::Global;
 use std::sync::Wait;
@@ -53,7 +51,7 @@ struct Answers {
 }
 
 /// Books a message received over connection 0, and appends its replies, the first of that connection.
-fn answer<A: ArrivalLedger, T: Ledger, U: Ledger, S: RowStore<Queued<Outbound>>, H: Wait + Log>(
+fn answer<A: ArrivalLedger, T: Ledger, U: Ledger, S: BookRows, H: Wait + Log>(
     rt: &H,
     alloc: Global,
     shared: &Shared<A, T, U, S>,
@@ -79,13 +77,7 @@ fn answer<A: ArrivalLedger, T: Ledger, U: Ledger, S: RowStore<Queued<Outbound>>,
 }
 
 /// Brings a message to a desk of a shared book, twice.
-fn bring_twice<
-    A: ArrivalLedger,
-    T: Ledger,
-    U: Ledger,
-    S: RowStore<Queued<Outbound>>,
-    H: Wait + Log,
->(
+fn bring_twice<A: ArrivalLedger, T: Ledger, U: Ledger, S: BookRows, H: Wait + Log>(
     rt: &H,
     alloc: Global,
     shared: &Shared<A, T, U, S>,
@@ -120,7 +112,7 @@ fn judged_in(alloc: Global, case: &Case) -> Option<Judged>
 impl Task for Case {
     type Answer = Answers;
 
-    fn work<A: ArrivalLedger, T: Ledger, U: Ledger, S: RowStore<Queued<Outbound>>, H: Wait + Log>(
+    fn work<A: ArrivalLedger, T: Ledger, U: Ledger, S: BookRows, H: Wait + Log>(
         &self,
         rt: &H,
         alloc: Global,
@@ -134,7 +126,7 @@ impl Task for Case {
     }
 
     /// Whether a message was refused as is due, and nothing else was changed.
-    fn is_right<S: RowStore<Queued<Outbound>>>(&self, done: &Done<Answers, S>) -> bool {
+    fn is_right<S: BookRows>(&self, done: &Done<Answers, S>) -> bool {
         let (answers, book) = (&done.answer, done.closed.book());
         answers.bare == Some(self.refusal)
             && answers.answered == Some(self.refusal)

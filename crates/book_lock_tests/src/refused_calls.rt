@@ -6,16 +6,15 @@ ghost use Rattle.judge_core.specs.Judging.{is_bookable};
 
 use crate::stage::{Done, M1, Rows, Task, Undone, empty_book, judged, plan_of, share};
 use book_core::{
-    Book, CancelRefusal, DeployRefusal, EVENTS_MAX, NotBooked, Outbound, PruneRefusal, Receipt,
+    Book, BookRows, CancelRefusal, DeployRefusal, EVENTS_MAX, NotBooked, PruneRefusal, Receipt,
     TakeRefusal, Ticket,
 };
 use book_lock::{ArrivalLedger, Closed, Desk, Shared, Station, audit};
 use conn_worker::nearest;
-use dest_queue::{Outcome, Queued, SlotState};
+use dest_queue::{Outcome, SlotState};
 use judge_core::Judged;
 use log::Log;
 use plan_text::Plan;
-use row_store::RowStore;
 use stat_count::{Counts, DestinationCounts};
 use std::alloc::Global;
 use std::slice;
@@ -100,7 +99,7 @@ fn prepared_parts(alloc: Global, plan_in_force: &Arc<Plan>) -> Option<Parts> {
 }
 
 /// A book, and what calls of it are made with. None where memory was refused for them.
-fn prepare<S: RowStore<Queued<Outbound>> + Drop>(rt: &HostRuntime) -> Option<(Book<S>, Parts)> {
+fn prepare<S: BookRows + Drop>(rt: &HostRuntime) -> Option<(Book<S>, Parts)> {
     let plan = plan_of(rt.alloc(), PLAN)?;
     let parts = prepared_parts(rt.alloc(), &plan)?;
     Some((empty_book(rt, plan, EVENTS_MAX)?, parts))
@@ -121,7 +120,7 @@ fn first_attempt(destination: u32) -> Ticket {
 }
 
 /// Books the message, and keeps its receipt.
-fn arrive<A: ArrivalLedger, T: Ledger, U: Ledger, S: RowStore<Queued<Outbound>>, H: Wait + Log>(
+fn arrive<A: ArrivalLedger, T: Ledger, U: Ledger, S: BookRows, H: Wait + Log>(
     rt: &H,
     shared: &Shared<A, T, U, S>,
     desk: &mut Desk<A>,
@@ -141,7 +140,7 @@ fn arrive<A: ArrivalLedger, T: Ledger, U: Ledger, S: RowStore<Queued<Outbound>>,
 }
 
 /// Takes the front of queue `d` at the moment 0.
-fn take<A: ArrivalLedger, T: Ledger, U: Ledger, S: RowStore<Queued<Outbound>>, H: Wait + Log>(
+fn take<A: ArrivalLedger, T: Ledger, U: Ledger, S: BookRows, H: Wait + Log>(
     rt: &H,
     shared: &Shared<A, T, U, S>,
     station: &mut Station<A, T, U>,
@@ -155,7 +154,7 @@ fn take<A: ArrivalLedger, T: Ledger, U: Ledger, S: RowStore<Queued<Outbound>>, H
 }
 
 /// Cancels message 0.
-fn cancel<A: ArrivalLedger, T: Ledger, U: Ledger, S: RowStore<Queued<Outbound>>, H: Wait + Log>(
+fn cancel<A: ArrivalLedger, T: Ledger, U: Ledger, S: BookRows, H: Wait + Log>(
     rt: &H,
     shared: &Shared<A, T, U, S>,
 ) -> Answer {
@@ -167,7 +166,7 @@ fn cancel<A: ArrivalLedger, T: Ledger, U: Ledger, S: RowStore<Queued<Outbound>>,
 }
 
 /// Puts a plan in force.
-fn deploy<A: ArrivalLedger, T: Ledger, U: Ledger, S: RowStore<Queued<Outbound>>, H: Wait + Log>(
+fn deploy<A: ArrivalLedger, T: Ledger, U: Ledger, S: BookRows, H: Wait + Log>(
     rt: &H,
     shared: &Shared<A, T, U, S>,
     plan: &Arc<Plan>,
@@ -183,7 +182,7 @@ fn deploy<A: ArrivalLedger, T: Ledger, U: Ledger, S: RowStore<Queued<Outbound>>,
 }
 
 /// Forgets message 0.
-fn prune<A: ArrivalLedger, T: Ledger, U: Ledger, S: RowStore<Queued<Outbound>>, H: Wait + Log>(
+fn prune<A: ArrivalLedger, T: Ledger, U: Ledger, S: BookRows, H: Wait + Log>(
     rt: &H,
     shared: &Shared<A, T, U, S>,
 ) -> Answer {
@@ -195,7 +194,7 @@ fn prune<A: ArrivalLedger, T: Ledger, U: Ledger, S: RowStore<Queued<Outbound>>, 
 }
 
 /// Makes a call.
-fn make<A: ArrivalLedger, T: Ledger, U: Ledger, S: RowStore<Queued<Outbound>>, H: Wait + Log>(
+fn make<A: ArrivalLedger, T: Ledger, U: Ledger, S: BookRows, H: Wait + Log>(
     rt: &H,
     shared: &Shared<A, T, U, S>,
     desk: &mut Desk<A>,
@@ -219,13 +218,7 @@ fn make<A: ArrivalLedger, T: Ledger, U: Ledger, S: RowStore<Queued<Outbound>>, H
 
 /// Makes a call, and makes it again where memory was refused. How often that was; none where the call was answered otherwise
 /// than it is to be, or a refusal changed the statistics.
-fn make_surely<
-    A: ArrivalLedger,
-    T: Ledger,
-    U: Ledger,
-    S: RowStore<Queued<Outbound>>,
-    H: Wait + Log,
->(
+fn make_surely<A: ArrivalLedger, T: Ledger, U: Ledger, S: BookRows, H: Wait + Log>(
     rt: &H,
     shared: &Shared<A, T, U, S>,
     desk: &mut Desk<A>,
@@ -250,7 +243,7 @@ fn make_surely<
 }
 
 /// Makes all calls. How many were refused memory; none where one was answered otherwise than it is to be.
-fn make_all<A: ArrivalLedger, T: Ledger, U: Ledger, S: RowStore<Queued<Outbound>>, H: Wait + Log>(
+fn make_all<A: ArrivalLedger, T: Ledger, U: Ledger, S: BookRows, H: Wait + Log>(
     rt: &H,
     shared: &Shared<A, T, U, S>,
     desk: &mut Desk<A>,
@@ -267,7 +260,7 @@ fn make_all<A: ArrivalLedger, T: Ledger, U: Ledger, S: RowStore<Queued<Outbound>
 }
 
 /// The results of all calls, with what is shown after them.
-fn answers_of<A: ArrivalLedger, T: Ledger, U: Ledger, S: RowStore<Queued<Outbound>>, H: Wait + Log>(
+fn answers_of<A: ArrivalLedger, T: Ledger, U: Ledger, S: BookRows, H: Wait + Log>(
     rt: &H,
     shared: &Shared<A, T, U, S>,
     desk: &mut Desk<A>,
@@ -294,7 +287,7 @@ fn ended(delivered: u64, attempts: u64) -> DestinationCounts {
 }
 
 /// Whether the book has seven entries that are folded, and nothing of the message in its slots and queues.
-fn is_folded<S: RowStore<Queued<Outbound>>>(book: &Book<S>) -> bool {
+fn is_folded<S: BookRows>(book: &Book<S>) -> bool {
     for d in 0..3 {
         if book.status(0, d).is_some() || book.queue_len(d) != 0 {
             return false;
@@ -311,7 +304,7 @@ fn are_right(counts: &Counts) -> bool {
 }
 
 /// Whether the receipt that is due is the message's.
-fn is_due<S: RowStore<Queued<Outbound>>>(receipt: &Option<Receipt>, closed: &Closed<S>) -> bool {
+fn is_due<S: BookRows>(receipt: &Option<Receipt>, closed: &Closed<S>) -> bool {
     match receipt {
         Some(receipt) => audit(closed, slice::from_ref(receipt)).is_ok(),
         None => false,
@@ -322,7 +315,7 @@ impl Task for Parts {
     type Answer = Answers;
 
     /// Makes the calls. The plan and the statistics are shown with no further memory.
-    fn work<A: ArrivalLedger, T: Ledger, U: Ledger, S: RowStore<Queued<Outbound>>, H: Wait + Log>(
+    fn work<A: ArrivalLedger, T: Ledger, U: Ledger, S: BookRows, H: Wait + Log>(
         &self,
         rt: &H,
         _: Global,
@@ -338,7 +331,7 @@ impl Task for Parts {
 
     /// Whether the book has what the calls did, each once: entries that are folded, what became of the message in the
     /// statistics, empty queues, and no receipt that is due.
-    fn is_right<S: RowStore<Queued<Outbound>>>(&self, done: &Done<Answers, S>) -> bool {
+    fn is_right<S: BookRows>(&self, done: &Done<Answers, S>) -> bool {
         let (answers, closed) = (&done.answer, &done.closed);
         let (book, counts) = (closed.book(), closed.book().counts());
         is_folded(book)
@@ -363,7 +356,7 @@ enum CallsEnd {
 }
 
 /// Makes the calls of a book.
-fn make_calls<S: RowStore<Queued<Outbound>> + Drop, H: Wait + Log>(
+fn make_calls<S: BookRows + Drop, H: Wait + Log>(
     rt: &H,
     alloc: Global,
     book: Book<S>,
@@ -380,7 +373,7 @@ fn make_calls<S: RowStore<Queued<Outbound>> + Drop, H: Wait + Log>(
 }
 
 /// Makes the calls of a book, where there is one.
-fn end_of_calls<S: RowStore<Queued<Outbound>> + Drop, H: Wait + Log>(
+fn end_of_calls<S: BookRows + Drop, H: Wait + Log>(
     rt: &H,
     alloc: Global,
     prepared: Option<(Book<S>, Parts)>,

@@ -5,12 +5,10 @@ ghost use Rattle.std.specs.Prelude.{◌<◌};
 
 use crate::devices::{Cut, Devices, SMOOTH, Sink, Source};
 use crate::stage::{Done, Rows, Task, empty_book, plan, share};
-use book_core::{Book, EVENTS_MAX, Outbound};
+use book_core::{Book, BookRows, EVENTS_MAX};
 use book_lock::{ArrivalLedger, Closed, Desk, Shared, Station, audit, rising};
 use conn_worker::{Counted, ServeEnd, ServeReport, Still, nearest, serve};
-use dest_queue::Queued;
 use log::Log;
-use row_store::RowStore;
 use stat_count::Counts;
 use std::alloc::Global;
 use std::sync::Wait;
@@ -50,7 +48,7 @@ struct Course {
 }
 
 /// An empty book of the built-in plan. None where memory was refused.
-fn book<S: RowStore<Queued<Outbound>> + Drop>(rt: &HostRuntime) -> Option<Book<S>> {
+fn book<S: BookRows + Drop>(rt: &HostRuntime) -> Option<Book<S>> {
     empty_book(rt, plan(rt.alloc(), false)?, EVENTS_MAX)
 }
 
@@ -62,7 +60,7 @@ fn roomy_sink(alloc: Global, devices: Devices) -> Option<Sink> {
 }
 
 /// Serves the two messages at a desk, over these devices.
-fn serve_at<A: ArrivalLedger, T: Ledger, U: Ledger, S: RowStore<Queued<Outbound>>, H: Wait + Log>(
+fn serve_at<A: ArrivalLedger, T: Ledger, U: Ledger, S: BookRows, H: Wait + Log>(
     rt: &H,
     alloc: Global,
     shared: &Shared<A, T, U, S>,
@@ -123,7 +121,7 @@ fn may_be(end: ServeEnd, booked: usize, written: &[u8]) -> bool {
 }
 
 /// Whether the book has the messages of the receipts, in order, waiting to be delivered, and nothing else.
-fn has_the_booked<S: RowStore<Queued<Outbound>>>(course: &Course, closed: &Closed<S>) -> bool {
+fn has_the_booked<S: BookRows>(course: &Course, closed: &Closed<S>) -> bool {
     let (book, receipts) = (closed.book(), course.report.receipts.as_slice());
     let booked = receipts.len();
     book.len() == booked
@@ -145,7 +143,7 @@ impl Task for Serving {
     type Answer = Course;
 
     /// None where memory was refused before.
-    fn work<A: ArrivalLedger, T: Ledger, U: Ledger, S: RowStore<Queued<Outbound>>, H: Wait + Log>(
+    fn work<A: ArrivalLedger, T: Ledger, U: Ledger, S: BookRows, H: Wait + Log>(
         &self,
         rt: &H,
         alloc: Global,
@@ -166,7 +164,7 @@ impl Task for Serving {
     }
 
     /// Whether what was answered is what was booked, and the book has nothing else.
-    fn is_right<S: RowStore<Queued<Outbound>>>(&self, served: &Done<Course, S>) -> bool {
+    fn is_right<S: BookRows>(&self, served: &Done<Course, S>) -> bool {
         let course = &served.answer;
         let report = &course.report;
         may_be(report.end, report.receipts.len(), &course.written)
@@ -190,7 +188,7 @@ struct Told {
 }
 
 /// The outcome of serving.
-fn told_of<S: RowStore<Queued<Outbound>>>(serving: &Serving, served: &Done<Course, S>) -> Told {
+fn told_of<S: BookRows>(serving: &Serving, served: &Done<Course, S>) -> Told {
     let report = &served.answer.report;
     Told {
         right: serving.is_right(served),
@@ -200,7 +198,7 @@ fn told_of<S: RowStore<Queued<Outbound>>>(serving: &Serving, served: &Done<Cours
 }
 
 /// Serves the two messages by a book, and returns the outcome. None where memory was refused before.
-fn serve_by<S: RowStore<Queued<Outbound>> + Drop, H: Wait + Log>(
+fn serve_by<S: BookRows + Drop, H: Wait + Log>(
     rt: &H,
     alloc: Global,
     book: Option<Book<S>>,

@@ -2,11 +2,9 @@
 
 use crate::devices::{CUTS, Cut, Devices, Mishap, SMOOTH, Sink, Source};
 use crate::stage::{Rows, waiting};
-use book_core::{Book, EVENTS_MAX, Outbound};
+use book_core::{Book, BookRows, EVENTS_MAX};
 use conn_core::ConnectionId;
 use conn_worker::{Counted, ServeEnd, ServeReport, Still, TURNS_MAX, nearest, serve_within};
-use dest_queue::Queued;
-use row_store::RowStore;
 use std::alloc::Global;
 use std::test::Fail;
 
@@ -42,7 +40,7 @@ struct Served {
 }
 
 /// Serves a stream from a book over these devices, at 14 November 2023, 22:13:20 UTC.
-fn serve_from<S: RowStore<Queued<Outbound>>>(
+fn serve_from<S: BookRows>(
     alloc: Global,
     book: &mut Book<S>,
     stream: &[u8],

@@ -5,7 +5,7 @@ ghost use Rattle.judge_core.specs.Judging.{is_bookable};
 ghost use Rattle.event_log.specs.History.{next_place, plan_in_force};
 ghost use Rattle.event_log.specs.Counting.{counted};
 
-use book_core::{Book, EVENTS_MAX, Outbound, Receipt};
+use book_core::{Book, BookRows, EVENTS_MAX, Outbound, Receipt};
 use book_lock::{ArrivalLedger, Closed, Desk, LogEntry, Shared, Station};
 use dest_queue::Queued;
 use ghost_log::BlankLog;
@@ -13,7 +13,6 @@ use judge_core::{Judged, fits_block, judge};
 use log::Log;
 use plan_text::Plan;
 use record_list::RecordList;
-use row_store::RowStore;
 use std::alloc::Global;
 use std::hash::RandomState;
 use std::marker::Brand;
@@ -71,7 +70,7 @@ pub(crate) fn judged(alloc: Global, plan: &Arc<Plan>, text: &str) -> Option<Judg
 }
 
 /// An empty book of a plan with room for a number of entries. None where memory is refused.
-pub(crate) fn empty_book<S: RowStore<Queued<Outbound>> + Drop>(
+pub(crate) fn empty_book<S: BookRows + Drop>(
     rt: &HostRuntime,
     plan: Arc<Plan>,
     room: u32,
@@ -82,11 +81,7 @@ pub(crate) fn empty_book<S: RowStore<Queued<Outbound>> + Drop>(
 }
 
 /// Books messages by connection 0. None where one is not booked.
-fn fill<S: RowStore<Queued<Outbound>>>(
-    alloc: Global,
-    book: &mut Book<S>,
-    messages: &[&str],
-) -> Option<()> {
+fn fill<S: BookRows>(alloc: Global, book: &mut Book<S>, messages: &[&str]) -> Option<()> {
     for text in messages {
         let judged = judged(alloc, book.plan(), text)?;
         book.arrive(0, &judged).ok()?;
@@ -95,7 +90,7 @@ fn fill<S: RowStore<Queued<Outbound>>>(
 }
 
 /// A book of a plan with room for a number of entries, in which these messages wait.
-pub(crate) fn waiting<S: RowStore<Queued<Outbound>> + Drop>(
+pub(crate) fn waiting<S: BookRows + Drop>(
     rt: &HostRuntime,
     four: bool,
     room: u32,
@@ -114,13 +109,12 @@ pub(crate) fn waiting<S: RowStore<Queued<Outbound>> + Drop>(
 }
 
 /// A message judged by the plan in force of a shared book. None where it is not bookable, or memory is refused.
-pub(crate) fn judged_now<
-    A: ArrivalLedger,
-    T: Ledger,
-    U: Ledger,
-    S: RowStore<Queued<Outbound>>,
-    H: Wait + Log,
->(rt: &H, alloc: Global, shared: &Shared<A, T, U, S>, text: &str) -> Option<Judged>
+pub(crate) fn judged_now<A: ArrivalLedger, T: Ledger, U: Ledger, S: BookRows, H: Wait + Log>(
+    rt: &H,
+    alloc: Global,
+    shared: &Shared<A, T, U, S>,
+    text: &str,
+) -> Option<Judged>
     ensures { IfSome result (λ judged. IsTrue (is_bookable judged.raw)) }
 {
     let plan = shared.plan(rt).ok()?;
@@ -128,13 +122,7 @@ pub(crate) fn judged_now<
 }
 
 /// Books a message by a connection. None where it is not booked.
-pub(crate) fn bring<
-    A: ArrivalLedger,
-    T: Ledger,
-    U: Ledger,
-    S: RowStore<Queued<Outbound>>,
-    H: Wait + Log,
->(
+pub(crate) fn bring<A: ArrivalLedger, T: Ledger, U: Ledger, S: BookRows, H: Wait + Log>(
     rt: &H,
     alloc: Global,
     shared: &Shared<A, T, U, S>,
@@ -152,7 +140,7 @@ pub trait Task {
     type Answer: Drop;
 
     /// Does it, at the desks and the stations of the book. None where nothing comes of it.
-    fn work<A: ArrivalLedger, T: Ledger, U: Ledger, S: RowStore<Queued<Outbound>>, H: Wait + Log>(
+    fn work<A: ArrivalLedger, T: Ledger, U: Ledger, S: BookRows, H: Wait + Log>(
         &self,
         rt: &H,
         alloc: Global,
@@ -162,12 +150,12 @@ pub trait Task {
     ) -> Option<Self::Answer>;
 
     /// Whether that, and the book after it, are as they are to be.
-    fn is_right<S: RowStore<Queued<Outbound>>>(&self, done: &Done<Self::Answer, S>) -> bool;
+    fn is_right<S: BookRows>(&self, done: &Done<Self::Answer, S>) -> bool;
 }
 
 /// The result of a task, and the book after it.
 #[derive(Drop)]
-pub struct Done<X, S: RowStore<Queued<Outbound>>> {
+pub struct Done<X, S: BookRows> {
     pub answer: X,
     pub closed: Closed<S>,
 }
@@ -188,7 +176,7 @@ fn share_and_close<
     A: ArrivalLedger,
     T: Ledger,
     U: Ledger,
-    S: RowStore<Queued<Outbound>> + Drop,
+    S: BookRows + Drop,
     K: Task,
     H: Wait + Log,
 >(
@@ -224,7 +212,7 @@ fn share_and_close<
 }
 
 /// Does a task with a book that is shared between a desk and a station.
-pub(crate) fn share<S: RowStore<Queued<Outbound>> + Drop, K: Task, H: Wait + Log>(
+pub(crate) fn share<S: BookRows + Drop, K: Task, H: Wait + Log>(
     rt: &H,
     alloc: Global,
     book: Book<S>,
@@ -246,7 +234,7 @@ pub(crate) fn share<S: RowStore<Queued<Outbound>> + Drop, K: Task, H: Wait + Log
 }
 
 /// Whether a task with a shared book comes out as it is to.
-pub(crate) fn comes_out<S: RowStore<Queued<Outbound>> + Drop, K: Task, H: Wait + Log>(
+pub(crate) fn comes_out<S: BookRows + Drop, K: Task, H: Wait + Log>(
     rt: &H,
     alloc: Global,
     book: Book<S>,

@@ -5,13 +5,12 @@ ghost use Rattle.event_log.specs.History.{next_place, plan_in_force};
 ghost use Rattle.event_log.specs.Counting.{counted};
 
 use crate::stage::{Rows, UPDATE, waiting};
-use book_core::{Book, EVENTS_MAX, Outbound};
+use book_core::{Book, BookRows, EVENTS_MAX};
 use book_lock::{ArrivalLedger, Closed, LogEntry, Shared, Station};
 use conn_worker::nearest;
-use dest_queue::{FailCause, Outcome, Queued, SlotState};
+use dest_queue::{FailCause, Outcome, SlotState};
 use ghost_log::BlankLog;
 use log::Log;
-use row_store::RowStore;
 use std::alloc::Global;
 use std::marker::Brand;
 use std::sync::Wait;
@@ -24,13 +23,11 @@ use std::thread::Threads;
 const ROUNDS: u32 = 200;
 
 /// Takes the front of each of four queues, and has it delivered.
-fn deliver_all<
-    A: ArrivalLedger,
-    T: Ledger,
-    U: Ledger,
-    S: RowStore<Queued<Outbound>>,
-    H: Wait + Log,
->(rt: &H, shared: &Shared<A, T, U, S>, station: Station<A, T, U>) -> Station<A, T, U> {
+fn deliver_all<A: ArrivalLedger, T: Ledger, U: Ledger, S: BookRows, H: Wait + Log>(
+    rt: &H,
+    shared: &Shared<A, T, U, S>,
+    station: Station<A, T, U>,
+) -> Station<A, T, U> {
     let mut station = station;
     for d in 0..4 {
         if let Ok(job) = shared.take(rt, &mut station, d, nearest(0)) {
@@ -47,7 +44,7 @@ fn deliver_all<
 }
 
 /// Cancels message 0. Whether a slot of it waited.
-fn cancel<A: ArrivalLedger, T: Ledger, U: Ledger, S: RowStore<Queued<Outbound>>, H: Wait + Log>(
+fn cancel<A: ArrivalLedger, T: Ledger, U: Ledger, S: BookRows, H: Wait + Log>(
     rt: &H,
     shared: &Shared<A, T, U, S>,
 ) -> bool {
@@ -59,7 +56,7 @@ fn beside<
     A: ArrivalLedger + Send + Sync,
     T: Ledger + Send + Sync,
     U: Ledger + Send + Sync,
-    S: RowStore<Queued<Outbound>> + Send,
+    S: BookRows + Send,
     H: Log + Threads + Wait + Sync,
 >(rt: &H, shared: &Shared<A, T, U, S>, station: Station<A, T, U>) -> Station<A, T, U> {
     let (_, station) = thread::join(
@@ -75,7 +72,7 @@ fn work_beside<
     A: ArrivalLedger + Send + Sync,
     T: Ledger + Send + Sync,
     U: Ledger + Send + Sync,
-    S: RowStore<Queued<Outbound>> + Send,
+    S: BookRows + Send,
     H: Log + Threads + Wait + Sync,
 >(rt: &H, shared: &Shared<A, T, U, S>, stations: &mut Vec<Station<A, T, U>>) -> Option<()> {
     let station = stations.pop()?;
@@ -87,7 +84,7 @@ fn cancel_and_deliver<
     A: ArrivalLedger + Send + Sync,
     T: Ledger + Send + Sync,
     U: Ledger + Send + Sync,
-    S: RowStore<Queued<Outbound>> + Drop + Send,
+    S: BookRows + Drop + Send,
     H: Log + Threads + Wait + Sync,
 >(
     rt: &H,
@@ -114,7 +111,7 @@ fn cancel_and_deliver<
 }
 
 /// Whether the slot at a destination reached its end, and is counted there once.
-fn is_over<S: RowStore<Queued<Outbound>>>(book: &Book<S>, d: u32) -> bool
+fn is_over<S: BookRows>(book: &Book<S>, d: u32) -> bool
     requires { d < 32 }
 {
     let state = book.status(0, d);
@@ -125,12 +122,12 @@ fn is_over<S: RowStore<Queued<Outbound>>>(book: &Book<S>, d: u32) -> bool
 }
 
 /// Whether each slot of message 0 was delivered or cancelled, and the statistics count as many as there are.
-fn is_right<S: RowStore<Queued<Outbound>>>(book: &Book<S>) -> bool {
+fn is_right<S: BookRows>(book: &Book<S>) -> bool {
     book.status(0, 0).is_none() && is_over(book, 1) && is_over(book, 2) && is_over(book, 3)
 }
 
 /// Whether a cancellation beside deliveries, in this book, comes out as it is to.
-fn comes_out<S: RowStore<Queued<Outbound>> + Drop + Send, H: Log + Threads + Wait + Sync>(
+fn comes_out<S: BookRows + Drop + Send, H: Log + Threads + Wait + Sync>(
     rt: &H,
     alloc: Global,
     book: Book<S>,

@@ -1,12 +1,11 @@
 //! What a service asks of a shared book: arrivals that prune a tight book, numbers of connections, and what is shown.
 
 use crate::stage::{Done, M1, M2, Rows, Task, comes_out, judged_now, waiting};
-use book_core::{Book, Front, Outbound, PruneRefusal, Told};
+use book_core::{Book, BookRows, Front, PruneRefusal, Told};
 use book_lock::{ArrivalLedger, Desk, Found, Gauge, Shared, Station, Status, Tidied, Tidying};
 use conn_worker::nearest;
-use dest_queue::{Outcome, Queued, SlotState};
+use dest_queue::{Outcome, SlotState};
 use log::Log;
-use row_store::RowStore;
 use std::alloc::Global;
 use std::sync::Wait;
 use std::sync::ledger::Ledger;
@@ -40,7 +39,7 @@ struct Showing;
 impl Task for Showing {
     type Answer = Shown;
 
-    fn work<A: ArrivalLedger, T: Ledger, U: Ledger, S: RowStore<Queued<Outbound>>, H: Wait + Log>(
+    fn work<A: ArrivalLedger, T: Ledger, U: Ledger, S: BookRows, H: Wait + Log>(
         &self,
         rt: &H,
         _: Global,
@@ -66,7 +65,7 @@ impl Task for Showing {
     }
 
     /// Whether all that is shown is that of two messages that wait at the one destination.
-    fn is_right<S: RowStore<Queued<Outbound>>>(&self, done: &Done<Shown, S>) -> bool {
+    fn is_right<S: BookRows>(&self, done: &Done<Shown, S>) -> bool {
         let shown = &done.answer;
         shown.admitted == [Some(0), Some(1)]
             && done.closed.admitted() == 2
@@ -170,7 +169,7 @@ fn is_folded(found: &Found) -> bool {
 }
 
 /// Delivers the front of queue 0. None where that is refused.
-fn deliver<A: ArrivalLedger, T: Ledger, U: Ledger, S: RowStore<Queued<Outbound>>, H: Wait + Log>(
+fn deliver<A: ArrivalLedger, T: Ledger, U: Ledger, S: BookRows, H: Wait + Log>(
     rt: &H,
     shared: &Shared<A, T, U, S>,
     station: &mut Station<A, T, U>,
@@ -182,7 +181,7 @@ fn deliver<A: ArrivalLedger, T: Ledger, U: Ledger, S: RowStore<Queued<Outbound>>
 }
 
 /// Books a message by connection 7, with the last message kept where the book is tight.
-fn bring_tidy<A: ArrivalLedger, T: Ledger, U: Ledger, S: RowStore<Queued<Outbound>>, H: Wait + Log>(
+fn bring_tidy<A: ArrivalLedger, T: Ledger, U: Ledger, S: BookRows, H: Wait + Log>(
     rt: &H,
     alloc: Global,
     shared: &Shared<A, T, U, S>,
@@ -196,7 +195,7 @@ fn bring_tidy<A: ArrivalLedger, T: Ledger, U: Ledger, S: RowStore<Queued<Outboun
 impl Task for Filling {
     type Answer = Tidyings;
 
-    fn work<A: ArrivalLedger, T: Ledger, U: Ledger, S: RowStore<Queued<Outbound>>, H: Wait + Log>(
+    fn work<A: ArrivalLedger, T: Ledger, U: Ledger, S: BookRows, H: Wait + Log>(
         &self,
         rt: &H,
         alloc: Global,
@@ -223,7 +222,7 @@ impl Task for Filling {
 
     /// Whether the second message found room, the last arrival pruned the book but for one message, and a pruning with none
     /// kept forgets nothing that waits.
-    fn is_right<S: RowStore<Queued<Outbound>>>(&self, done: &Done<Tidyings, S>) -> bool {
+    fn is_right<S: BookRows>(&self, done: &Done<Tidyings, S>) -> bool {
         let came = &done.answer;
         told(&came.at_first) == Some(Told::Accepted(1))
             && came.at_first.tidying == Tidying::NotTight
