@@ -13,7 +13,7 @@ use crate::replies::Replies;
 use book_core::{NotBooked, Receipt};
 use event_log::Told;
 use hl7_head::Moment;
-use judge_core::{Judged, judge};
+use judge_core::Judged;
 use std::alloc::AllocError;
 
 /// What became of a message.
@@ -130,18 +130,6 @@ fn book_judged<B: Booking>(
     Booked { outcome, whole }
 }
 
-/// The text of a block, judged by the plan of where it is booked.
-fn judged_by<B: Booking>(line: &ConnectionId, book: &B, raw: Vec<u8>) -> Result<Judged, AllocError>
-    requires channel { line.now.channel < B.channels book.now }
-    requires data { IsBlockData raw.items }
-    ensures for_channel { IfOk result (λ judged. judged.channel ≡ line.now.channel) }
-    ensures of_text { IfOk result (λ judged. judged.raw ≡ raw.items) }
-    ensures by_plan { IfOk result (λ judged. B.judges book.now judged.plan) }
-{
-    let plan = book.plan()?;
-    judge(line.alloc, &plan, line.channel, raw)
-}
-
 /// Answers a block that was judged, as [`answer_block`] does.
 fn answer_judged<B: Booking>(
     line: &ConnectionId,
@@ -210,6 +198,10 @@ pub fn answer_block<B: Booking>(
     ensures unbooked { OnErr result (B.books book.old book.new []) }
     ensures unchanged { OnErr result (replies.new ≡ replies.old) }
 {
-    let judged = judged_by(line, book, raw)?;
-    Ok(answer_judged(line, book, &judged, now, replies))
+    // What was judged is read where it is, and not moved by `?`, for speed: it takes 240 bytes.
+    let judged = book.judged(line.alloc, line.channel, raw);
+    match &judged {
+        Ok(judged) => Ok(answer_judged(line, book, judged, now, replies)),
+        Err(_) => Err(AllocError),
+    }
 }
