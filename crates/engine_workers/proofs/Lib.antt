@@ -1,2 +1,4 @@
 mod Crossing
 pub mod Parts
+pub mod Reported
+pub mod Traced
