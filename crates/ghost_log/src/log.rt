@@ -14,8 +14,8 @@ use std::mem::replace;
 /// its number.
 #[derive(Drop)]
 pub struct Seat<J: Naming, E> {
-    number: u64,
-    badge: Badge<PassView<E>>,
+    pub(crate) number: u64,
+    pub(crate) badge: Badge<PassView<E>>,
     of: PhantomData<J>,
 }
 
@@ -35,9 +35,9 @@ impl<J: Naming, E> Model for Seat<J, E> {
 /// The log: contracts see its entries, each with the number of the seat that added it, and how many seats were issued.
 #[derive(Drop)]
 pub struct GhostLog<J: Naming, E> {
-    table: Memory<E>,
-    keeper: Pass<E>,
-    issued: u64,
+    pub(crate) table: Memory<E>,
+    pub(crate) keeper: Pass<E>,
+    pub(crate) issued: u64,
     of: PhantomData<J>,
 }
 

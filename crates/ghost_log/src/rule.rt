@@ -8,17 +8,16 @@ use std::alloc::{AllocError, Global};
 use std::collections::LinkedList;
 use std::marker::{Brand, PhantomData};
 
-/// What a pass knows. The keeper's pass knows the whole log and how many seats were issued; a seat's pass knows its
-/// number and what the seat has seen. No value of it is made.
+/// What a pass knows. The keeper's pass knows the whole log and how many seats were issued. Each pass knows the seats that
+/// it holds, each by its number and what it has seen: a seat's pass holds that seat. No value of it is made.
 pub struct PassView<E> {
     pub keeps: bool,
     pub log: LinkedList<(u64, E)>,
     pub issued: u64,
-    pub owns: Option<u64>,
-    pub seen: LinkedList<(u64, E)>,
+    pub held: LinkedList<(u64, LinkedList<(u64, E)>)>,
 }
 
-/// The rule: one pass at most keeps the log, one at most has each number, and each seat has seen a prefix of the log.
+/// The rule: one pass at most keeps the log, no number is held twice, and each seat has seen a prefix of the log.
 pub struct LogRule;
 
 impl<E> TableRule<(), PassView<E>, ()> for LogRule {
@@ -69,7 +68,7 @@ impl<E, N: Entries<E>> Play<(), PassView<E>> for AddsEntries<N> {
     ghost then = { λ _ v _ w. HasAdded N.entries v w };
 }
 
-/// The step that compares what a seat has seen with the log.
+/// The step that compares the seats that are joined with the log and with each other.
 pub struct Compares;
 
 impl<E> Play<(), PassView<E>> for Compares {

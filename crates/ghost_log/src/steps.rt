@@ -1,7 +1,7 @@
 //! The steps over the passes of a log.
 
 ghost use Rattle.std.specs.Prelude.{◌≡◌, ◌<◌, ◌+◌, ◌∷◌, [], All};
-ghost use Rattle.ghost_log.specs.inner.Passes.{IsAlone, IsJoint, extended, joint_view, keeper_view, seat_view, seen_of};
+ghost use Rattle.ghost_log.specs.inner.Passes.{IsAlone, IsFitting, IsJoint, IsRoll, extended, first_seen, joint_view, keeper_view, roll_view, seat_view, seen_of};
 ghost use Rattle.ghost_log.specs.Seats.{Agrees};
 
 use crate::rule::{AddsEntries, Compares, Entries, Issues, LogRule, PassView, Visits};
@@ -45,6 +45,26 @@ pub fn attach<E>(table: &Memory<E>, keeper: &mut Pass<E>, badge: Badge<PassView<
     table.shared.join_seat::<Visits>(keeper, pass);
 }
 
+/// Joins the pass of one more seat to the keeper's.
+pub fn hold<E>(table: &Memory<E>, keeper: &mut Pass<E>, badge: Badge<PassView<E>>, number: u64)
+    requires words { table.now.shared.table_id.words ≡ 1 }
+    requires table { keeper.old.table_id ≡ table.now.shared.table_id }
+    requires same { badge.table_id ≡ table.now.shared.table_id }
+    requires keeper { IsRoll keeper.old.me }
+    requires badge { badge.views ≡ seat_view number (seen_of badge.views) ∷ [] }
+    ensures table { keeper.new.table_id ≡ keeper.old.table_id }
+    ensures keeper { keeper.new.me
+        ≡ (
+          roll_view keeper.old.me.0.log keeper.old.me.0.issued
+              ((number, seen_of badge.views) ∷ keeper.old.me.0.held),
+          [],
+        ) }
+{
+    let _ = number;
+    let pass = badge.into_seat();
+    table.shared.join_seat::<Visits>(keeper, pass);
+}
+
 /// Takes the pass of the seat out of the keeper's again.
 pub fn detach<E>(table: &Memory<E>, keeper: &mut Pass<E>, number: u64) -> Badge<PassView<E>>
     requires words { table.now.shared.table_id.words ≡ 1 }
@@ -53,7 +73,7 @@ pub fn detach<E>(table: &Memory<E>, keeper: &mut Pass<E>, number: u64) -> Badge<
     ensures table { keeper.new.table_id ≡ keeper.old.table_id }
     ensures same { result.table_id ≡ keeper.old.table_id }
     ensures keeper { keeper.new.me ≡ (keeper_view keeper.old.me.0.log keeper.old.me.0.issued, []) }
-    ensures badge { result.views ≡ seat_view number keeper.old.me.0.seen ∷ [] }
+    ensures badge { result.views ≡ seat_view number (first_seen keeper.old.me.0.held) ∷ [] }
 {
     let _ = number;
     table.shared.split_seat::<Visits>(keeper).into_badge()
@@ -71,7 +91,7 @@ pub fn add<N: Entries<E>, E>(table: &Memory<E>, keeper: &mut Pass<E>, number: u6
               number (extended number N.entries keeper.old.me.0.log),
           [],
         ) }
-    ensures agreed { Agrees number keeper.old.me.0.seen keeper.old.me.0.log }
+    ensures agreed { Agrees number (first_seen keeper.old.me.0.held) keeper.old.me.0.log }
 {
     let _ = number;
     table.shared.load::<AddsEntries<N>>(keeper, 0);
@@ -85,7 +105,7 @@ pub fn show<E>(table: &Memory<E>, keeper: &mut Pass<E>, number: u64)
     ensures table { keeper.new.table_id ≡ keeper.old.table_id }
     ensures keeper { keeper.new.me
         ≡ (joint_view keeper.old.me.0.log keeper.old.me.0.issued number keeper.old.me.0.log, []) }
-    ensures agreed { Agrees number keeper.old.me.0.seen keeper.old.me.0.log }
+    ensures agreed { Agrees number (first_seen keeper.old.me.0.held) keeper.old.me.0.log }
 {
     add::<Brand, E>(table, keeper, number);
 }
@@ -97,7 +117,7 @@ pub fn compare<E>(table: &Memory<E>, keeper: &mut Pass<E>, number: u64)
     requires keeper { IsJoint number keeper.old.me }
     ensures table { keeper.new.table_id ≡ keeper.old.table_id }
     ensures keeper { keeper.new.me ≡ keeper.old.me }
-    ensures agreed { Agrees number keeper.old.me.0.seen keeper.old.me.0.log }
+    ensures agreed { Agrees number (first_seen keeper.old.me.0.held) keeper.old.me.0.log }
 {
     let _ = number;
     table.shared.load::<Compares>(keeper, 0);
@@ -111,6 +131,18 @@ pub fn survey<E>(table: &Memory<E>, keeper: &mut Pass<E>)
     ensures table { keeper.new.table_id ≡ keeper.old.table_id }
     ensures keeper { keeper.new.me ≡ keeper.old.me }
     ensures within { All (λ x. x.0 < keeper.old.me.0.issued) keeper.old.me.0.log }
+{
+    table.shared.load::<Compares>(keeper, 0);
+}
+
+/// Compares all seats that are joined with the log and with each other.
+pub fn review<E>(table: &Memory<E>, keeper: &mut Pass<E>)
+    requires words { table.now.shared.table_id.words ≡ 1 }
+    requires table { keeper.old.table_id ≡ table.now.shared.table_id }
+    requires keeper { IsRoll keeper.old.me }
+    ensures table { keeper.new.table_id ≡ keeper.old.table_id }
+    ensures keeper { keeper.new.me ≡ keeper.old.me }
+    ensures fitting { IsFitting keeper.old.me.0 }
 {
     table.shared.load::<Compares>(keeper, 0);
 }

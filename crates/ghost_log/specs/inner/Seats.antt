@@ -1,6 +1,5 @@
 -- What proofs use beside the page Seats.
 use Rattle.std.specs.Prelude.{ℕ, List, map}
-use mathlib.Core.List.{IsPrefix}
 
 -- entries with the number of the seat that adds them
 abbrev pub entries_by : {E : Type 0} → ℕ → List E → List (ℕ × E)

@@ -1,6 +1,6 @@
-use Rattle.std.proofs.Common.{arith}
-use Rattle.ghost_log.proofs.Keeping.{surveys_as}
+use Rattle.std.proofs.Common.{arith, []}
+use Rattle.ghost_log.proofs.Keeping.{compares_as, roll_at}
 use Rattle.ghost_log.proofs.steps.survey.Goals as goal
 
 pub load-requires : goal.load-requires
-load-requires g c = (let words = c.requires.words in (c.requires.table, omega (arith, words), surveys_as _ _ _ c.args.keeper.now.me c.requires.keeper))
+load-requires g c = (let words = c.requires.words in (c.requires.table, omega (arith, words), compares_as _ _ _ c.args.keeper.now.me (roll_at c.args.keeper.now.me c.args.keeper.now.me.0.log c.args.keeper.now.me.0.issued [] c.requires.keeper)))
