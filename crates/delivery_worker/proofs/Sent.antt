@@ -161,6 +161,7 @@ delivered_sent opening book seats desks stations closed works are n d there = el
   where
     entries : Log
     entries = closed.accounted.one_history.entries
+
     by : (s : SettledAs entries n d Delivered) → IsAt (λ w. w.last) works (map (λ s. s.seat) stations) s.settles.seat → SentByOne entries works n d
     by s at =
         let among = Contains-append_right (map (λ d. d.seat) desks) (map (λ s. s.seat) stations) at.work.last at.is_seat in

@@ -24,7 +24,7 @@ Served = ServeReport (Vec Receipt)
 -- ---- desks
 
 -- the receipts of a report, if there is one
-receipts_of : Option Served → List Receipt
+abbrev receipts_of : Option Served → List Receipt
 receipts_of None = []
 receipts_of (Some r) = r.receipts.items
 
@@ -48,8 +48,8 @@ desk_work opening seat None unused = (record { first = seat; last = seat; receip
 desk_work opening seat (Some r) served = served
 
 desk_works : {X : Type 0} (opening : History) (desk : X → DeskView) (report : X → Option Served) → ((x : X) → ∥ HasServed opening (desk x).seat (report x) ∥₁) → (xs : List X)
-    → ∥ (works : List (DeskWork opening)) × (map (λ w. w.last) works ≡ map (λ d. d.seat) (map desk xs))
-    × (flat_map (λ w. w.receipts) works ≡ flat_map (λ r. r.receipts.items) (filter_map report xs)) ∥₁
+    → ∥ ((works : List (DeskWork opening)) × (map (λ w. w.last) works ≡ map (λ d. d.seat) (map desk xs))
+    × (flat_map (λ w. w.receipts) works ≡ flat_map (λ r. r.receipts.items) (filter_map report xs))) ∥₁
 desk_works opening desk report each [] = ∣ ([], refl, refl) ∣₁
 desk_works opening desk report each (x ∷ xs) = ∥∥₁_map₂ (each x) (desk_works opening desk report each xs) (λ served rest.
     let one = desk_work opening (desk x).seat (report x) served in (
@@ -68,7 +68,7 @@ station_work opening d seat (Some r) delivered = (delivered.0, delivered.2)
 
 station_works : {Y : Type 0} (opening : History) (station : Y → StationView) (d : Y → ℕ) (report : Y → Option DeliverReport)
     → ((y : Y) → ∥ HasDelivered opening (d y) (station y).seat (report y) ∥₁) → (ys : List Y)
-    → ∥ (works : List (StationWork opening)) × (map (λ w. w.last) works ≡ map (λ s. s.seat) (map station ys)) ∥₁
+    → ∥ ((works : List (StationWork opening)) × (map (λ w. w.last) works ≡ map (λ s. s.seat) (map station ys))) ∥₁
 station_works opening station d report each [] = ∣ ([], refl) ∣₁
 station_works opening station d report each (y ∷ ys) = ∥∥₁_map₂ (each y) (station_works opening station d report each ys) (λ delivered rest.
     let one = station_work opening (d y) (station y).seat (report y) delivered in (one.0 ∷ rest.0, (λ i. one.1 i ∷ rest.1 i)))
@@ -79,7 +79,7 @@ pub traced_by : {X Y : Type 0} (opening book : History) (seats : ℕ) (desk : X 
     (delivered : Y → Option DeliverReport) → ((x : X) → ∥ HasServed opening (desk x).seat (served x) ∥₁)
     → ((y : Y) → ∥ HasDelivered opening (d y) (station y).seat (delivered y) ∥₁) → (xs : List X) (ys : List Y)
     → IsClosedBy opening seats (map desk xs) (map station ys) book
-    → ∥ (works : List (StationWork opening)) × IsTraced opening (flat_map (λ r. r.receipts.items) (filter_map served xs)) works book ∥₁
+    → ∥ ((works : List (StationWork opening)) × IsTraced opening (flat_map (λ r. r.receipts.items) (filter_map served xs)) works book) ∥₁
 traced_by opening book seats desk served station d delivered desks stations xs ys closed =
     ∥∥₁_map₂ (desk_works opening desk served desks xs) (station_works opening station d delivered stations ys) (λ b s. (
       s.0,

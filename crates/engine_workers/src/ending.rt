@@ -19,7 +19,7 @@ use std::sync::ledger::Ledger;
 /// How a run ended: the closed book, unless shares of it are missing, the report of each connection that was served, and that
 /// of each destination, both in the order of what the workers worked with.
 #[derive(Drop)]
-pub struct Ended<S: RowStore<Queued<Outbound>>> {
+pub struct RunEnd<S: RowStore<Queued<Outbound>>> {
     pub closed: Option<Closed<S>>,
     pub served: Vec<ServeReport>,
     pub delivered: Vec<DeliverReport>,
@@ -43,7 +43,7 @@ pub fn close_book<
     alloc: Global,
     shared: Shared<A, T, U, S>,
     worked: Finished<A, T, U, D, L>,
-) -> Result<Ended<S>, AllocError>
+) -> Result<RunEnd<S>, AllocError>
     ensures opening { IfOk result (λ ended. IfSome ended.closed (λ closed.
         (closed.opening ≡ A.counts) × (closed.first ≡ A.first))) }
     ensures served { IfOk result (λ ended.
@@ -51,14 +51,14 @@ pub fn close_book<
     ensures delivered { IfOk result (λ ended.
         ended.delivered.items ≡ filter_map (λ o. o.report) worked.outlets.items) }
     ensures traced { IfOk result (λ ended. IfSome ended.closed (λ closed.
-        ∥ (works : List (StationWork A.opening))
-        × IsTraced A.opening (flat_map (λ r. r.receipts.items) ended.served.items) works closed.book ∥₁)) }
+        ∥ ((works : List (StationWork A.opening)) × IsTraced A.opening
+        (flat_map (λ r. r.receipts.items) ended.served.items) works closed.book) ∥₁)) }
 {
     let Finished { seats, outlets, .. } = worked;
     let (desks, served) = desks_and_reports(alloc, seats)?;
     let (stations, delivered) = stations_and_reports(alloc, outlets)?;
     let closed = shared.close(desks, stations).ok();
-    Ok(Ended {
+    Ok(RunEnd {
         closed,
         served,
         delivered,

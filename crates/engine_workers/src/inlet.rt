@@ -49,6 +49,7 @@ fn is_ended_here(end: ServeEnd) -> bool {
 }
 
 /// Serves the connection of a seat, and leaves the report there. Where there is a report already, nothing is done.
+#[tactic(auto, using(crate::proofs::Reported::served_once))]
 fn serve_seat<
     A: ArrivalLedger,
     T: Ledger,

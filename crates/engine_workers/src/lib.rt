@@ -23,7 +23,7 @@ mod tcp_door;
 mod workers;
 
 pub use door::{Door, DoorFault, Incoming};
-pub use ending::{Ended, close_book};
+pub use ending::{RunEnd, close_book};
 pub use half::Half;
 pub use outlet::{DestinationWork, stations_and_reports};
 pub use seat::{ConnectionSlot, desks_and_reports};

@@ -74,6 +74,7 @@ struct Work<A: ArrivalLedger, T: Ledger, U: Ledger, D, L> {
 }
 
 /// The seats of a channel's connections, at the next desks.
+#[tactic(auto, using(crate::proofs::Unused::unused_desk, crate::proofs::Unused::unused_desks))]
 fn seats_at<A: ArrivalLedger>(
     alloc: Global,
     desks: &mut vec::IntoIter<Desk<A>>,
@@ -124,6 +125,7 @@ fn inlets_of<A: ArrivalLedger, D: Drop>(
 }
 
 /// The outlets of the destinations.
+#[tactic(auto, using(crate::proofs::Unused::unused_station, crate::proofs::Unused::unused_stations))]
 fn outlets_of<A: ArrivalLedger, T: Ledger, U: Ledger, L: Drop>(
     alloc: Global,
     stations: Vec<Station<A, T, U>>,
@@ -132,9 +134,13 @@ fn outlets_of<A: ArrivalLedger, T: Ledger, U: Ledger, L: Drop>(
     requires { All (λ s. IsUnused s.seat) stations.items }
 {
     let mut stations = stations.into_iter();
+    let mut links = links.into_iter();
     let mut outlets = Vec::new(alloc);
-    for (link, destination) in links.into_iter().zip(0..u32::MAX) {
+    for destination in 0..u32::MAX {
         let Some(station) = stations.next() else {
+            break;
+        };
+        let Some(link) = links.next() else {
             break;
         };
         outlets.push(TakeCell::new(DestinationWork::new(destination, link, station)))?;
