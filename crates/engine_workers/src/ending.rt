@@ -36,7 +36,7 @@ pub fn close_book<
     A: ArrivalLedger,
     T: Ledger,
     U: Ledger,
-    S: RowStore<Queued<Outbound>>,
+    S: RowStore<Queued<Outbound>> + Drop,
     D: Drop,
     L: Drop,
 >(
