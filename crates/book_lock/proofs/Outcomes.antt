@@ -525,3 +525,8 @@ accounted opening book seats seen sound l = record {
         → (slot opening ticket.number ticket.destination ≡ Some (InFlight ticket.attempt)) ⊎ IsUnsettled l.entries ticket
     kept ticket (inl was) = inl was.0
     kept ticket (inr u) = inr u
+
+-- it is that very history
+pub accounted_by : (opening book : History) (seats : ℕ) (seen : List SeatView) (sound : IsSoundBook opening) (l : Linearizes opening seats seen book) → (accounted opening book seats seen sound l).one_history ≡ l
+unfolding accounted
+accounted_by opening book seats seen sound l = refl

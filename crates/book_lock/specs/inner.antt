@@ -2,6 +2,7 @@
 pub mod Auditing
 pub mod Closing
 pub mod Coding
+pub mod Counts
 pub mod Log
 pub mod Rises
 pub mod Shares

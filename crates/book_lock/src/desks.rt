@@ -1,22 +1,28 @@
 //! The shares of the arrivals, of the takes and of the settlements, and the seats of those who make them.
 
-ghost use Rattle.std.specs.Prelude.{◌≡◌, ◌+◌, ◌++◌, ◌<◌, ◌≤◌, ◌^◌, All, length, map, vec_len, IfOk, OnOk};
+ghost use Rattle.std.specs.Prelude.{◌≡◌, ◌+◌, ◌++◌, ◌∷◌, ◌<◌, ◌≤◌, ◌^◌, [], All, length, map, vec_len, IfOk, OnOk};
 ghost use Rattle.ghost_log.specs.Seats.{Agrees};
-ghost use Rattle.ghost_log.specs.inner.Seats.{entries_by};
+ghost use Rattle.book_lock.specs.inner.Counts.{arrival_entry, count_of, is_arrival, is_settlement, is_take, settlement_entry, take_entry};
 ghost use Rattle.book_lock.specs.inner.Log.{new_seats};
 ghost use Rattle.book_lock.specs.Shares.{DeskView, StationView, arrivals_of, settlements_of, takes_of};
 ghost use Rattle.book_lock.specs.inner.Shares.{no_calls, with_settlement, with_take};
 
 use crate::locked::ArrivalLedger;
 use crate::log_entry::LogEntry;
-use ghost_log::{Entries, GhostLog, Seat};
+use book_core::{Receipt, Ticket};
+use dest_queue::{Outcome, SlotState};
+use ghost_log::{GhostLog, Roll, Seat};
+use hl7_head::Moment;
 use std::alloc::{AllocError, Global};
-use std::marker::Model;
+use std::marker::{Brand, Model};
 use std::sync::ledger;
 use std::sync::ledger::{Ledger, Share};
 
+/// A settlement: its outcome, the ticket, the moment, and the slot's new state.
+pub type Settled = (Outcome, Ticket, Moment, SlotState);
+
 /// A worker's share of the arrivals, and its seat: contracts see how many arrivals were booked at it since the book was
-/// shared, and what the seat has seen of the log.
+/// shared, and what the seat has seen of the log. Those arrivals are the ones that its seat added to the log.
 #[derive(Drop)]
 pub struct Desk<A: ArrivalLedger> {
     made: u64,
@@ -28,6 +34,7 @@ impl<A: ArrivalLedger> Model for Desk<A> {
     ghost use Rattle.std.specs.Prelude.{◌≡◌};
     ghost use Rattle.book_lock.specs.Shares.{DeskView};
     ghost use Rattle.book_lock.specs.inner.Coding.{desk_code};
+    ghost use Rattle.book_lock.specs.inner.Counts.{count_of, is_arrival};
 
     ghost Value = { DeskView };
 
@@ -36,11 +43,14 @@ impl<A: ArrivalLedger> Model for Desk<A> {
     ghost view = { λ d.
         record { made = d.made; seat = record { number = d.seat.0; seen = d.seat.1 } } };
 
-    ghost invariant = { λ d. (d.share.parts ≡ 1) × (d.share.amount ≡ d.made) };
+    ghost invariant = { λ d.
+        (d.share.parts ≡ 1)
+        × (d.share.amount ≡ d.made)
+        × (d.made ≡ count_of is_arrival d.seat.0 d.seat.1) };
 }
 
 /// A worker's shares of the takes and of the settlements, and its seat: contracts see how many of each were made at it, and
-/// what the seat has seen of the log.
+/// what the seat has seen of the log. Those takes and settlements are the ones that its seat added to the log.
 #[derive(Drop)]
 pub struct Station<A: ArrivalLedger, T: Ledger, U: Ledger> {
     taken: u64,
@@ -54,6 +64,7 @@ impl<A: ArrivalLedger, T: Ledger, U: Ledger> Model for Station<A, T, U> {
     ghost use Rattle.std.specs.Prelude.{◌≡◌};
     ghost use Rattle.book_lock.specs.Shares.{StationView};
     ghost use Rattle.book_lock.specs.inner.Coding.{station_code};
+    ghost use Rattle.book_lock.specs.inner.Counts.{count_of, is_settlement, is_take};
 
     ghost Value = { StationView };
 
@@ -64,7 +75,13 @@ impl<A: ArrivalLedger, T: Ledger, U: Ledger> Model for Station<A, T, U> {
       seat = record { number = s.seat.0; seen = s.seat.1 };
     } };
 
-    ghost invariant = { λ s. (s.takes.parts ≡ 1) × (s.takes.amount ≡ s.taken) × (s.settlements.parts ≡ 1) × (s.settlements.amount ≡ s.settled) };
+    ghost invariant = { λ s.
+        (s.takes.parts ≡ 1)
+        × (s.takes.amount ≡ s.taken)
+        × (s.settlements.parts ≡ 1)
+        × (s.settlements.amount ≡ s.settled)
+        × (s.taken ≡ count_of is_take s.seat.0 s.seat.1)
+        × (s.settled ≡ count_of is_settlement s.seat.0 s.seat.1) };
 }
 
 impl<A: ArrivalLedger> Desk<A> {
@@ -83,14 +100,24 @@ impl<A: ArrivalLedger> Desk<A> {
         book.audit(&mut self.share);
     }
 
-    /// Counts an arrival, here and in the ledger's book.
-    pub fn count(&mut self, book: &mut ledger::Book<A>)
+    /// Counts an arrival here and in the ledger's book, and adds it to the log for the desk's seat, which has then seen all
+    /// of the log.
+    pub fn add_arrival(
+        &mut self,
+        book: &mut ledger::Book<A>,
+        log: &mut GhostLog<A, LogEntry>,
+        receipt: &Receipt,
+    )
         requires { book.old.total + 1 < 2 ^ 64 }
-        ensures desk { self.new ≡ record self.old { made = self.old.made + 1 } }
         ensures total { book.new.total ≡ book.old.total + 1 }
+        ensures made { self.new.made ≡ self.old.made + 1 }
+        ensures log { log.new
+            ≡ (log.old.0 ++ (self.old.seat.number, arrival_entry receipt.now) ∷ [], log.old.1) }
+        ensures seat { self.new.seat ≡ record self.old.seat { seen = log.new.0 } }
     {
         book.audit(&mut self.share);
         book.add(&mut self.share, 1);
+        log.push::<Receipt, Brand>(&mut self.seat, receipt);
         self.made += 1;
     }
 
@@ -102,16 +129,6 @@ impl<A: ArrivalLedger> Desk<A> {
         ensures agreed { Agrees self.old.seat.number self.old.seat.seen log.old.0 }
     {
         log.observe(&mut self.seat);
-    }
-
-    /// Adds entries to the log for the desk's seat, which has then seen all of it.
-    pub fn push<X, N: Entries<LogEntry>>(&mut self, log: &mut GhostLog<A, LogEntry>, about: &X)
-        ensures log { log.new
-            ≡ (log.old.0 ++ entries_by self.old.seat.number N.entries, log.old.1) }
-        ensures made { self.new.made ≡ self.old.made }
-        ensures seat { self.new.seat ≡ record self.old.seat { seen = log.new.0 } }
-    {
-        log.push::<X, N>(&mut self.seat, about);
     }
 }
 
@@ -130,25 +147,50 @@ impl<A: ArrivalLedger, T: Ledger, U: Ledger> Station<A, T, U> {
         self.settled
     }
 
-    /// Counts a take, here and in the ledger's book.
-    pub fn count_take(&mut self, book: &mut ledger::Book<T>)
+    /// Counts a take here and in the ledger's book, and adds it to the log for the station's seat, which has then seen all of
+    /// the log.
+    pub fn add_take(
+        &mut self,
+        book: &mut ledger::Book<T>,
+        log: &mut GhostLog<A, LogEntry>,
+        ticket: &Ticket,
+        now: Moment,
+    )
         requires { book.old.total + 1 < 2 ^ 64 }
-        ensures station { self.new ≡ record self.old { counts = with_take self.old.counts } }
         ensures total { book.new.total ≡ book.old.total + 1 }
+        ensures counts { self.new.counts ≡ with_take self.old.counts }
+        ensures log { log.new
+            ≡ (log.old.0 ++ (self.old.seat.number, take_entry ticket.now now) ∷ [], log.old.1) }
+        ensures seat { self.new.seat ≡ record self.old.seat { seen = log.new.0 } }
     {
         book.audit(&mut self.takes);
         book.add(&mut self.takes, 1);
+        log.push::<(Ticket, Moment), Brand>(&mut self.seat, &(*ticket, now));
         self.taken += 1;
     }
 
-    /// Counts a settlement, here and in the ledger's book.
-    pub fn count_settlement(&mut self, book: &mut ledger::Book<U>)
+    /// Counts a settlement here and in the ledger's book, and adds it to the log for the station's seat, which has then seen
+    /// all of the log.
+    pub fn add_settlement(
+        &mut self,
+        book: &mut ledger::Book<U>,
+        log: &mut GhostLog<A, LogEntry>,
+        made: &Settled,
+    )
         requires { book.old.total + 1 < 2 ^ 64 }
-        ensures station { self.new ≡ record self.old { counts = with_settlement self.old.counts } }
         ensures total { book.new.total ≡ book.old.total + 1 }
+        ensures counts { self.new.counts ≡ with_settlement self.old.counts }
+        ensures log { log.new
+            ≡ (
+              log.old.0
+                  ++ (self.old.seat.number, settlement_entry made.now.0 made.now.1 made.now.2 made.now.3) ∷ [],
+              log.old.1,
+            ) }
+        ensures seat { self.new.seat ≡ record self.old.seat { seen = log.new.0 } }
     {
         book.audit(&mut self.settlements);
         book.add(&mut self.settlements, 1);
+        log.push::<Settled, Brand>(&mut self.seat, made);
         self.settled += 1;
     }
 
@@ -160,16 +202,6 @@ impl<A: ArrivalLedger, T: Ledger, U: Ledger> Station<A, T, U> {
         ensures agreed { Agrees self.old.seat.number self.old.seat.seen log.old.0 }
     {
         log.observe(&mut self.seat);
-    }
-
-    /// Adds entries to the log for the station's seat, which has then seen all of it.
-    pub fn push<X, N: Entries<LogEntry>>(&mut self, log: &mut GhostLog<A, LogEntry>, about: &X)
-        ensures log { log.new
-            ≡ (log.old.0 ++ entries_by self.old.seat.number N.entries, log.old.1) }
-        ensures counts { self.new.counts ≡ self.old.counts }
-        ensures seat { self.new.seat ≡ record self.old.seat { seen = log.new.0 } }
-    {
-        log.push::<X, N>(&mut self.seat, about);
     }
 }
 
@@ -328,29 +360,40 @@ pub fn audit_stations<A: ArrivalLedger, T: Ledger, U: Ledger>(
     whole_settlements.give(settlement_share, 1, *settled);
 }
 
-/// Compares the seats of all desks with the log: each has seen a prefix of it, with all entries of its number.
-pub fn audit_desk_seats<A: ArrivalLedger>(log: &mut GhostLog<A, LogEntry>, desks: &mut [Desk<A>])
-    ensures same { (log.new ≡ log.old) × (desks.new ≡ desks.old) }
-    ensures agreed { All (λ d. Agrees d.seat.number d.seat.seen log.old.0) desks.old }
+/// Hands in the seats of all desks, which the log holds from then on. What each desk made is what its seat added to the log.
+pub fn hand_in_desks<A: ArrivalLedger>(roll: &mut Roll<A, LogEntry>, mut desks: Vec<Desk<A>>)
+    ensures roll { roll.new
+        ≡ (
+          roll.old.0,
+          roll.old.1,
+          map (λ d. (d.seat.number, d.seat.seen)) desks.items ++ roll.old.2,
+        ) }
+    ensures made { All (λ d. d.made ≡ count_of is_arrival d.seat.number d.seat.seen) desks.items }
 {
-    let Some((first, rest)) = desks.split_first_mut() else {
-        return;
-    };
-    log.audit(&mut first.seat);
-    audit_desk_seats(log, rest);
+    while let Some(desk) = desks.pop() {
+        let Desk { seat, .. } = desk;
+        roll.hold(seat);
+    }
 }
 
-/// Compares the seats of all stations with the log, as [`audit_desk_seats`] does with those of desks.
-pub fn audit_station_seats<A: ArrivalLedger, T: Ledger, U: Ledger>(
-    log: &mut GhostLog<A, LogEntry>,
-    stations: &mut [Station<A, T, U>],
+/// Hands in the seats of all stations, as [`hand_in_desks`] does with those of desks.
+pub fn hand_in_stations<A: ArrivalLedger, T: Ledger, U: Ledger>(
+    roll: &mut Roll<A, LogEntry>,
+    mut stations: Vec<Station<A, T, U>>,
 )
-    ensures same { (log.new ≡ log.old) × (stations.new ≡ stations.old) }
-    ensures agreed { All (λ s. Agrees s.seat.number s.seat.seen log.old.0) stations.old }
+    ensures roll { roll.new
+        ≡ (
+          roll.old.0,
+          roll.old.1,
+          map (λ s. (s.seat.number, s.seat.seen)) stations.items ++ roll.old.2,
+        ) }
+    ensures taken { All (λ s. s.counts.takes ≡ count_of is_take s.seat.number s.seat.seen)
+        stations.items }
+    ensures settled { All (λ s. s.counts.settlements
+        ≡ count_of is_settlement s.seat.number s.seat.seen) stations.items }
 {
-    let Some((first, rest)) = stations.split_first_mut() else {
-        return;
-    };
-    log.audit(&mut first.seat);
-    audit_station_seats(log, rest);
+    while let Some(station) = stations.pop() {
+        let Station { seat, .. } = station;
+        roll.hold(seat);
+    }
 }

@@ -15,14 +15,14 @@ ghost use Rattle.book_core.specs.Sending.{awaits_ack};
 ghost use Rattle.book_lock.specs.Rises.{AddsUp, arrivals_rise, settlements_rise, takes_rise};
 ghost use Rattle.book_lock.specs.inner.Rises.{with_book};
 ghost use Rattle.book_lock.specs.Log.{Arrives, Calls, Linearizes, Takes, IsCalled, IsPruned};
-ghost use Rattle.book_lock.specs.Outcomes.{IsAccountedFor};
+ghost use Rattle.book_lock.specs.Callers.{IsClosedBy};
 ghost use Rattle.book_lock.specs.inner.Shares.{with_settlement, with_take};
 ghost use Rattle.book_lock.specs.Shares.{seats_of};
 ghost use Rattle.book_lock.specs.inner.Showing.{IsGauge, IsStatus};
 ghost use Rattle.book_lock.specs.inner.Tidies.{IsSettledRefusal, IsTidying, left_by};
 
 use crate::desks::{
-    Desk, Station, audit_desk_seats, audit_desks, audit_station_seats, audit_stations, made_by,
+    Desk, Station, audit_desks, audit_stations, hand_in_desks, hand_in_stations, made_by,
     settled_at, taken_at,
 };
 use crate::log_entry::LogEntry;
@@ -34,7 +34,7 @@ use book_core::{
     Receipt, TakeRefusal, Ticket, three_sums,
 };
 use dest_queue::{Outcome, Queued, SettleRefusal, SlotState};
-use ghost_log::{GhostLog, Naming, Seat};
+use ghost_log::{GhostLog, Naming, Roll, Seat};
 use hl7_head::Moment;
 use judge_core::Judged;
 use plan_text::Plan;
@@ -43,9 +43,6 @@ use stat_count::Counts;
 use std::marker::{Brand, Model};
 use std::sync::ledger::{Ledger, Share};
 use std::sync::{Arc, ledger};
-
-/// A settlement: its outcome, the ticket, the moment, and the slot's new state.
-type Settled = (Outcome, Ticket, Moment, SlotState);
 
 /// The ledger of a shared book's arrivals and the log of all that is done to it, with what the book had when it was shared.
 pub trait ArrivalLedger: Ledger + Naming {
@@ -106,6 +103,7 @@ impl<A: ArrivalLedger, T: Ledger, U: Ledger, S: RowStore<Queued<Outbound>>> Mode
     ghost use Rattle.book_lock.specs.Rises.{SharedBook};
     ghost use Rattle.book_lock.specs.inner.Rises.{IsCounted, IsLeft, IsOpened};
     ghost use Rattle.book_lock.specs.inner.Sound.{IsSoundBook};
+    ghost use Rattle.book_lock.specs.inner.Counts.{IsLogged};
     ghost use Rattle.book_lock.specs.inner.Coding.{held_code};
 
     ghost Value = { SharedBook };
@@ -122,7 +120,8 @@ impl<A: ArrivalLedger, T: Ledger, U: Ledger, S: RowStore<Queued<Outbound>>> Mode
         × IsLeft l.left_settlements.parts l.left_settlements.amount
         × IsBookOf A.opening l.log.0 l.book
         × (l.log.1 + 1 ≡ A.parts + T.parts)
-        × IsSoundBook A.opening };
+        × IsSoundBook A.opening
+        × IsLogged l.log.0 l.arrivals.total l.takes.total l.settlements.total };
 }
 
 /// A book out of its lock.
@@ -299,8 +298,7 @@ impl<A: ArrivalLedger, T: Ledger, U: Ledger, S: RowStore<Queued<Outbound>>> Lock
             Ok(receipt) => receipt,
             Err(refusal) => return Err(refusal),
         };
-        desk.count(&mut self.arrivals);
-        desk.push::<Receipt, Brand>(&mut self.log, &receipt);
+        desk.add_arrival(&mut self.arrivals, &mut self.log, &receipt);
         Ok(receipt)
     }
 
@@ -329,8 +327,7 @@ impl<A: ArrivalLedger, T: Ledger, U: Ledger, S: RowStore<Queued<Outbound>>> Lock
         self.book.rules();
         station.observe(&mut self.log);
         let job = self.book.take(d, now)?;
-        station.count_take(&mut self.takes);
-        station.push::<(Ticket, Moment), Brand>(&mut self.log, &(job.ticket, now));
+        station.add_take(&mut self.takes, &mut self.log, &job.ticket, now);
         Ok(job)
     }
 
@@ -357,8 +354,8 @@ impl<A: ArrivalLedger, T: Ledger, U: Ledger, S: RowStore<Queued<Outbound>>> Lock
         self.book.rules();
         station.observe(&mut self.log);
         let state = self.book.settle(ticket, outcome, now)?;
-        station.count_settlement(&mut self.settlements);
-        station.push::<Settled, Brand>(&mut self.log, &(outcome, *ticket, now, state));
+        let made = (outcome, *ticket, now, state);
+        station.add_settlement(&mut self.settlements, &mut self.log, &made);
         Ok(state)
     }
 
@@ -628,8 +625,7 @@ impl<A: ArrivalLedger, T: Ledger, U: Ledger, S: RowStore<Queued<Outbound>>> Lock
         settlements(self.book.counts()) - settlements(&self.opening)
     }
 
-    /// Whether the shares of these desks and stations add up. Where all their parts are here, they do. The log is one history
-    /// of all that these and others did, and accounts for the slots of the book.
+    /// Whether the shares of these desks and stations add up. Where all their parts are here, they do.
     pub fn shares_add_up(
         &mut self,
         desks: &mut [Desk<A>],
@@ -638,14 +634,7 @@ impl<A: ArrivalLedger, T: Ledger, U: Ledger, S: RowStore<Queued<Outbound>>> Lock
         ensures same { (self.new ≡ self.old) × (desks.new ≡ desks.old) × (stations.new ≡ stations.old) }
         ensures adds_up { IsTrue result ↔ AddsUp self.old desks.old stations.old }
         ensures whole { (length desks.old + 1 ≡ A.parts) × (length stations.old + 1 ≡ T.parts) × (length stations.old + 1 ≡ U.parts) → IsTrue result }
-        ensures one_history { Linearizes A.opening (A.parts + T.parts - 1)
-            (seats_of desks.old stations.old) self.old.book }
-        ensures accounted { IsAccountedFor A.opening (A.parts + T.parts - 1)
-            (seats_of desks.old stations.old) self.old.book }
     {
-        audit_desk_seats(&mut self.log, desks);
-        audit_station_seats(&mut self.log, stations);
-        self.log.audit_numbers();
         audit_desks(&mut self.arrivals, &mut self.left_arrivals, desks);
         audit_stations(
             &mut self.takes,
@@ -657,18 +646,29 @@ impl<A: ArrivalLedger, T: Ledger, U: Ledger, S: RowStore<Queued<Outbound>>> Lock
         add_up(self, desks, stations)
     }
 
-    /// The book out of its lock.
-    pub fn close(self) -> Closed<S>
+    /// The book out of its lock. The seats of these desks and stations are handed in: the log is one history of all that
+    /// they and others did. Where their shares add up, they made all calls of the log, and it accounts for the slots of the
+    /// book.
+    pub fn close(self, desks: Vec<Desk<A>>, stations: Vec<Station<A, T, U>>) -> Closed<S>
         ensures same { result ≡ self }
         ensures opening { (result.opening ≡ A.counts) × (result.first ≡ A.first) }
+        ensures one_history { Linearizes A.opening (A.parts + T.parts - 1)
+            (seats_of desks.items stations.items) result.book }
+        ensures closed { AddsUp self desks.items stations.items →
+            IsClosedBy A.opening (A.parts + T.parts - 1) desks.items stations.items result.book }
     {
         let Locked {
             book,
             opening,
             first,
             admitted,
+            log,
             ..
         } = self;
+        let mut roll = Roll::of(log);
+        hand_in_stations(&mut roll, stations);
+        hand_in_desks(&mut roll, desks);
+        roll.compare();
         Closed {
             book,
             opening,

@@ -10,7 +10,7 @@ ghost use Rattle.event_log.specs.Event.{cancel, deploy, settle};
 ghost use Rattle.book_lock.specs.inner.Closing.{HandsBack};
 ghost use Rattle.book_lock.specs.Rises.{AddsUp};
 ghost use Rattle.book_lock.specs.Log.{Arrives, Calls, Linearizes, Takes, IsCalled, IsPruned};
-ghost use Rattle.book_lock.specs.Outcomes.{IsAccountedFor};
+ghost use Rattle.book_lock.specs.Callers.{IsClosedBy};
 ghost use Rattle.book_lock.specs.inner.Log.{new_seats};
 ghost use Rattle.book_lock.specs.inner.Shares.{no_calls, with_settlement, with_take};
 ghost use Rattle.book_lock.specs.Shares.{seats_of};
@@ -511,7 +511,8 @@ impl<A: ArrivalLedger, T: Ledger, U: Ledger, S: RowStore<Queued<Outbound>>> Shar
 
     /// Takes the book out of the lock, where the shares handed in add up to what rose in its statistics. Where all desks
     /// and stations are handed in, they do. The log accounts for what the book then says of each message: it is delivered
-    /// where a seat settled it so, and an attempt that was taken and not settled is in flight.
+    /// where a seat settled it so, and an attempt that was taken and not settled is in flight. Each arrival of the log was
+    /// booked at one of these desks, and each take and each settlement was made at one of these stations.
     ///
     /// # Errors
     ///
@@ -528,9 +529,8 @@ impl<A: ArrivalLedger, T: Ledger, U: Ledger, S: RowStore<Queued<Outbound>>> Shar
         ensures one_history { IfOk result (λ closed.
             Linearizes A.opening (A.parts + T.parts - 1)
             (seats_of desks.items stations.items) closed.book) }
-        ensures accounted { IfOk result (λ closed.
-            IsAccountedFor A.opening (A.parts + T.parts - 1)
-            (seats_of desks.items stations.items) closed.book) }
+        ensures closed { IfOk result (λ closed.
+            IsClosedBy A.opening (A.parts + T.parts - 1) desks.items stations.items closed.book) }
         ensures back { IfErr result (HandsBack self desks.items stations.items) }
     {
         let Shared {
@@ -540,7 +540,7 @@ impl<A: ArrivalLedger, T: Ledger, U: Ledger, S: RowStore<Queued<Outbound>>> Shar
         } = self;
         let mut locked = locked.into_inner();
         if locked.shares_add_up(&mut desks, &mut stations) {
-            return Ok(locked.close());
+            return Ok(locked.close(desks, stations));
         }
         Err(NotClosed::SharesMissing {
             shared: Shared {

@@ -1,3 +1,4 @@
 pub mod Seats
+pub mod Counting
 pub mod Keeping
 pub mod Sent

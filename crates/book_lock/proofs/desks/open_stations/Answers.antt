@@ -1,8 +1,7 @@
-use Rattle.std.proofs.Common.{◌≡◌, ◌+◌, ◌++◌, ◌∷◌, [], ℕ, map, ap, arith, rules, ◌∙◌, ◌<◌, length, get_or}
+use Rattle.std.proofs.Common.{◌≡◌, [], map, ap, rules, ◌∙◌}
 use Rattle.std.proofs.Common.{All, refl, subst, sym}
 use Rattle.std.proofs.lemmas.List.Elements.{All-append, All-cons, All-nil}
 use Rattle.book_lock.specs.inner.Shares.{no_calls}
-use Rattle.book_lock.specs.Log.{Log, SeatView}
 use Rattle.book_lock.specs.Shares.{StationView}
 use Rattle.book_lock.proofs.Logging.{new_seat_is, one_issued, seats_more}
 use Rattle.book_lock.proofs.desks.open_stations.Goals as goal

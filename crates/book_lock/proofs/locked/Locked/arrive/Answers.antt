@@ -1,22 +1,20 @@
 use Rattle.std.proofs.lemmas.List.{append-nil}
-use Rattle.std.proofs.Common.{Err, sym, ◌≢◌, ◌↔◌, ◌≡◌, ap, arith, refl, rules, subst, ℕ, Ok, [], ◌∷◌, ◌++◌, ◌+◌, ◌∙◌}
-use Rattle.std.specs.Prelude.{IsErrOf}
-use Rattle.book_core.specs.declared.receipt.NotBooked.TheVariants.{Full, PlanChanged}
-use Rattle.event_log.specs.History.{History, plan_in_force}
+use Rattle.std.proofs.Common.{Err, sym, ap, arith, refl, subst, ℕ, Ok, [], ◌∷◌, ◌++◌, ◌+◌, ◌∙◌}
+use Rattle.event_log.specs.History.{plan_in_force}
 use Rattle.event_log.specs.declared.entry.Entry.TheVariants.{Arrival}
-use Rattle.event_log.specs.Event.{Does, MemoryIsLast, arrive}
+use Rattle.event_log.specs.Event.{Does, arrive}
 use Rattle.book_core.specs.Receiving.{arrival_reply}
 use Rattle.event_log.proofs.Events.{does-follow}
 use Rattle.book_lock.specs.Rises.{SharedBook}
 use Rattle.book_lock.proofs.Following.{arrivals_fit, few_entries, known_channel, next, still}
 use Rattle.book_lock.specs.Log.{Log}
 use Rattle.book_lock.specs.declared.log_entry.LogEntry.TheVariants.{Booked}
-use Rattle.book_lock.specs.Shares.{DeskView}
 use Rattle.book_lock.proofs.Logging.{book_called, called_arrival, pushed}
+use Rattle.book_lock.proofs.HandedIn.{logged_more}
 use Rattle.book_lock.proofs.locked.Locked.arrive.Goals as goal
 
-pub count-requires : goal.count-requires
-count-requires g c =
+pub add_arrival-requires : goal.add_arrival-requires
+add_arrival-requires g c =
     let h : SharedBook = record { book = c.self.inside.book; opening = c.self.inside.opening; first = c.self.inside.first; admitted = c.self.inside.admitted } in
     arrivals_fit h c.self.inside.arrivals.total c.self.inside.takes.total c.self.inside.settlements.total c.self.invariant.1
     (c.three_sums.ensures.few_arrivals h.book c.rules.ensures.sound (few_entries h.book c.rules.ensures.sound c.rules.ensures.few))
@@ -29,18 +27,18 @@ invariant_of-self-2 g c =
     let known = known_channel judged.plan (plan_in_force h.book) judged.channel (λ other. let w = c.in-Ok.ensures.plan.1 other in cc) (omega (arith, c.channel-channel.ensures.value, c.channel-channel.ensures.known)) in
     let rise = c.three_sums.ensures.arrival h.book c.args.conn judged.channel judged.raw told c.rules.ensures.sound (does-follow (arrive c.args.conn judged.channel judged.raw) h.book c.arrive.new.self told c.in-Ok.ensures.does) known in
     let n = next h (Arrival c.args.conn judged.channel judged.raw told) c.arrive.new.self g.A.ArrivalLedger.counts g.A.ArrivalLedger.first g.A.ArrivalLedger.channels
-    c.self.inside.arrivals.total c.self.inside.takes.total c.self.inside.settlements.total 1 0 0 c.count.new.book.total c.self.inside.takes.total c.self.inside.settlements.total
-    c.in-Ok.ensures.does.booked (still h (Arrival c.args.conn judged.channel judged.raw told) refl) c.self.invariant.0 c.self.invariant.1 rise c.count.ensures.total (omega arith) (omega arith) in
-    let p = pushed c.args.desk.now.seat c.observe.new.self.seat c.count.new.self.seat c.push.new.self.seat c.self.inside.log.0 c.observe.new.log.0 c.push.new.log.0 (Booked (Arrival c.in-Ok.receipt.conn c.in-Ok.receipt.channel c.in-Ok.receipt.raw told) ∷ [])
-    c.observe.ensures.seat (ap (λ (d : DeskView). d.seat) c.count.ensures.desk) (ap (λ (l : Log × ℕ). l.0) c.observe.ensures.log) (ap (λ (l : Log × ℕ). l.0) c.push.ensures.log) c.push.ensures.seat in
-    (n.0, n.1, c.self.invariant.2, c.self.invariant.3, c.self.invariant.4, book_called g.A.ArrivalLedger.opening c.self.inside.log.0 c.push.new.log.0 c.args.desk.now.seat.number (arrive c.args.conn judged.channel judged.raw) c.self.inside.book c.arrive.new.self (Ok told) c.self.invariant.5 c.in-Ok.ensures.does (p.0 ∙ (λ i. c.self.inside.log.0 ++ (c.args.desk.now.seat.number, Booked (Arrival (c.in-Ok.ensures.receipt.conn i) (c.in-Ok.ensures.receipt.channel i) (c.in-Ok.ensures.receipt.raw i) c.in-Ok.receipt.told)) ∷ [])), ap (λ (l : Log × ℕ). l.1 + 1) c.push.ensures.log ∙ (ap (λ (l : Log × ℕ). l.1 + 1) c.observe.ensures.log ∙ c.self.invariant.6), c.self.invariant.7)
+    c.self.inside.arrivals.total c.self.inside.takes.total c.self.inside.settlements.total 1 0 0 c.add_arrival.new.book.total c.self.inside.takes.total c.self.inside.settlements.total
+    c.in-Ok.ensures.does.booked (still h (Arrival c.args.conn judged.channel judged.raw told) refl) c.self.invariant.0 c.self.invariant.1 rise c.add_arrival.ensures.total (omega arith) (omega arith) in
+    let p = pushed c.args.desk.now.seat c.observe.new.self.seat c.observe.new.self.seat c.add_arrival.new.self.seat c.self.inside.log.0 c.observe.new.log.0 c.add_arrival.new.log.0 (Booked (Arrival c.in-Ok.receipt.conn c.in-Ok.receipt.channel c.in-Ok.receipt.raw told) ∷ [])
+    c.observe.ensures.seat refl (ap (λ (l : Log × ℕ). l.0) c.observe.ensures.log) (ap (λ (l : Log × ℕ). l.0) c.add_arrival.ensures.log) c.add_arrival.ensures.seat in
+    (n.0, n.1, c.self.invariant.2, c.self.invariant.3, c.self.invariant.4, book_called g.A.ArrivalLedger.opening c.self.inside.log.0 c.add_arrival.new.log.0 c.args.desk.now.seat.number (arrive c.args.conn judged.channel judged.raw) c.self.inside.book c.arrive.new.self (Ok told) c.self.invariant.5 c.in-Ok.ensures.does (p.0 ∙ (λ i. c.self.inside.log.0 ++ (c.args.desk.now.seat.number, Booked (Arrival (c.in-Ok.ensures.receipt.conn i) (c.in-Ok.ensures.receipt.channel i) (c.in-Ok.ensures.receipt.raw i) c.in-Ok.receipt.told)) ∷ [])), ap (λ (l : Log × ℕ). l.1 + 1) c.add_arrival.ensures.log ∙ (ap (λ (l : Log × ℕ). l.1 + 1) c.observe.ensures.log ∙ c.self.invariant.6), c.self.invariant.7, logged_more c.self.inside.log.0 c.add_arrival.new.log.0 (c.args.desk.now.seat.number, Booked (Arrival c.in-Ok.receipt.conn c.in-Ok.receipt.channel c.in-Ok.receipt.raw c.in-Ok.receipt.told)) c.self.inside.arrivals.total c.self.inside.takes.total c.self.inside.settlements.total c.add_arrival.new.book.total c.self.inside.takes.total c.self.inside.settlements.total c.self.invariant.8 p.0 c.add_arrival.ensures.total (omega arith) (omega arith))
 
 pub returns-clause-call : goal.returns-clause-call
 returns-clause-call g c =
     let judged = c.args.judged.now in
-    let p = pushed c.args.desk.now.seat c.observe.new.self.seat c.count.new.self.seat c.push.new.self.seat c.self.inside.log.0 c.observe.new.log.0 c.push.new.log.0 (Booked (Arrival c.in-Ok.receipt.conn c.in-Ok.receipt.channel c.in-Ok.receipt.raw c.in-Ok.receipt.told) ∷ [])
-    c.observe.ensures.seat (ap (λ (d : DeskView). d.seat) c.count.ensures.desk) (ap (λ (l : Log × ℕ). l.0) c.observe.ensures.log) (ap (λ (l : Log × ℕ). l.0) c.push.ensures.log) c.push.ensures.seat in
-    called_arrival g.A.ArrivalLedger.opening c.args.conn judged c.args.desk.now.seat c.push.new.self.seat c.self.inside.log.0 c.push.new.log.0 c.self.inside.book c.arrive.new.self (Ok c.in-Ok.receipt) c.self.invariant.5
+    let p = pushed c.args.desk.now.seat c.observe.new.self.seat c.observe.new.self.seat c.add_arrival.new.self.seat c.self.inside.log.0 c.observe.new.log.0 c.add_arrival.new.log.0 (Booked (Arrival c.in-Ok.receipt.conn c.in-Ok.receipt.channel c.in-Ok.receipt.raw c.in-Ok.receipt.told) ∷ [])
+    c.observe.ensures.seat refl (ap (λ (l : Log × ℕ). l.0) c.observe.ensures.log) (ap (λ (l : Log × ℕ). l.0) c.add_arrival.ensures.log) c.add_arrival.ensures.seat in
+    called_arrival g.A.ArrivalLedger.opening c.args.conn judged c.args.desk.now.seat c.add_arrival.new.self.seat c.self.inside.log.0 c.add_arrival.new.log.0 c.self.inside.book c.arrive.new.self (Ok c.in-Ok.receipt) c.self.invariant.5
     c.observe.ensures.agreed c.in-Ok.ensures.does c.in-Ok.ensures.memory c.in-Ok.ensures.receipt c.in-Ok.ensures.plan c.in-Ok.ensures.same_plan (p.0 ∙ (λ i. c.self.inside.log.0 ++ (c.args.desk.now.seat.number, Booked (Arrival (c.in-Ok.ensures.receipt.conn i) (c.in-Ok.ensures.receipt.channel i) (c.in-Ok.ensures.receipt.raw i) c.in-Ok.receipt.told)) ∷ [])) p.1
 
 pub returns-in-Err-clause-call : goal.returns-in-Err-clause-call
@@ -48,3 +46,8 @@ returns-in-Err-clause-call g c =
     let judged = c.args.judged.now in
     called_arrival g.A.ArrivalLedger.opening c.args.conn judged c.args.desk.now.seat c.observe.new.self.seat c.self.inside.log.0 c.self.inside.log.0 c.self.inside.book c.arrive.new.self (Err c.in-Err.refusal) c.self.invariant.5
     c.observe.ensures.agreed c.in-Err.ensures.does c.in-Err.ensures.memory tt c.in-Err.ensures.plan c.in-Err.ensures.same_plan (sym (append-nil c.self.inside.log.0)) c.observe.ensures.seat
+
+pub returns-in-Err-clause-does : goal.returns-in-Err-clause-does
+returns-in-Err-clause-does g c =
+    let judged = c.args.judged.now in
+    subst (λ (h : SharedBook). Does (arrive c.args.conn judged.channel judged.raw) h.book c.arrive.new.self (arrival_reply (Err c.in-Err.refusal))) c.self.view_is c.in-Err.ensures.does

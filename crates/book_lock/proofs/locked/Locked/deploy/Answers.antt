@@ -13,6 +13,7 @@ use Rattle.book_lock.proofs.Following.{next}
 use Rattle.book_lock.specs.declared.log_entry.LogEntry.TheVariants.{Booked}
 use Rattle.book_lock.specs.Log.{Log}
 use Rattle.book_lock.proofs.Logging.{book_called, called_own, own_none}
+use Rattle.book_lock.proofs.HandedIn.{logged_more}
 use Rattle.book_lock.proofs.locked.Locked.deploy.Goals as goal
 
 pub invariant_of-self-2 : goal.invariant_of-self-2
@@ -25,7 +26,9 @@ invariant_of-self-2 g c =
     let n = next h (Deploy plan) c.deploy.new.self g.A.ArrivalLedger.counts g.A.ArrivalLedger.first g.A.ArrivalLedger.channels
     c.self.inside.arrivals.total c.self.inside.takes.total c.self.inside.settlements.total 0 0 0 c.self.inside.arrivals.total c.self.inside.takes.total c.self.inside.settlements.total
     c.in_ok-deploy.ensures.does.booked same c.self.invariant.0 c.self.invariant.1 rise (omega arith) (omega arith) (omega arith) in
-    (n.0, n.1, c.self.invariant.2, c.self.invariant.3, c.self.invariant.4, book_called g.A.ArrivalLedger.opening c.self.inside.log.0 c.push.new.self.0 c.observe.new.seat.0 (deploy plan) c.self.inside.book c.deploy.new.self (Ok tt) c.self.invariant.5 c.in_ok-deploy.ensures.does (ap (λ (l : Log × ℕ). l.0) c.push.ensures.log ∙ ((λ i. c.observe.new.self.0 ++ (c.observe.new.seat.0, Booked (Deploy ((c.plan.ensures ∙ (ap plan_in_force c.in_ok-deploy.ensures.does.booked ∙ plan-followed_by c.self.inside.book (Deploy (arc_value c.args.plan)))) i))) ∷ []) ∙ ap (λ (l : Log × ℕ). l.0 ++ (c.observe.new.seat.0, Booked (Deploy plan)) ∷ []) c.observe.ensures.same)), ap (λ (l : Log × ℕ). l.1 + 1) c.push.ensures.log ∙ (ap (λ (l : Log × ℕ). l.1 + 1) c.observe.ensures.same ∙ c.self.invariant.6), c.self.invariant.7)
+    let added : c.push.new.self.0 ≡ c.self.inside.log.0 ++ (c.observe.new.seat.0, Booked (Deploy plan)) ∷ [] =
+    (ap (λ (l : Log × ℕ). l.0) c.push.ensures.log ∙ ((λ i. c.observe.new.self.0 ++ (c.observe.new.seat.0, Booked (Deploy ((c.plan.ensures ∙ (ap plan_in_force c.in_ok-deploy.ensures.does.booked ∙ plan-followed_by c.self.inside.book (Deploy (arc_value c.args.plan)))) i))) ∷ []) ∙ ap (λ (l : Log × ℕ). l.0 ++ (c.observe.new.seat.0, Booked (Deploy plan)) ∷ []) c.observe.ensures.same)) in
+    (n.0, n.1, c.self.invariant.2, c.self.invariant.3, c.self.invariant.4, book_called g.A.ArrivalLedger.opening c.self.inside.log.0 c.push.new.self.0 c.observe.new.seat.0 (deploy plan) c.self.inside.book c.deploy.new.self (Ok tt) c.self.invariant.5 c.in_ok-deploy.ensures.does added, ap (λ (l : Log × ℕ). l.1 + 1) c.push.ensures.log ∙ (ap (λ (l : Log × ℕ). l.1 + 1) c.observe.ensures.same ∙ c.self.invariant.6), c.self.invariant.7, logged_more c.self.inside.log.0 c.push.new.self.0 (c.observe.new.seat.0, Booked (Deploy plan)) c.self.inside.arrivals.total c.self.inside.takes.total c.self.inside.settlements.total c.self.inside.arrivals.total c.self.inside.takes.total c.self.inside.settlements.total c.self.invariant.8 added (omega arith) (omega arith) (omega arith))
 
 pub returns-clause-channels : goal.returns-clause-channels
 returns-clause-channels g c = channels-same c.self.inside.book (arc_value c.args.plan) (deployable c.self.inside.book (arc_value c.args.plan) (does-follow (deploy (arc_value c.args.plan)) c.self.inside.book c.deploy.new.self tt c.in_ok-deploy.ensures.does)) ∙ c.self.invariant.0.channels_are

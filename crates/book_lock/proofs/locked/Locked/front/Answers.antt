@@ -11,7 +11,7 @@ invariant_of-self g c =
     let n = unchanged h c.front.new.self g.A.ArrivalLedger.counts g.A.ArrivalLedger.first g.A.ArrivalLedger.channels
     c.self.inside.arrivals.total c.self.inside.takes.total c.self.inside.settlements.total
     c.front.ensures.unchanged c.self.invariant.0 c.self.invariant.1 in
-    (n.0, n.1, c.self.invariant.2, c.self.invariant.3, c.self.invariant.4, book_same g.A.ArrivalLedger.opening c.self.inside.log.0 c.self.inside.log.0 c.self.inside.book c.front.new.self c.self.invariant.5 refl c.front.ensures.unchanged, c.self.invariant.6, c.self.invariant.7)
+    (n.0, n.1, c.self.invariant.2, c.self.invariant.3, c.self.invariant.4, book_same g.A.ArrivalLedger.opening c.self.inside.log.0 c.self.inside.log.0 c.self.inside.book c.front.new.self c.self.invariant.5 refl c.front.ensures.unchanged, c.self.invariant.6, c.self.invariant.7, c.self.invariant.8)
 
 pub returns-clause-front : goal.returns-clause-front
 returns-clause-front g c = c.front.ensures.front ∙ ap (λ (h : SharedBook). front_at h.book c.args.d) c.self.view_is

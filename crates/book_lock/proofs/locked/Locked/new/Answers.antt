@@ -4,6 +4,7 @@ use Rattle.book_lock.specs.Log.{Log}
 use Rattle.book_lock.specs.inner.Sound.{IsSoundBook}
 use Rattle.book_lock.proofs.Logging.{book_opened}
 use Rattle.book_lock.proofs.Following.{opened_now}
+use Rattle.book_lock.proofs.HandedIn.{logged_none}
 use Rattle.book_lock.proofs.locked.Locked.new.Goals as goal
 
 pub invariant_of-result : goal.invariant_of-result
@@ -18,6 +19,7 @@ invariant_of-result g c =
       book_opened g.A.ArrivalLedger.opening c.args.book c.issue-seat.new.self.0 c.requires.opening (ap (λ (l : Log × ℕ). l.0) c.issue-seat.ensures.log ∙ c.requires.log.0),
       (let issued : c.issue-seat.new.self.1 ≡ c.args.log.1 + 1 = ap (λ (l : Log × ℕ). l.1) c.issue-seat.ensures.log in omega (arith, issued, c.requires.log.1)),
       subst (λ (h : History). IsSoundBook h) c.requires.opening (record { sound = c.rules.ensures.sound; few = c.rules.ensures.few }),
+      logged_none c.issue-seat.new.self.0 c.args.arrivals.total c.args.takes.total c.args.settlements.total (ap (λ (l : Log × ℕ). l.0) c.issue-seat.ensures.log ∙ c.requires.log.0) c.requires.books,
     )
 
 pub returns : goal.returns

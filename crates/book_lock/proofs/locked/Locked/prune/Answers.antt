@@ -1,4 +1,4 @@
-use Rattle.std.proofs.Common.{◌≡◌, None, ap, subst, ℕ, ◌+◌, ◌∙◌, Ok}
+use Rattle.std.proofs.Common.{◌≡◌, None, ap, subst, arith, ℕ, ◌+◌, ◌∙◌, Ok}
 use Rattle.event_log.specs.Folding.{prune_answer, pruned}
 use Rattle.event_log.specs.History.{History}
 use Rattle.book_lock.specs.Rises.{SharedBook}
@@ -6,6 +6,8 @@ use Rattle.book_lock.specs.inner.Rises.{with_book}
 use Rattle.book_lock.proofs.Following.{folded}
 use Rattle.book_lock.specs.Log.{Log}
 use Rattle.book_lock.proofs.Logging.{book_pruned, pruned_own}
+use Rattle.book_lock.proofs.HandedIn.{logged_more}
+use Rattle.book_lock.specs.declared.log_entry.LogEntry.TheVariants.{Pruned}
 use Rattle.book_lock.proofs.locked.Locked.prune.Goals as goal
 
 pub invariant_of-self-2 : goal.invariant_of-self-2
@@ -14,7 +16,7 @@ invariant_of-self-2 g c =
     let n = folded h c.args.before c.prune.new.self g.A.ArrivalLedger.counts g.A.ArrivalLedger.first g.A.ArrivalLedger.channels
     c.self.inside.arrivals.total c.self.inside.takes.total c.self.inside.settlements.total
     c.in_ok-prune.ensures.folded c.rules.ensures.sound c.in_ok-prune.ensures.answer c.self.invariant.0 c.self.invariant.1 in
-    (n.0, n.1, c.self.invariant.2, c.self.invariant.3, c.self.invariant.4, book_pruned g.A.ArrivalLedger.opening c.self.inside.log.0 c.push.new.self.0 c.self.inside.seat.0 c.args.before c.self.inside.book c.prune.new.self c.self.invariant.5 c.in_ok-prune.ensures.answer c.in_ok-prune.ensures.folded (ap (λ (l : Log × ℕ). l.0) c.push.ensures.log), ap (λ (l : Log × ℕ). l.1 + 1) c.push.ensures.log ∙ c.self.invariant.6, c.self.invariant.7)
+    (n.0, n.1, c.self.invariant.2, c.self.invariant.3, c.self.invariant.4, book_pruned g.A.ArrivalLedger.opening c.self.inside.log.0 c.push.new.self.0 c.self.inside.seat.0 c.args.before c.self.inside.book c.prune.new.self c.self.invariant.5 c.in_ok-prune.ensures.answer c.in_ok-prune.ensures.folded (ap (λ (l : Log × ℕ). l.0) c.push.ensures.log), ap (λ (l : Log × ℕ). l.1 + 1) c.push.ensures.log ∙ c.self.invariant.6, c.self.invariant.7, logged_more c.self.inside.log.0 c.push.new.self.0 (c.self.inside.seat.0, Pruned c.args.before) c.self.inside.arrivals.total c.self.inside.takes.total c.self.inside.settlements.total c.self.inside.arrivals.total c.self.inside.takes.total c.self.inside.settlements.total c.self.invariant.8 (ap (λ (l : Log × ℕ). l.0) c.push.ensures.log) (omega arith) (omega arith) (omega arith))
 
 pub returns-clause-answer : goal.returns-clause-answer
 returns-clause-answer g c = subst (λ (h : SharedBook). prune_answer h.book c.args.before ≡ None) c.self.view_is c.in_ok-prune.ensures.answer
