@@ -1,21 +1,21 @@
 -- How a message that is delivered was sent: a station took it as the book had it, sent it in one block, and read that it was
 -- accepted, where its destination acknowledges.
-use Rattle.std.specs.Prelude.{◌≡◌, ◌≢◌, ◌⊎◌, ℕ, ◌<◌, true, List, [], Some, map, slice_get, take}
+use Rattle.std.specs.Prelude.{◌≡◌, ◌⊎◌, ℕ, true, List, Some, length, map, slice_get, take}
 use Rattle.std.specs.List.{Contains}
 use Rattle.mllp_frame.specs.Framing.{block_bytes}
-use Rattle.dest_queue.specs.declared.Outcome.{Outcome}
 use Rattle.dest_queue.specs.declared.Outcome.TheVariants as outcome
 use Rattle.dest_queue.specs.declared.SlotState.TheVariants as slot_state
 use Rattle.event_log.specs.History.{History, control_id, payload, plan_in_force, slot}
 use Rattle.event_log.specs.declared.entry.Entry.TheVariants as entry
 use Rattle.event_log.specs.declared.entry.Ticket.{Ticket}
+use Rattle.event_log.specs.declared.entry.Told.{Told}
 use Rattle.book_core.specs.Sending.{awaits_ack}
 use Rattle.book_core.specs.declared.receipt.Receipt.{Receipt}
 use Rattle.ghost_log.specs.Seats.{entries_of}
-use Rattle.book_lock.specs.Log.{Log, SeatView, after_log}
+use Rattle.book_lock.specs.Log.{IsBookOf, Log, SeatView, after_log}
 use Rattle.book_lock.specs.declared.log_entry.LogEntry.TheVariants as log
 use Rattle.book_lock.specs.Outcomes.{SettlesAt}
-use Rattle.conn_worker.specs.Arriving.{BooksInLog}
+use Rattle.conn_worker.specs.Arriving.{BooksInLog, arrival_entry}
 use Rattle.delivery_worker.specs.Answers.{answer_in, outcome_of}
 use Rattle.delivery_worker.specs.Delivering.{Attempt, IsSendingOf, Sending, sent_in}
 use Rattle.delivery_worker.specs.Turns.{DeliversInLog, StationTurn}
@@ -49,86 +49,78 @@ pub record WasSent (opening : History) (entries : Log) (seat n d : ℕ)
   pub sending : IsSendingFrom (book_before opening entries index) n d turn.attempt.last
   pub accepted : IsAccepted turn.attempt.last
 
--- ---- the stations of a closed book
+-- ---- what was done at a desk and at a station
 
--- A station of a closed book: it delivered to one destination, from a view of its seat with no entry of its own to the last
--- view, which is one of those that the book was closed with.
-pub record StationWork (opening : History) (seen : List SeatView) : Type 0 where
+-- the seat of a desk or a station that has made no call
+abbrev pub IsUnused : SeatView → Type 0
+IsUnused seat = length (entries_of seat.number seat.seen) ≡ 0
+
+-- A desk's work: from a view of its seat with no entry of its own to the last view, it booked the arrivals of these receipts,
+-- and made no other call.
+pub record DeskWork (opening : History) : Type 0 where
+  pub first : SeatView
+  pub last : SeatView
+  pub receipts : List Receipt
+  pub unused : IsUnused first
+  pub books : BooksInLog opening first last receipts
+
+-- A station's work: from a view of its seat with no entry of its own to the last view, it made these attempts for one
+-- destination, each in a turn, and made no other call.
+pub record StationWork (opening : History) : Type 0 where
   pub destination : ℕ
   pub first : SeatView
   pub last : SeatView
   pub attempts : List Attempt
+  pub unused : IsUnused first
   pub delivers : DeliversInLog opening destination first last attempts
-  pub unused : entries_of first.number first.seen ≡ []
-  pub closed : Contains seen last
 
 -- one of the turns of a station sent message n to its destination
-pub record HasSent {opening : History} {seen : List SeatView} (entries : Log) (n : ℕ)
-    (s : StationWork opening seen) : Type 0 where
+pub record HasSent {opening : History} (entries : Log) (n : ℕ) (work : StationWork opening) : Type 0 where
   pub turn : StationTurn
-  pub is_own : Contains s.delivers.turns turn
-  pub was_sent : WasSent opening entries s.last.number n s.destination turn
+  pub is_own : Contains work.delivers.turns turn
+  pub was_sent : WasSent opening entries work.last.number n work.destination turn
 
 -- what a station settled as delivered is for its destination, and one of its turns sent it
-abbrev pub SettledIsSent : {opening : History} {seen : List SeatView} →
-    Log → StationWork opening seen → Type 0
-SettledIsSent entries s = (index : ℕ) (ticket : Ticket)
-    (settles : SettlesAt entries index ticket outcome.Delivered) → settles.seat ≡ s.last.number →
-    (ticket.destination ≡ s.destination) × HasSent entries ticket.number s
+abbrev pub SettledIsSent : {opening : History} → Log → StationWork opening → Type 0
+SettledIsSent entries work = (index : ℕ) (ticket : Ticket)
+    (settles : SettlesAt entries index ticket outcome.Delivered) → settles.seat ≡ work.last.number →
+    (ticket.destination ≡ work.destination) × HasSent entries ticket.number work
 
--- ---- all stations of a closed book
+-- ---- a closed book
 
--- stations of a closed book
-abbrev pub Stations : History → List SeatView → Type 0
-Stations opening seen = List (StationWork opening seen)
+-- at one of these stations message n was sent to d
+pub record SentByOne {opening : History} (entries : Log) (works : List (StationWork opening))
+    (n d : ℕ) : Type 0 where
+  pub work : StationWork opening
+  pub is_one : Contains works work
+  pub destination : work.destination ≡ d
+  pub sent : HasSent entries n work
 
--- one of these stations has the seat with this number
-pub record HasSeat {opening : History} {seen : List SeatView} (stations : Stations opening seen)
-    (seat : ℕ) : Type 0 where
-  pub station : StationWork opening seen
-  pub is_one : Contains stations station
-  pub number : station.last.number ≡ seat
-
--- each settlement as delivered was made at the seat of one of these stations
-abbrev pub AreSettlers : {opening : History} {seen : List SeatView} →
-    Log → Stations opening seen → Type 0
-AreSettlers entries stations = (index : ℕ) (ticket : Ticket)
-    (settles : SettlesAt entries index ticket outcome.Delivered) → HasSeat stations settles.seat
-
--- one of these stations sent message n to d
-pub record SentByOne {opening : History} {seen : List SeatView} (entries : Log)
-    (stations : Stations opening seen) (n d : ℕ) : Type 0 where
-  pub station : StationWork opening seen
-  pub is_one : Contains stations station
-  pub destination : station.destination ≡ d
-  pub sent : HasSent entries n station
-
--- a message that is delivered at d was so at the opening, or one of these stations sent it to d
-abbrev pub DeliveredIsSent : {opening : History} {seen : List SeatView} →
-    Log → Stations opening seen → History → Type 0
-DeliveredIsSent {opening} entries stations book = (n d : ℕ) →
+-- each message that is delivered at d was so at the opening, or one of these stations sent it to d
+abbrev pub EveryDeliveredWasSent : {opening : History} →
+    Log → List (StationWork opening) → History → Type 0
+EveryDeliveredWasSent {opening} entries works book = (n d : ℕ) →
     slot book n d ≡ Some slot_state.Delivered →
-    (slot opening n d ≡ Some slot_state.Delivered) ⊎ SentByOne entries stations n d
+    (slot opening n d ≡ Some slot_state.Delivered) ⊎ SentByOne entries works n d
 
--- ---- who settles
+-- each arrival of a log is that of one of these receipts
+abbrev pub EveryArrivalHasReceipt : Log → List Receipt → Type 0
+EveryArrivalHasReceipt entries receipts =
+    (index seat conn channel : ℕ) (raw : List ℕ) (told : Told) →
+    slice_get entries index ≡ Some (seat, log.Booked (entry.Arrival conn channel raw told)) →
+    Contains (map arrival_entry receipts) (log.Booked (entry.Arrival conn channel raw told))
 
--- A desk of a closed book: it booked arrivals, from a view of its seat with no entry of its own to the last view, which is
--- one of those that the book was closed with.
-pub record DeskWork (opening : History) (seen : List SeatView) : Type 0 where
-  pub first : SeatView
-  pub last : SeatView
-  pub receipts : List Receipt
-  pub books : BooksInLog opening first last receipts
-  pub unused : entries_of first.number first.seen ≡ []
-  pub closed : Contains seen last
+-- each of these receipts is that of an arrival of a log
+abbrev pub EveryReceiptHasArrival : Log → List Receipt → Type 0
+EveryReceiptHasArrival entries receipts = (receipt : Receipt) → Contains receipts receipt →
+    Contains (map (λ x. x.1) entries) (arrival_entry receipt)
 
--- no settlement was made at the seat with this number
-abbrev pub NeverSettles : Log → ℕ → Type 0
-NeverSettles entries seat = (index : ℕ) (ticket : Ticket) (o : Outcome)
-    (settles : SettlesAt entries index ticket o) → settles.seat ≢ seat
-
--- each seat with a number below this one is that of one of these stations, or never settles
-abbrev pub OnlySettlers : {opening : History} {seen : List SeatView} →
-    ℕ → Log → Stations opening seen → Type 0
-OnlySettlers seats entries stations = (seat : ℕ) → seat < seats →
-    HasSeat stations seat ⊎ NeverSettles entries seat
+-- A closed book whose messages are traced. One legal log makes it of the opening. The arrivals in the log are those of these
+-- receipts; and each message that is delivered, and was not at the opening, was sent at one of these stations.
+pub record IsTraced (opening : History) (receipts : List Receipt)
+    (works : List (StationWork opening)) (book : History) : Type 0 where
+  pub entries : Log
+  pub is_book : IsBookOf opening entries book
+  pub arrivals : EveryArrivalHasReceipt entries receipts
+  pub receipts_are : EveryReceiptHasArrival entries receipts
+  pub delivered : EveryDeliveredWasSent entries works book

@@ -48,7 +48,8 @@ fn is_ended_here(end: ServeEnd) -> bool {
     matches!(end, ServeEnd::NoMemory | ServeEnd::TurnBound)
 }
 
-/// Serves the connection of a seat, and leaves the report there.
+/// Serves the connection of a seat, and leaves the report there. Where there is a report already, nothing is done.
+#[tactic(auto, using(crate::proofs::Reported::served_once))]
 fn serve_seat<
     A: ArrivalLedger,
     T: Ledger,
@@ -62,6 +63,10 @@ fn serve_seat<
     let Some(seat) = place.take(site.rt) else {
         return;
     };
+    if seat.report.is_some() {
+        place.give_back(site.rt, seat);
+        return;
+    }
     let ConnectionSlot {
         connection,
         channel,

@@ -11,6 +11,7 @@
 #![tactic(auto)]
 
 mod door;
+mod ending;
 mod half;
 mod inlet;
 mod lacks;
@@ -22,6 +23,7 @@ mod tcp_door;
 mod workers;
 
 pub use door::{Door, DoorFault, Incoming};
+pub use ending::{RunEnd, close_book};
 pub use half::Half;
 pub use outlet::{DestinationWork, stations_and_reports};
 pub use seat::{ConnectionSlot, desks_and_reports};

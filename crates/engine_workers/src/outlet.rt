@@ -3,6 +3,8 @@
 ghost use Rattle.std.specs.Prelude.{◌≡◌, ◌+◌, ◌++◌, ◌∷◌, [], IfOk, OnOk, map};
 ghost use Rattle.std.specs.List.{filter_map};
 ghost use Rattle.std.specs.Option.{ForSome};
+ghost use Rattle.delivery_worker.specs.Sent.{IsUnused};
+ghost use Rattle.engine_workers.specs.inner.Works.{HasDelivered};
 
 use crate::door::{Door, Incoming};
 use crate::inlet::{ChannelWork, open_doors};
@@ -24,7 +26,8 @@ use std::{thread, time};
 
 /// What delivers the messages of a destination: its index in the plan, its link, the station of its takes and
 /// settlements, how many takes the station had counted before, and the outcome of delivering, once it ended. The
-/// report is of this station: the station has counted as many takes since as the report has attempts.
+/// report is of this station: the station has counted as many takes since as the report has attempts, and its calls are
+/// those of these attempts, for this destination. Without a report it has made no call.
 #[derive(Drop)]
 pub struct DestinationWork<A: ArrivalLedger, T: Ledger, U: Ledger, L> {
     pub destination: u32,
@@ -33,11 +36,13 @@ pub struct DestinationWork<A: ArrivalLedger, T: Ledger, U: Ledger, L> {
     pub station: Station<A, T, U>,
     pub report: Option<DeliverReport>,
     ghost counted: { ForSome report (λ r. station.counts.takes ≡ before + r.taken) },
+    ghost delivered: { ∥ HasDelivered A.opening destination station.seat report ∥₁ },
 }
 
 impl<A: ArrivalLedger, T: Ledger, U: Ledger, L> DestinationWork<A, T, U, L> {
-    /// An outlet by which nothing was delivered yet.
+    /// An outlet by which nothing was delivered yet, with a station that has made no call.
     pub fn new(destination: u32, link: L, station: Station<A, T, U>) -> Self
+        requires { IsUnused station.seat }
         ensures destination { result.destination ≡ destination }
         ensures link { result.link ≡ link }
         ensures station { result.station ≡ station }
@@ -94,7 +99,8 @@ pub fn stations_and_reports<A: ArrivalLedger, T: Ledger, U: Ledger, L: Drop>(
     Ok((stations, reports))
 }
 
-/// Delivers the messages of a destination, and leaves the report with it.
+/// Delivers the messages of a destination, and leaves the report with it. Where there is a report already, nothing is done.
+#[tactic(auto, using(crate::proofs::Reported::delivered_once))]
 fn deliver_all<
     A: ArrivalLedger,
     T: Ledger,
@@ -107,6 +113,10 @@ fn deliver_all<
     let Some(outlet) = place.take(site.rt) else {
         return;
     };
+    if outlet.report.is_some() {
+        place.give_back(site.rt, outlet);
+        return;
+    }
     let DestinationWork {
         destination,
         mut link,

@@ -3,6 +3,8 @@
 ghost use Rattle.std.specs.Prelude.{◌≡◌, ◌+◌, ◌<◌, ◌++◌, ◌∷◌, [], IfOk, OnOk, map, vec_len};
 ghost use Rattle.std.specs.List.{filter_map};
 ghost use Rattle.std.specs.Option.{ForSome};
+ghost use Rattle.delivery_worker.specs.Sent.{IsUnused};
+ghost use Rattle.engine_workers.specs.inner.Works.{HasServed};
 
 use book_lock::{ArrivalLedger, Desk};
 use conn_worker::ServeReport;
@@ -10,7 +12,8 @@ use std::alloc::{AllocError, Global};
 
 /// The seat of a connection: its number, the index of its channel in the plan, the desk that its messages are booked
 /// at, how many arrivals the desk had counted before, and the outcome of serving the connection, once it was served.
-/// The report is of this desk: the desk has counted as many arrivals since as the report has receipts.
+/// The report is of this desk: the desk has counted as many arrivals since as the report has receipts, and what it added
+/// to the book's log is the arrivals of these receipts. Without a report it has added nothing.
 #[derive(Drop)]
 pub struct ConnectionSlot<A: ArrivalLedger> {
     pub connection: u32,
@@ -20,12 +23,14 @@ pub struct ConnectionSlot<A: ArrivalLedger> {
     pub report: Option<ServeReport>,
     ghost known: { channel < A.channels },
     ghost counted: { ForSome report (λ r. desk.made ≡ before + vec_len r.receipts) },
+    ghost served: { ∥ HasServed A.opening desk.seat report ∥₁ },
 }
 
 impl<A: ArrivalLedger> ConnectionSlot<A> {
-    /// The seat of a connection that was not served yet.
+    /// The seat of a connection that was not served yet, with a desk at which nothing was booked.
     pub fn new(connection: u32, channel: u32, desk: Desk<A>) -> Self
-        requires { channel < A.channels }
+        requires channel { channel < A.channels }
+        requires unused { IsUnused desk.seat }
         ensures connection { result.connection ≡ connection }
         ensures channel { result.channel ≡ channel }
         ensures desk { result.desk ≡ desk }

@@ -1,6 +1,8 @@
 //! Running all workers.
 
-ghost use Rattle.std.specs.Prelude.{◌≡◌, ◌<◌};
+ghost use Rattle.std.specs.Prelude.{◌≡◌, ◌<◌, All, OnOk};
+ghost use Rattle.std.specs.Vec.Iter.{into_iter_items};
+ghost use Rattle.delivery_worker.specs.Sent.{IsUnused};
 
 use crate::door::{Door, Incoming};
 use crate::inlet::ChannelWork;
@@ -36,7 +38,7 @@ impl From<AllocError> for StartError {
 }
 
 /// What the workers work with: a desk for each connection, a door for each channel, and for each destination a station and
-/// a link.
+/// a link. No call was made at a desk or a station yet.
 #[derive(Drop)]
 pub struct Workers<A: ArrivalLedger, T: Ledger, U: Ledger, D, L> {
     /// The desks of the connections, those of the first channel's first.
@@ -47,6 +49,8 @@ pub struct Workers<A: ArrivalLedger, T: Ledger, U: Ledger, D, L> {
     pub stations: Vec<Station<A, T, U>>,
     /// The links, in the order of the plan's destinations.
     pub links: Vec<L>,
+    ghost unused_desks: { All (λ d. IsUnused d.seat) desks.items },
+    ghost unused_stations: { All (λ s. IsUnused s.seat) stations.items },
 }
 
 /// The result of the work: what the workers worked with, each report with the desk or the station that it is of.
@@ -70,13 +74,16 @@ struct Work<A: ArrivalLedger, T: Ledger, U: Ledger, D, L> {
 }
 
 /// The seats of a channel's connections, at the next desks.
+#[tactic(auto, using(crate::proofs::Unused::unused_desk, crate::proofs::Unused::unused_desks))]
 fn seats_at<A: ArrivalLedger>(
     alloc: Global,
     desks: &mut vec::IntoIter<Desk<A>>,
     channel: u32,
     accept: u32,
 ) -> Result<Vec<TakeCell<ConnectionSlot<A>>>, AllocError>
-    requires { channel < A.channels }
+    requires channel { channel < A.channels }
+    requires unused { All (λ d. IsUnused d.seat) (into_iter_items desks.old) }
+    ensures unused { OnOk result (All (λ d. IsUnused d.seat) (into_iter_items desks.new)) }
 {
     let first = channel.saturating_mul(accept);
     let mut seats = Vec::new(alloc);
@@ -97,7 +104,8 @@ fn inlets_of<A: ArrivalLedger, D: Drop>(
     desks: Vec<Desk<A>>,
     doors: Vec<D>,
 ) -> Result<Vec<ChannelWork<A, D>>, AllocError>
-    requires { channels ≡ A.channels }
+    requires channels { channels ≡ A.channels }
+    requires unused { All (λ d. IsUnused d.seat) desks.items }
 {
     let mut desks = desks.into_iter();
     let mut doors = doors.into_iter();
@@ -117,13 +125,24 @@ fn inlets_of<A: ArrivalLedger, D: Drop>(
 }
 
 /// The outlets of the destinations.
+#[tactic(auto, using(crate::proofs::Unused::unused_station, crate::proofs::Unused::unused_stations))]
 fn outlets_of<A: ArrivalLedger, T: Ledger, U: Ledger, L: Drop>(
     alloc: Global,
     stations: Vec<Station<A, T, U>>,
     links: Vec<L>,
-) -> Result<Vec<TakeCell<DestinationWork<A, T, U, L>>>, AllocError> {
+) -> Result<Vec<TakeCell<DestinationWork<A, T, U, L>>>, AllocError>
+    requires { All (λ s. IsUnused s.seat) stations.items }
+{
+    let mut stations = stations.into_iter();
+    let mut links = links.into_iter();
     let mut outlets = Vec::new(alloc);
-    for ((station, link), destination) in stations.into_iter().zip(links).zip(0..u32::MAX) {
+    for destination in 0..u32::MAX {
+        let Some(station) = stations.next() else {
+            break;
+        };
+        let Some(link) = links.next() else {
+            break;
+        };
         outlets.push(TakeCell::new(DestinationWork::new(destination, link, station)))?;
     }
     Ok(outlets)

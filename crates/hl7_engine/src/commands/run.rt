@@ -1,10 +1,11 @@
 //! `run`: connections of all channels, and deliveries to all destinations, over one shared book.
 
-ghost use Rattle.std.specs.Prelude.{◌≡◌, ◌+◌, ◌≤◌, ◌⊎◌, Err, IfOk, IfSome, Ok, length, string_bytes};
+ghost use Rattle.std.specs.Prelude.{◌≡◌, ◌+◌, ◌≤◌, ◌⊎◌, Err, IfOk, IfSome, List, Ok, length, string_bytes};
 ghost use Rattle.std.specs.Option.{option_copied};
 ghost use Rattle.event_log.specs.History.{next_place, plan_in_force};
 ghost use Rattle.event_log.specs.Counting.{counted};
-ghost use Rattle.engine_report.specs.Findings.{Concludes, last_told};
+ghost use Rattle.delivery_worker.specs.Sent.{IsTraced, StationWork};
+ghost use Rattle.engine_report.specs.Findings.{Concludes, last_told, receipts_in};
 ghost use Rattle.engine_report.specs.Lines.{lines_of_closed};
 
 use crate::commands::devices::{Devices, listen_faults, open_devices};
@@ -20,7 +21,7 @@ use engine_report::{
     Fault, add_finding, connections_of, descriptors_of, find, hasher, statistics_text,
 };
 use engine_workers::{
-    Door, Finished, TcpDoor, Workers, desks_and_reports, run_workers, stations_and_reports,
+    Door, Finished, RunEnd, TcpDoor, Workers, close_book, run_workers,
 };
 use ghost_log::BlankLog;
 use log::{Log, warn};
@@ -39,7 +40,8 @@ struct Ended<'f> {
     failed: Vec<Fault<'f>>,
 }
 
-/// Takes the book out of its lock, once the workers have ended.
+/// Takes the book out of its lock, once the workers have ended. The messages of a closed book are traced: each arrival has
+/// one of the receipts, and each delivered message was sent.
 fn close<'f, A: ArrivalLedger, T: Ledger, U: Ledger, D: Door + Drop, L: Drop>(
     alloc: Global,
     plan: &Plan,
@@ -47,16 +49,12 @@ fn close<'f, A: ArrivalLedger, T: Ledger, U: Ledger, D: Door + Drop, L: Drop>(
     worked: Finished<A, T, U, D, L>,
 ) -> Result<Ended<'f>, AllocError>
     ensures opening { IfOk result (λ ended. IfSome ended.closed (λ closed. (closed.opening ≡ A.counts) × (closed.first ≡ A.first))) }
+    ensures traced { IfOk result (λ ended. IfSome ended.closed (λ closed.
+        ∥ ((works : List (StationWork A.opening)) × IsTraced A.opening
+        (receipts_in ended.served.items) works closed.book) ∥₁)) }
 {
-    let Finished {
-        seats,
-        doors,
-        outlets,
-    } = worked;
-    let failed = listen_faults(alloc, plan, &doors)?;
-    let (desks, served) = desks_and_reports(alloc, seats)?;
-    let (stations, _) = stations_and_reports(alloc, outlets)?;
-    let closed = shared.close(desks, stations).ok();
+    let failed = listen_faults(alloc, plan, &worked.doors)?;
+    let RunEnd { closed, served, .. } = close_book(alloc, shared, worked)?;
     Ok(Ended {
         closed,
         served,
@@ -74,6 +72,9 @@ fn work_at<'a, 'f, A: ArrivalLedger + Send + Sync, T: Ledger + Sync, U: Ledger +
     accept: u32,
 ) -> Result<Ended<'f>, AllocError>
     ensures opening { IfOk result (λ ended. IfSome ended.closed (λ closed. (closed.opening ≡ A.counts) × (closed.first ≡ A.first))) }
+    ensures traced { IfOk result (λ ended. IfSome ended.closed (λ closed.
+        ∥ ((works : List (StationWork A.opening)) × IsTraced A.opening
+        (receipts_in ended.served.items) works closed.book) ∥₁)) }
 {
     match run_workers(rt, alloc, &shared, staff, accept, Steady::new(rt)) {
         Ok(worked) => close(alloc, plan, shared, worked),
@@ -104,6 +105,9 @@ fn work<'a, 'f, A: ArrivalLedger + Send + Sync, T: Ledger + Sync, U: Ledger + Sy
     requires takes { (takes.name ≡ T.name) × (takes.parts ≡ T.parts) × (T.parts ≡ length plan.now.destinations + 1) }
     requires settlements { (settlements.name ≡ U.name) × (settlements.parts ≡ U.parts) × (U.parts ≡ length plan.now.destinations + 1) }
     ensures opening { IfOk result (λ ended. IfSome ended.closed (λ closed. (closed.opening ≡ A.counts) × (closed.first ≡ A.first))) }
+    ensures traced { IfOk result (λ ended. IfSome ended.closed (λ closed.
+        ∥ ((works : List (StationWork A.opening)) × IsTraced A.opening
+        (receipts_in ended.served.items) works closed.book) ∥₁)) }
 {
     let Devices { doors, links } = devices;
     let opened = Shared::<A, T, U, EngineRows>::new(
