@@ -37,9 +37,9 @@ ORDER = (
     ('What pruning leaves', 'event_log.Folding event_log.Alike'),
     ('Replies and serving', 'conn_core.Messages conn_core.Replies conn_core.Booking conn_worker.Serving conn_worker.Faults'),
     ('Delivering', 'delivery_worker.Stream delivery_worker.Answers delivery_worker.Delivering'),
-    ('Shares and audit', 'book_lock.Shares book_lock.Rises book_lock.Auditing'),
-    ('One history for all threads', 'ghost_log.Seats book_lock.Log book_lock.Outcomes conn_worker.Arriving delivery_worker.Turns '
-     'delivery_worker.Sent'),
+    ('One history for all threads', 'ghost_log.Seats book_lock.Log book_lock.Outcomes book_lock.Shares book_lock.Callers '
+     'conn_worker.Arriving delivery_worker.Turns delivery_worker.Sent'),
+    ('Counts and audit', 'book_lock.Rises book_lock.Auditing'),
     ('Every order of steps', 'engine_model.Turn engine_model.Run engine_model.Steps engine_model.Promise '
      'engine_model.Converse'),
     ('The program', 'engine_words.Request engine_words.Words engine_report.Lines engine_report.Findings '
@@ -63,26 +63,29 @@ PROMISE = (
      ['conn_core.Booking.OutcomeAtBook']),
     ('Delivering', 'the clause `attempts` of `deliver`: `Delivers`, on top of framing and of what a message is',
      ['delivery_worker.Delivering.Delivers']),
-    ('A shared book', 'the clauses of `close` and `audit`: what adds up, which receipts are due, which fault is first',
-     ['book_lock.Rises.AddsUp', 'book_lock.Auditing.receipts_due', 'book_lock.Auditing.unfolded', 'book_lock.Auditing.IsFirstFault']),
-    ('One history for all threads', 'the clause `call` of `Shared::arrive`, `take` and `settle`, and `linearizes` of `close`: '
-     '`Arrives`, `Takes`, `Calls` and `Linearizes`, on top of a call on a book',
+    ('One history for all threads', 'the clause `call` of the calls of `Shared` that do an event or prune, and `one_history` of '
+     '`close`: `Arrives`, `Takes`, `Calls`, `IsCalled`, `IsPruned` and `Linearizes`, on top of a call on a book',
      ['book_lock.Log.Calls', 'book_lock.Log.Arrives', 'book_lock.Log.Takes', 'book_lock.Log.IsCalled', 'book_lock.Log.IsPruned',
-      'book_lock.Log.Linearizes']),
-    ('The slots of a closed book', 'the clause `accounted` of `close`: `IsAccountedFor`, on top of one history for all threads',
-     ['book_lock.Outcomes.IsAccountedFor']),
+      'book_lock.Log.IsPruneRefused', 'book_lock.Log.IsTidiedInLog', 'book_lock.Log.Linearizes']),
+    ('The slots and the callers of a closed book', 'the clause `closed` of `close`: `IsClosedBy`, with `IsAccountedFor` and '
+     '`AreCallers`, on top of one history for all threads',
+     ['book_lock.Callers.IsClosedBy']),
     ('A connection in the one history', 'the clause `booked` of `serve`: `BooksInLog` and `ArrivesInTurn`, on top of one history for '
      'all threads',
      ['conn_worker.Arriving.BooksInLog']),
     ('Delivering in that history', 'the clause `attempts` of `deliver` and `deliver_until`: `DeliversInLog`, on top of delivering '
      'and of one history for all threads',
      ['delivery_worker.Turns.DeliversInLog']),
-    ('Delivered is sent', 'the law `delivered_is_sent`: `SettledIsSent`, `DeliveredIsSent`, `OnlySettlers` and `NeverSettles`, on top '
-     'of the slots of a closed book and of connections and delivering in the one history',
+    ('Delivered is sent', 'the law `delivered_is_sent`, and the clause `traced` of `close_book` (engine_workers): `IsTraced`, with '
+     '`EveryDeliveredWasSent` and `EveryArrivalHasReceipt`, on top of the slots and callers of a closed book and of connections and '
+     'delivering in the one history',
      ['delivery_worker.Sent.*']),
 )
 # Claims beside it: of the program, of a model of the whole engine, of pruning and of the text of a plan.
 BESIDE = (
+    ('What a run counts, and its receipts', 'the clauses of `close` and `audit`: what adds up, which receipts are due, which fault is '
+     'first',
+     ['book_lock.Rises.AddsUp', 'book_lock.Auditing.receipts_due', 'book_lock.Auditing.unfolded', 'book_lock.Auditing.IsFirstFault']),
     ('The end of a run', 'the clauses of `conclude`, `find`, `listen_faults` and `statistics_of`: `Concludes`, `IsFinding`, '
      '`failed_channels` and `lines_of_closed`, on top of a shared book',
      ['engine_report.Findings.Concludes', 'engine_report.Findings.IsFinding', 'engine_report.Findings.failed_channels',
