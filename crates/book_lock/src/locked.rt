@@ -650,8 +650,8 @@ impl<A: ArrivalLedger, T: Ledger, U: Ledger, S: BookRows> Locked<A, T, U, S> {
     }
 
     /// The book out of its lock. The seats of these desks and stations are handed in: the log is one history of all that
-    /// they and others did. Where their shares add up, they made all calls of the log, and it accounts for the slots of the
-    /// book.
+    /// they and others did. Where their shares add up, all its arrivals, takes and settlements were made at them, and it
+    /// accounts for the slots of the book.
     pub fn close(self, desks: Vec<Desk<A>>, stations: Vec<Station<A, T, U>>) -> Closed<S>
         ensures same { result ≡ self }
         ensures opening { (result.opening ≡ A.counts) × (result.first ≡ A.first) }
