@@ -45,5 +45,5 @@ module _ (a b : ℕ) (piece : List ℕ) (at m n : ℕ) (none_a : Nowhere (Passes
   first_of_two few at_a at_b = (
     record { low = omega arith; high = omega arith; before = neither (min m n) (omega arith) (omega arith) },
     here_of (min m n) min_is (λ e. subst (λ k. Passes (is_byte a) piece (at + k)) (sym e) (at_a (omega arith)))
-    (λ e. subst (λ k. Passes (is_byte b) piece (at + k)) (sym e) (at_b (omega arith))),
+        (λ e. subst (λ k. Passes (is_byte b) piece (at + k)) (sym e) (at_b (omega arith))),
   )

@@ -104,4 +104,3 @@ module _ (old : List FramingEvent) where
 pub on_err_always : {T E : Type 0} {P : Type 0} (r : Result T E) → P → OnErr r P
 on_err_always (Ok x) p = tt
 on_err_always (Err e) p = p
-
