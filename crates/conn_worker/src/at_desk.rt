@@ -10,16 +10,14 @@ use crate::counted::Counted;
 use crate::lines::{log_arrival, log_break, log_fill, log_passed_over};
 use crate::report::{ServeEnd, ServeReport};
 use crate::session::serve_within;
-use book_core::{NotBooked, Outbound, Receipt};
+use book_core::{BookRows, NotBooked, Receipt};
 use book_lock::{ArrivalLedger, Desk, Shared};
 use conn_core::{Booking, ConnectionId};
-use dest_queue::Queued;
 use fixed_numbers::TURNS_MAX;
 use judge_core::Judged;
 use log::Log;
 use mllp_frame::Break;
 use plan_text::Plan;
-use row_store::RowStore;
 use std::alloc::{AllocError, Global};
 use std::io::{Read, Write};
 use std::sync::ledger::Ledger;
@@ -30,21 +28,15 @@ const FILL_STEP: usize = 16;
 
 /// A desk of a shared book, at which messages are booked. Each call takes the book's lock for a moment.
 #[derive(Drop)]
-pub struct AtDesk<'a, A: ArrivalLedger, T: Ledger, U: Ledger, S: RowStore<Queued<Outbound>>, H> {
+pub struct AtDesk<'a, A: ArrivalLedger, T: Ledger, U: Ledger, S: BookRows, H> {
     pub rt: &'a H,
     pub alloc: Global,
     pub shared: &'a Shared<A, T, U, S>,
     pub desk: &'a mut Desk<A>,
 }
 
-impl<
-    'a,
-    A: ArrivalLedger,
-    T: Ledger,
-    U: Ledger,
-    S: RowStore<Queued<Outbound>>,
-    H: Wait + Log,
-> Booking for AtDesk<'a, A, T, U, S, H> {
+impl<'a, A: ArrivalLedger, T: Ledger, U: Ledger, S: BookRows, H: Wait + Log> Booking
+    for AtDesk<'a, A, T, U, S, H> {
     ghost use Rattle.std.specs.Prelude.{refl, ⊤};
     ghost use Rattle.conn_worker.specs.inner.Arriving.{BooksAtDesk, desk_after, desk_nothing};
 
@@ -102,7 +94,7 @@ pub fn serve<
     A: ArrivalLedger,
     T: Ledger,
     U: Ledger,
-    S: RowStore<Queued<Outbound>>,
+    S: BookRows,
     R: Read,
     W: Write,
     C: Clock,

@@ -1,13 +1,12 @@
 //! A stream that comes in pieces, a writer that takes nothing at one of its calls, and a connection that is served over them.
 
-use book_core::{Book, EVENTS_MAX, Outbound};
+use book_core::{Book, BookRows, EVENTS_MAX, Outbound};
 use conn_core::ConnectionId;
 use conn_worker::{Counted, ServeEnd, ServeReport, Still, TURNS_MAX, nearest, serve_within};
 use dest_queue::Queued;
 use mllp_frame::{FrameEvent, FrameFault, Framer};
 use plan_text::Plan;
 use record_list::RecordList;
-use row_store::RowStore;
 use std::alloc::{AllocError, Global};
 use std::hash::RandomState;
 use std::io;
@@ -138,16 +137,13 @@ pub(crate) fn built_in(rt: &HostRuntime) -> Result<Arc<Plan>, Fail> {
 }
 
 /// An empty book of a plan.
-fn empty_book<S: RowStore<Queued<Outbound>>>(
-    rt: &HostRuntime,
-    plan: &Arc<Plan>,
-) -> Result<Book<S>, Fail> {
+fn empty_book<S: BookRows>(rt: &HostRuntime, plan: &Arc<Plan>) -> Result<Book<S>, Fail> {
     let hasher = RandomState::new(rt)?;
     Ok(Book::new(rt.alloc(), Arc::try_clone(plan)?, EVENTS_MAX, hasher))
 }
 
 /// Serves a stream from a book, at 14 November 2023, 22:13:20 UTC.
-fn serve_from<S: RowStore<Queued<Outbound>>>(
+fn serve_from<S: BookRows>(
     alloc: Global,
     book: &mut Book<S>,
     source: Source<'_>,

@@ -12,12 +12,11 @@ use crate::connection::Connection;
 use crate::link::Link;
 use crate::report::{DeliverEnd, DeliverReport};
 use crate::worker::take_turn;
-use book_core::{Front, Outbound};
+use book_core::{BookRows, Front};
 use book_lock::{ArrivalLedger, Shared, Station};
 use conn_worker::Clock;
-use dest_queue::{Outcome, Queued, SlotState};
+use dest_queue::{Outcome, SlotState};
 use log::Log;
-use row_store::RowStore;
 use std::alloc::Global;
 use std::sync::Wait;
 use std::sync::ledger::Ledger;
@@ -52,15 +51,7 @@ fn is_due<C: Clock>(front: Option<Front>, clock: &mut C) -> bool {
 }
 
 /// Readies the connection, and makes one attempt to deliver the message at the front of a queue.
-fn deliver_afresh<
-    H: Wait,
-    A: ArrivalLedger,
-    T: Ledger,
-    U: Ledger,
-    S: RowStore<Queued<Outbound>>,
-    L: Link,
-    C: Clock,
->(
+fn deliver_afresh<H: Wait, A: ArrivalLedger, T: Ledger, U: Ledger, S: BookRows, L: Link, C: Clock>(
     rt: &H,
     shared: &Shared<A, T, U, S>,
     station: &mut Station<A, T, U>,
@@ -98,15 +89,7 @@ fn deliver_afresh<
 }
 
 /// Makes one attempt to deliver the message at the front of a queue, if it is due and the destination can be reached.
-fn turn_afresh<
-    H: Wait,
-    A: ArrivalLedger,
-    T: Ledger,
-    U: Ledger,
-    S: RowStore<Queued<Outbound>>,
-    L: Link,
-    C: Clock,
->(
+fn turn_afresh<H: Wait, A: ArrivalLedger, T: Ledger, U: Ledger, S: BookRows, L: Link, C: Clock>(
     rt: &H,
     shared: &Shared<A, T, U, S>,
     station: &mut Station<A, T, U>,
@@ -157,7 +140,7 @@ pub fn deliver_until<
     A: ArrivalLedger,
     T: Ledger,
     U: Ledger,
-    S: RowStore<Queued<Outbound>>,
+    S: BookRows,
     L: Link,
     C: Clock,
     E: Halt,

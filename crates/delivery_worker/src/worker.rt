@@ -11,12 +11,11 @@ ghost use Rattle.delivery_worker.specs.inner.Delivering.{Tries};
 use crate::connection::Connection;
 use crate::link::Link;
 use crate::report::{DeliverEnd, DeliverReport};
-use book_core::{Outbound, TakeRefusal};
+use book_core::{BookRows, TakeRefusal};
 use book_lock::{ArrivalLedger, Shared, Station};
 use conn_worker::Clock;
-use dest_queue::{Outcome, Queued};
+use dest_queue::Outcome;
 use log::Log;
-use row_store::RowStore;
 use std::alloc::Global;
 use std::sync::Wait;
 use std::sync::ledger::Ledger;
@@ -29,7 +28,7 @@ pub(crate) fn take_turn<
     A: ArrivalLedger,
     T: Ledger,
     U: Ledger,
-    S: RowStore<Queued<Outbound>>,
+    S: BookRows,
     L: Link,
     C: Clock,
 >(
@@ -84,7 +83,7 @@ pub fn deliver<
     A: ArrivalLedger,
     T: Ledger,
     U: Ledger,
-    S: RowStore<Queued<Outbound>>,
+    S: BookRows,
     L: Link,
     C: Clock,
 >(

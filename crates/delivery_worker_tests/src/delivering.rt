@@ -2,12 +2,11 @@
 
 use crate::played::{Play, Played};
 use crate::stage::{BLOCKS, Course, Delivered, Rows, deliver_all, waiting};
-use book_core::{Book, Outbound};
+use book_core::{Book, BookRows};
 use delivery_worker::{DeliverEnd, DeliverReport, Reply};
-use dest_queue::{FailCause, Queued, SlotState};
+use dest_queue::{FailCause, SlotState};
 use hl7_head::AckCode;
 use log::Log;
-use row_store::RowStore;
 use std::alloc::Global;
 use std::sync::Wait;
 use std::test::Fail;
@@ -264,11 +263,7 @@ pub(crate) fn are_both(bytes: &[u8]) -> bool {
 }
 
 /// Whether a case comes out as it is to. What was sent of two messages are two blocks in their order.
-fn is_right<S: RowStore<Queued<Outbound>>>(
-    case: &Case,
-    link: &Played<'_>,
-    delivered: &Delivered<S>,
-) -> bool {
+fn is_right<S: BookRows>(case: &Case, link: &Played<'_>, delivered: &Delivered<S>) -> bool {
     let all = case.messages == 2 && case.turns > 1;
     delivered.report == case.report
         && link.connections == case.connections
@@ -277,7 +272,7 @@ fn is_right<S: RowStore<Queued<Outbound>>>(
 }
 
 /// Whether a case comes out as it is to, with the book in which its messages wait. It doesn't where memory was refused.
-fn comes_out<S: RowStore<Queued<Outbound>> + Drop, H: Wait + time::Clock + Log>(
+fn comes_out<S: BookRows + Drop, H: Wait + time::Clock + Log>(
     rt: &H,
     alloc: Global,
     book: Option<Book<S>>,
@@ -299,7 +294,7 @@ fn is_doubled(bytes: &[u8]) -> bool {
 }
 
 /// Whether a message is sent over a new connection, within the attempt, where the one that was kept has ended before an answer.
-fn is_sent_again<S: RowStore<Queued<Outbound>> + Drop, H: Wait + time::Clock + Log>(
+fn is_sent_again<S: BookRows + Drop, H: Wait + time::Clock + Log>(
     rt: &H,
     alloc: Global,
     book: Option<Book<S>>,
@@ -315,7 +310,7 @@ fn is_sent_again<S: RowStore<Queued<Outbound>> + Drop, H: Wait + time::Clock + L
 }
 
 /// Whether an answer that was left over on a connection that has ended decides nothing: the message is sent over a new one.
-fn forgets_what_was_left<S: RowStore<Queued<Outbound>> + Drop, H: Wait + time::Clock + Log>(
+fn forgets_what_was_left<S: BookRows + Drop, H: Wait + time::Clock + Log>(
     rt: &H,
     alloc: Global,
     book: Option<Book<S>>,
@@ -341,7 +336,7 @@ fn left_over(rt: HostRuntime) -> Result<(), Fail> {
 
 /// How often bytes were asked for to deliver the one message of a book, what the answers to the last attempt said, and the
 /// state of the message then. None where memory was refused.
-fn deliver_one<S: RowStore<Queued<Outbound>> + Drop, H: Wait + time::Clock + Log>(
+fn deliver_one<S: BookRows + Drop, H: Wait + time::Clock + Log>(
     rt: &H,
     alloc: Global,
     book: Option<Book<S>>,

@@ -3,11 +3,10 @@
 use crate::delivering::{ACCEPTED, LEFT_OVER, SECOND_ACCEPTED, are_both};
 use crate::played::{Play, Played};
 use crate::stage::{Course, Delivered, Rows, deliver_all, waiting};
-use book_core::{Book, Outbound};
+use book_core::{Book, BookRows};
 use delivery_worker::{DeliverEnd, DeliverReport};
-use dest_queue::{FailCause, Queued, SlotState};
+use dest_queue::{FailCause, SlotState};
 use log::Log;
-use row_store::RowStore;
 use std::alloc::Global;
 use std::sync::Wait;
 use std::test::Fail;
@@ -102,11 +101,7 @@ const CASES: [Case; 7] = [
 ];
 
 /// Whether a case comes out as it is to. As much was sent as attempts were made.
-fn is_right<S: RowStore<Queued<Outbound>>>(
-    case: &Case,
-    link: &Played<'_>,
-    delivered: &Delivered<S>,
-) -> bool {
+fn is_right<S: BookRows>(case: &Case, link: &Played<'_>, delivered: &Delivered<S>) -> bool {
     let (taken, accepted, rejected) = case.attempts;
     let due = DeliverReport {
         taken,
@@ -123,7 +118,7 @@ fn is_right<S: RowStore<Queued<Outbound>>>(
 }
 
 /// Whether a case comes out as it is to, with the book in which its messages wait. It doesn't where memory was refused.
-fn comes_out<S: RowStore<Queued<Outbound>> + Drop, H: Wait + time::Clock + Log>(
+fn comes_out<S: BookRows + Drop, H: Wait + time::Clock + Log>(
     rt: &H,
     alloc: Global,
     book: Option<Book<S>>,

@@ -2,12 +2,11 @@
 
 use crate::played::{Leaping, Play, Played};
 use crate::stage::{Course, deliver_all, deliver_by, waiting};
-use book_core::{Book, Outbound};
+use book_core::{Book, BookRows, Outbound};
 use delivery_worker::{DeliverEnd, DeliverReport};
 use dest_queue::{Queued, SlotState};
 use log::Log;
 use record_list::RecordList;
-use row_store::RowStore;
 use std::alloc::Global;
 use std::sync::Wait;
 use std::test::Fail;
@@ -70,7 +69,7 @@ const CASES: [Case; 3] = [
 ];
 
 /// Whether a case comes out as it is to. It doesn't where memory was refused.
-fn comes_out<S: RowStore<Queued<Outbound>> + Drop, H: Wait + time::Clock + Log>(
+fn comes_out<S: BookRows + Drop, H: Wait + time::Clock + Log>(
     rt: &H,
     alloc: Global,
     book: Option<Book<S>>,
@@ -100,7 +99,7 @@ fn cases(rt: HostRuntime) -> Result<(), Fail> {
 
 /// The result of delivering one message in a number of turns, by a clock that goes on by a second at each look, where the
 /// destination is down and then accepts it.
-fn deliver_in<S: RowStore<Queued<Outbound>> + Drop, H: Wait + time::Clock + Log>(
+fn deliver_in<S: BookRows + Drop, H: Wait + time::Clock + Log>(
     rt: &H,
     alloc: Global,
     book: Option<Book<S>>,

@@ -2,10 +2,9 @@
 
 use crate::played::{Play, Played};
 use crate::stage::{BLOCKS, Course, Delivered, Rows, deliver_all, waiting};
-use book_core::Outbound;
+use book_core::BookRows;
 use delivery_worker::DeliverEnd;
-use dest_queue::{Queued, SlotState};
-use row_store::RowStore;
+use dest_queue::SlotState;
 use stat_count::DestinationCounts;
 use std::alloc::Global;
 use std::test::Fail;
@@ -56,7 +55,7 @@ fn is_sent_in_order(sent: &[u8], taken: u64) -> bool {
 }
 
 /// Whether both messages are delivered, each attempt is settled, and the statistics count them.
-fn is_settled<S: RowStore<Queued<Outbound>>>(delivered: &Delivered<S>) -> bool {
+fn is_settled<S: BookRows>(delivered: &Delivered<S>) -> bool {
     let (book, report) = (delivered.closed.book(), &delivered.report);
     let due = DestinationCounts {
         waiting: 0,
@@ -72,7 +71,7 @@ fn is_settled<S: RowStore<Queued<Outbound>>>(delivered: &Delivered<S>) -> bool {
 }
 
 /// Whether at most one attempt was made again, and each message was sent and delivered, in order.
-fn is_right<S: RowStore<Queued<Outbound>>>(delivered: &Delivered<S>, sent: &[u8]) -> bool {
+fn is_right<S: BookRows>(delivered: &Delivered<S>, sent: &[u8]) -> bool {
     let report = &delivered.report;
     is_settled(delivered)
         && is_sent_in_order(sent, report.taken)

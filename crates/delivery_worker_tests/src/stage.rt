@@ -6,7 +6,7 @@ ghost use Rattle.event_log.specs.History.{next_place, plan_in_force};
 ghost use Rattle.event_log.specs.Counting.{counted};
 
 use crate::played::{Leaping, Looks, Played};
-use book_core::{Book, EVENTS_MAX, Outbound};
+use book_core::{Book, BookRows, EVENTS_MAX, Outbound};
 use book_lock::{ArrivalLedger, Closed, LogEntry, Shared, Station};
 use conn_worker::Clock;
 use delivery_worker::{DeliverReport, deliver, deliver_until};
@@ -16,7 +16,6 @@ use judge_core::{Judged, fits_block, judge};
 use log::Log;
 use plan_text::Plan;
 use record_list::RecordList;
-use row_store::RowStore;
 use std::alloc::Global;
 use std::hash::RandomState;
 use std::marker::Brand;
@@ -56,7 +55,7 @@ fn judged(alloc: Global, plan: &Arc<Plan>, text: &str) -> Option<Judged>
 }
 
 /// An empty book of the built-in plan. None where memory was refused.
-fn empty_book<S: RowStore<Queued<Outbound>>>(rt: &HostRuntime) -> Option<Book<S>> {
+fn empty_book<S: BookRows>(rt: &HostRuntime) -> Option<Book<S>> {
     let alloc = rt.alloc();
     let hasher = RandomState::new(rt).ok()?;
     let plan = Arc::new(alloc, Plan::built_in(alloc).ok()?).ok()?;
@@ -64,11 +63,7 @@ fn empty_book<S: RowStore<Queued<Outbound>>>(rt: &HostRuntime) -> Option<Book<S>
 }
 
 /// Books messages received over connection 0. None where memory was refused.
-fn fill<S: RowStore<Queued<Outbound>>>(
-    alloc: Global,
-    book: &mut Book<S>,
-    messages: &[&str],
-) -> Option<()> {
+fn fill<S: BookRows>(alloc: Global, book: &mut Book<S>, messages: &[&str]) -> Option<()> {
     for text in messages {
         let judged = judged(alloc, book.plan(), text)?;
         book.arrive(0, &judged).ok()?;
@@ -77,10 +72,7 @@ fn fill<S: RowStore<Queued<Outbound>>>(
 }
 
 /// A book of the built-in plan in which messages wait, at most two. None where memory was refused.
-pub(crate) fn waiting<S: RowStore<Queued<Outbound>> + Drop>(
-    rt: &HostRuntime,
-    messages: usize,
-) -> Option<Book<S>> {
+pub(crate) fn waiting<S: BookRows + Drop>(rt: &HostRuntime, messages: usize) -> Option<Book<S>> {
     let mut book = empty_book(rt)?;
     fill(rt.alloc(), &mut book, &MESSAGES[..messages.min(2)])?;
     Some(book)
@@ -97,7 +89,7 @@ pub enum Course {
 
 /// The result of delivering, and the book after it.
 #[derive(Drop)]
-pub struct Delivered<S: RowStore<Queued<Outbound>>> {
+pub struct Delivered<S: BookRows> {
     pub report: DeliverReport,
     pub closed: Closed<S>,
 }
@@ -107,7 +99,7 @@ fn deliver_at<
     A: ArrivalLedger,
     T: Ledger,
     U: Ledger,
-    S: RowStore<Queued<Outbound>>,
+    S: BookRows,
     H: Wait + time::Clock + Log,
     C: Clock,
 >(
@@ -135,7 +127,7 @@ fn deliver_and_close<
     A: ArrivalLedger,
     T: Ledger,
     U: Ledger,
-    S: RowStore<Queued<Outbound>> + Drop,
+    S: BookRows + Drop,
     H: Wait + time::Clock + Log,
     C: Clock,
 >(
@@ -167,11 +159,7 @@ fn deliver_and_close<
 }
 
 /// Delivers what waits in a book over a link by a clock. None where there is no book, or memory was refused for sharing it.
-pub(crate) fn deliver_by<
-    S: RowStore<Queued<Outbound>> + Drop,
-    H: Wait + time::Clock + Log,
-    C: Clock,
->(
+pub(crate) fn deliver_by<S: BookRows + Drop, H: Wait + time::Clock + Log, C: Clock>(
     rt: &H,
     alloc: Global,
     book: Option<Book<S>>,
@@ -197,7 +185,7 @@ pub(crate) fn deliver_by<
 
 /// Delivers what waits in a book over a link, by a clock that leaps by twenty seconds at each look. None where there is no
 /// book, or memory was refused for sharing it.
-pub(crate) fn deliver_all<S: RowStore<Queued<Outbound>> + Drop, H: Wait + time::Clock + Log>(
+pub(crate) fn deliver_all<S: BookRows + Drop, H: Wait + time::Clock + Log>(
     rt: &H,
     alloc: Global,
     book: Option<Book<S>>,

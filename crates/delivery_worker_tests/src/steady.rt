@@ -2,12 +2,10 @@
 
 use crate::played::{Play, Played, SetBack};
 use crate::stage::{Course, Rows, deliver_by, waiting};
-use book_core::{Book, Outbound};
+use book_core::{Book, BookRows};
 use conn_worker::{Clock, Running, Steady, nearest};
 use delivery_worker::DeliverEnd;
-use dest_queue::Queued;
 use log::Log;
-use row_store::RowStore;
 use std::alloc::Global;
 use std::sync::Wait;
 use std::test::Fail;
@@ -33,7 +31,7 @@ fn set_back(rt: HostRuntime) -> Result<(), Fail> {
 }
 
 /// Whether the message is delivered in the second attempt.
-fn is_delivered<S: RowStore<Queued<Outbound>> + Drop, H: Wait + time::Clock + Log, C: Clock>(
+fn is_delivered<S: BookRows + Drop, H: Wait + time::Clock + Log, C: Clock>(
     rt: &H,
     alloc: Global,
     book: Option<Book<S>>,

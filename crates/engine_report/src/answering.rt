@@ -8,13 +8,11 @@ ghost use Rattle.conn_worker.specs.Serving.{Serves};
 ghost use Rattle.engine_report.specs.Ending.{fault_of_end};
 
 use crate::fault::Fault;
-use book_core::{Book, Outbound};
+use book_core::{Book, BookRows};
 use conn_core::ConnectionId;
 use conn_worker::{
     Clock, Counted, DiscardReceipts, ServeEnd, ServeReport, TURNS_MAX, serve_within,
 };
-use dest_queue::Queued;
-use row_store::RowStore;
 use std::alloc::Global;
 use std::io::{Read, Write};
 
@@ -29,7 +27,7 @@ const CHANNEL: u32 = 0;
 ///
 /// It ends at the reader's end, at a fault of the reader or the writer, where memory is refused, or after
 /// [`TURNS_MAX`] reads or events. The moments of the replies are the clock's.
-pub fn answer_stream<S: RowStore<Queued<Outbound>>, R: Read, W: Write, C: Clock>(
+pub fn answer_stream<S: BookRows, R: Read, W: Write, C: Clock>(
     alloc: Global,
     book: &mut Book<S>,
     reader: &mut Counted<R>,

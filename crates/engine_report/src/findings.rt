@@ -5,11 +5,9 @@ ghost use Rattle.std.specs.Option.{option_copied};
 ghost use Rattle.engine_report.specs.Findings.{IsFinding, IsRising, audit_faults, finding_of, receipts_in};
 
 use crate::fault::{Fault, Finding};
-use book_core::{Outbound, Receipt};
+use book_core::{BookRows, Receipt};
 use book_lock::{AuditFault, Closed, audit, rising};
 use conn_worker::ServeReport;
-use dest_queue::Queued;
-use row_store::RowStore;
 use std::alloc::{AllocError, Global};
 
 /// Whether the receipts of each connection are in the order in which they were booked.
@@ -53,7 +51,7 @@ fn finding_of(fault: AuditFault) -> Finding
 /// # Errors
 ///
 /// Where memory is refused.
-pub fn find<S: RowStore<Queued<Outbound>>>(
+pub fn find<S: BookRows>(
     alloc: Global,
     closed: Option<&Closed<S>>,
     served: Vec<ServeReport>,

@@ -7,19 +7,17 @@ ghost use Rattle.delivery_worker.specs.Sent.{IsTraced, StationWork};
 use crate::outlet::stations_and_reports;
 use crate::seat::desks_and_reports;
 use crate::workers::Finished;
-use book_core::Outbound;
+use book_core::BookRows;
 use book_lock::{ArrivalLedger, Closed, Shared};
 use conn_worker::ServeReport;
 use delivery_worker::DeliverReport;
-use dest_queue::Queued;
-use row_store::RowStore;
 use std::alloc::{AllocError, Global};
 use std::sync::ledger::Ledger;
 
 /// How a run ended: the closed book, unless shares of it are missing, the report of each connection that was served, and that
 /// of each destination, both in the order of what the workers worked with.
 #[derive(Drop)]
-pub struct RunEnd<S: RowStore<Queued<Outbound>>> {
+pub struct RunEnd<S: BookRows> {
     pub closed: Option<Closed<S>>,
     pub served: Vec<ServeReport>,
     pub delivered: Vec<DeliverReport>,
@@ -32,14 +30,7 @@ pub struct RunEnd<S: RowStore<Queued<Outbound>>> {
 /// # Errors
 ///
 /// Where memory is refused.
-pub fn close_book<
-    A: ArrivalLedger,
-    T: Ledger,
-    U: Ledger,
-    S: RowStore<Queued<Outbound>> + Drop,
-    D: Drop,
-    L: Drop,
->(
+pub fn close_book<A: ArrivalLedger, T: Ledger, U: Ledger, S: BookRows + Drop, D: Drop, L: Drop>(
     alloc: Global,
     shared: Shared<A, T, U, S>,
     worked: Finished<A, T, U, D, L>,

@@ -4,12 +4,10 @@ use crate::door::{Door, DoorFault, Incoming};
 use crate::loan::TakeCell;
 use crate::seat::ConnectionSlot;
 use crate::site::Context;
-use book_core::Outbound;
+use book_core::BookRows;
 use book_lock::ArrivalLedger;
 use conn_worker::{Clock, Counted, ServeEnd, ServeReport, serve};
-use dest_queue::Queued;
 use log::{Log, info, warn};
-use row_store::RowStore;
 use std::io::Write;
 use std::sync::Wait;
 use std::sync::ledger::Ledger;
@@ -54,7 +52,7 @@ fn serve_seat<
     A: ArrivalLedger,
     T: Ledger,
     U: Ledger,
-    S: RowStore<Queued<Outbound>>,
+    S: BookRows,
     C: Clock + Copy,
     H: Wait + Log,
     R: Incoming + Drop,
@@ -111,7 +109,7 @@ fn start_serving<
     A: ArrivalLedger + Send + Sync + 's,
     T: Ledger + Sync + 's,
     U: Ledger + Sync + 's,
-    S: RowStore<Queued<Outbound>> + Send + 's,
+    S: BookRows + Send + 's,
     C: Clock + Copy + Sync + 's,
     H: Wait + Log + Sync + 's,
     R: Incoming + Send + Drop + 's,
@@ -143,7 +141,7 @@ fn admit<
     A: ArrivalLedger + Send + Sync + 's,
     T: Ledger + Sync + 's,
     U: Ledger + Sync + 's,
-    S: RowStore<Queued<Outbound>> + Send + 's,
+    S: BookRows + Send + 's,
     C: Clock + Copy + Sync + 's,
     H: Wait + Log + Sync + 's,
     R: Incoming + Send + Drop + 's,
@@ -190,7 +188,7 @@ fn admit_all<
     A: ArrivalLedger + Send + Sync + 's,
     T: Ledger + Sync + 's,
     U: Ledger + Sync + 's,
-    S: RowStore<Queued<Outbound>> + Send + 's,
+    S: BookRows + Send + 's,
     C: Clock + Copy + Sync + 's,
     H: Wait + Log + Sync + 's,
     R: Incoming + Send + Drop + 's,
@@ -225,7 +223,7 @@ fn open_all<
     A: ArrivalLedger + Send + Sync,
     T: Ledger + Sync,
     U: Ledger + Sync,
-    S: RowStore<Queued<Outbound>> + Send,
+    S: BookRows + Send,
     C: Clock + Copy + Sync,
     H: Wait + Threads + Log + Sync,
     R: Incoming + Send + Drop,
@@ -249,7 +247,7 @@ fn work_door<
     A: ArrivalLedger + Send + Sync,
     T: Ledger + Sync,
     U: Ledger + Sync,
-    S: RowStore<Queued<Outbound>> + Send,
+    S: BookRows + Send,
     C: Clock + Copy + Sync,
     H: Wait + Threads + Log + Sync,
     R: Incoming + Send + Drop,
@@ -279,7 +277,7 @@ fn start_opening<
     A: ArrivalLedger + Send + Sync + 's,
     T: Ledger + Sync + 's,
     U: Ledger + Sync + 's,
-    S: RowStore<Queued<Outbound>> + Send + 's,
+    S: BookRows + Send + 's,
     C: Clock + Copy + Sync + 's,
     H: Wait + Threads + Log + Sync + 's,
     R: Incoming + Send + Drop + 's,
@@ -306,7 +304,7 @@ fn start_opening_all<
     A: ArrivalLedger + Send + Sync + 's,
     T: Ledger + Sync + 's,
     U: Ledger + Sync + 's,
-    S: RowStore<Queued<Outbound>> + Send + 's,
+    S: BookRows + Send + 's,
     C: Clock + Copy + Sync + 's,
     H: Wait + Threads + Log + Sync + 's,
     R: Incoming + Send + Drop + 's,
@@ -327,7 +325,7 @@ pub(crate) fn open_doors<
     A: ArrivalLedger + Send + Sync,
     T: Ledger + Sync,
     U: Ledger + Sync,
-    S: RowStore<Queued<Outbound>> + Send,
+    S: BookRows + Send,
     C: Clock + Copy + Sync,
     H: Wait + Threads + Log + Sync,
     R: Incoming + Send + Drop,

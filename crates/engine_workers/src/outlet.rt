@@ -10,13 +10,11 @@ use crate::door::{Door, Incoming};
 use crate::inlet::{ChannelWork, open_doors};
 use crate::loan::TakeCell;
 use crate::site::Context;
-use book_core::Outbound;
+use book_core::BookRows;
 use book_lock::{ArrivalLedger, Station};
 use conn_worker::Clock;
 use delivery_worker::{DeliverReport, Link, deliver};
-use dest_queue::Queued;
 use log::{Log, warn};
-use row_store::RowStore;
 use std::alloc::{AllocError, Global};
 use std::io::Write;
 use std::sync::Wait;
@@ -105,7 +103,7 @@ fn deliver_all<
     A: ArrivalLedger,
     T: Ledger,
     U: Ledger,
-    S: RowStore<Queued<Outbound>>,
+    S: BookRows,
     C: Clock + Copy,
     H: Wait + time::Clock + Log,
     L: Link + Drop,
@@ -155,7 +153,7 @@ fn start_delivering<
     A: ArrivalLedger + Send + Sync + 's,
     T: Ledger + Sync + 's,
     U: Ledger + Sync + 's,
-    S: RowStore<Queued<Outbound>> + Send + 's,
+    S: BookRows + Send + 's,
     C: Clock + Copy + Sync + 's,
     H: Wait + time::Clock + Log + Sync + 's,
     L: Link + Send + Drop + 's,
@@ -181,7 +179,7 @@ fn start_delivering_all<
     A: ArrivalLedger + Send + Sync + 's,
     T: Ledger + Sync + 's,
     U: Ledger + Sync + 's,
-    S: RowStore<Queued<Outbound>> + Send + 's,
+    S: BookRows + Send + 's,
     C: Clock + Copy + Sync + 's,
     H: Wait + time::Clock + Log + Sync + 's,
     L: Link + Send + Drop + 's,
@@ -205,7 +203,7 @@ pub(crate) fn work_all<
     A: ArrivalLedger + Send + Sync,
     T: Ledger + Sync,
     U: Ledger + Sync,
-    S: RowStore<Queued<Outbound>> + Send,
+    S: BookRows + Send,
     C: Clock + Copy + Sync,
     H: Wait + Threads + time::Clock + Log + Sync,
     R: Incoming + Send + Drop,

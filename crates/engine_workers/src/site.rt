@@ -1,10 +1,8 @@
 //! What all workers share.
 
-use book_core::Outbound;
+use book_core::BookRows;
 use book_lock::{ArrivalLedger, Shared};
-use dest_queue::Queued;
 use plan_text::Plan;
-use row_store::RowStore;
 use std::alloc::Global;
 use std::sync::atomic::{AtomicBool, Ordering};
 use std::sync::ledger::Ledger;
@@ -12,15 +10,7 @@ use std::sync::ledger::Ledger;
 /// What all workers share: the runtime, the book, the plan, which names channels and destinations in the log, the clock that
 /// each has a copy of, and whether a thread or memory was refused, after which no further worker is started.
 #[derive(Drop)]
-pub struct Context<
-    'x,
-    A: ArrivalLedger,
-    T: Ledger,
-    U: Ledger,
-    S: RowStore<Queued<Outbound>>,
-    C,
-    H,
-> {
+pub struct Context<'x, A: ArrivalLedger, T: Ledger, U: Ledger, S: BookRows, C, H> {
     pub rt: &'x H,
     pub alloc: Global,
     pub shared: &'x Shared<A, T, U, S>,
@@ -29,15 +19,7 @@ pub struct Context<
     stopped: AtomicBool,
 }
 
-impl<'x, A: ArrivalLedger, T: Ledger, U: Ledger, S: RowStore<Queued<Outbound>>, C, H> Context<
-    'x,
-    A,
-    T,
-    U,
-    S,
-    C,
-    H,
-> {
+impl<'x, A: ArrivalLedger, T: Ledger, U: Ledger, S: BookRows, C, H> Context<'x, A, T, U, S, C, H> {
     /// A site at which nothing was refused yet.
     pub fn new(
         rt: &'x H,

@@ -10,14 +10,12 @@ use crate::loan::TakeCell;
 use crate::outlet::{DestinationWork, work_all};
 use crate::seat::ConnectionSlot;
 use crate::site::Context;
-use book_core::Outbound;
+use book_core::BookRows;
 use book_lock::{ArrivalLedger, Desk, Shared, Station};
 use conn_worker::Clock;
 use delivery_worker::Link;
-use dest_queue::Queued;
 use log::Log;
 use plan_text::Plan;
-use row_store::RowStore;
 use std::alloc::{AllocError, Global};
 use std::io::Write;
 use std::sync::Wait;
@@ -222,7 +220,7 @@ fn work_at<
     A: ArrivalLedger + Send + Sync,
     T: Ledger + Sync,
     U: Ledger + Sync,
-    S: RowStore<Queued<Outbound>> + Send,
+    S: BookRows + Send,
     C: Clock + Copy + Sync,
     H: Wait + Threads + time::Clock + Log + Sync,
     R: Incoming + Send + Drop,
@@ -262,7 +260,7 @@ pub fn run_workers<
     A: ArrivalLedger + Send + Sync,
     T: Ledger + Sync,
     U: Ledger + Sync,
-    S: RowStore<Queued<Outbound>> + Send,
+    S: BookRows + Send,
     C: Clock + Copy + Sync,
     H: Wait + Threads + time::Clock + Log + Sync,
     R: Incoming + Send + Drop,

@@ -1,11 +1,9 @@
 //! How answers are written.
 
-use book_core::{Book, Outbound, Receipt, Told};
+use book_core::{Book, BookRows, Receipt, Told};
 use conn_worker::ServeReport;
-use dest_queue::Queued;
 use event_log::Entry;
 use play_script::shown;
-use row_store::RowStore;
 use std::alloc::{AllocError, Global};
 
 /// Replies, a block a line.
@@ -62,7 +60,7 @@ pub(crate) fn add_receipts(text: &mut String, receipts: &[Receipt]) -> Result<()
 /// # Errors
 ///
 /// Where memory is refused.
-pub(crate) fn add_entries<S: RowStore<Queued<Outbound>>>(
+pub(crate) fn add_entries<S: BookRows>(
     text: &mut String,
     book: &Book<S>,
     first: usize,
