@@ -1,5 +1,7 @@
 -- What was done at all desks and stations, from what is known of each.
-use Rattle.std.proofs.Common.{◌≡◌, ℕ, List, [], ◌∷◌, ◌++◌, Option, None, Some, map, refl, sym, ◌∙◌, subst}
+use Rattle.std.proofs.Common.{◌≡◌, ℕ, List, [], ◌∷◌, ◌++◌, Option, None, Some, Result, Ok, Err, map, refl, sym, ◌∙◌, subst}
+use Rattle.std.specs.Prelude.{IfOk, IfSome}
+use Rattle.std.specs.Result.{result_ok}
 use Rattle.std.proofs.Math.Logic.{∥∥₁_map, ∥∥₁_map₂}
 use Rattle.std.proofs.lemmas.List.{append-nil}
 use Rattle.std.specs.Global.{Vec}
@@ -85,3 +87,19 @@ traced_by opening book seats desk served station d delivered desks stations xs y
       s.0,
       subst (λ (receipts : List Receipt). IsTraced opening receipts s.0 book) b.2 (traced opening book seats (map desk xs) (map station ys) b.0 s.0 closed b.1 s.1),
     ))
+
+-- so it is where a book could be closed
+pub traced_end : {X Y C E : Type 0} (opening : History) (seats : ℕ) (xs : List X) (ys : List Y) (desk : X → DeskView) (served : X → Option Served) (station : Y → StationView) (d : Y → ℕ)
+    (delivered : Y → Option DeliverReport) → ((x : X) → ∥ HasServed opening (desk x).seat (served x) ∥₁)
+    → ((y : Y) → ∥ HasDelivered opening (d y) (station y).seat (delivered y) ∥₁)
+    → (book : C → History) (r : Result C E) (desks : List DeskView) (stations : List StationView) → IfOk r (λ c. IsClosedBy opening seats desks stations (book c))
+    → desks ≡ map desk xs → stations ≡ map station ys → (reports : List Served) → reports ≡ filter_map served xs → (o : Option C) → o ≡ result_ok r
+    → IfSome o (λ c. ∥ ((works : List (StationWork opening)) × IsTraced opening (flat_map (λ r. r.receipts.items) reports) works (book c)) ∥₁)
+traced_end {X} {Y} {C} opening seats xs ys desk served station d delivered at_desks at_stations book (Ok c) desks stations closed are_desks are_stations reports are o is =
+    subst (λ (o : Option C). IfSome o (λ c. ∥ ((works : List (StationWork opening)) × IsTraced opening (flat_map (λ r. r.receipts.items) reports) works (book c)) ∥₁)) (sym is)
+    (subst (λ (l : List Served). ∥ ((works : List (StationWork opening)) × IsTraced opening (flat_map (λ r. r.receipts.items) l) works (book c)) ∥₁) (sym are)
+    (traced_by opening (book c) seats desk served station d delivered at_desks at_stations xs ys
+    (subst (λ (l : List DeskView). IsClosedBy opening seats l (map station ys) (book c)) are_desks
+    (subst (λ (l : List StationView). IsClosedBy opening seats desks l (book c)) are_stations closed))))
+traced_end {X} {Y} {C} opening seats xs ys desk served station d delivered at_desks at_stations book (Err e) desks stations closed are_desks are_stations reports are o is =
+    subst (λ (o : Option C). IfSome o (λ c. ∥ ((works : List (StationWork opening)) × IsTraced opening (flat_map (λ r. r.receipts.items) reports) works (book c)) ∥₁)) (sym is) tt
