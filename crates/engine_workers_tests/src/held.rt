@@ -106,6 +106,7 @@ fn close<A: ArrivalLedger, T: Ledger, U: Ledger, H: Wait, D: Drop, L: Drop>(
 
 /// Runs the workers of a book with two connections on its one channel, and closes it. None where memory is refused to all but
 /// the door, or something is missing at the end.
+#[tactic(auto, using(engine_workers::proofs::Unused::unused_seats))]
 fn run<
     'a,
     A: ArrivalLedger + Send + Sync,

@@ -147,6 +147,7 @@ fn links_of<'a, H: Net<Listener = TcpListener, Stream = TcpStream> + Clock + Log
 
 /// Runs the workers of a book with two connections on its one channel, and closes it. None where
 /// memory or a thread is refused, or something is missing at the end.
+#[tactic(auto, using(engine_workers::proofs::Unused::unused_seats))]
 fn run<
     'a,
     A: ArrivalLedger + Send + Sync,
