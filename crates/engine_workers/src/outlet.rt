@@ -98,7 +98,6 @@ pub fn stations_and_reports<A: ArrivalLedger, T: Ledger, U: Ledger, L: Drop>(
 }
 
 /// Delivers the messages of a destination, and leaves the report with it. Where there is a report already, nothing is done.
-#[tactic(auto, using(crate::proofs::Reported::delivered_once))]
 fn deliver_all<
     A: ArrivalLedger,
     T: Ledger,

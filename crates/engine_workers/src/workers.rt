@@ -72,7 +72,7 @@ struct Work<A: ArrivalLedger, T: Ledger, U: Ledger, D, L> {
 }
 
 /// The seats of a channel's connections, at the next desks.
-#[tactic(auto, using(crate::proofs::Unused::unused_desk, crate::proofs::Unused::unused_desks))]
+#[tactic(auto, using(crate::proofs::Unused::unused_desk))]
 fn seats_at<A: ArrivalLedger>(
     alloc: Global,
     desks: &mut vec::IntoIter<Desk<A>>,
@@ -123,7 +123,6 @@ fn inlets_of<A: ArrivalLedger, D: Drop>(
 }
 
 /// The outlets of the destinations.
-#[tactic(auto, using(crate::proofs::Unused::unused_station, crate::proofs::Unused::unused_stations))]
 fn outlets_of<A: ArrivalLedger, T: Ledger, U: Ledger, L: Drop>(
     alloc: Global,
     stations: Vec<Station<A, T, U>>,

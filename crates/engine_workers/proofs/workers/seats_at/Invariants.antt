@@ -4,4 +4,4 @@ use Rattle.delivery_worker.specs.Sent.{IsUnused}
 use Rattle.engine_workers.proofs.workers.seats_at.Given as goal
 
 abbrev pub invariant-loop-k : goal.invariant-loop-k
-invariant-loop-k g l = All (λ d. IsUnused d.seat) (into_iter_items l.desks.now)
+invariant-loop-k g l = All (λ d. IsUnused d.seat) (into_iter_items l.desks)
