@@ -20,9 +20,7 @@ use engine_journal::{Journal, Repeats};
 use engine_report::{
     Fault, add_finding, connections_of, descriptors_of, find, hasher, statistics_text,
 };
-use engine_workers::{
-    Door, Finished, RunEnd, TcpDoor, Workers, close_book, run_workers,
-};
+use engine_workers::{Door, Finished, RunEnd, TcpDoor, Workers, close_book, run_workers};
 use ghost_log::BlankLog;
 use log::{Log, warn};
 use plan_text::{Destination, Plan};
