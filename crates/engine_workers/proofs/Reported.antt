@@ -1,5 +1,5 @@
 -- What is known of a desk and of a station once there is a report.
-use Rattle.std.proofs.Common.{◌≡◌, ℕ, Bool, false, Option, None, Some, refl}
+use Rattle.std.proofs.Common.{◌≡◌, ℕ, false, Option, None, Some, refl}
 use Rattle.std.proofs.Math.Logic.{∥∥₁_map}
 use Rattle.std.specs.Prelude.{is_some}
 use Rattle.std.specs.Global.{Vec}
