@@ -106,7 +106,6 @@ fn close<A: ArrivalLedger, T: Ledger, U: Ledger, H: Wait, D: Drop, L: Drop>(
 
 /// Runs the workers of a book with two connections on its one channel, and closes it. None where memory is refused to all but
 /// the door, or something is missing at the end.
-#[tactic(auto, using(engine_workers::proofs::Unused::unused_seats))]
 fn run<
     'a,
     A: ArrivalLedger + Send + Sync,
@@ -134,7 +133,9 @@ fn run<
     requires settlements { (settlements.name ≡ U.name) × (settlements.parts ≡ U.parts) × (U.parts ≡ 3) }
 {
     let opened = Shared::<A, T, U, Rows>::new(alloc, book, 2, 2, log, arrivals, takes, settlements);
-    let (shared, desks, stations) = opened.ok()?;
+    let Ok((shared, desks, stations)) = opened else {
+        return None;
+    };
     let staff = Workers {
         desks,
         doors,

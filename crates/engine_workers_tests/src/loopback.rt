@@ -147,7 +147,6 @@ fn links_of<'a, H: Net<Listener = TcpListener, Stream = TcpStream> + Clock + Log
 
 /// Runs the workers of a book with two connections on its one channel, and closes it. None where
 /// memory or a thread is refused, or something is missing at the end.
-#[tactic(auto, using(engine_workers::proofs::Unused::unused_seats))]
 fn run<
     'a,
     A: ArrivalLedger + Send + Sync,
@@ -175,7 +174,9 @@ fn run<
     requires settlements { (settlements.name ≡ U.name) × (settlements.parts ≡ U.parts) × (U.parts ≡ 3) }
 {
     let opened = Shared::<A, T, U, Rows>::new(alloc, book, 2, 2, log, arrivals, takes, settlements);
-    let (shared, desks, stations) = opened.ok()?;
+    let Ok((shared, desks, stations)) = opened else {
+        return None;
+    };
     let staff = Workers {
         desks,
         doors,

@@ -81,7 +81,6 @@ fn work_at<'a, 'f, A: ArrivalLedger + Send + Sync, T: Ledger + Sync, U: Ledger +
 }
 
 /// Shares the book, runs all workers over it, and closes it.
-#[tactic(auto, using(engine_workers::proofs::Unused::unused_seats))]
 fn work<'a, 'f, A: ArrivalLedger + Send + Sync, T: Ledger + Sync, U: Ledger + Sync, H: Handle>(
     rt: &'a H,
     alloc: Global,

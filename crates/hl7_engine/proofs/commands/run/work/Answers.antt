@@ -1,0 +1,8 @@
+use Rattle.engine_workers.proofs.Unused.{unused_seats}
+use Rattle.hl7_engine.proofs.commands.run.work.Goals as goal
+
+pub invariant_of-staff : goal.invariant_of-staff
+invariant_of-staff g c = record {
+  unused_desks = unused_seats (λ d. d.seat) c.in-Ok.desks.items _ _ c.in-Ok.ensures.seats.0;
+  unused_stations = unused_seats (λ s. s.seat) c.in-Ok.stations.items _ _ c.in-Ok.ensures.seats.1;
+}
