@@ -10,6 +10,6 @@ run_workers-requires-send-D g c κs within = param_send 8 _ (arg_send _ no _ (do
 
 pub invariant_of-staff : goal.invariant_of-staff
 invariant_of-staff g c = record {
-  unused_desks = unused_seats (λ d. d.seat) c.in-Ok.desks.items _ _ c.in-Ok.ensures.seats.0;
-  unused_stations = unused_seats (λ s. s.seat) c.in-Ok.stations.items _ _ c.in-Ok.ensures.seats.1;
+  unused_desks = unused_seats (λ d. d.seat) c.in-Ok.desks.items 0 2 c.in-Ok.ensures.seats.0;
+  unused_stations = unused_seats (λ s. s.seat) c.in-Ok.stations.items 2 2 c.in-Ok.ensures.seats.1;
 }
