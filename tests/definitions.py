@@ -76,9 +76,9 @@ PROMISE = (
     ('Delivering in that history', 'the clause `attempts` of `deliver` and `deliver_until`: `DeliversInLog`, on top of delivering '
      'and of one history for all threads',
      ['delivery_worker.Turns.DeliversInLog']),
-    ('Delivered is sent', 'the law `delivered_is_sent`, and the clause `traced` of `close_book` (engine_workers): `IsTraced`, with '
-     '`EveryDeliveredWasSent` and `EveryArrivalHasReceipt`, on top of the slots and callers of a closed book and of connections and '
-     'delivering in the one history',
+    ('Delivered is sent', 'the law `delivered_is_sent`, and the clauses `traced` of `close_book` in engine_workers and in '
+     'service_workers: `IsTraced` and `IsTracedTo`, with `EveryDeliveredWasSent` and `EveryArrivalHasReceipt`, on top of the slots and '
+     'callers of a closed book and of connections and delivering in the one history',
      ['delivery_worker.Sent.*']),
 )
 # Claims beside it: of the program, of a model of the whole engine, of pruning and of the text of a plan.

@@ -8,21 +8,20 @@ ghost use Rattle.event_log.specs.Counting.{counted};
 use crate::desk::booked;
 use crate::message::{ADMISSION, Rows};
 use book_core::Book;
-use book_lock::{ArrivalLedger, Desk, LogEntry, Shared};
+use book_lock::{Desk, LogEntry, Opened, Shared, Sharing};
 use ghost_log::BlankLog;
 use plan_text::Plan;
 use std::alloc::Global;
 use std::marker::Brand;
 use std::ops::Range;
-use std::sync::ledger::{Blank, Ledger};
 use std::sync::{Arc, Wait};
 use std::time::Clock;
 
 /// Books and cancels messages, two entries each, until there are as many entries as are given.
-fn fill<A: ArrivalLedger, T: Ledger, U: Ledger, H: Wait + Clock>(
+fn fill<A: Sharing, H: Wait + Clock>(
     rt: &H,
     alloc: Global,
-    shared: &Shared<A, T, U, Rows>,
+    shared: &Shared<A, Rows>,
     desk: &mut Desk<A>,
     plan: &Arc<Plan>,
     entries: u32,
@@ -35,10 +34,10 @@ fn fill<A: ArrivalLedger, T: Ledger, U: Ledger, H: Wait + Clock>(
 }
 
 /// Books messages, and returns the nanoseconds that all calls took.
-fn book_all<A: ArrivalLedger, T: Ledger, U: Ledger, H: Wait + Clock>(
+fn book_all<A: Sharing, H: Wait + Clock>(
     rt: &H,
     alloc: Global,
-    shared: &Shared<A, T, U, Rows>,
+    shared: &Shared<A, Rows>,
     desk: &mut Desk<A>,
     plan: &Arc<Plan>,
     ids: Range<u32>,
@@ -52,10 +51,10 @@ fn book_all<A: ArrivalLedger, T: Ledger, U: Ledger, H: Wait + Clock>(
 }
 
 /// Fills a shared book with `entries` entries, and books further messages at its first desk.
-fn fill_and_book<A: ArrivalLedger, T: Ledger, U: Ledger, H: Wait + Clock>(
+fn fill_and_book<A: Sharing, H: Wait + Clock>(
     rt: &H,
     alloc: Global,
-    shared: &Shared<A, T, U, Rows>,
+    shared: &Shared<A, Rows>,
     desks: &mut Vec<Desk<A>>,
     entries: u32,
     calls: u32,
@@ -69,14 +68,11 @@ fn fill_and_book<A: ArrivalLedger, T: Ledger, U: Ledger, H: Wait + Clock>(
 }
 
 /// Shares a book, and books messages behind the entries that fill it.
-fn time_calls<A: ArrivalLedger, T: Ledger, U: Ledger, H: Wait + Clock>(
+fn time_calls<A: Sharing, H: Wait + Clock>(
     rt: &H,
     alloc: Global,
     book: Book<Rows>,
     log: BlankLog<LogEntry>,
-    arrivals: Blank,
-    takes: Blank,
-    settlements: Blank,
     entries: u32,
     calls: u32,
 ) -> Option<u64>
@@ -85,12 +81,14 @@ fn time_calls<A: ArrivalLedger, T: Ledger, U: Ledger, H: Wait + Clock>(
     requires counts { counted book ≡ A.counts }
     requires first { next_place book ≡ A.first }
     requires channels { length (plan_in_force book).channels ≡ A.channels }
-    requires arrivals { (arrivals.name ≡ A.name) × (arrivals.parts ≡ A.parts) × (A.parts ≡ 2) }
-    requires takes { (takes.name ≡ T.name) × (takes.parts ≡ T.parts) × (T.parts ≡ 1) }
-    requires settlements { (settlements.name ≡ U.name) × (settlements.parts ≡ U.parts) × (U.parts ≡ 1) }
+    requires seats { (A.desks ≡ 1) × (A.stations ≡ 0) }
 {
-    let opened = Shared::<A, T, U, Rows>::new(alloc, book, 1, 0, log, arrivals, takes, settlements);
-    let (shared, mut desks, _stations) = opened.ok()?;
+    let opened = Shared::<A, Rows>::new(alloc, book, 1, 0, log);
+    let Opened {
+        shared,
+        mut desks,
+        ..
+    } = opened.ok()?;
     fill_and_book(rt, alloc, &shared, &mut desks, entries, calls)
 }
 
@@ -104,15 +102,5 @@ pub(crate) fn time_arrivals<H: Wait + Clock>(
     calls: u32,
 ) -> Option<u64> {
     let log = BlankLog::new(alloc).ok()?;
-    time_calls::<Brand, Brand, Brand, H>(
-        rt,
-        alloc,
-        book?,
-        log,
-        Blank::new(2),
-        Blank::new(1),
-        Blank::new(1),
-        entries,
-        calls,
-    )
+    time_calls::<Brand, H>(rt, alloc, book?, log, entries, calls)
 }

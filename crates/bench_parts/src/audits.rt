@@ -7,12 +7,11 @@ ghost use Rattle.event_log.specs.Counting.{counted};
 use crate::desk::booked;
 use crate::message::{RESULT, Rows, nanoseconds_since};
 use book_core::{Book, Receipt};
-use book_lock::{ArrivalLedger, Closed, Desk, LogEntry, Shared, audit};
+use book_lock::{Closed, Desk, LogEntry, Opened, Shared, Sharing, audit};
 use ghost_log::BlankLog;
 use plan_text::Plan;
 use std::alloc::Global;
 use std::marker::Brand;
-use std::sync::ledger::{Blank, Ledger};
 use std::sync::{Arc, Wait};
 use std::time::{Clock, Instant};
 
@@ -24,10 +23,10 @@ pub struct Audits {
 }
 
 /// Books messages, and appends their receipts.
-fn push_receipts<A: ArrivalLedger, T: Ledger, U: Ledger, H: Wait + Clock>(
+fn push_receipts<A: Sharing, H: Wait + Clock>(
     rt: &H,
     alloc: Global,
-    shared: &Shared<A, T, U, Rows>,
+    shared: &Shared<A, Rows>,
     desk: &mut Desk<A>,
     plan: &Arc<Plan>,
     receipts: &mut Vec<Receipt>,
@@ -41,10 +40,10 @@ fn push_receipts<A: ArrivalLedger, T: Ledger, U: Ledger, H: Wait + Clock>(
 }
 
 /// Books messages, and returns their receipts.
-fn receipts_of<A: ArrivalLedger, T: Ledger, U: Ledger, H: Wait + Clock>(
+fn receipts_of<A: Sharing, H: Wait + Clock>(
     rt: &H,
     alloc: Global,
-    shared: &Shared<A, T, U, Rows>,
+    shared: &Shared<A, Rows>,
     desk: &mut Desk<A>,
     plan: &Arc<Plan>,
     count: u32,
@@ -55,10 +54,10 @@ fn receipts_of<A: ArrivalLedger, T: Ledger, U: Ledger, H: Wait + Clock>(
 }
 
 /// Books messages at the first desk, and returns their receipts.
-fn first_receipts<A: ArrivalLedger, T: Ledger, U: Ledger, H: Wait + Clock>(
+fn first_receipts<A: Sharing, H: Wait + Clock>(
     rt: &H,
     alloc: Global,
-    shared: &Shared<A, T, U, Rows>,
+    shared: &Shared<A, Rows>,
     desks: &mut Vec<Desk<A>>,
     count: u32,
 ) -> Option<Vec<Receipt>> {
@@ -76,14 +75,11 @@ fn time_audit<H: Clock>(rt: &H, closed: &Closed<Rows>, receipts: &[Receipt]) -> 
 }
 
 /// Books messages at a shared book and closes it. Returns the closed book and the receipts.
-fn booked_and_closed<A: ArrivalLedger, T: Ledger, U: Ledger, H: Wait + Clock>(
+fn booked_and_closed<A: Sharing, H: Wait + Clock>(
     rt: &H,
     alloc: Global,
     book: Book<Rows>,
     log: BlankLog<LogEntry>,
-    arrivals: Blank,
-    takes: Blank,
-    settlements: Blank,
     count: u32,
 ) -> Option<(Closed<Rows>, Vec<Receipt>)>
     requires opening { book ≡ A.opening }
@@ -91,12 +87,14 @@ fn booked_and_closed<A: ArrivalLedger, T: Ledger, U: Ledger, H: Wait + Clock>(
     requires counts { counted book ≡ A.counts }
     requires first { next_place book ≡ A.first }
     requires channels { length (plan_in_force book).channels ≡ A.channels }
-    requires arrivals { (arrivals.name ≡ A.name) × (arrivals.parts ≡ A.parts) × (A.parts ≡ 2) }
-    requires takes { (takes.name ≡ T.name) × (takes.parts ≡ T.parts) × (T.parts ≡ 1) }
-    requires settlements { (settlements.name ≡ U.name) × (settlements.parts ≡ U.parts) × (U.parts ≡ 1) }
+    requires seats { (A.desks ≡ 1) × (A.stations ≡ 0) }
 {
-    let opened = Shared::<A, T, U, Rows>::new(alloc, book, 1, 0, log, arrivals, takes, settlements);
-    let (shared, mut desks, stations) = opened.ok()?;
+    let opened = Shared::<A, Rows>::new(alloc, book, 1, 0, log);
+    let Opened {
+        shared,
+        mut desks,
+        stations,
+    } = opened.ok()?;
     let receipts = first_receipts(rt, alloc, &shared, &mut desks, count);
     shared.close(desks, stations).ok().zip(receipts)
 }
@@ -122,15 +120,6 @@ pub(crate) fn time_audits<H: Wait + Clock>(
     count: u32,
 ) -> Option<Audits> {
     let log = BlankLog::new(alloc).ok()?;
-    let (closed, mut receipts) = booked_and_closed::<Brand, Brand, Brand, H>(
-        rt,
-        alloc,
-        book?,
-        log,
-        Blank::new(2),
-        Blank::new(1),
-        Blank::new(1),
-        count,
-    )?;
+    let (closed, mut receipts) = booked_and_closed::<Brand, H>(rt, alloc, book?, log, count)?;
     time_both(rt, &closed, &mut receipts)
 }

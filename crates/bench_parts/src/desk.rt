@@ -5,18 +5,17 @@ ghost use Rattle.judge_core.specs.Judging.{is_bookable};
 
 use crate::message::{MANY, Rows, judged, nanoseconds_since};
 use book_core::Receipt;
-use book_lock::{ArrivalLedger, Desk, Shared};
+use book_lock::{Desk, Shared, Sharing};
 use judge_core::Judged;
 use plan_text::Plan;
 use std::alloc::Global;
-use std::sync::ledger::Ledger;
 use std::sync::{Arc, Wait};
 use std::time::{Clock, Instant};
 
 /// Books a message, and returns its receipt and the nanoseconds that the call took.
-fn timed_arrival<A: ArrivalLedger, T: Ledger, U: Ledger, H: Wait + Clock>(
+fn timed_arrival<A: Sharing, H: Wait + Clock>(
     rt: &H,
-    shared: &Shared<A, T, U, Rows>,
+    shared: &Shared<A, Rows>,
     desk: &mut Desk<A>,
     message: &Judged,
 ) -> Option<(Receipt, u64)>
@@ -29,10 +28,10 @@ fn timed_arrival<A: ArrivalLedger, T: Ledger, U: Ledger, H: Wait + Clock>(
 }
 
 /// Books a message of this type, with bytes of its own, and returns its receipt and the nanoseconds that the call took.
-pub(crate) fn booked<A: ArrivalLedger, T: Ledger, U: Ledger, H: Wait + Clock>(
+pub(crate) fn booked<A: Sharing, H: Wait + Clock>(
     rt: &H,
     alloc: Global,
-    shared: &Shared<A, T, U, Rows>,
+    shared: &Shared<A, Rows>,
     desk: &mut Desk<A>,
     plan: &Arc<Plan>,
     kind: &str,

@@ -46,7 +46,7 @@ counted_channels h = length-map-range_with_len (channel_counts h) 0 64
 pub counted_destinations : (h : History) → length (counted h).destinations ≡ 32
 counted_destinations h = length-map-range_with_len (destination_counts h) 0 32
 
--- the ledgers follow an entry
+-- what is counted follows an entry
 counted_more : (h : SharedBook) (e : Entry) (m t s x y z : ℕ) → IsCounted h m t s → SumsRise x y z (counted h.book) (counted (followed_by h.book e)) → IsCounted (with_book h (followed_by h.book e)) (m + x) (t + y) (s + z)
 counted_more h e m t s x y z known rise = record {
   arrivals_are = sum_more (arrived h.book) (arrived (followed_by h.book e)) (arrivals h.opening) m x (arrivals (counted h.book)) (arrivals (counted (followed_by h.book e))) (arrived-is h.book) (arrived-is (followed_by h.book e)) known.arrivals_are rise.arrivals;

@@ -1,49 +1,105 @@
 -- Lemmas on what is counted of a log, and on who made its calls.
-use Rattle.std.proofs.Common.{◌≡◌, ◌≢◌, ℕ, ◌+◌, ◌-◌, ◌<◌, List, [], ◌∷◌, ◌++◌, map, cond, Some, refl, ap, sym, ◌∙◌, subst, arith, All, Bool, take, drop, length, append_assoc}
-use Rattle.std.specs.Prelude.{AllPairs, slice_get, sum_by, true}
+use Rattle.std.proofs.Common.{◌≡◌, ◌≢◌, ℕ, ◌+◌, ◌-◌, ◌<◌, ◌≤◌, ◌^◌, List, [], ◌∷◌, ◌++◌, map, cond, None, Some, refl, ap, sym, ◌∙◌, subst, arith, All, Bool, take, drop, length, append_assoc}
+use Rattle.std.specs.Prelude.{AllPairs, false, slice_get, sum_by, true}
 use Rattle.std.specs.List.{Contains}
-use Rattle.std.proofs.lemmas.List.{append-nil, map-append}
+use Rattle.std.proofs.lemmas.List.{append-nil, length-map, map-append}
 use Rattle.std.proofs.Math.Seq.{take-append_seam}
-use Rattle.std.proofs.lemmas.List.Elements.{All-append, All-cons, All-nil}
+use Rattle.std.proofs.lemmas.List.Elements.{All-append, All-cons, All-nil, All-weaker}
 use Rattle.std.proofs.lemmas.Simd.{map-map}
 use Rattle.stat_count.specs.Sums.{arrivals, settlements, takes}
-use Rattle.event_log.specs.History.{History}
+use Rattle.event_log.specs.History.{History, followed_by, plan_in_force}
+use Rattle.event_log.specs.Counting.{counted}
+use Rattle.event_log.specs.Folding.{prune_answer, pruned}
+use Rattle.event_log.specs.inner.Legal.{IsSound}
+use Rattle.event_log.specs.declared.entry.Entry.{Entry}
+use Rattle.stat_count.specs.Statistics.{Statistics}
+use Rattle.book_core.specs.inner.Counting.{SumsRise}
 use Rattle.event_log.specs.declared.entry.Entry.TheVariants.{Arrival, Take, Settle}
 use Rattle.ghost_log.specs.Seats.{Agrees}
-use Rattle.ghost_log.proofs.Counting.{all_added, all_back, all_front, all_of_map, each_owned, own_added, own_shown, pairs_back, pairs_front, pairs_of_map}
+use Rattle.ghost_log.proofs.Counting.{all_added, all_back, all_counted, all_front, all_in_map, all_of_map, each_owned, own_added, own_few, own_shown, pairs_back, pairs_front, pairs_in_map, pairs_of_map}
+use Rattle.ghost_log.proofs.Numbers.{all_numbers}
 use Rattle.book_lock.specs.declared.log_entry.LogEntry.{LogEntry}
-use Rattle.book_lock.specs.declared.log_entry.LogEntry.TheVariants.{Booked}
+use Rattle.book_lock.specs.declared.log_entry.LogEntry.TheVariants.{Booked, Pruned}
 use Rattle.book_lock.specs.Callers.{AreCallers, HasNumber, IsClosedBy}
 use Rattle.book_lock.specs.Log.{IsBookOf, Linearizes, Log, SeatView}
 use Rattle.book_lock.specs.Rises.{AddsUp, SharedBook, arrived, settled, taken}
 use Rattle.book_lock.specs.Shares.{DeskView, StationView, seats_of}
-use Rattle.book_lock.specs.inner.Counts.{IsLogged, count_in, count_of, is_arrival, is_settlement, is_take}
-use Rattle.book_lock.specs.inner.Rises.{IsCounted}
+use Rattle.book_lock.specs.inner.Counts.{IsManned, count_in, count_of, is_arrival, is_settlement, is_take}
+use Rattle.book_lock.specs.inner.Log.{AreInLog, desk_seat, station_seat}
+use Rattle.book_lock.specs.inner.Rises.{IsCounted, IsCountedIn, IsOpened, with_book}
 use Rattle.book_lock.specs.inner.Sound.{IsSoundBook}
-use Rattle.book_lock.proofs.Logging.{agreed_all, within_seats}
+use Rattle.book_lock.proofs.Following.{folded, next}
+use Rattle.book_lock.proofs.Logging.{agreed_all}
 use Rattle.book_lock.proofs.Outcomes.{accounted, accounted_by}
 
 -- ---- counts
 
--- nothing is counted of an empty log
-pub logged_none : (log : Log) (m t s : ℕ) → log ≡ [] → (m ≡ 0) × (t ≡ 0) × (s ≡ 0) → IsLogged log m t s
-logged_none log m t s none zero = record {
-  arrivals = zero.0 ∙ ap (count_in is_arrival) (sym none);
-  takes = zero.1 ∙ ap (count_in is_take) (sym none);
-  settlements = zero.2 ∙ ap (count_in is_settlement) (sym none);
-}
-
 one_more : (m m' n n' c : ℕ) → m ≡ n → m' ≡ m + c → n' ≡ n + c → m' ≡ n'
 one_more m m' n n' c was more is = omega (arith, was, more, is)
 
--- the ledgers follow the log
-pub logged_more : (log log' : Log) (x : ℕ × LogEntry) (m t s m' t' s' : ℕ) → IsLogged log m t s → log' ≡ log ++ x ∷ []
-    → m' ≡ m + cond (is_arrival x.1) 1 0 → t' ≡ t + cond (is_take x.1) 1 0 → s' ≡ s + cond (is_settlement x.1) 1 0 → IsLogged log' m' t' s'
-logged_more log log' x m t s m' t' s' was is ms ts ss = record {
-  arrivals = one_more m m' (count_in is_arrival log) (count_in is_arrival log') (cond (is_arrival x.1) 1 0) was.arrivals ms (all_added is_arrival log log' x is);
-  takes = one_more t t' (count_in is_take log) (count_in is_take log') (cond (is_take x.1) 1 0) was.takes ts (all_added is_take log log' x is);
-  settlements = one_more s s' (count_in is_settlement log) (count_in is_settlement log') (cond (is_settlement x.1) 1 0) was.settlements ss (all_added is_settlement log log' x is);
-}
+-- what is counted of the log follows an entry
+pub counted_next : (h : SharedBook) (e : Entry) (new : History) (counts : Statistics) (first channels number : ℕ) (log log' : Log) → new ≡ followed_by h.book e
+    → length (plan_in_force (followed_by h.book e)).channels ≡ length (plan_in_force h.book).channels
+    → IsOpened h counts first channels → IsCounted h (count_in is_arrival log) (count_in is_take log) (count_in is_settlement log)
+    → SumsRise (cond (is_arrival (Booked e)) 1 0) (cond (is_take (Booked e)) 1 0) (cond (is_settlement (Booked e)) 1 0) (counted h.book) (counted (followed_by h.book e))
+    → log' ≡ log ++ (number, Booked e) ∷ []
+    → IsOpened (with_book h new) counts first channels × IsCounted (with_book h new) (count_in is_arrival log') (count_in is_take log') (count_in is_settlement log')
+counted_next h e new counts first channels number log log' booked same opened known rise is =
+    next h e new counts first channels (count_in is_arrival log) (count_in is_take log) (count_in is_settlement log)
+    (cond (is_arrival (Booked e)) 1 0) (cond (is_take (Booked e)) 1 0) (cond (is_settlement (Booked e)) 1 0)
+    (count_in is_arrival log') (count_in is_take log') (count_in is_settlement log') booked same opened known rise
+    (all_added is_arrival log log' (number, Booked e) is) (all_added is_take log log' (number, Booked e) is) (all_added is_settlement log log' (number, Booked e) is)
+
+same_count : (kind : LogEntry → Bool) (log log' : Log) (x : ℕ × LogEntry) → log' ≡ log ++ x ∷ [] → kind x.1 ≡ false → count_in kind log' ≡ count_in kind log
+same_count kind log log' x is none =
+    let more : count_in kind log' ≡ count_in kind log + cond (kind x.1) 1 0 = all_added kind log log' x is in
+    let zero : ◌≡◌ {A = ℕ} (cond (kind x.1) 1 0) 0 = ap (λ b. cond b 1 0) none in
+    omega (arith, more, zero)
+
+-- and a pruning
+pub folded_in : (h : SharedBook) (bound : ℕ) (new : History) (counts : Statistics) (first channels number : ℕ) (log log' : Log) → log' ≡ log ++ (number, Pruned bound) ∷ []
+    → new ≡ pruned bound h.book → IsSound h.book → prune_answer h.book bound ≡ None
+    → IsOpened h counts first channels → IsCounted h (count_in is_arrival log) (count_in is_take log) (count_in is_settlement log)
+    → IsOpened (with_book h new) counts first channels × IsCounted (with_book h new) (count_in is_arrival log') (count_in is_take log') (count_in is_settlement log')
+folded_in h bound new counts first channels number log log' is to sound may opened known =
+    let n = folded h bound new counts first channels (count_in is_arrival log) (count_in is_take log) (count_in is_settlement log) to sound may opened known in
+    let a = same_count is_arrival log log' (number, Pruned bound) is refl in
+    let t = same_count is_take log log' (number, Pruned bound) is refl in
+    let s = same_count is_settlement log log' (number, Pruned bound) is refl in
+    (n.0, subst (λ (w : ℕ × ℕ × ℕ). IsCounted (with_book h new) w.0 w.1 w.2) (λ i. (sym a i, sym t i, sym s i)) n.1)
+
+-- ---- who adds what
+
+pub manned_at_first : (d s : ℕ) (log : Log) → log ≡ [] → IsManned d s log
+manned_at_first d s log none = subst (IsManned d s) (sym none) (record {
+  arrivals = All-nil (λ (x : ℕ × LogEntry). is_arrival x.1 ≡ true → x.0 < d);
+  takes = All-nil (λ (x : ℕ × LogEntry). is_take x.1 ≡ true → (d ≤ x.0) × (x.0 < d + s));
+  settlements = All-nil (λ (x : ℕ × LogEntry). is_settlement x.1 ≡ true → (d ≤ x.0) × (x.0 < d + s));
+})
+
+one_more_of : (P : ℕ × LogEntry → Type 0) (log : Log) (x : ℕ × LogEntry) → All P log → P x → All P (log ++ x ∷ [])
+one_more_of P log x rest here = All-append P log (x ∷ []) rest (All-cons P x [] here (All-nil P))
+
+pub manned_more : (d s : ℕ) (log log' : Log) (x : ℕ × LogEntry) → IsManned d s log → log' ≡ log ++ x ∷ []
+    → (is_arrival x.1 ≡ true → x.0 < d) → (is_take x.1 ≡ true → (d ≤ x.0) × (x.0 < d + s)) → (is_settlement x.1 ≡ true → (d ≤ x.0) × (x.0 < d + s))
+    → IsManned d s log'
+manned_more d s log log' x was is a t e = subst (IsManned d s) (sym is) (record {
+  arrivals = one_more_of (λ x. is_arrival x.1 ≡ true → x.0 < d) log x was.arrivals a;
+  takes = one_more_of (λ x. is_take x.1 ≡ true → (d ≤ x.0) × (x.0 < d + s)) log x was.takes t;
+  settlements = one_more_of (λ x. is_settlement x.1 ≡ true → (d ≤ x.0) × (x.0 < d + s)) log x was.settlements e;
+})
+
+off : (b : Bool) → b ≡ false → b ≡ true → ⊥
+off true p q = absurd cc
+off false p q = absurd cc
+
+-- an entry of another kind may have any number
+pub manned_none : (d s : ℕ) (log log' : Log) (x : ℕ × LogEntry) → IsManned d s log → log' ≡ log ++ x ∷ []
+    → (is_arrival x.1 ≡ false) × (is_take x.1 ≡ false) × (is_settlement x.1 ≡ false) → IsManned d s log'
+manned_none d s log log' x was is none =
+    manned_more d s log log' x was is (λ e. absurd (off (is_arrival x.1) none.0 e)) (λ e. absurd (off (is_take x.1) none.1 e)) (λ e. absurd (off (is_settlement x.1) none.2 e))
+
+-- ---- counts of a seat
 
 -- what a seat counts of its own, once it has seen the log, or added an entry to it
 pub counts_shown : (kind : LogEntry → Bool) (made made' number : ℕ) (seen log : Log) → made ≡ count_of kind number seen → Agrees number seen log → made' ≡ made → made' ≡ count_of kind number log
@@ -54,13 +110,14 @@ pub counts_added : (kind : LogEntry → Bool) (made made' number : ℕ) (seen lo
 counts_added kind made made' number seen log log' e was agreed is more =
     one_more made made' (count_of kind number seen) (count_of kind number log') (cond (kind e) 1 0) was more (own_added kind number seen log log' e agreed is)
 
+-- a seat counts no more of its own than the log has
+pub counts_few : (kind : LogEntry → Bool) (made number : ℕ) (seen log : Log) → made ≡ count_of kind number seen → Agrees number seen log → made ≤ count_in kind log
+counts_few kind made number seen log own agreed = omega (arith, own, own_few kind number seen log agreed)
+
+pub count_fits : (kind : LogEntry → Bool) (made number : ℕ) (seen log : Log) → made ≡ count_of kind number seen → Agrees number seen log → count_in kind log + 1 < 2 ^ 64 → made + 1 < 2 ^ 64
+count_fits kind made number seen log own agreed fits = omega (arith, counts_few kind made number seen log own agreed, fits)
+
 -- ---- seats
-
-abbrev pub desk_seat : DeskView → ℕ × Log
-desk_seat d = (d.seat.number, d.seat.seen)
-
-abbrev pub station_seat : StationView → ℕ × Log
-station_seat s = (s.seat.number, s.seat.seen)
 
 abbrev AreApart : List (ℕ × Log) → Type 0
 AreApart held = AllPairs (λ s t. s.0 ≢ t.0) held
@@ -109,13 +166,13 @@ handed_in log n ds ss none stations desks first second third agreed apart within
     }
 
 -- one history of all that they and others did
-abbrev pub one_history : (opening book : History) (log : Log) (n a t : ℕ) (ds : List DeskView) (ss : List StationView) → IsBookOf opening log book → n + 1 ≡ a + t → AreHandedIn log n ds ss
-    → Linearizes opening (a + t - 1) (seats_of ds ss) book
-one_history opening book log n a t ds ss was parts seats = record {
+abbrev pub one_history : (opening book : History) (log : Log) (n seats : ℕ) (ds : List DeskView) (ss : List StationView) → IsBookOf opening log book → n ≡ seats → AreHandedIn log n ds ss
+    → Linearizes opening seats (seats_of ds ss) book
+one_history opening book log n seats ds ss was count known = record {
   entries = log;
   is_book = was;
-  agreed = agreed_all log ds ss seats.desks.agreed seats.stations.agreed;
-  within = within_seats log n a t parts seats.within;
+  agreed = agreed_all log ds ss known.desks.agreed known.stations.agreed;
+  within = subst (λ m. All (λ (x : ℕ × LogEntry). x.0 < m) log) count known.within;
 }
 
 -- one more seat is handed in
@@ -142,10 +199,19 @@ all_there P all ys was none = was (subst (All P) (sym none) (All-nil P))
 
 -- ---- callers
 
-whole_is : (sum now opening total n : ℕ) → sum ≡ now - opening → now ≡ opening + total → total ≡ n → sum ≡ n
-whole_is sum now opening total n up is logged = omega (arith, up, is, logged)
+whole_is : (sum now opening total : ℕ) → sum ≡ now - opening → now ≡ opening + total → sum ≡ total
+whole_is sum now opening total up is = omega (arith, up, is)
 
-module _ (h : SharedBook) (log : Log) (ds : List DeskView) (ss : List StationView) (m t s : ℕ) (known : IsCounted h m t s) (logged : IsLogged log m t s) (up : AddsUp h ds ss)
+sum_is : (sum now opening total : ℕ) → sum ≡ total → now ≡ opening + total → sum ≡ now - opening
+sum_is sum now opening total up is = omega (arith, up, is)
+
+-- what each desk and each station counted is what its seat added to the log
+pub record AreCounts (ds : List DeskView) (ss : List StationView) : Type 0 where
+  pub made : All (λ (d : DeskView). d.made ≡ count_of is_arrival d.seat.number d.seat.seen) ds
+  pub took : All (λ (s : StationView). s.counts.takes ≡ count_of is_take s.seat.number s.seat.seen) ss
+  pub done : All (λ (s : StationView). s.counts.settlements ≡ count_of is_settlement s.seat.number s.seat.seen) ss
+
+module _ (h : SharedBook) (log : Log) (ds : List DeskView) (ss : List StationView) (known : IsCountedIn h log) (up : AddsUp h ds ss)
     (desks : AreSeats desk_seat ds log) (stations : AreSeats station_seat ss log) where
   module _ (made : All (λ (d : DeskView). d.made ≡ count_of is_arrival d.seat.number d.seat.seen) ds)
       (took : All (λ (s : StationView). s.counts.takes ≡ count_of is_take s.seat.number s.seat.seen) ss)
@@ -154,19 +220,19 @@ module _ (h : SharedBook) (log : Log) (ds : List DeskView) (ss : List StationVie
     desk_named k number e at passes =
         subst (λ l. Contains l number) (sym (map-map (λ (s : SeatView). s.number) (λ (d : DeskView). d.seat) ds))
         (each_owned is_arrival (λ (d : DeskView). d.made) desk_seat ds log made desks.agreed desks.apart
-        (whole_is (sum_by (λ (d : DeskView). d.made) ds) (arrived h.book) (arrivals h.opening) m (count_in is_arrival log) up.desks_made known.arrivals_are logged.arrivals) k number e at passes)
+        (whole_is (sum_by (λ (d : DeskView). d.made) ds) (arrived h.book) (arrivals h.opening) (count_in is_arrival log) up.desks_made known.arrivals_are) k number e at passes)
 
     taker_named : (k number : ℕ) (e : LogEntry) → slice_get log k ≡ Some (number, e) → is_take e ≡ true → HasNumber (map (λ (s : StationView). s.seat) ss) number
     taker_named k number e at passes =
         subst (λ l. Contains l number) (sym (map-map (λ (s : SeatView). s.number) (λ (s : StationView). s.seat) ss))
         (each_owned is_take (λ (s : StationView). s.counts.takes) station_seat ss log took stations.agreed stations.apart
-        (whole_is (sum_by (λ (s : StationView). s.counts.takes) ss) (taken h.book) (takes h.opening) t (count_in is_take log) up.stations_took known.takes_are logged.takes) k number e at passes)
+        (whole_is (sum_by (λ (s : StationView). s.counts.takes) ss) (taken h.book) (takes h.opening) (count_in is_take log) up.stations_took known.takes_are) k number e at passes)
 
     settler_named : (k number : ℕ) (e : LogEntry) → slice_get log k ≡ Some (number, e) → is_settlement e ≡ true → HasNumber (map (λ (s : StationView). s.seat) ss) number
     settler_named k number e at passes =
         subst (λ l. Contains l number) (sym (map-map (λ (s : SeatView). s.number) (λ (s : StationView). s.seat) ss))
         (each_owned is_settlement (λ (s : StationView). s.counts.settlements) station_seat ss log done stations.agreed stations.apart
-        (whole_is (sum_by (λ (s : StationView). s.counts.settlements) ss) (settled h.book) (settlements h.opening) s (count_in is_settlement log) up.stations_settled known.settlements_are logged.settlements) k number e at passes)
+        (whole_is (sum_by (λ (s : StationView). s.counts.settlements) ss) (settled h.book) (settlements h.opening) (count_in is_settlement log) up.stations_settled known.settlements_are) k number e at passes)
 
     -- desks and stations whose shares add up made all calls
     pub are_callers : AreCallers log ds ss
@@ -183,9 +249,67 @@ closed_by opening book n ds ss sound one callers = record {
   callers = subst (λ (l : Linearizes opening n (seats_of ds ss) book). AreCallers l.entries ds ss) (sym (accounted_by opening book n (seats_of ds ss) sound one)) callers;
 }
 
--- a list that was lent and given back as it was
-pub lent : {X : Type 0} (xs now new : List X) (n : ℕ) → now ≡ xs → length now ≡ n → new ≡ now → take n (new ++ drop (length new) xs) ≡ xs
-lent xs now new n is long same =
-    let whole : new ≡ xs = same ∙ is in
-    let count : n ≡ length xs = sym long ∙ ap length is in
-    ap (λ l. take n (l ++ drop (length l) xs)) whole ∙ (ap (λ m. take m (xs ++ drop (length xs) xs)) count ∙ take-append_seam xs (drop (length xs) xs))
+-- ---- all that the book was shared among
+
+seats_in : {X : Type 0} (seat : X → ℕ × Log) (xs : List X) (log : Log) (held : List (ℕ × Log)) → held ≡ map seat xs ++ [] → AreInLog log held → AreSeats seat xs log
+seats_in seat xs log held is known =
+    let all : held ≡ map seat xs = is ∙ append-nil (map seat xs) in record {
+      agreed = all_of_map seat (λ s. Agrees s.0 s.1 log) xs (subst (λ l. All (λ s. Agrees s.0 s.1 log) l) all known.agreed);
+      apart = pairs_of_map seat (λ s t. s.0 ≢ t.0) xs (subst AreApart all known.apart);
+    }
+
+-- the seats that a log holds, as a roll shows them
+pub in_log : (log log' : Log) (held held' : List (ℕ × Log)) → log' ≡ log → held' ≡ held → All (λ s. Agrees s.0 s.1 log') held' → AreApart held' → AreInLog log held
+in_log log log' held held' same still agreed apart =
+    subst (λ (w : Log × List (ℕ × Log)). AreInLog w.0 w.1) (λ i. (same i, still i)) (record { agreed = agreed; apart = apart })
+
+-- one more seat that a log holds for a moment
+pub in_log_more : {X : Type 0} (seat : X → ℕ × Log) (xs ys : List X) (x : X) (before now : RollView) → ys ≡ xs ++ x ∷ [] → now ≡ (before.0, before.1, seat x ∷ before.2)
+    → AreInLog now.0 (map seat xs ++ now.2) → AreInLog before.0 (map seat ys ++ before.2)
+in_log_more seat xs ys x before now is then known =
+    let all : map seat ys ++ before.2 ≡ map seat xs ++ now.2 = held_more seat ys xs ys x before.2 before.2 now.2 refl is (ap (λ (r : RollView). r.2) then) in
+    subst (AreInLog before.0) (sym all) (subst (λ l. AreInLog l (map seat xs ++ now.2)) (ap (λ (r : RollView). r.0) then) known)
+
+-- and none more, where none is left
+pub in_log_none : {X : Type 0} (seat : X → ℕ × Log) (xs ys : List X) (n : ℕ) (log : Log) (held : List (ℕ × Log)) → ys ≡ xs ++ [] → xs ≡ take (n - 1) ys → (0 < n → ⊥)
+    → All (λ s. Agrees s.0 s.1 log) held → AreApart held → AreInLog log (map seat ys ++ held)
+in_log_none seat xs ys n log held is rest none agreed apart =
+    subst (λ l. AreInLog log (map seat l ++ held)) (sym (none_left xs ys n is rest none)) (record { agreed = agreed; apart = apart })
+
+-- seats of n different numbers from one on, of which each entry of a kind has one, added all of that kind
+module _ {X : Type 0} (kind : LogEntry → Bool) (made : X → ℕ) (seat : X → ℕ × Log) (a n : ℕ) (xs : List X) (log : Log) where
+  all_of_kind : All (λ x. made x ≡ count_of kind (seat x).0 (seat x).1) xs → AreSeats seat xs log → All (λ x. (a ≤ (seat x).0) × ((seat x).0 < a + n)) xs → length xs ≡ n
+      → All (λ (x : ℕ × LogEntry). kind x.1 ≡ true → (a ≤ x.0) × (x.0 < a + n)) log → sum_by made xs ≡ count_in kind log
+  all_of_kind own seats numbers count by =
+      let ks : List ℕ = map (λ x. (seat x).0) xs in
+      let apart = pairs_in_map (λ x. (seat x).0) (λ i j. i ≢ j) xs seats.apart in
+      let within : All (λ k. (a ≤ k) × (k < a + n)) ks = all_in_map (λ x. (seat x).0) (λ k. (a ≤ k) × (k < a + n)) xs numbers in
+      let long : length ks ≡ n = length-map xs (λ x. (seat x).0) ∙ count in
+      all_counted kind made seat xs log own seats.agreed seats.apart
+      (All-weaker (λ (x : ℕ × LogEntry). kind x.1 ≡ true → (a ≤ x.0) × (x.0 < a + n)) (λ x. kind x.1 ≡ true → Contains ks x.0)
+      (λ x one passes. all_numbers a n ks apart within long x.0 (one passes).0 (one passes).1) log by)
+
+-- so what as many desks and stations counted as the book was shared among adds up
+pub adds_up : (h : SharedBook) (log : Log) (d s : ℕ) (ds : List DeskView) (ss : List StationView) → IsCountedIn h log → IsManned d s log
+    → AreInLog log (map desk_seat ds ++ []) → AreInLog log (map station_seat ss ++ []) → AreCounts ds ss
+    → All (λ (x : DeskView). x.seat.number < d) ds → All (λ (x : StationView). (d ≤ x.seat.number) × (x.seat.number < d + s)) ss
+    → length ds ≡ d → length ss ≡ s → AddsUp h ds ss
+adds_up h log d s ds ss known manned desks stations counts low high few many = record {
+  desks_made = sum_is (sum_by (λ (x : DeskView). x.made) ds) (arrived h.book) (arrivals h.opening) (count_in is_arrival log)
+      (all_of_kind is_arrival (λ (x : DeskView). x.made) desk_seat 0 d ds log counts.made at_desks
+      (All-weaker (λ (x : DeskView). x.seat.number < d) (λ x. (0 ≤ x.seat.number) × (x.seat.number < 0 + d)) (λ x lt. (omega arith, omega (arith, lt))) ds low) few
+      (All-weaker (λ (x : ℕ × LogEntry). is_arrival x.1 ≡ true → x.0 < d) (λ x. is_arrival x.1 ≡ true → (0 ≤ x.0) × (x.0 < 0 + d)) (λ x lt passes. (omega arith, (let l = lt passes in omega (arith, l)))) log manned.arrivals))
+      known.arrivals_are;
+  stations_took = sum_is (sum_by (λ (x : StationView). x.counts.takes) ss) (taken h.book) (takes h.opening) (count_in is_take log)
+      (all_of_kind is_take (λ (x : StationView). x.counts.takes) station_seat d s ss log counts.took at_stations high many manned.takes)
+      known.takes_are;
+  stations_settled = sum_is (sum_by (λ (x : StationView). x.counts.settlements) ss) (settled h.book) (settlements h.opening) (count_in is_settlement log)
+      (all_of_kind is_settlement (λ (x : StationView). x.counts.settlements) station_seat d s ss log counts.done at_stations high many manned.settlements)
+      known.settlements_are;
+}
+  where
+    at_desks : AreSeats desk_seat ds log
+    at_desks = seats_in desk_seat ds log (map desk_seat ds ++ []) refl desks
+
+    at_stations : AreSeats station_seat ss log
+    at_stations = seats_in station_seat ss log (map station_seat ss ++ []) refl stations

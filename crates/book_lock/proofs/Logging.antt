@@ -173,11 +173,6 @@ pruned_own h log book before r was allowed refused = record {
   refused = subst (λ w. IfErr r (λ e. (prune_answer w before ≡ Some e) ⊎ (prune_answer w before ≡ None) × (e ≡ prune_refusal.NoMemory))) was.is refused;
 }
 
--- each entry has the number of a seat
-pub within_seats : (log : Log) (n a t : ℕ) → n + 1 ≡ a + t → All (λ (x : ℕ × LogEntry). x.0 < n) log → All (λ (x : ℕ × LogEntry). x.0 < a + t - 1) log
-within_seats log n a t is h =
-    let same : n ≡ a + t - 1 = omega (arith, is) in subst (λ m. All (λ (x : ℕ × LogEntry). x.0 < m) log) same h
-
 -- a call that is refused adds nothing
 pub own_none : (number : ℕ) (e : Event) (r : Result (Reply e) (Refusal e)) (log : Log) → IsErr r → log ≡ log ++ own_entry number e r
 own_none number e (Ok reply) log bad = absurd cc

@@ -13,15 +13,12 @@ use Rattle.dest_queue.specs.declared.slots.Queued as Queued
 use Rattle.row_store.specs.declared.RowStore as RowStore
 use Rattle.book_lock.specs.contracts.locked.Locked as Locked
 use Rattle.book_lock.specs.contracts.locked.Locked.TheInside as Behind
-use Rattle.book_lock.specs.declared.locked.ArrivalLedger as ArrivalLedger
+use Rattle.book_lock.specs.declared.locked.Sharing as Sharing
 use Rattle.book_lock.specs.contracts.shared.Shared as Shared
 use Rattle.book_lock.specs.contracts.log_entry.LogEntry as LogEntry
 use Rattle.ghost_log.specs.declared.rule.Naming as Naming
 use Rattle.ghost_log.proofs.Sent as ghost_log
 use Rattle.std.proofs.sync.Mutex.TheSendSync as mutex
-use Rattle.std.specs.declared.sync.ledger.Ledger as Ledger
-use Rattle.std.proofs.sync.ledger.Share.TheSendSync as share
-use Rattle.std.proofs.sync.ledger.Book.TheSendSync as ledger_book
 use Rattle.std.proofs.Crossing.{crosses}
 use Rattle.hl7_filter.proofs.condition.Cond.TheLaws.TheKnot as cond
 use Rattle.hl7_transform.proofs.step.Step.TheSendSync as step
@@ -82,13 +79,13 @@ book_send S g s =
       (log_send, (s, (search (sendable, crosses) depth 60 fits 30000, (search (sendable, crosses) depth 60 fits 30000, (search (sendable, crosses) depth 20, tt))))),
     )))
 
-module _ (A T U S : RattleType) (o : ArrivalLedger.Ghosts A.Denot) (a : Ledger.Ghosts A.Denot) (n : Naming.Ghosts A.Denot) (t : Ledger.Ghosts T.Denot)
-    (u : Ledger.Ghosts U.Denot) (g : RowStore.Ghosts S.Denot (Queued.Queued Outbound.Outbound)) where
-  pub locked_send : IsSend S → IsSend (Locked.the_row A T U S o a n t u g)
+module _ (A S : RattleType) (o : Sharing.Ghosts A.Denot) (n : Naming.Ghosts A.Denot)
+    (g : RowStore.Ghosts S.Denot (Queued.Queued Outbound.Outbound)) where
+  pub locked_send : IsSend S → IsSend (Locked.the_row A S o n g)
   locked_send s =
-      view_send (Behind.the_row A T U S o a n t u g) _ _ _ _
-      (recorded_send (Behind.the_field A T U S o a n t u g).row _ _ (Behind.the_type A T U S o a n t u g).to_one
-      (struct_send (shape (Behind.the_type A T U S o a n t u g)) (
+      view_send (Behind.the_row A S o n g) _ _ _ _
+      (recorded_send (Behind.the_field A S o n g).row _ _ (Behind.the_type A S o n g).to_one
+      (struct_send (shape (Behind.the_type A S o n g)) (
         book_send S g s,
         (
           search (sendable, crosses) depth 60 fits 30000,
@@ -97,28 +94,10 @@ module _ (A T U S : RattleType) (o : ArrivalLedger.Ghosts A.Denot) (a : Ledger.G
             (
               search (sendable, crosses) depth 20,
               (
-                ledger_book.the_send A a,
+                ghost_log.log_send A LogEntry.the_row n,
                 (
-                  ledger_book.the_send T t,
-                  (
-                    ledger_book.the_send U u,
-                    (
-                      share.the_send A a,
-                      (
-                        share.the_send T t,
-                        (
-                          share.the_send U u,
-                          (
-                            ghost_log.log_send A LogEntry.the_row n,
-                            (
-                              ghost_log.seat_send A LogEntry.the_row n,
-                              (search (sendable, crosses) depth 20, tt),
-                            ),
-                          ),
-                        ),
-                      ),
-                    ),
-                  ),
+                  ghost_log.seat_send A LogEntry.the_row n,
+                  (search (sendable, crosses) depth 20, tt),
                 ),
               ),
             ),
@@ -126,10 +105,10 @@ module _ (A T U S : RattleType) (o : ArrivalLedger.Ghosts A.Denot) (a : Ledger.G
         ),
       )))
 
-  pub shared_sync : IsSend S → IsSync (Shared.the_row A T U S o a n t u g)
+  pub shared_sync : IsSend S → IsSync (Shared.the_row A S o n g)
   shared_sync s =
-      recorded_sync (Shared.the_field A T U S o a n t u g).row _ _ (Shared.the_type A T U S o a n t u g).to_one
-      (struct_sync (shape (Shared.the_type A T U S o a n t u g)) (
+      recorded_sync (Shared.the_field A S o n g).row _ _ (Shared.the_type A S o n g).to_one
+      (struct_sync (shape (Shared.the_type A S o n g)) (
         mutex.the_sync _ (locked_send s),
         (search (sendable, crosses) depth 60 fits 30000, (search (sendable, crosses) depth 20, tt)),
       ))

@@ -14,7 +14,7 @@ mod tidying;
 mod windows;
 
 pub use desks::{Desk, Station};
-pub use locked::{ArrivalLedger, Closed, Locked, add_up};
+pub use locked::{Closed, Locked, Sharing, add_up};
 pub use log_entry::LogEntry;
 pub use message::{Found, Message};
 pub use receipt_audit::{AuditFault, audit, rising};

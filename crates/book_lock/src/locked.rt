@@ -22,7 +22,7 @@ ghost use Rattle.book_lock.specs.inner.Showing.{IsGauge, IsStatus};
 ghost use Rattle.book_lock.specs.inner.Tidies.{IsSettledRefusal, IsTidying, left_by};
 
 use crate::desks::{
-    Desk, Station, audit_desks, audit_stations, hand_in_desks, hand_in_stations, made_by,
+    Desk, Station, compare_desks, compare_stations, hand_in_desks, hand_in_stations, made_by,
     settled_at, taken_at,
 };
 use crate::log_entry::LogEntry;
@@ -41,11 +41,11 @@ use plan_text::Plan;
 use row_store::QUEUES;
 use stat_count::Counts;
 use std::marker::{Brand, Model};
-use std::sync::ledger::{Ledger, Share};
-use std::sync::{Arc, ledger};
+use std::sync::Arc;
 
-/// The ledger of a shared book's arrivals and the log of all that is done to it, with what the book had when it was shared.
-pub trait ArrivalLedger: Ledger + Naming {
+/// How a book is shared: the log of all that is done to it, what it had at that moment, and how many desks and stations it
+/// is shared among.
+pub trait Sharing: Naming {
     ghost use Rattle.std.specs.Prelude.{ℕ};
     ghost use Rattle.stat_count.specs.Statistics.{Statistics};
     ghost use Rattle.event_log.specs.History.{History};
@@ -61,9 +61,15 @@ pub trait ArrivalLedger: Ledger + Naming {
 
     /// The number of its channels, which never changes.
     ghost channels: { ℕ };
+
+    /// The number of its desks. Their seats have the numbers from 0 on.
+    ghost desks: { ℕ };
+
+    /// The number of its stations. Their seats have the numbers after those of the desks.
+    ghost stations: { ℕ };
 }
 
-impl ArrivalLedger for Brand {
+impl Sharing for Brand {
     ghost use Rattle.std.specs.Prelude.{[]};
     ghost use Rattle.stat_count.specs.inner.Statistics.{empty};
     ghost use Rattle.event_log.specs.inner.History.{snapshot_after};
@@ -75,34 +81,32 @@ impl ArrivalLedger for Brand {
     ghost first = { 0 };
 
     ghost channels = { 0 };
+
+    ghost desks = { 0 };
+
+    ghost stations = { 0 };
 }
 
-/// The book, with the log of all that was done to it since it was shared, and the ledgers of its arrivals, takes and
-/// settlements since then. What is done to it for no desk or station is logged by the seat that is kept here.
+/// The book, with the log of all that was done to it since it was shared. What is done to it for no desk or station is
+/// logged by the seat that is kept here.
 #[derive(Drop)]
-pub struct Locked<A: ArrivalLedger, T: Ledger, U: Ledger, S: BookRows> {
+pub struct Locked<A: Sharing, S: BookRows> {
     book: Book<S>,
     opening: Counts,
     first: usize,
     admitted: u32,
-    arrivals: ledger::Book<A>,
-    takes: ledger::Book<T>,
-    settlements: ledger::Book<U>,
-    left_arrivals: Share<A>,
-    left_takes: Share<T>,
-    left_settlements: Share<U>,
     log: GhostLog<A, LogEntry>,
     seat: Seat<A, LogEntry>,
     rung: u32,
 }
 
-impl<A: ArrivalLedger, T: Ledger, U: Ledger, S: BookRows> Model for Locked<A, T, U, S> {
+impl<A: Sharing, S: BookRows> Model for Locked<A, S> {
     ghost use Rattle.std.specs.Prelude.{◌≡◌, ◌+◌};
     ghost use Rattle.book_lock.specs.Log.{IsBookOf};
     ghost use Rattle.book_lock.specs.Rises.{SharedBook};
-    ghost use Rattle.book_lock.specs.inner.Rises.{IsCounted, IsLeft, IsOpened};
+    ghost use Rattle.book_lock.specs.inner.Rises.{IsCountedIn, IsOpened, shared};
     ghost use Rattle.book_lock.specs.inner.Sound.{IsSoundBook};
-    ghost use Rattle.book_lock.specs.inner.Counts.{IsLogged};
+    ghost use Rattle.book_lock.specs.inner.Counts.{IsManned};
     ghost use Rattle.book_lock.specs.inner.Coding.{held_code};
 
     ghost Value = { SharedBook };
@@ -112,15 +116,12 @@ impl<A: ArrivalLedger, T: Ledger, U: Ledger, S: BookRows> Model for Locked<A, T,
     ghost view = { λ l. record { book = l.book; opening = l.opening; first = l.first; admitted = l.admitted } };
 
     ghost invariant = { λ l.
-        IsOpened (record { book = l.book; opening = l.opening; first = l.first; admitted = l.admitted }) A.counts A.first A.channels
-        × IsCounted (record { book = l.book; opening = l.opening; first = l.first; admitted = l.admitted }) l.arrivals.total l.takes.total l.settlements.total
-        × IsLeft l.left_arrivals.parts l.left_arrivals.amount
-        × IsLeft l.left_takes.parts l.left_takes.amount
-        × IsLeft l.left_settlements.parts l.left_settlements.amount
+        IsOpened (shared l.book l.opening l.first l.admitted) A.counts A.first A.channels
+        × IsCountedIn (shared l.book l.opening l.first l.admitted) l.log.0
         × IsBookOf A.opening l.log.0 l.book
-        × (l.log.1 + 1 ≡ A.parts + T.parts)
+        × (l.log.1 ≡ A.desks + A.stations + 1)
         × IsSoundBook A.opening
-        × IsLogged l.log.0 l.arrivals.total l.takes.total l.settlements.total };
+        × IsManned A.desks A.stations l.log.0 };
 }
 
 /// A book out of its lock.
@@ -185,28 +186,14 @@ impl<S: BookRows> Closed<S> {
     }
 }
 
-impl<A: ArrivalLedger, T: Ledger, U: Ledger, S: BookRows> Locked<A, T, U, S> {
-    /// Begins to log and to count for a book. The log is empty, and its last seat is the one kept here. Each ledger is new,
-    /// and each share left over has one part.
-    pub fn new(
-        book: Book<S>,
-        mut log: GhostLog<A, LogEntry>,
-        arrivals: ledger::Book<A>,
-        takes: ledger::Book<T>,
-        settlements: ledger::Book<U>,
-        left_arrivals: Share<A>,
-        left_takes: Share<T>,
-        left_settlements: Share<U>,
-    ) -> Locked<A, T, U, S>
+impl<A: Sharing, S: BookRows> Locked<A, S> {
+    /// Begins to log for a book. The log is empty, and its last seat is the one kept here.
+    pub fn new(book: Book<S>, mut log: GhostLog<A, LogEntry>) -> Locked<A, S>
         requires opening { book ≡ A.opening }
-        requires log { (log.0 ≡ []) × (log.1 + 2 ≡ A.parts + T.parts) × (log.1 + 1 < 2 ^ 64) }
+        requires log { (log.0 ≡ []) × (log.1 ≡ A.desks + A.stations) × (log.1 + 1 < 2 ^ 64) }
         requires counts { counted book ≡ A.counts }
         requires first { next_place book ≡ A.first }
         requires channels { length (plan_in_force book).channels ≡ A.channels }
-        requires books { (arrivals.total ≡ 0) × (takes.total ≡ 0) × (settlements.total ≡ 0) }
-        requires left_arrivals { (left_arrivals.parts ≡ 1) × (left_arrivals.amount ≡ 0) }
-        requires left_takes { (left_takes.parts ≡ 1) × (left_takes.amount ≡ 0) }
-        requires left_settlements { (left_settlements.parts ≡ 1) × (left_settlements.amount ≡ 0) }
         ensures { result ≡ record { book = book; opening = counted book; first = next_place book; admitted = 0 } }
     {
         book.rules();
@@ -218,12 +205,6 @@ impl<A: ArrivalLedger, T: Ledger, U: Ledger, S: BookRows> Locked<A, T, U, S> {
             opening,
             first,
             admitted: 0,
-            arrivals,
-            takes,
-            settlements,
-            left_arrivals,
-            left_takes,
-            left_settlements,
             log,
             seat,
             rung: 0,
@@ -258,7 +239,7 @@ impl<A: ArrivalLedger, T: Ledger, U: Ledger, S: BookRows> Locked<A, T, U, S> {
         ensures shown { arrivals A.counts + desk.old.made ≤ arrivals result }
         ensures same { (self.new ≡ self.old) × (desk.new ≡ desk.old) }
     {
-        desk.audit(&mut self.arrivals);
+        desk.audit(&mut self.log);
         *self.book.counts()
     }
 
@@ -297,7 +278,7 @@ impl<A: ArrivalLedger, T: Ledger, U: Ledger, S: BookRows> Locked<A, T, U, S> {
             Ok(receipt) => receipt,
             Err(refusal) => return Err(refusal),
         };
-        desk.add_arrival(&mut self.arrivals, &mut self.log, &receipt);
+        desk.add_arrival(&mut self.log, &receipt);
         Ok(receipt)
     }
 
@@ -308,7 +289,7 @@ impl<A: ArrivalLedger, T: Ledger, U: Ledger, S: BookRows> Locked<A, T, U, S> {
     /// The book's, in its order. A refusal leaves the book and the station as they were.
     pub fn take(
         &mut self,
-        station: &mut Station<A, T, U>,
+        station: &mut Station<A>,
         d: u32,
         now: Moment,
     ) -> Result<Job, TakeRefusal>
@@ -326,7 +307,7 @@ impl<A: ArrivalLedger, T: Ledger, U: Ledger, S: BookRows> Locked<A, T, U, S> {
         self.book.rules();
         station.observe(&mut self.log);
         let job = self.book.take(d, now)?;
-        station.add_take(&mut self.takes, &mut self.log, &job.ticket, now);
+        station.add_take(&mut self.log, &job.ticket, now);
         Ok(job)
     }
 
@@ -337,7 +318,7 @@ impl<A: ArrivalLedger, T: Ledger, U: Ledger, S: BookRows> Locked<A, T, U, S> {
     /// The book's, in its order. A refusal leaves the book and the station as they were.
     pub fn settle(
         &mut self,
-        station: &mut Station<A, T, U>,
+        station: &mut Station<A>,
         ticket: &Ticket,
         outcome: Outcome,
         now: Moment,
@@ -354,7 +335,7 @@ impl<A: ArrivalLedger, T: Ledger, U: Ledger, S: BookRows> Locked<A, T, U, S> {
         station.observe(&mut self.log);
         let state = self.book.settle(ticket, outcome, now)?;
         let made = (outcome, *ticket, now, state);
-        station.add_settlement(&mut self.settlements, &mut self.log, &made);
+        station.add_settlement(&mut self.log, &made);
         Ok(state)
     }
 
@@ -628,37 +609,48 @@ impl<A: ArrivalLedger, T: Ledger, U: Ledger, S: BookRows> Locked<A, T, U, S> {
         settlements(self.book.counts()) - settlements(&self.opening)
     }
 
-    /// Whether the shares of these desks and stations add up. Where all their parts are here, they do.
-    pub fn shares_add_up(
-        &mut self,
-        desks: &mut [Desk<A>],
-        stations: &mut [Station<A, T, U>],
-    ) -> bool
-        ensures same { (self.new ≡ self.old) × (desks.new ≡ desks.old) × (stations.new ≡ stations.old) }
-        ensures adds_up { IsTrue result ↔ AddsUp self.old desks.old stations.old }
-        ensures whole { (length desks.old + 1 ≡ A.parts) × (length stations.old + 1 ≡ T.parts) × (length stations.old + 1 ≡ U.parts) → IsTrue result }
+    /// The same book. The seats of these desks and stations are compared with its log: where as many are here as the book
+    /// was shared among, what they counted adds up.
+    pub fn compared(self, desks: &mut Vec<Desk<A>>, stations: &mut Vec<Station<A>>) -> Locked<A, S>
+        ensures same { result ≡ self }
+        ensures desks { desks.new.items ≡ desks.old.items }
+        ensures stations { stations.new.items ≡ stations.old.items }
+        ensures whole { (length desks.old.items ≡ A.desks) × (length stations.old.items ≡ A.stations) →
+            AddsUp self desks.old.items stations.old.items }
     {
-        audit_desks(&mut self.arrivals, &mut self.left_arrivals, desks);
-        audit_stations(
-            &mut self.takes,
-            &mut self.settlements,
-            &mut self.left_takes,
-            &mut self.left_settlements,
-            stations,
-        );
-        add_up(self, desks, stations)
+        let Locked {
+            book,
+            opening,
+            first,
+            admitted,
+            log,
+            seat,
+            rung,
+        } = self;
+        let mut roll = Roll::of(log);
+        compare_desks(&mut roll, desks);
+        compare_stations(&mut roll, stations);
+        Locked {
+            book,
+            opening,
+            first,
+            admitted,
+            log: roll.into_log(),
+            seat,
+            rung,
+        }
     }
 
     /// The book out of its lock. The seats of these desks and stations are handed in: the log is one history of all that
     /// they and others did. Where their shares add up, all its arrivals, takes and settlements were made at them, and it
     /// accounts for the slots of the book.
-    pub fn close(self, desks: Vec<Desk<A>>, stations: Vec<Station<A, T, U>>) -> Closed<S>
+    pub fn close(self, desks: Vec<Desk<A>>, stations: Vec<Station<A>>) -> Closed<S>
         ensures same { result ≡ self }
         ensures opening { (result.opening ≡ A.counts) × (result.first ≡ A.first) }
-        ensures one_history { Linearizes A.opening (A.parts + T.parts - 1)
+        ensures one_history { Linearizes A.opening (A.desks + A.stations + 1)
             (seats_of desks.items stations.items) result.book }
         ensures closed { AddsUp self desks.items stations.items →
-            IsClosedBy A.opening (A.parts + T.parts - 1) desks.items stations.items result.book }
+            IsClosedBy A.opening (A.desks + A.stations + 1) desks.items stations.items result.book }
     {
         let Locked {
             book,
@@ -682,10 +674,10 @@ impl<A: ArrivalLedger, T: Ledger, U: Ledger, S: BookRows> Locked<A, T, U, S> {
 }
 
 /// Whether the shares of these desks and stations add up to what rose in the statistics since the book was shared.
-pub fn add_up<A: ArrivalLedger, T: Ledger, U: Ledger, S: BookRows>(
-    locked: &Locked<A, T, U, S>,
+pub fn add_up<A: Sharing, S: BookRows>(
+    locked: &Locked<A, S>,
     desks: &[Desk<A>],
-    stations: &[Station<A, T, U>],
+    stations: &[Station<A>],
 ) -> bool
     ensures { IsTrue result ↔ AddsUp locked.now desks.now stations.now }
 {

@@ -16,7 +16,7 @@ ghost use Rattle.book_lock.specs.inner.Shares.{no_calls, with_settlement, with_t
 ghost use Rattle.book_lock.specs.Shares.{seats_of};
 
 use crate::desks::{Desk, Station, open_desks, open_stations};
-use crate::locked::{ArrivalLedger, Closed, Locked};
+use crate::locked::{Closed, Locked, Sharing, add_up};
 use crate::log_entry::LogEntry;
 use crate::message::{Found, Message};
 use crate::status::{Gauge, Status};
@@ -34,7 +34,6 @@ use row_store::QUEUES;
 use stat_count::Counts;
 use std::alloc::{AllocError, Global};
 use std::sync::atomic::{AtomicBool, Ordering};
-use std::sync::ledger::{Blank, Ledger};
 use std::sync::{Arc, Condvar, Mutex, Wait};
 use std::time::{Clock, Duration};
 
@@ -43,23 +42,31 @@ const NAP: u64 = 250;
 
 /// The book under one lock. Each call takes the lock for a moment, and none waits for anything else but `bell`.
 #[derive(Drop)]
-pub struct Shared<A: ArrivalLedger, T: Ledger, U: Ledger, S: BookRows> {
-    locked: Mutex<Locked<A, T, U, S>>,
+pub struct Shared<A: Sharing, S: BookRows> {
+    locked: Mutex<Locked<A, S>>,
     bells: Vec<Condvar>,
     finished: AtomicBool,
 }
 
-/// A shared book, the desks of its arrivals, and the stations of its takes and settlements.
-pub type Opened<A, T, U, S> = (Shared<A, T, U, S>, Vec<Desk<A>>, Vec<Station<A, T, U>>);
+/// A book that was shared just now, with those among whom it is shared.
+#[derive(Drop)]
+pub struct Opened<A: Sharing, S: BookRows> {
+    /// The shared book.
+    pub shared: Shared<A, S>,
+    /// The desks of its arrivals.
+    pub desks: Vec<Desk<A>>,
+    /// The stations of its takes and settlements.
+    pub stations: Vec<Station<A>>,
+}
 
 /// Why a shared book was not closed.
 #[derive(Drop)]
-pub enum NotClosed<A: ArrivalLedger, T: Ledger, U: Ledger, S: BookRows> {
+pub enum NotClosed<A: Sharing, S: BookRows> {
     /// The shares handed in don't add up to what rose in the statistics. All that was handed in is returned.
     SharesMissing {
-        shared: Shared<A, T, U, S>,
+        shared: Shared<A, S>,
         desks: Vec<Desk<A>>,
-        stations: Vec<Station<A, T, U>>,
+        stations: Vec<Station<A>>,
     },
 }
 
@@ -125,9 +132,8 @@ fn hang_bells(alloc: Global) -> Result<Vec<Condvar>, AllocError> {
     Ok(bells)
 }
 
-impl<A: ArrivalLedger, T: Ledger, U: Ledger, S: BookRows> Shared<A, T, U, S> {
-    /// Shares the book among that many desks and stations. The log's blank has no entries, and each ledger's blank has one
-    /// part more than there are shares.
+impl<A: Sharing, S: BookRows> Shared<A, S> {
+    /// Shares the book among that many desks and stations. The log's blank has no entries.
     ///
     /// # Errors
     ///
@@ -138,61 +144,42 @@ impl<A: ArrivalLedger, T: Ledger, U: Ledger, S: BookRows> Shared<A, T, U, S> {
         desks: usize,
         stations: usize,
         log: BlankLog<LogEntry>,
-        arrivals: Blank,
-        takes: Blank,
-        settlements: Blank,
-    ) -> Result<Opened<A, T, U, S>, Book<S>>
+    ) -> Result<Opened<A, S>, Book<S>>
         requires opening { book ≡ A.opening }
         requires log { log.table.shared.table_id ≡ A.table }
         requires counts { counted book ≡ A.counts }
         requires first { next_place book ≡ A.first }
         requires channels { length (plan_in_force book).channels ≡ A.channels }
-        requires arrivals { (arrivals.name ≡ A.name) × (arrivals.parts ≡ A.parts) × (A.parts ≡ desks + 1) }
-        requires takes { (takes.name ≡ T.name) × (takes.parts ≡ T.parts) × (T.parts ≡ stations + 1) }
-        requires settlements { (settlements.name ≡ U.name) × (settlements.parts ≡ U.parts) × (U.parts ≡ stations + 1) }
-        ensures desks { IfOk result (λ r. (vec_len r.1 ≡ desks) × All (λ d. d.made ≡ 0) r.1.items) }
+        requires seats { (A.desks ≡ desks) × (A.stations ≡ stations) }
+        ensures desks { IfOk result (λ r. (vec_len r.desks ≡ desks) × All (λ d. d.made ≡ 0) r.desks.items) }
         ensures stations { IfOk result (λ r.
-            (vec_len r.2 ≡ stations) × All (λ s. s.counts ≡ no_calls) r.2.items) }
+            (vec_len r.stations ≡ stations) × All (λ s. s.counts ≡ no_calls) r.stations.items) }
         ensures seats { IfOk result (λ r.
-            (map (λ d. d.seat) r.1.items ≡ new_seats 0 desks)
-            × (map (λ s. s.seat) r.2.items ≡ new_seats desks stations)) }
+            (map (λ d. d.seat) r.desks.items ≡ new_seats 0 desks)
+            × (map (λ s. s.seat) r.stations.items ≡ new_seats desks stations)) }
         ensures back { IfErr result (λ b. b ≡ book) }
     {
         let mut log = GhostLog::open(log);
-        let (arrivals, mut left_arrivals) = arrivals.open::<A>();
-        let (takes, mut left_takes) = takes.open::<T>();
-        let (settlements, mut left_settlements) = settlements.open::<U>();
         let Ok(bells) = hang_bells(alloc) else {
             return Err(book);
         };
-        let Ok(desks) = open_desks(alloc, &mut log, &mut left_arrivals, desks) else {
+        let Ok(desks) = open_desks(alloc, &mut log, desks) else {
             return Err(book);
         };
-        let Ok(stations) = open_stations(
-            alloc,
-            &mut log,
-            &mut left_takes,
-            &mut left_settlements,
-            stations,
-        ) else {
+        let Ok(stations) = open_stations(alloc, &mut log, stations) else {
             return Err(book);
         };
-        let locked = Locked::new(
-            book,
-            log,
-            arrivals,
-            takes,
-            settlements,
-            left_arrivals,
-            left_takes,
-            left_settlements,
-        );
+        let locked = Locked::new(book, log);
         let shared = Shared {
             locked: Mutex::new(locked),
             bells,
             finished: AtomicBool::new(false),
         };
-        Ok((shared, desks, stations))
+        Ok(Opened {
+            shared,
+            desks,
+            stations,
+        })
     }
 
     /// The plan in force.
@@ -243,7 +230,7 @@ impl<A: ArrivalLedger, T: Ledger, U: Ledger, S: BookRows> Shared<A, T, U, S> {
     pub fn take<H: Wait>(
         &self,
         rt: &H,
-        station: &mut Station<A, T, U>,
+        station: &mut Station<A>,
         d: u32,
         now: Moment,
     ) -> Result<Job, TakeRefusal>
@@ -263,7 +250,7 @@ impl<A: ArrivalLedger, T: Ledger, U: Ledger, S: BookRows> Shared<A, T, U, S> {
     pub fn settle<H: Wait>(
         &self,
         rt: &H,
-        station: &mut Station<A, T, U>,
+        station: &mut Station<A>,
         ticket: &Ticket,
         outcome: Outcome,
         now: Moment,
@@ -521,16 +508,16 @@ impl<A: ArrivalLedger, T: Ledger, U: Ledger, S: BookRows> Shared<A, T, U, S> {
     pub fn close(
         self,
         mut desks: Vec<Desk<A>>,
-        mut stations: Vec<Station<A, T, U>>,
-    ) -> Result<Closed<S>, NotClosed<A, T, U, S>>
+        mut stations: Vec<Station<A>>,
+    ) -> Result<Closed<S>, NotClosed<A, S>>
         ensures adds_up { IfOk result (λ closed. AddsUp closed desks.items stations.items) }
         ensures opening { IfOk result (λ closed. (closed.opening ≡ A.counts) × (closed.first ≡ A.first)) }
-        ensures whole { (vec_len desks + 1 ≡ A.parts) × (vec_len stations + 1 ≡ T.parts) × (vec_len stations + 1 ≡ U.parts) → IsOk result }
+        ensures whole { (vec_len desks ≡ A.desks) × (vec_len stations ≡ A.stations) → IsOk result }
         ensures one_history { IfOk result (λ closed.
-            Linearizes A.opening (A.parts + T.parts - 1)
+            Linearizes A.opening (A.desks + A.stations + 1)
             (seats_of desks.items stations.items) closed.book) }
         ensures closed { IfOk result (λ closed.
-            IsClosedBy A.opening (A.parts + T.parts - 1) desks.items stations.items closed.book) }
+            IsClosedBy A.opening (A.desks + A.stations + 1) desks.items stations.items closed.book) }
         ensures back { IfErr result (HandsBack self desks.items stations.items) }
     {
         let Shared {
@@ -538,10 +525,11 @@ impl<A: ArrivalLedger, T: Ledger, U: Ledger, S: BookRows> Shared<A, T, U, S> {
             bells,
             finished,
         } = self;
-        let mut locked = locked.into_inner();
-        if locked.shares_add_up(&mut desks, &mut stations) {
+        let locked = locked.into_inner();
+        if add_up(&locked, &desks, &stations) {
             return Ok(locked.close(desks, stations));
         }
+        let locked = locked.compared(&mut desks, &mut stations);
         Err(NotClosed::SharesMissing {
             shared: Shared {
                 locked: Mutex::new(locked),

@@ -7,7 +7,7 @@ ghost use Rattle.event_log.specs.Counting.{counted};
 use crate::stage::{M1, M2, Rows, bring, waiting};
 use book_core::{Book, BookRows, EVENTS_MAX, Receipt, Told};
 use book_lock::{
-    ArrivalLedger, AuditFault, Closed, Desk, LogEntry, NotClosed, Shared, Station, audit, rising,
+    AuditFault, Closed, Desk, LogEntry, NotClosed, Opened, Shared, Sharing, Station, audit, rising,
 };
 use conn_worker::nearest;
 use ghost_log::BlankLog;
@@ -16,7 +16,6 @@ use log::Log;
 use std::alloc::Global;
 use std::marker::Brand;
 use std::sync::Wait;
-use std::sync::ledger::{Blank, Ledger};
 use std::test::Fail;
 
 /// Which shares are handed in at the first close.
@@ -190,22 +189,19 @@ fn keep_back<X: Drop>(
 }
 
 /// The desks and stations that are handed in, or those that are kept.
-type Shares<A, T, U> = (Vec<Desk<A>>, Vec<Station<A, T, U>>);
+type Shares<A> = (Vec<Desk<A>>, Vec<Station<A>>);
 
 /// Puts the kept shares to those that are handed in.
-fn add<A: ArrivalLedger, T: Ledger, U: Ledger>(
-    handed: &mut Shares<A, T, U>,
-    kept: &mut Shares<A, T, U>,
-) -> Result<(), Fail> {
+fn add<A: Sharing>(handed: &mut Shares<A>, kept: &mut Shares<A>) -> Result<(), Fail> {
     handed.0.append(&mut kept.0)?;
     handed.1.append(&mut kept.1)?;
     Ok(())
 }
 
 /// Closes a book at last, with the shares that were kept.
-fn close_at_last<A: ArrivalLedger, T: Ledger, U: Ledger, S: BookRows + Drop>(
-    missing: NotClosed<A, T, U, S>,
-    kept: &mut Shares<A, T, U>,
+fn close_at_last<A: Sharing, S: BookRows + Drop>(
+    missing: NotClosed<A, S>,
+    kept: &mut Shares<A>,
 ) -> Result<Day<S>, Fail> {
     let NotClosed::SharesMissing {
         shared,
@@ -222,10 +218,10 @@ fn close_at_last<A: ArrivalLedger, T: Ledger, U: Ledger, S: BookRows + Drop>(
 }
 
 /// Closes a book with the shares that are handed in, and with the others too where that was refused.
-fn close_twice<A: ArrivalLedger, T: Ledger, U: Ledger, S: BookRows + Drop>(
-    shared: Shared<A, T, U, S>,
-    handed: Shares<A, T, U>,
-    kept: &mut Shares<A, T, U>,
+fn close_twice<A: Sharing, S: BookRows + Drop>(
+    shared: Shared<A, S>,
+    handed: Shares<A>,
+    kept: &mut Shares<A>,
 ) -> Result<Day<S>, Fail> {
     match shared.close(handed.0, handed.1) {
         Ok(closed) => Ok(Day { back: None, closed }),
@@ -234,10 +230,10 @@ fn close_twice<A: ArrivalLedger, T: Ledger, U: Ledger, S: BookRows + Drop>(
 }
 
 /// Keeps back the shares that are not given.
-fn keep<A: ArrivalLedger, T: Ledger, U: Ledger>(
+fn keep<A: Sharing>(
     given: &Given,
-    handed: &mut Shares<A, T, U>,
-    kept: &mut Shares<A, T, U>,
+    handed: &mut Shares<A>,
+    kept: &mut Shares<A>,
 ) -> Result<(), Fail> {
     keep_back(&mut handed.0, 1, given.idle, &mut kept.0)?;
     keep_back(&mut handed.0, 0, given.busy, &mut kept.0)?;
@@ -245,10 +241,10 @@ fn keep<A: ArrivalLedger, T: Ledger, U: Ledger>(
 }
 
 /// Whether a message is booked by connection 5.
-fn books<A: ArrivalLedger, T: Ledger, U: Ledger, S: BookRows, H: Wait + Log>(
+fn books<A: Sharing, S: BookRows, H: Wait + Log>(
     rt: &H,
     alloc: Global,
-    shared: &Shared<A, T, U, S>,
+    shared: &Shared<A, S>,
     desk: &mut Desk<A>,
     text: &str,
 ) -> bool {
@@ -256,11 +252,11 @@ fn books<A: ArrivalLedger, T: Ledger, U: Ledger, S: BookRows, H: Wait + Log>(
 }
 
 /// Books a message at the first desk, takes it at the first station, and books another. Whether all of that was done.
-fn work<A: ArrivalLedger, T: Ledger, U: Ledger, S: BookRows, H: Wait + Log>(
+fn work<A: Sharing, S: BookRows, H: Wait + Log>(
     rt: &H,
     alloc: Global,
-    shared: &Shared<A, T, U, S>,
-    shares: &mut Shares<A, T, U>,
+    shared: &Shared<A, S>,
+    shares: &mut Shares<A>,
 ) -> bool {
     let (Some(desk), Some(station)) = (shares.0.first_mut(), shares.1.first_mut()) else {
         return false;
@@ -271,13 +267,13 @@ fn work<A: ArrivalLedger, T: Ledger, U: Ledger, S: BookRows, H: Wait + Log>(
 }
 
 /// Works at one of two desks and at a station, and keeps back the shares that are not given.
-fn work_and_keep<A: ArrivalLedger, T: Ledger, U: Ledger, S: BookRows, H: Wait + Log>(
+fn work_and_keep<A: Sharing, S: BookRows, H: Wait + Log>(
     rt: &H,
     alloc: Global,
-    shared: &Shared<A, T, U, S>,
+    shared: &Shared<A, S>,
     given: &Given,
-    handed: &mut Shares<A, T, U>,
-    kept: &mut Shares<A, T, U>,
+    handed: &mut Shares<A>,
+    kept: &mut Shares<A>,
 ) -> Result<(), Fail> {
     if !work(rt, alloc, shared, handed) {
         return Err("a call".into());
@@ -287,11 +283,11 @@ fn work_and_keep<A: ArrivalLedger, T: Ledger, U: Ledger, S: BookRows, H: Wait + 
 
 /// Works at the first desk and the station, and closes the book, a second time with all shares where the first close was
 /// refused.
-fn end_with<A: ArrivalLedger, T: Ledger, U: Ledger, S: BookRows + Drop, H: Wait + Log>(
+fn end_with<A: Sharing, S: BookRows + Drop, H: Wait + Log>(
     rt: &H,
     alloc: Global,
-    shared: Shared<A, T, U, S>,
-    mut handed: Shares<A, T, U>,
+    shared: Shared<A, S>,
+    mut handed: Shares<A>,
     given: &Given,
 ) -> Result<Day<S>, Fail> {
     let mut kept = (Vec::new(alloc), Vec::new(alloc));
@@ -300,14 +296,11 @@ fn end_with<A: ArrivalLedger, T: Ledger, U: Ledger, S: BookRows + Drop, H: Wait 
 }
 
 /// Shares a book between two desks and a station, works at one desk and the station, and closes it.
-fn end_day<A: ArrivalLedger, T: Ledger, U: Ledger, S: BookRows + Drop, H: Wait + Log>(
+fn end_day<A: Sharing, S: BookRows + Drop, H: Wait + Log>(
     rt: &H,
     alloc: Global,
     book: Book<S>,
     log: BlankLog<LogEntry>,
-    arrivals: Blank,
-    takes: Blank,
-    settlements: Blank,
     given: &Given,
 ) -> Result<Day<S>, Fail>
     requires opening { book ≡ A.opening }
@@ -315,13 +308,17 @@ fn end_day<A: ArrivalLedger, T: Ledger, U: Ledger, S: BookRows + Drop, H: Wait +
     requires counts { counted book ≡ A.counts }
     requires first { next_place book ≡ A.first }
     requires channels { length (plan_in_force book).channels ≡ A.channels }
-    requires arrivals { (arrivals.name ≡ A.name) × (arrivals.parts ≡ A.parts) × (A.parts ≡ 3) }
-    requires takes { (takes.name ≡ T.name) × (takes.parts ≡ T.parts) × (T.parts ≡ 2) }
-    requires settlements { (settlements.name ≡ U.name) × (settlements.parts ≡ U.parts) × (U.parts ≡ 2) }
+    requires seats { (A.desks ≡ 2) × (A.stations ≡ 1) }
 {
-    let opened = Shared::<A, T, U, S>::new(alloc, book, 2, 1, log, arrivals, takes, settlements);
+    let opened = Shared::<A, S>::new(alloc, book, 2, 1, log);
     match opened {
-        Ok((shared, desks, stations)) => end_with(rt, alloc, shared, (desks, stations), given),
+        Ok(
+            Opened {
+                shared,
+                desks,
+                stations,
+            },
+        ) => end_with(rt, alloc, shared, (desks, stations), given),
         Err(_) => Err("memory".into()),
     }
 }
@@ -362,16 +359,7 @@ fn day_at<S: BookRows + Drop, H: Wait + Log>(
     given: &Given,
 ) -> Result<Day<S>, Fail> {
     let log = BlankLog::new(alloc)?;
-    end_day::<Brand, Brand, Brand, S, H>(
-        rt,
-        alloc,
-        book,
-        log,
-        Blank::new(3),
-        Blank::new(2),
-        Blank::new(2),
-        given,
-    )
+    end_day::<Brand, S, H>(rt, alloc, book, log, given)
 }
 
 /// Whether as many shares were returned as are due, and each audit has the expected result.

@@ -2,14 +2,13 @@
 
 use crate::stage::{Done, M1, M2, Rows, Task, UPDATE, comes_out, waiting};
 use book_core::{Book, BookRows, CancelRefusal, EVENTS_MAX, TakeRefusal, Ticket};
-use book_lock::{ArrivalLedger, Desk, Shared, Station};
+use book_lock::{Desk, Shared, Sharing, Station};
 use conn_worker::nearest;
 use dest_queue::{FailCause, Outcome, SettleRefusal, SlotState};
 use log::Log;
 use plan_text::Plan;
 use stat_count::Counts;
 use std::alloc::Global;
-use std::sync::ledger::Ledger;
 use std::sync::{Arc, Wait};
 use std::test::Fail;
 
@@ -175,10 +174,10 @@ const CASES: [Case; 3] = [
 ];
 
 /// Whether a take returns a job with this control id and this text.
-fn sends<A: ArrivalLedger, T: Ledger, U: Ledger, S: BookRows, H: Wait + Log>(
+fn sends<A: Sharing, S: BookRows, H: Wait + Log>(
     rt: &H,
-    shared: &Shared<A, T, U, S>,
-    station: &mut Station<A, T, U>,
+    shared: &Shared<A, S>,
+    station: &mut Station<A>,
     d: u32,
     now: u64,
     control_id: &str,
@@ -193,10 +192,10 @@ fn sends<A: ArrivalLedger, T: Ledger, U: Ledger, S: BookRows, H: Wait + Log>(
 }
 
 /// Whether a take returns this ticket, or is refused so.
-fn takes<A: ArrivalLedger, T: Ledger, U: Ledger, S: BookRows, H: Wait + Log>(
+fn takes<A: Sharing, S: BookRows, H: Wait + Log>(
     rt: &H,
-    shared: &Shared<A, T, U, S>,
-    station: &mut Station<A, T, U>,
+    shared: &Shared<A, S>,
+    station: &mut Station<A>,
     d: u32,
     now: u64,
     due: Result<Ticket, TakeRefusal>,
@@ -208,10 +207,10 @@ fn takes<A: ArrivalLedger, T: Ledger, U: Ledger, S: BookRows, H: Wait + Log>(
 }
 
 /// Whether a call is answered as is due.
-fn is_met<A: ArrivalLedger, T: Ledger, U: Ledger, S: BookRows, H: Wait + Log>(
+fn is_met<A: Sharing, S: BookRows, H: Wait + Log>(
     rt: &H,
-    shared: &Shared<A, T, U, S>,
-    station: &mut Station<A, T, U>,
+    shared: &Shared<A, S>,
+    station: &mut Station<A>,
     call: Call,
 ) -> bool {
     match call {
@@ -227,10 +226,10 @@ fn is_met<A: ArrivalLedger, T: Ledger, U: Ledger, S: BookRows, H: Wait + Log>(
 }
 
 /// The first of these calls that is answered otherwise than is due; those behind it aren't made.
-fn first_unmet<A: ArrivalLedger, T: Ledger, U: Ledger, S: BookRows, H: Wait + Log>(
+fn first_unmet<A: Sharing, S: BookRows, H: Wait + Log>(
     rt: &H,
-    shared: &Shared<A, T, U, S>,
-    station: &mut Station<A, T, U>,
+    shared: &Shared<A, S>,
+    station: &mut Station<A>,
     calls: &[Call],
 ) -> Option<usize> {
     for (place, call) in calls.iter().enumerate() {
@@ -253,13 +252,13 @@ struct Answers {
 impl Task for Case {
     type Answer = Answers;
 
-    fn work<A: ArrivalLedger, T: Ledger, U: Ledger, S: BookRows, H: Wait + Log>(
+    fn work<A: Sharing, S: BookRows, H: Wait + Log>(
         &self,
         rt: &H,
         _: Global,
-        shared: &Shared<A, T, U, S>,
+        shared: &Shared<A, S>,
         desks: &mut [Desk<A>],
-        stations: &mut [Station<A, T, U>],
+        stations: &mut [Station<A>],
     ) -> Option<Answers> {
         let (desk, station) = (desks.first_mut()?, stations.first_mut()?);
         Some(Answers {

@@ -2,12 +2,11 @@
 
 use crate::stage::{Done, M1, M2, Rows, Task, bring, comes_out, plan_of, waiting};
 use book_core::{Book, BookRows, DeployRefusal, EVENTS_MAX, PruneRefusal, Told};
-use book_lock::{ArrivalLedger, Desk, Shared, Station};
+use book_lock::{Desk, Shared, Sharing, Station};
 use hl7_head::Cause;
 use log::Log;
 use plan_text::Plan;
 use std::alloc::Global;
-use std::sync::ledger::Ledger;
 use std::sync::{Arc, Wait};
 use std::test::Fail;
 
@@ -162,10 +161,10 @@ const CASES: [Case; 4] = [
 ];
 
 /// Whether a deployment of a plan is answered as is due.
-fn deploys<A: ArrivalLedger, T: Ledger, U: Ledger, S: BookRows, H: Wait + Log>(
+fn deploys<A: Sharing, S: BookRows, H: Wait + Log>(
     rt: &H,
     alloc: Global,
-    shared: &Shared<A, T, U, S>,
+    shared: &Shared<A, S>,
     said: Said,
     due: Result<(), DeployRefusal>,
 ) -> bool {
@@ -176,10 +175,10 @@ fn deploys<A: ArrivalLedger, T: Ledger, U: Ledger, S: BookRows, H: Wait + Log>(
 }
 
 /// Whether as many deployments of a plan as this are made.
-fn deploys_all<A: ArrivalLedger, T: Ledger, U: Ledger, S: BookRows, H: Wait + Log>(
+fn deploys_all<A: Sharing, S: BookRows, H: Wait + Log>(
     rt: &H,
     alloc: Global,
-    shared: &Shared<A, T, U, S>,
+    shared: &Shared<A, S>,
     count: u32,
     said: Said,
 ) -> bool {
@@ -192,9 +191,9 @@ fn deploys_all<A: ArrivalLedger, T: Ledger, U: Ledger, S: BookRows, H: Wait + Lo
 }
 
 /// Whether as many prunings as this are made.
-fn prunes_all<A: ArrivalLedger, T: Ledger, U: Ledger, S: BookRows, H: Wait + Log>(
+fn prunes_all<A: Sharing, S: BookRows, H: Wait + Log>(
     rt: &H,
-    shared: &Shared<A, T, U, S>,
+    shared: &Shared<A, S>,
     count: u32,
     before: u32,
 ) -> bool {
@@ -207,10 +206,10 @@ fn prunes_all<A: ArrivalLedger, T: Ledger, U: Ledger, S: BookRows, H: Wait + Log
 }
 
 /// Whether a call is answered as is due.
-fn is_met<A: ArrivalLedger, T: Ledger, U: Ledger, S: BookRows, H: Wait + Log>(
+fn is_met<A: Sharing, S: BookRows, H: Wait + Log>(
     rt: &H,
     alloc: Global,
-    shared: &Shared<A, T, U, S>,
+    shared: &Shared<A, S>,
     desk: &mut Desk<A>,
     call: Call,
 ) -> bool {
@@ -227,10 +226,10 @@ fn is_met<A: ArrivalLedger, T: Ledger, U: Ledger, S: BookRows, H: Wait + Log>(
 }
 
 /// The first of these calls that is answered otherwise than is due; those behind it aren't made.
-fn first_unmet<A: ArrivalLedger, T: Ledger, U: Ledger, S: BookRows, H: Wait + Log>(
+fn first_unmet<A: Sharing, S: BookRows, H: Wait + Log>(
     rt: &H,
     alloc: Global,
-    shared: &Shared<A, T, U, S>,
+    shared: &Shared<A, S>,
     desk: &mut Desk<A>,
     calls: &[Call],
 ) -> Option<usize> {
@@ -254,13 +253,13 @@ struct Answers {
 impl Task for Case {
     type Answer = Answers;
 
-    fn work<A: ArrivalLedger, T: Ledger, U: Ledger, S: BookRows, H: Wait + Log>(
+    fn work<A: Sharing, S: BookRows, H: Wait + Log>(
         &self,
         rt: &H,
         alloc: Global,
-        shared: &Shared<A, T, U, S>,
+        shared: &Shared<A, S>,
         desks: &mut [Desk<A>],
-        _: &mut [Station<A, T, U>],
+        _: &mut [Station<A>],
     ) -> Option<Answers> {
         let desk = desks.first_mut()?;
         Some(Answers {

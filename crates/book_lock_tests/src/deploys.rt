@@ -2,11 +2,10 @@
 
 use crate::stage::{Done, M1, Rows, Task, comes_out, plan, plan_of, waiting};
 use book_core::{Book, BookRows, DeployRefusal, EVENTS_MAX};
-use book_lock::{ArrivalLedger, Desk, Shared, Station};
+use book_lock::{Desk, Shared, Sharing, Station};
 use log::Log;
 use plan_text::Plan;
 use std::alloc::Global;
-use std::sync::ledger::Ledger;
 use std::sync::{Arc, Wait};
 use std::test::Fail;
 
@@ -31,13 +30,13 @@ struct Deployments {
 impl Task for Deployments {
     type Answer = Answers;
 
-    fn work<A: ArrivalLedger, T: Ledger, U: Ledger, S: BookRows, H: Wait + Log>(
+    fn work<A: Sharing, S: BookRows, H: Wait + Log>(
         &self,
         rt: &H,
         alloc: Global,
-        shared: &Shared<A, T, U, S>,
+        shared: &Shared<A, S>,
         _: &mut [Desk<A>],
-        _: &mut [Station<A, T, U>],
+        _: &mut [Station<A>],
     ) -> Option<Answers> {
         let (four, slower) = (plan(alloc, true)?, Arc::try_clone(&self.slower).ok()?);
         Some(Answers {

@@ -6,25 +6,21 @@ ghost use Rattle.event_log.specs.Counting.{counted};
 
 use crate::stage::{M1, Rows, bring, waiting};
 use book_core::{Book, BookRows, EVENTS_MAX};
-use book_lock::{ArrivalLedger, LogEntry, NotClosed, Shared};
+use book_lock::{LogEntry, NotClosed, Opened, Shared, Sharing};
 use ghost_log::BlankLog;
 use log::Log;
 use std::alloc::Global;
 use std::marker::Brand;
 use std::sync::Wait;
-use std::sync::ledger::{Blank, Ledger};
 use std::test::Fail;
 
 /// Books a message, notes that none will follow where that is asked for, and closes the book without its desk. Whether the
 /// shared book that comes back has the note; None where the close is not refused.
-fn noted_after_close<A: ArrivalLedger, T: Ledger, U: Ledger, S: BookRows + Drop, H: Wait + Log>(
+fn noted_after_close<A: Sharing, S: BookRows + Drop, H: Wait + Log>(
     rt: &H,
     alloc: Global,
     book: Book<S>,
     log: BlankLog<LogEntry>,
-    arrivals: Blank,
-    takes: Blank,
-    settlements: Blank,
     finish: bool,
 ) -> Option<bool>
     requires opening { book ≡ A.opening }
@@ -32,12 +28,14 @@ fn noted_after_close<A: ArrivalLedger, T: Ledger, U: Ledger, S: BookRows + Drop,
     requires counts { counted book ≡ A.counts }
     requires first { next_place book ≡ A.first }
     requires channels { length (plan_in_force book).channels ≡ A.channels }
-    requires arrivals { (arrivals.name ≡ A.name) × (arrivals.parts ≡ A.parts) × (A.parts ≡ 2) }
-    requires takes { (takes.name ≡ T.name) × (takes.parts ≡ T.parts) × (T.parts ≡ 1) }
-    requires settlements { (settlements.name ≡ U.name) × (settlements.parts ≡ U.parts) × (U.parts ≡ 1) }
+    requires seats { (A.desks ≡ 1) × (A.stations ≡ 0) }
 {
-    let opened = Shared::<A, T, U, S>::new(alloc, book, 1, 0, log, arrivals, takes, settlements);
-    let (shared, mut desks, stations) = opened.ok()?;
+    let opened = Shared::<A, S>::new(alloc, book, 1, 0, log);
+    let Opened {
+        shared,
+        mut desks,
+        stations,
+    } = opened.ok()?;
     bring(rt, alloc, &shared, desks.first_mut()?, 0, M1)?;
     if finish {
         shared.finish(rt);
@@ -56,16 +54,7 @@ fn noted<S: BookRows + Drop, H: Wait + Log>(
     finish: bool,
 ) -> Option<bool> {
     let log = BlankLog::new(alloc).ok()?;
-    noted_after_close::<Brand, Brand, Brand, S, H>(
-        rt,
-        alloc,
-        book,
-        log,
-        Blank::new(2),
-        Blank::new(1),
-        Blank::new(1),
-        finish,
-    )
+    noted_after_close::<Brand, S, H>(rt, alloc, book, log, finish)
 }
 
 /// A shared book that comes back is finished where it was noted before the close that no arrival will follow, and not

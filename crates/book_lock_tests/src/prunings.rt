@@ -2,14 +2,13 @@
 
 use crate::stage::{Done, M1, M2, Rows, Task, bring, comes_out, waiting};
 use book_core::{Book, BookRows, CancelRefusal, EVENTS_MAX, PruneRefusal, Receipt, Told};
-use book_lock::{ArrivalLedger, Desk, Shared, Station, audit};
+use book_lock::{Desk, Shared, Sharing, Station, audit};
 use conn_worker::nearest;
 use dest_queue::{Outcome, SlotState};
 use log::Log;
 use std::alloc::Global;
 use std::slice;
 use std::sync::Wait;
-use std::sync::ledger::Ledger;
 use std::test::Fail;
 
 /// The results of two prunings, of a cancellation afterwards, and of the forgotten message when it was repeated.
@@ -27,13 +26,13 @@ struct Prunings;
 impl Task for Prunings {
     type Answer = Answers;
 
-    fn work<A: ArrivalLedger, T: Ledger, U: Ledger, S: BookRows, H: Wait + Log>(
+    fn work<A: Sharing, S: BookRows, H: Wait + Log>(
         &self,
         rt: &H,
         alloc: Global,
-        shared: &Shared<A, T, U, S>,
+        shared: &Shared<A, S>,
         desks: &mut [Desk<A>],
-        stations: &mut [Station<A, T, U>],
+        stations: &mut [Station<A>],
     ) -> Option<Answers> {
         let desk = desks.first_mut()?;
         Some(Answers {

@@ -5,7 +5,7 @@ ghost use Rattle.judge_core.specs.Judging.{is_bookable};
 
 use crate::stage::{Done, M1, M2, Rows, Task, comes_out, judged, plan, waiting};
 use book_core::{Book, BookRows, NotBooked};
-use book_lock::{ArrivalLedger, Desk, Shared, Station};
+use book_lock::{Desk, Shared, Sharing, Station};
 use conn_core::{Booked, ConnectionId, Replies, book_and_reply};
 use conn_worker::{AtDesk, nearest};
 use judge_core::Judged;
@@ -13,7 +13,6 @@ use log::Log;
 use stat_count::Counts;
 use std::alloc::Global;
 use std::sync::Wait;
-use std::sync::ledger::Ledger;
 use std::test::Fail;
 
 /// By which plan a message is judged, why the full book of the built-in plan refuses it, and its acknowledgment.
@@ -51,10 +50,10 @@ struct Answers {
 }
 
 /// Books a message received over connection 0, and appends its replies, the first of that connection.
-fn answer<A: ArrivalLedger, T: Ledger, U: Ledger, S: BookRows, H: Wait + Log>(
+fn answer<A: Sharing, S: BookRows, H: Wait + Log>(
     rt: &H,
     alloc: Global,
-    shared: &Shared<A, T, U, S>,
+    shared: &Shared<A, S>,
     desk: &mut Desk<A>,
     judged: &Judged,
     replies: &mut Replies,
@@ -77,10 +76,10 @@ fn answer<A: ArrivalLedger, T: Ledger, U: Ledger, S: BookRows, H: Wait + Log>(
 }
 
 /// Brings a message to a desk of a shared book, twice.
-fn bring_twice<A: ArrivalLedger, T: Ledger, U: Ledger, S: BookRows, H: Wait + Log>(
+fn bring_twice<A: Sharing, S: BookRows, H: Wait + Log>(
     rt: &H,
     alloc: Global,
-    shared: &Shared<A, T, U, S>,
+    shared: &Shared<A, S>,
     desk: &mut Desk<A>,
     judged: &Judged,
 ) -> Answers
@@ -112,13 +111,13 @@ fn judged_in(alloc: Global, case: &Case) -> Option<Judged>
 impl Task for Case {
     type Answer = Answers;
 
-    fn work<A: ArrivalLedger, T: Ledger, U: Ledger, S: BookRows, H: Wait + Log>(
+    fn work<A: Sharing, S: BookRows, H: Wait + Log>(
         &self,
         rt: &H,
         alloc: Global,
-        shared: &Shared<A, T, U, S>,
+        shared: &Shared<A, S>,
         desks: &mut [Desk<A>],
-        _: &mut [Station<A, T, U>],
+        _: &mut [Station<A>],
     ) -> Option<Answers> {
         let desk = desks.first_mut()?;
         let judged = judged_in(alloc, self)?;

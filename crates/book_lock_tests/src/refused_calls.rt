@@ -9,7 +9,7 @@ use book_core::{
     Book, BookRows, CancelRefusal, DeployRefusal, EVENTS_MAX, NotBooked, PruneRefusal, Receipt,
     TakeRefusal, Ticket,
 };
-use book_lock::{ArrivalLedger, Closed, Desk, Shared, Station, audit};
+use book_lock::{Closed, Desk, Shared, Sharing, Station, audit};
 use conn_worker::nearest;
 use dest_queue::{Outcome, SlotState};
 use judge_core::Judged;
@@ -18,7 +18,6 @@ use plan_text::Plan;
 use stat_count::{Counts, DestinationCounts};
 use std::alloc::Global;
 use std::slice;
-use std::sync::ledger::Ledger;
 use std::sync::{Arc, Wait};
 use std::test::Fail;
 
@@ -120,9 +119,9 @@ fn first_attempt(destination: u32) -> Ticket {
 }
 
 /// Books the message, and keeps its receipt.
-fn arrive<A: ArrivalLedger, T: Ledger, U: Ledger, S: BookRows, H: Wait + Log>(
+fn arrive<A: Sharing, S: BookRows, H: Wait + Log>(
     rt: &H,
-    shared: &Shared<A, T, U, S>,
+    shared: &Shared<A, S>,
     desk: &mut Desk<A>,
     message: &Judged,
     receipt: &mut Option<Receipt>,
@@ -140,10 +139,10 @@ fn arrive<A: ArrivalLedger, T: Ledger, U: Ledger, S: BookRows, H: Wait + Log>(
 }
 
 /// Takes the front of queue `d` at the moment 0.
-fn take<A: ArrivalLedger, T: Ledger, U: Ledger, S: BookRows, H: Wait + Log>(
+fn take<A: Sharing, S: BookRows, H: Wait + Log>(
     rt: &H,
-    shared: &Shared<A, T, U, S>,
-    station: &mut Station<A, T, U>,
+    shared: &Shared<A, S>,
+    station: &mut Station<A>,
     d: u32,
 ) -> Answer {
     match shared.take(rt, station, d, nearest(0)) {
@@ -154,10 +153,7 @@ fn take<A: ArrivalLedger, T: Ledger, U: Ledger, S: BookRows, H: Wait + Log>(
 }
 
 /// Cancels message 0.
-fn cancel<A: ArrivalLedger, T: Ledger, U: Ledger, S: BookRows, H: Wait + Log>(
-    rt: &H,
-    shared: &Shared<A, T, U, S>,
-) -> Answer {
+fn cancel<A: Sharing, S: BookRows, H: Wait + Log>(rt: &H, shared: &Shared<A, S>) -> Answer {
     match shared.cancel(rt, 0) {
         Ok(mask) => right_if(mask == 6),
         Err(CancelRefusal::NoMemory) => Answer::Refused,
@@ -166,9 +162,9 @@ fn cancel<A: ArrivalLedger, T: Ledger, U: Ledger, S: BookRows, H: Wait + Log>(
 }
 
 /// Puts a plan in force.
-fn deploy<A: ArrivalLedger, T: Ledger, U: Ledger, S: BookRows, H: Wait + Log>(
+fn deploy<A: Sharing, S: BookRows, H: Wait + Log>(
     rt: &H,
-    shared: &Shared<A, T, U, S>,
+    shared: &Shared<A, S>,
     plan: &Arc<Plan>,
 ) -> Answer {
     let Ok(plan) = Arc::try_clone(plan) else {
@@ -182,10 +178,7 @@ fn deploy<A: ArrivalLedger, T: Ledger, U: Ledger, S: BookRows, H: Wait + Log>(
 }
 
 /// Forgets message 0.
-fn prune<A: ArrivalLedger, T: Ledger, U: Ledger, S: BookRows, H: Wait + Log>(
-    rt: &H,
-    shared: &Shared<A, T, U, S>,
-) -> Answer {
+fn prune<A: Sharing, S: BookRows, H: Wait + Log>(rt: &H, shared: &Shared<A, S>) -> Answer {
     match shared.prune(rt, 1) {
         Ok(()) => Answer::Right,
         Err(PruneRefusal::NoMemory) => Answer::Refused,
@@ -194,11 +187,11 @@ fn prune<A: ArrivalLedger, T: Ledger, U: Ledger, S: BookRows, H: Wait + Log>(
 }
 
 /// Makes a call.
-fn make<A: ArrivalLedger, T: Ledger, U: Ledger, S: BookRows, H: Wait + Log>(
+fn make<A: Sharing, S: BookRows, H: Wait + Log>(
     rt: &H,
-    shared: &Shared<A, T, U, S>,
+    shared: &Shared<A, S>,
     desk: &mut Desk<A>,
-    station: &mut Station<A, T, U>,
+    station: &mut Station<A>,
     parts: &Parts,
     receipt: &mut Option<Receipt>,
     call: Call,
@@ -218,11 +211,11 @@ fn make<A: ArrivalLedger, T: Ledger, U: Ledger, S: BookRows, H: Wait + Log>(
 
 /// Makes a call, and makes it again where memory was refused. How often that was; none where the call was answered otherwise
 /// than it is to be, or a refusal changed the statistics.
-fn make_surely<A: ArrivalLedger, T: Ledger, U: Ledger, S: BookRows, H: Wait + Log>(
+fn make_surely<A: Sharing, S: BookRows, H: Wait + Log>(
     rt: &H,
-    shared: &Shared<A, T, U, S>,
+    shared: &Shared<A, S>,
     desk: &mut Desk<A>,
-    station: &mut Station<A, T, U>,
+    station: &mut Station<A>,
     parts: &Parts,
     receipt: &mut Option<Receipt>,
     call: Call,
@@ -243,11 +236,11 @@ fn make_surely<A: ArrivalLedger, T: Ledger, U: Ledger, S: BookRows, H: Wait + Lo
 }
 
 /// Makes all calls. How many were refused memory; none where one was answered otherwise than it is to be.
-fn make_all<A: ArrivalLedger, T: Ledger, U: Ledger, S: BookRows, H: Wait + Log>(
+fn make_all<A: Sharing, S: BookRows, H: Wait + Log>(
     rt: &H,
-    shared: &Shared<A, T, U, S>,
+    shared: &Shared<A, S>,
     desk: &mut Desk<A>,
-    station: &mut Station<A, T, U>,
+    station: &mut Station<A>,
     parts: &Parts,
     receipt: &mut Option<Receipt>,
 ) -> Option<u32> {
@@ -260,9 +253,9 @@ fn make_all<A: ArrivalLedger, T: Ledger, U: Ledger, S: BookRows, H: Wait + Log>(
 }
 
 /// The results of all calls, with what is shown after them.
-fn answers_of<A: ArrivalLedger, T: Ledger, U: Ledger, S: BookRows, H: Wait + Log>(
+fn answers_of<A: Sharing, S: BookRows, H: Wait + Log>(
     rt: &H,
-    shared: &Shared<A, T, U, S>,
+    shared: &Shared<A, S>,
     desk: &mut Desk<A>,
     receipt: Option<Receipt>,
     refused: u32,
@@ -315,13 +308,13 @@ impl Task for Parts {
     type Answer = Answers;
 
     /// Makes the calls. The plan and the statistics are shown with no further memory.
-    fn work<A: ArrivalLedger, T: Ledger, U: Ledger, S: BookRows, H: Wait + Log>(
+    fn work<A: Sharing, S: BookRows, H: Wait + Log>(
         &self,
         rt: &H,
         _: Global,
-        shared: &Shared<A, T, U, S>,
+        shared: &Shared<A, S>,
         desks: &mut [Desk<A>],
-        stations: &mut [Station<A, T, U>],
+        stations: &mut [Station<A>],
     ) -> Option<Answers> {
         let (desk, station) = (desks.first_mut()?, stations.first_mut()?);
         let mut receipt = None;

@@ -6,13 +6,12 @@ ghost use Rattle.std.specs.Prelude.{◌<◌};
 use crate::devices::{Cut, Devices, SMOOTH, Sink, Source};
 use crate::stage::{Done, Rows, Task, empty_book, plan, share};
 use book_core::{Book, BookRows, EVENTS_MAX};
-use book_lock::{ArrivalLedger, Closed, Desk, Shared, Station, audit, rising};
+use book_lock::{Closed, Desk, Shared, Sharing, Station, audit, rising};
 use conn_worker::{Counted, ServeEnd, ServeReport, Still, nearest, serve};
 use log::Log;
 use stat_count::Counts;
 use std::alloc::Global;
 use std::sync::Wait;
-use std::sync::ledger::Ledger;
 use std::test::Fail;
 
 /// Two admissions, of which the first requests an accept acknowledgment and the second both.
@@ -60,10 +59,10 @@ fn roomy_sink(alloc: Global, devices: Devices) -> Option<Sink> {
 }
 
 /// Serves the two messages at a desk, over these devices.
-fn serve_at<A: ArrivalLedger, T: Ledger, U: Ledger, S: BookRows, H: Wait + Log>(
+fn serve_at<A: Sharing, S: BookRows, H: Wait + Log>(
     rt: &H,
     alloc: Global,
-    shared: &Shared<A, T, U, S>,
+    shared: &Shared<A, S>,
     desk: &mut Desk<A>,
     devices: Devices,
     sink: Sink,
@@ -143,13 +142,13 @@ impl Task for Serving {
     type Answer = Course;
 
     /// None where memory was refused before.
-    fn work<A: ArrivalLedger, T: Ledger, U: Ledger, S: BookRows, H: Wait + Log>(
+    fn work<A: Sharing, S: BookRows, H: Wait + Log>(
         &self,
         rt: &H,
         alloc: Global,
-        shared: &Shared<A, T, U, S>,
+        shared: &Shared<A, S>,
         desks: &mut [Desk<A>],
-        _: &mut [Station<A, T, U>],
+        _: &mut [Station<A>],
     ) -> Option<Course> {
         if shared.plan(rt).ok()?.channels() == 0 {
             return None;

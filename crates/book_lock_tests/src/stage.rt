@@ -6,7 +6,7 @@ ghost use Rattle.event_log.specs.History.{next_place, plan_in_force};
 ghost use Rattle.event_log.specs.Counting.{counted};
 
 use book_core::{Book, BookRows, EVENTS_MAX, Outbound, Receipt};
-use book_lock::{ArrivalLedger, Closed, Desk, LogEntry, Shared, Station};
+use book_lock::{Closed, Desk, LogEntry, Opened, Shared, Sharing, Station};
 use dest_queue::Queued;
 use ghost_log::BlankLog;
 use judge_core::{Judged, fits_block, judge};
@@ -16,7 +16,6 @@ use record_list::RecordList;
 use std::alloc::Global;
 use std::hash::RandomState;
 use std::marker::Brand;
-use std::sync::ledger::{Blank, Ledger};
 use std::sync::{Arc, Wait};
 use std::test::Fail;
 
@@ -109,10 +108,10 @@ pub(crate) fn waiting<S: BookRows + Drop>(
 }
 
 /// A message judged by the plan in force of a shared book. None where it is not bookable, or memory is refused.
-pub(crate) fn judged_now<A: ArrivalLedger, T: Ledger, U: Ledger, S: BookRows, H: Wait + Log>(
+pub(crate) fn judged_now<A: Sharing, S: BookRows, H: Wait + Log>(
     rt: &H,
     alloc: Global,
-    shared: &Shared<A, T, U, S>,
+    shared: &Shared<A, S>,
     text: &str,
 ) -> Option<Judged>
     ensures { IfSome result (λ judged. IsTrue (is_bookable judged.raw)) }
@@ -122,10 +121,10 @@ pub(crate) fn judged_now<A: ArrivalLedger, T: Ledger, U: Ledger, S: BookRows, H:
 }
 
 /// Books a message by a connection. None where it is not booked.
-pub(crate) fn bring<A: ArrivalLedger, T: Ledger, U: Ledger, S: BookRows, H: Wait + Log>(
+pub(crate) fn bring<A: Sharing, S: BookRows, H: Wait + Log>(
     rt: &H,
     alloc: Global,
-    shared: &Shared<A, T, U, S>,
+    shared: &Shared<A, S>,
     desk: &mut Desk<A>,
     conn: u32,
     text: &str,
@@ -140,13 +139,13 @@ pub trait Task {
     type Answer: Drop;
 
     /// Does it, at the desks and the stations of the book. None where nothing comes of it.
-    fn work<A: ArrivalLedger, T: Ledger, U: Ledger, S: BookRows, H: Wait + Log>(
+    fn work<A: Sharing, S: BookRows, H: Wait + Log>(
         &self,
         rt: &H,
         alloc: Global,
-        shared: &Shared<A, T, U, S>,
+        shared: &Shared<A, S>,
         desks: &mut [Desk<A>],
-        stations: &mut [Station<A, T, U>],
+        stations: &mut [Station<A>],
     ) -> Option<Self::Answer>;
 
     /// Whether that, and the book after it, are as they are to be.
@@ -172,21 +171,11 @@ pub enum Undone {
 }
 
 /// Shares a book between a desk and a station, does a task with it, and closes it.
-fn share_and_close<
-    A: ArrivalLedger,
-    T: Ledger,
-    U: Ledger,
-    S: BookRows + Drop,
-    K: Task,
-    H: Wait + Log,
->(
+fn share_and_close<A: Sharing, S: BookRows + Drop, K: Task, H: Wait + Log>(
     rt: &H,
     alloc: Global,
     book: Book<S>,
     log: BlankLog<LogEntry>,
-    arrivals: Blank,
-    takes: Blank,
-    settlements: Blank,
     task: &K,
 ) -> Result<Done<K::Answer, S>, Undone>
     requires opening { book ≡ A.opening }
@@ -194,12 +183,17 @@ fn share_and_close<
     requires counts { counted book ≡ A.counts }
     requires first { next_place book ≡ A.first }
     requires channels { length (plan_in_force book).channels ≡ A.channels }
-    requires arrivals { (arrivals.name ≡ A.name) × (arrivals.parts ≡ A.parts) × (A.parts ≡ 2) }
-    requires takes { (takes.name ≡ T.name) × (takes.parts ≡ T.parts) × (T.parts ≡ 2) }
-    requires settlements { (settlements.name ≡ U.name) × (settlements.parts ≡ U.parts) × (U.parts ≡ 2) }
+    requires seats { (A.desks ≡ 1) × (A.stations ≡ 1) }
 {
-    let opened = Shared::<A, T, U, S>::new(alloc, book, 1, 1, log, arrivals, takes, settlements);
-    let Ok((shared, mut desks, mut stations)) = opened else {
+    let opened = Shared::<A, S>::new(alloc, book, 1, 1, log);
+    let Ok(
+        Opened {
+            shared,
+            mut desks,
+            mut stations,
+        },
+    ) = opened
+    else {
         return Err(Undone::NotShared);
     };
     let Some(answer) = task.work(rt, alloc, &shared, &mut desks, &mut stations) else {
@@ -221,16 +215,7 @@ pub(crate) fn share<S: BookRows + Drop, K: Task, H: Wait + Log>(
     let Ok(log) = BlankLog::new(alloc) else {
         return Err(Undone::NotShared);
     };
-    share_and_close::<Brand, Brand, Brand, S, K, H>(
-        rt,
-        alloc,
-        book,
-        log,
-        Blank::new(2),
-        Blank::new(2),
-        Blank::new(2),
-        task,
-    )
+    share_and_close::<Brand, S, K, H>(rt, alloc, book, log, task)
 }
 
 /// Whether a task with a shared book comes out as it is to.

@@ -6,7 +6,7 @@ ghost use Rattle.event_log.specs.Counting.{counted};
 
 use crate::stage::{Rows, UPDATE, waiting};
 use book_core::{Book, BookRows, EVENTS_MAX};
-use book_lock::{ArrivalLedger, Closed, LogEntry, Shared, Station};
+use book_lock::{Closed, LogEntry, Opened, Shared, Sharing, Station};
 use conn_worker::nearest;
 use dest_queue::{FailCause, Outcome, SlotState};
 use ghost_log::BlankLog;
@@ -14,7 +14,6 @@ use log::Log;
 use std::alloc::Global;
 use std::marker::Brand;
 use std::sync::Wait;
-use std::sync::ledger::{Blank, Ledger};
 use std::test::Fail;
 use std::thread;
 use std::thread::Threads;
@@ -23,11 +22,11 @@ use std::thread::Threads;
 const ROUNDS: u32 = 200;
 
 /// Takes the front of each of four queues, and has it delivered.
-fn deliver_all<A: ArrivalLedger, T: Ledger, U: Ledger, S: BookRows, H: Wait + Log>(
+fn deliver_all<A: Sharing, S: BookRows, H: Wait + Log>(
     rt: &H,
-    shared: &Shared<A, T, U, S>,
-    station: Station<A, T, U>,
-) -> Station<A, T, U> {
+    shared: &Shared<A, S>,
+    station: Station<A>,
+) -> Station<A> {
     let mut station = station;
     for d in 0..4 {
         if let Ok(job) = shared.take(rt, &mut station, d, nearest(0)) {
@@ -44,21 +43,16 @@ fn deliver_all<A: ArrivalLedger, T: Ledger, U: Ledger, S: BookRows, H: Wait + Lo
 }
 
 /// Cancels message 0. Whether a slot of it waited.
-fn cancel<A: ArrivalLedger, T: Ledger, U: Ledger, S: BookRows, H: Wait + Log>(
-    rt: &H,
-    shared: &Shared<A, T, U, S>,
-) -> bool {
+fn cancel<A: Sharing, S: BookRows, H: Wait + Log>(rt: &H, shared: &Shared<A, S>) -> bool {
     shared.cancel(rt, 0).is_ok()
 }
 
 /// Cancels message 0 on one thread, while another delivers what waits.
-fn beside<
-    A: ArrivalLedger + Send + Sync,
-    T: Ledger + Send + Sync,
-    U: Ledger + Send + Sync,
-    S: BookRows + Send,
-    H: Log + Threads + Wait + Sync,
->(rt: &H, shared: &Shared<A, T, U, S>, station: Station<A, T, U>) -> Station<A, T, U> {
+fn beside<A: Sharing + Send + Sync, S: BookRows + Send, H: Log + Threads + Wait + Sync>(
+    rt: &H,
+    shared: &Shared<A, S>,
+    station: Station<A>,
+) -> Station<A> {
     let (_, station) = thread::join(
         rt,
         move || cancel(rt, shared),
@@ -68,44 +62,34 @@ fn beside<
 }
 
 /// Cancels message 0 of a shared book, while the last of the stations delivers what waits.
-fn work_beside<
-    A: ArrivalLedger + Send + Sync,
-    T: Ledger + Send + Sync,
-    U: Ledger + Send + Sync,
-    S: BookRows + Send,
-    H: Log + Threads + Wait + Sync,
->(rt: &H, shared: &Shared<A, T, U, S>, stations: &mut Vec<Station<A, T, U>>) -> Option<()> {
+fn work_beside<A: Sharing + Send + Sync, S: BookRows + Send, H: Log + Threads + Wait + Sync>(
+    rt: &H,
+    shared: &Shared<A, S>,
+    stations: &mut Vec<Station<A>>,
+) -> Option<()> {
     let station = stations.pop()?;
     stations.push(beside(rt, shared, station)).ok()
 }
 
 /// Shares a book, has its message 0 cancelled beside its deliveries, and closes it. None where memory is refused.
 fn cancel_and_deliver<
-    A: ArrivalLedger + Send + Sync,
-    T: Ledger + Send + Sync,
-    U: Ledger + Send + Sync,
+    A: Sharing + Send + Sync,
     S: BookRows + Drop + Send,
     H: Log + Threads + Wait + Sync,
->(
-    rt: &H,
-    alloc: Global,
-    book: Book<S>,
-    log: BlankLog<LogEntry>,
-    arrivals: Blank,
-    takes: Blank,
-    settlements: Blank,
-) -> Option<Closed<S>>
+>(rt: &H, alloc: Global, book: Book<S>, log: BlankLog<LogEntry>) -> Option<Closed<S>>
     requires opening { book ≡ A.opening }
     requires log { log.table.shared.table_id ≡ A.table }
     requires counts { counted book ≡ A.counts }
     requires first { next_place book ≡ A.first }
     requires channels { length (plan_in_force book).channels ≡ A.channels }
-    requires arrivals { (arrivals.name ≡ A.name) × (arrivals.parts ≡ A.parts) × (A.parts ≡ 1) }
-    requires takes { (takes.name ≡ T.name) × (takes.parts ≡ T.parts) × (T.parts ≡ 2) }
-    requires settlements { (settlements.name ≡ U.name) × (settlements.parts ≡ U.parts) × (U.parts ≡ 2) }
+    requires seats { (A.desks ≡ 0) × (A.stations ≡ 1) }
 {
-    let opened = Shared::<A, T, U, S>::new(alloc, book, 0, 1, log, arrivals, takes, settlements);
-    let (shared, desks, mut stations) = opened.ok()?;
+    let opened = Shared::<A, S>::new(alloc, book, 0, 1, log);
+    let Opened {
+        shared,
+        desks,
+        mut stations,
+    } = opened.ok()?;
     work_beside(rt, &shared, &mut stations)?;
     shared.close(desks, stations).ok()
 }
@@ -135,15 +119,7 @@ fn comes_out<S: BookRows + Drop + Send, H: Log + Threads + Wait + Sync>(
     let Ok(log) = BlankLog::new(alloc) else {
         return false;
     };
-    let closed = cancel_and_deliver::<Brand, Brand, Brand, S, H>(
-        rt,
-        alloc,
-        book,
-        log,
-        Blank::new(1),
-        Blank::new(2),
-        Blank::new(2),
-    );
+    let closed = cancel_and_deliver::<Brand, S, H>(rt, alloc, book, log);
     match closed {
         Some(closed) => is_right(closed.book()),
         None => false,

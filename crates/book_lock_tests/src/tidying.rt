@@ -2,13 +2,12 @@
 
 use crate::stage::{Done, M1, M2, Rows, Task, comes_out, judged_now, waiting};
 use book_core::{Book, BookRows, Front, PruneRefusal, Told};
-use book_lock::{ArrivalLedger, Desk, Found, Gauge, Shared, Station, Status, Tidied, Tidying};
+use book_lock::{Desk, Found, Gauge, Shared, Sharing, Station, Status, Tidied, Tidying};
 use conn_worker::nearest;
 use dest_queue::{Outcome, SlotState};
 use log::Log;
 use std::alloc::Global;
 use std::sync::Wait;
-use std::sync::ledger::Ledger;
 use std::test::Fail;
 
 /// The state of a message that waits for its first attempt.
@@ -39,13 +38,13 @@ struct Showing;
 impl Task for Showing {
     type Answer = Shown;
 
-    fn work<A: ArrivalLedger, T: Ledger, U: Ledger, S: BookRows, H: Wait + Log>(
+    fn work<A: Sharing, S: BookRows, H: Wait + Log>(
         &self,
         rt: &H,
         _: Global,
-        shared: &Shared<A, T, U, S>,
+        shared: &Shared<A, S>,
         _: &mut [Desk<A>],
-        _: &mut [Station<A, T, U>],
+        _: &mut [Station<A>],
     ) -> Option<Shown> {
         let admitted = [shared.admit(rt), shared.admit(rt)];
         let (status, plan) = shared.status(rt).ok()?;
@@ -169,10 +168,10 @@ fn is_folded(found: &Found) -> bool {
 }
 
 /// Delivers the front of queue 0. None where that is refused.
-fn deliver<A: ArrivalLedger, T: Ledger, U: Ledger, S: BookRows, H: Wait + Log>(
+fn deliver<A: Sharing, S: BookRows, H: Wait + Log>(
     rt: &H,
-    shared: &Shared<A, T, U, S>,
-    station: &mut Station<A, T, U>,
+    shared: &Shared<A, S>,
+    station: &mut Station<A>,
 ) -> Option<SlotState> {
     let ticket = shared.take(rt, station, 0, nearest(0)).ok()?.ticket;
     shared
@@ -181,10 +180,10 @@ fn deliver<A: ArrivalLedger, T: Ledger, U: Ledger, S: BookRows, H: Wait + Log>(
 }
 
 /// Books a message by connection 7, with the last message kept where the book is tight.
-fn bring_tidy<A: ArrivalLedger, T: Ledger, U: Ledger, S: BookRows, H: Wait + Log>(
+fn bring_tidy<A: Sharing, S: BookRows, H: Wait + Log>(
     rt: &H,
     alloc: Global,
-    shared: &Shared<A, T, U, S>,
+    shared: &Shared<A, S>,
     desk: &mut Desk<A>,
     text: &str,
 ) -> Option<Tidied> {
@@ -195,13 +194,13 @@ fn bring_tidy<A: ArrivalLedger, T: Ledger, U: Ledger, S: BookRows, H: Wait + Log
 impl Task for Filling {
     type Answer = Tidyings;
 
-    fn work<A: ArrivalLedger, T: Ledger, U: Ledger, S: BookRows, H: Wait + Log>(
+    fn work<A: Sharing, S: BookRows, H: Wait + Log>(
         &self,
         rt: &H,
         alloc: Global,
-        shared: &Shared<A, T, U, S>,
+        shared: &Shared<A, S>,
         desks: &mut [Desk<A>],
-        stations: &mut [Station<A, T, U>],
+        stations: &mut [Station<A>],
     ) -> Option<Tidyings> {
         let desk = desks.first_mut()?;
         let station = stations.first_mut()?;

@@ -11,7 +11,7 @@ use crate::lines::{log_arrival, log_break, log_fill, log_passed_over};
 use crate::report::{ServeEnd, ServeReport};
 use crate::session::serve_within;
 use book_core::{BookRows, NotBooked, Receipt};
-use book_lock::{ArrivalLedger, Desk, Shared};
+use book_lock::{Desk, Shared, Sharing};
 use conn_core::{Booking, ConnectionId};
 use fixed_numbers::TURNS_MAX;
 use judge_core::Judged;
@@ -20,7 +20,6 @@ use mllp_frame::Break;
 use plan_text::Plan;
 use std::alloc::{AllocError, Global};
 use std::io::{Read, Write};
-use std::sync::ledger::Ledger;
 use std::sync::{Arc, Wait};
 
 /// How many entries lie between two looks at how full the book is, for the log.
@@ -28,15 +27,14 @@ const FILL_STEP: usize = 16;
 
 /// A desk of a shared book, at which messages are booked. Each call takes the book's lock for a moment.
 #[derive(Drop)]
-pub struct AtDesk<'a, A: ArrivalLedger, T: Ledger, U: Ledger, S: BookRows, H> {
+pub struct AtDesk<'a, A: Sharing, S: BookRows, H> {
     pub rt: &'a H,
     pub alloc: Global,
-    pub shared: &'a Shared<A, T, U, S>,
+    pub shared: &'a Shared<A, S>,
     pub desk: &'a mut Desk<A>,
 }
 
-impl<'a, A: ArrivalLedger, T: Ledger, U: Ledger, S: BookRows, H: Wait + Log> Booking
-    for AtDesk<'a, A, T, U, S, H> {
+impl<'a, A: Sharing, S: BookRows, H: Wait + Log> Booking for AtDesk<'a, A, S, H> {
     ghost use Rattle.std.specs.Prelude.{refl, ⊤};
     ghost use Rattle.conn_worker.specs.inner.Arriving.{BooksAtDesk, desk_after, desk_nothing};
 
@@ -90,19 +88,10 @@ impl<'a, A: ArrivalLedger, T: Ledger, U: Ledger, S: BookRows, H: Wait + Log> Boo
 /// channel given by its index in the plan: each message is booked at the desk and acknowledged as its header requests
 /// (HL7 v2.5.1, 2.9.2 and 2.9.3). The lock of the book is held neither while a message is judged, nor while the reader or
 /// the writer waits. The moments of the replies are the clock's.
-pub fn serve<
-    A: ArrivalLedger,
-    T: Ledger,
-    U: Ledger,
-    S: BookRows,
-    R: Read,
-    W: Write,
-    C: Clock,
-    H: Wait + Log,
->(
+pub fn serve<A: Sharing, S: BookRows, R: Read, W: Write, C: Clock, H: Wait + Log>(
     rt: &H,
     alloc: Global,
-    shared: &Shared<A, T, U, S>,
+    shared: &Shared<A, S>,
     desk: &mut Desk<A>,
     conn: u32,
     channel: u32,

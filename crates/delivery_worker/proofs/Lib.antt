@@ -7,4 +7,6 @@ pub mod Listed
 pub mod Reading
 pub mod Sent
 pub mod Streams
+pub mod Unused
+pub mod Works
 mod Rows

@@ -24,7 +24,7 @@ use Rattle.conn_worker.specs.Arriving.{arrival_entry}
 use Rattle.delivery_worker.specs.Answers.{answer_in, outcome_of}
 use Rattle.delivery_worker.specs.Delivering.{Sending, attempt_outcome, sending_outcome}
 use Rattle.delivery_worker.specs.Turns.{IsTurnWithin, StationTurn, booked_as, entries_in, settlement}
-use Rattle.delivery_worker.specs.Sent.{DeskWork, EveryArrivalHasReceipt, EveryDeliveredWasSent, EveryReceiptHasArrival, HasSent, IsAccepted, IsSendingFrom, IsTraced, IsUnused, SentByOne, SettledIsSent, StationWork, WasSent}
+use Rattle.delivery_worker.specs.Sent.{DeskWork, EveryArrivalHasReceipt, EveryDeliveredWasSent, EveryReceiptHasArrival, HasSent, IsAccepted, IsSendingFrom, IsSent, IsTraced, IsTracedTo, IsUnused, SentByOne, SettledIsSent, StationWork, WasSent}
 use Rattle.delivery_worker.proofs.InLog.{call_onward, onward_then}
 use Rattle.delivery_worker.proofs.Listed.{contains_any, contains_flat, contains_map, contains_mapped, contains_one, contains_own, contains_within, prefix_last}
 
@@ -208,13 +208,29 @@ receipts_arrived opening book seats desks stations closed works are receipt amon
     let own = subst (λ (w : List LogEntry). Contains w (arrival_entry receipt)) (sym (booked_entries opening entries work agrees)) (contains_mapped arrival_entry work.receipts receipt part.holds) in
     contains_any work.last.number entries (arrival_entry receipt) own
 
+-- ---- a closed book
+
+abbrev sent_by_one : (opening book : History) (seats : ℕ) (desks : List DeskView) (stations : List StationView) (works : List (StationWork opening))
+    → IsClosedBy opening seats desks stations book → map (λ w. w.last) works ≡ map (λ s. s.seat) stations → IsSent opening works book
+sent_by_one opening book seats desks stations works closed are = record {
+  entries = closed.accounted.one_history.entries;
+  is_book = closed.accounted.one_history.is_book;
+  delivered = delivered_sent opening book seats desks stations closed works are;
+}
+
+pub traced_to : (opening book : History) (seats : ℕ) (desks : List DeskView) (stations : List StationView) (works : List (StationWork opening))
+    → IsClosedBy opening seats desks stations book → map (λ w. w.last) works ≡ map (λ s. s.seat) stations → IsTracedTo opening desks stations works book
+traced_to opening book seats desks stations works closed are = record {
+  sent = sent_by_one opening book seats desks stations works closed are;
+  callers = closed.callers;
+  works_are = are;
+}
+
 pub traced : (opening book : History) (seats : ℕ) (desks : List DeskView) (stations : List StationView) (booked : List (DeskWork opening)) (delivered : List (StationWork opening))
     → IsClosedBy opening seats desks stations book → map (λ w. w.last) booked ≡ map (λ d. d.seat) desks → map (λ w. w.last) delivered ≡ map (λ s. s.seat) stations
     → IsTraced opening (flat_map (λ w. w.receipts) booked) delivered book
 traced opening book seats desks stations booked delivered closed at_desks at_stations = record {
-  entries = closed.accounted.one_history.entries;
-  is_book = closed.accounted.one_history.is_book;
+  sent = sent_by_one opening book seats desks stations delivered closed at_stations;
   arrivals = arrivals_received opening book seats desks stations closed booked at_desks;
   receipts_are = receipts_arrived opening book seats desks stations closed booked at_desks;
-  delivered = delivered_sent opening book seats desks stations closed delivered at_stations;
 }

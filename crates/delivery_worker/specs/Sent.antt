@@ -12,9 +12,11 @@ use Rattle.event_log.specs.declared.entry.Told.{Told}
 use Rattle.book_core.specs.Sending.{awaits_ack}
 use Rattle.book_core.specs.declared.receipt.Receipt.{Receipt}
 use Rattle.ghost_log.specs.Seats.{entries_of}
+use Rattle.book_lock.specs.Callers.{AreCallers}
 use Rattle.book_lock.specs.Log.{IsBookOf, Log, SeatView, after_log}
 use Rattle.book_lock.specs.declared.log_entry.LogEntry.TheVariants as log
 use Rattle.book_lock.specs.Outcomes.{SettlesAt}
+use Rattle.book_lock.specs.Shares.{DeskView, StationView}
 use Rattle.conn_worker.specs.Arriving.{BooksInLog, arrival_entry}
 use Rattle.delivery_worker.specs.Answers.{answer_in, outcome_of}
 use Rattle.delivery_worker.specs.Delivering.{Attempt, IsSendingOf, Sending, sent_in}
@@ -103,6 +105,22 @@ EveryDeliveredWasSent {opening} entries works book = (n d : ℕ) →
     slot book n d ≡ Some slot_state.Delivered →
     (slot opening n d ≡ Some slot_state.Delivered) ⊎ SentByOne entries works n d
 
+-- A closed book whose deliveries are traced. One legal log makes it of the opening; and each message that is delivered, and
+-- was not at the opening, was sent at one of these stations.
+pub record IsSent (opening : History) (works : List (StationWork opening)) (book : History) : Type 0 where
+  pub entries : Log
+  pub is_book : IsBookOf opening entries book
+  pub delivered : EveryDeliveredWasSent entries works book
+
+-- A book that was closed with these desks and stations, and is traced to them. Each arrival of its log was booked at one of
+-- the desks, and each take and each settlement was made at one of the stations. These did the works, in their order, by
+-- which the messages were sent.
+pub record IsTracedTo (opening : History) (desks : List DeskView) (stations : List StationView)
+    (works : List (StationWork opening)) (book : History) : Type 0 where
+  pub sent : IsSent opening works book
+  pub callers : AreCallers sent.entries desks stations
+  pub works_are : map (λ w. w.last) works ≡ map (λ s. s.seat) stations
+
 -- each arrival of a log is that of one of these receipts
 abbrev pub EveryArrivalHasReceipt : Log → List Receipt → Type 0
 EveryArrivalHasReceipt entries receipts =
@@ -115,12 +133,9 @@ abbrev pub EveryReceiptHasArrival : Log → List Receipt → Type 0
 EveryReceiptHasArrival entries receipts = (receipt : Receipt) → Contains receipts receipt →
     Contains (map (λ x. x.1) entries) (arrival_entry receipt)
 
--- A closed book whose messages are traced. One legal log makes it of the opening. The arrivals in the log are those of these
--- receipts; and each message that is delivered, and was not at the opening, was sent at one of these stations.
+-- A closed book whose messages are traced: its deliveries, and its arrivals, which are those of these receipts.
 pub record IsTraced (opening : History) (receipts : List Receipt)
     (works : List (StationWork opening)) (book : History) : Type 0 where
-  pub entries : Log
-  pub is_book : IsBookOf opening entries book
-  pub arrivals : EveryArrivalHasReceipt entries receipts
-  pub receipts_are : EveryReceiptHasArrival entries receipts
-  pub delivered : EveryDeliveredWasSent entries works book
+  pub sent : IsSent opening works book
+  pub arrivals : EveryArrivalHasReceipt sent.entries receipts
+  pub receipts_are : EveryReceiptHasArrival sent.entries receipts

@@ -3,3 +3,4 @@ pub mod Answers
 pub mod Calls
 pub mod Delivering
 pub mod Stream
+pub mod Works

@@ -13,13 +13,12 @@ use crate::link::Link;
 use crate::report::{DeliverEnd, DeliverReport};
 use crate::worker::take_turn;
 use book_core::{BookRows, Front};
-use book_lock::{ArrivalLedger, Shared, Station};
+use book_lock::{Shared, Sharing, Station};
 use conn_worker::Clock;
 use dest_queue::{Outcome, SlotState};
 use log::Log;
 use std::alloc::Global;
 use std::sync::Wait;
-use std::sync::ledger::Ledger;
 use std::time;
 
 /// What halts the work.
@@ -51,10 +50,10 @@ fn is_due<C: Clock>(front: Option<Front>, clock: &mut C) -> bool {
 }
 
 /// Readies the connection, and makes one attempt to deliver the message at the front of a queue.
-fn deliver_afresh<H: Wait, A: ArrivalLedger, T: Ledger, U: Ledger, S: BookRows, L: Link, C: Clock>(
+fn deliver_afresh<H: Wait, A: Sharing, S: BookRows, L: Link, C: Clock>(
     rt: &H,
-    shared: &Shared<A, T, U, S>,
-    station: &mut Station<A, T, U>,
+    shared: &Shared<A, S>,
+    station: &mut Station<A>,
     connection: &mut Connection,
     link: &mut L,
     d: u32,
@@ -89,10 +88,10 @@ fn deliver_afresh<H: Wait, A: ArrivalLedger, T: Ledger, U: Ledger, S: BookRows, 
 }
 
 /// Makes one attempt to deliver the message at the front of a queue, if it is due and the destination can be reached.
-fn turn_afresh<H: Wait, A: ArrivalLedger, T: Ledger, U: Ledger, S: BookRows, L: Link, C: Clock>(
+fn turn_afresh<H: Wait, A: Sharing, S: BookRows, L: Link, C: Clock>(
     rt: &H,
-    shared: &Shared<A, T, U, S>,
-    station: &mut Station<A, T, U>,
+    shared: &Shared<A, S>,
+    station: &mut Station<A>,
     connection: &mut Connection,
     link: &mut L,
     d: u32,
@@ -137,9 +136,7 @@ fn turn_afresh<H: Wait, A: ArrivalLedger, T: Ledger, U: Ledger, S: BookRows, L: 
 /// It ends where it is halted, or where no arrival will follow and the queue is empty.
 pub fn deliver_until<
     H: Wait + time::Clock + Log,
-    A: ArrivalLedger,
-    T: Ledger,
-    U: Ledger,
+    A: Sharing,
     S: BookRows,
     L: Link,
     C: Clock,
@@ -147,8 +144,8 @@ pub fn deliver_until<
 >(
     rt: &H,
     alloc: Global,
-    shared: &Shared<A, T, U, S>,
-    station: &mut Station<A, T, U>,
+    shared: &Shared<A, S>,
+    station: &mut Station<A>,
     link: &mut L,
     d: u32,
     clock: &mut C,

@@ -12,29 +12,20 @@ use crate::connection::Connection;
 use crate::link::Link;
 use crate::report::{DeliverEnd, DeliverReport};
 use book_core::{BookRows, TakeRefusal};
-use book_lock::{ArrivalLedger, Shared, Station};
+use book_lock::{Shared, Sharing, Station};
 use conn_worker::Clock;
 use dest_queue::Outcome;
 use log::Log;
 use std::alloc::Global;
 use std::sync::Wait;
-use std::sync::ledger::Ledger;
 use std::time;
 
 /// Takes the message at the front of a queue, makes one attempt to deliver it, and settles the attempt, whatever its
 /// outcome. The lock is held for the take and for the settlement, and not in between.
-pub(crate) fn take_turn<
-    H: Wait,
-    A: ArrivalLedger,
-    T: Ledger,
-    U: Ledger,
-    S: BookRows,
-    L: Link,
-    C: Clock,
->(
+pub(crate) fn take_turn<H: Wait, A: Sharing, S: BookRows, L: Link, C: Clock>(
     rt: &H,
-    shared: &Shared<A, T, U, S>,
-    station: &mut Station<A, T, U>,
+    shared: &Shared<A, S>,
+    station: &mut Station<A>,
     connection: &mut Connection,
     link: &mut L,
     d: u32,
@@ -78,19 +69,11 @@ pub(crate) fn take_turn<
 /// refused; where nothing is due, the worker waits for a change at the queue, or a short while, and then flushes the log.
 ///
 /// It ends where no arrival will follow and the queue is empty, or after `turns` turns.
-pub fn deliver<
-    H: Wait + time::Clock + Log,
-    A: ArrivalLedger,
-    T: Ledger,
-    U: Ledger,
-    S: BookRows,
-    L: Link,
-    C: Clock,
->(
+pub fn deliver<H: Wait + time::Clock + Log, A: Sharing, S: BookRows, L: Link, C: Clock>(
     rt: &H,
     alloc: Global,
-    shared: &Shared<A, T, U, S>,
-    station: &mut Station<A, T, U>,
+    shared: &Shared<A, S>,
+    station: &mut Station<A>,
     link: &mut L,
     d: u32,
     clock: &mut C,

@@ -7,7 +7,7 @@ ghost use Rattle.event_log.specs.Counting.{counted};
 
 use crate::played::{Leaping, Looks, Played};
 use book_core::{Book, BookRows, EVENTS_MAX, Outbound};
-use book_lock::{ArrivalLedger, Closed, LogEntry, Shared, Station};
+use book_lock::{Closed, LogEntry, Opened, Shared, Sharing, Station};
 use conn_worker::Clock;
 use delivery_worker::{DeliverReport, deliver, deliver_until};
 use dest_queue::Queued;
@@ -19,7 +19,6 @@ use record_list::RecordList;
 use std::alloc::Global;
 use std::hash::RandomState;
 use std::marker::Brand;
-use std::sync::ledger::{Blank, Ledger};
 use std::sync::{Arc, Wait};
 use std::time;
 
@@ -95,18 +94,11 @@ pub struct Delivered<S: BookRows> {
 }
 
 /// Delivers what waits at the last of the stations.
-fn deliver_at<
-    A: ArrivalLedger,
-    T: Ledger,
-    U: Ledger,
-    S: BookRows,
-    H: Wait + time::Clock + Log,
-    C: Clock,
->(
+fn deliver_at<A: Sharing, S: BookRows, H: Wait + time::Clock + Log, C: Clock>(
     rt: &H,
     alloc: Global,
-    shared: &Shared<A, T, U, S>,
-    stations: &mut [Station<A, T, U>],
+    shared: &Shared<A, S>,
+    stations: &mut [Station<A>],
     link: &mut Played<'_>,
     clock: &mut C,
     course: Course,
@@ -123,21 +115,11 @@ fn deliver_at<
 }
 
 /// Shares a book, delivers what waits in it, and closes it. None where memory was refused for sharing it.
-fn deliver_and_close<
-    A: ArrivalLedger,
-    T: Ledger,
-    U: Ledger,
-    S: BookRows + Drop,
-    H: Wait + time::Clock + Log,
-    C: Clock,
->(
+fn deliver_and_close<A: Sharing, S: BookRows + Drop, H: Wait + time::Clock + Log, C: Clock>(
     rt: &H,
     alloc: Global,
     book: Book<S>,
     log: BlankLog<LogEntry>,
-    arrivals: Blank,
-    takes: Blank,
-    settlements: Blank,
     link: &mut Played<'_>,
     clock: &mut C,
     course: Course,
@@ -147,12 +129,14 @@ fn deliver_and_close<
     requires counts { counted book ≡ A.counts }
     requires first { next_place book ≡ A.first }
     requires channels { length (plan_in_force book).channels ≡ A.channels }
-    requires arrivals { (arrivals.name ≡ A.name) × (arrivals.parts ≡ A.parts) × (A.parts ≡ 1) }
-    requires takes { (takes.name ≡ T.name) × (takes.parts ≡ T.parts) × (T.parts ≡ 2) }
-    requires settlements { (settlements.name ≡ U.name) × (settlements.parts ≡ U.parts) × (U.parts ≡ 2) }
+    requires seats { (A.desks ≡ 0) × (A.stations ≡ 1) }
 {
-    let opened = Shared::<A, T, U, S>::new(alloc, book, 0, 1, log, arrivals, takes, settlements);
-    let (shared, desks, mut stations) = opened.ok()?;
+    let opened = Shared::<A, S>::new(alloc, book, 0, 1, log);
+    let Opened {
+        shared,
+        desks,
+        mut stations,
+    } = opened.ok()?;
     let report = deliver_at(rt, alloc, &shared, &mut stations, link, clock, course)?;
     let closed = shared.close(desks, stations).ok()?;
     Some(Delivered { report, closed })
@@ -169,18 +153,7 @@ pub(crate) fn deliver_by<S: BookRows + Drop, H: Wait + time::Clock + Log, C: Clo
 ) -> Option<Delivered<S>> {
     let book = book?;
     let log = BlankLog::new(alloc).ok()?;
-    deliver_and_close::<Brand, Brand, Brand, S, H, C>(
-        rt,
-        alloc,
-        book,
-        log,
-        Blank::new(1),
-        Blank::new(2),
-        Blank::new(2),
-        link,
-        clock,
-        course,
-    )
+    deliver_and_close::<Brand, S, H, C>(rt, alloc, book, log, link, clock, course)
 }
 
 /// Delivers what waits in a book over a link, by a clock that leaps by twenty seconds at each look. None where there is no

@@ -16,9 +16,10 @@ use Rattle.conn_worker.specs.Arriving.{BooksInLog, no_arrival}
 use Rattle.conn_worker.specs.declared.report.ServeReport.{ServeReport}
 use Rattle.delivery_worker.specs.Sent.{DeskWork, IsTraced, StationWork}
 use Rattle.delivery_worker.specs.declared.report.DeliverReport.{DeliverReport}
-use Rattle.delivery_worker.proofs.InLog.{no_turn}
 use Rattle.delivery_worker.proofs.Sent.{traced}
-use Rattle.engine_workers.specs.inner.Works.{HasDelivered, HasServed}
+use Rattle.delivery_worker.proofs.Works.{station_works}
+use Rattle.delivery_worker.specs.inner.Works.{HasDelivered}
+use Rattle.engine_workers.specs.inner.Works.{HasServed}
 
 abbrev Served : Type 0
 Served = ServeReport (Vec Receipt)
@@ -59,21 +60,6 @@ desk_works opening desk report each (x ∷ xs) = ∥∥₁_map₂ (each x) (desk
       (λ i. one.1 i ∷ rest.1 i),
       (λ i. one.2 i ++ rest.2 i) ∙ sym (receipts_cons (report x) (filter_map report xs)),
     ))
-
--- ---- stations
-
-station_work : (opening : History) (d : ℕ) (seat : SeatView) (report : Option DeliverReport) → HasDelivered opening d seat report
-    → (work : StationWork opening) × (work.last ≡ seat)
-station_work opening d seat None unused =
-    (record { destination = d; first = seat; last = seat; attempts = []; unused = unused; delivers = no_turn opening d seat seat refl }, refl)
-station_work opening d seat (Some r) delivered = (delivered.0, delivered.2)
-
-station_works : {Y : Type 0} (opening : History) (station : Y → StationView) (d : Y → ℕ) (report : Y → Option DeliverReport)
-    → ((y : Y) → ∥ HasDelivered opening (d y) (station y).seat (report y) ∥₁) → (ys : List Y)
-    → ∥ ((works : List (StationWork opening)) × (map (λ w. w.last) works ≡ map (λ s. s.seat) (map station ys))) ∥₁
-station_works opening station d report each [] = ∣ ([], refl) ∣₁
-station_works opening station d report each (y ∷ ys) = ∥∥₁_map₂ (each y) (station_works opening station d report each ys) (λ delivered rest.
-    let one = station_work opening (d y) (station y).seat (report y) delivered in (one.0 ∷ rest.0, (λ i. one.1 i ∷ rest.1 i)))
 
 -- ---- a closed book
 

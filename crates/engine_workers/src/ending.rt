@@ -8,11 +8,10 @@ use crate::outlet::stations_and_reports;
 use crate::seat::desks_and_reports;
 use crate::workers::Finished;
 use book_core::BookRows;
-use book_lock::{ArrivalLedger, Closed, Shared};
+use book_lock::{Closed, Shared, Sharing};
 use conn_worker::ServeReport;
 use delivery_worker::DeliverReport;
 use std::alloc::{AllocError, Global};
-use std::sync::ledger::Ledger;
 
 /// How a run ended: the closed book, unless shares of it are missing, the report of each connection that was served, and that
 /// of each destination, both in the order of what the workers worked with.
@@ -30,10 +29,10 @@ pub struct RunEnd<S: BookRows> {
 /// # Errors
 ///
 /// Where memory is refused.
-pub fn close_book<A: ArrivalLedger, T: Ledger, U: Ledger, S: BookRows + Drop, D: Drop, L: Drop>(
+pub fn close_book<A: Sharing, S: BookRows + Drop, D: Drop, L: Drop>(
     alloc: Global,
-    shared: Shared<A, T, U, S>,
-    worked: Finished<A, T, U, D, L>,
+    shared: Shared<A, S>,
+    worked: Finished<A, D, L>,
 ) -> Result<RunEnd<S>, AllocError>
     ensures opening { IfOk result (λ ended. IfSome ended.closed (λ closed.
         (closed.opening ≡ A.counts) × (closed.first ≡ A.first))) }

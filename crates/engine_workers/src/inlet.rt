@@ -5,12 +5,11 @@ use crate::loan::TakeCell;
 use crate::seat::ConnectionSlot;
 use crate::site::Context;
 use book_core::BookRows;
-use book_lock::ArrivalLedger;
+use book_lock::Sharing;
 use conn_worker::{Clock, Counted, ServeEnd, ServeReport, serve};
 use log::{Log, info, warn};
 use std::io::Write;
 use std::sync::Wait;
-use std::sync::ledger::Ledger;
 use std::thread;
 use std::thread::{Builder, Scope, Threads};
 
@@ -49,15 +48,13 @@ fn is_ended_here(end: ServeEnd) -> bool {
 /// Serves the connection of a seat, and leaves the report there. Where there is a report already, nothing is done.
 #[tactic(auto, using(crate::proofs::Reported::served_once))]
 fn serve_seat<
-    A: ArrivalLedger,
-    T: Ledger,
-    U: Ledger,
+    A: Sharing,
     S: BookRows,
     C: Clock + Copy,
     H: Wait + Log,
     R: Incoming + Drop,
     W: Write + Drop,
->(site: &Context<'_, A, T, U, S, C, H>, place: &TakeCell<ConnectionSlot<A>>, reader: R, writer: W) {
+>(site: &Context<'_, A, S, C, H>, place: &TakeCell<ConnectionSlot<A>>, reader: R, writer: W) {
     let Some(seat) = place.take(site.rt) else {
         return;
     };
@@ -106,9 +103,7 @@ fn start_serving<
     's,
     'x: 's,
     E: 's,
-    A: ArrivalLedger + Send + Sync + 's,
-    T: Ledger + Sync + 's,
-    U: Ledger + Sync + 's,
+    A: Sharing + Send + Sync + 's,
     S: BookRows + Send + 's,
     C: Clock + Copy + Sync + 's,
     H: Wait + Log + Sync + 's,
@@ -116,7 +111,7 @@ fn start_serving<
     W: Write + Send + Drop + 's,
 >(
     scope: &Scope<'s, E>,
-    site: &'s Context<'x, A, T, U, S, C, H>,
+    site: &'s Context<'x, A, S, C, H>,
     channel: u32,
     place: &'s TakeCell<ConnectionSlot<A>>,
     reader: R,
@@ -138,9 +133,7 @@ fn admit<
     's,
     'x: 's,
     E: 's,
-    A: ArrivalLedger + Send + Sync + 's,
-    T: Ledger + Sync + 's,
-    U: Ledger + Sync + 's,
+    A: Sharing + Send + Sync + 's,
     S: BookRows + Send + 's,
     C: Clock + Copy + Sync + 's,
     H: Wait + Log + Sync + 's,
@@ -149,7 +142,7 @@ fn admit<
     D: Door<Reader = R, Writer = W>,
 >(
     scope: &Scope<'s, E>,
-    site: &'s Context<'x, A, T, U, S, C, H>,
+    site: &'s Context<'x, A, S, C, H>,
     channel: u32,
     door: &mut D,
     place: &'s TakeCell<ConnectionSlot<A>>,
@@ -185,9 +178,7 @@ fn admit_all<
     's,
     'x: 's,
     E: 's,
-    A: ArrivalLedger + Send + Sync + 's,
-    T: Ledger + Sync + 's,
-    U: Ledger + Sync + 's,
+    A: Sharing + Send + Sync + 's,
     S: BookRows + Send + 's,
     C: Clock + Copy + Sync + 's,
     H: Wait + Log + Sync + 's,
@@ -196,7 +187,7 @@ fn admit_all<
     D: Door<Reader = R, Writer = W>,
 >(
     scope: &Scope<'s, E>,
-    site: &'s Context<'x, A, T, U, S, C, H>,
+    site: &'s Context<'x, A, S, C, H>,
     channel: u32,
     seats: &'s [TakeCell<ConnectionSlot<A>>],
     door: &mut D,
@@ -220,9 +211,7 @@ fn admit_all<
 fn open_all<
     'y,
     'x: 'y,
-    A: ArrivalLedger + Send + Sync,
-    T: Ledger + Sync,
-    U: Ledger + Sync,
+    A: Sharing + Send + Sync,
     S: BookRows + Send,
     C: Clock + Copy + Sync,
     H: Wait + Threads + Log + Sync,
@@ -230,7 +219,7 @@ fn open_all<
     W: Write + Send + Drop,
     D: Door<Reader = R, Writer = W>,
 >(
-    site: &'y Context<'x, A, T, U, S, C, H>,
+    site: &'y Context<'x, A, S, C, H>,
     channel: u32,
     seats: &'y [TakeCell<ConnectionSlot<A>>],
     door: &'y mut D,
@@ -244,16 +233,14 @@ fn open_all<
 
 /// Takes a channel's door, and opens it for all seats of the channel.
 fn work_door<
-    A: ArrivalLedger + Send + Sync,
-    T: Ledger + Sync,
-    U: Ledger + Sync,
+    A: Sharing + Send + Sync,
     S: BookRows + Send,
     C: Clock + Copy + Sync,
     H: Wait + Threads + Log + Sync,
     R: Incoming + Send + Drop,
     W: Write + Send + Drop,
     D: Door<Reader = R, Writer = W> + Drop,
->(site: &Context<'_, A, T, U, S, C, H>, inlet: &ChannelWork<A, D>) {
+>(site: &Context<'_, A, S, C, H>, inlet: &ChannelWork<A, D>) {
     let Some(mut door) = inlet.door.take(site.rt) else {
         return;
     };
@@ -263,7 +250,7 @@ fn work_door<
 
 /// The index of a channel in the plan, its door, and the seats of the connections that it is opened for.
 #[derive(Drop)]
-pub struct ChannelWork<A: ArrivalLedger, D> {
+pub struct ChannelWork<A: Sharing, D> {
     pub channel: u32,
     pub door: TakeCell<D>,
     pub seats: Vec<TakeCell<ConnectionSlot<A>>>,
@@ -274,20 +261,14 @@ fn start_opening<
     's,
     'x: 's,
     E: 's,
-    A: ArrivalLedger + Send + Sync + 's,
-    T: Ledger + Sync + 's,
-    U: Ledger + Sync + 's,
+    A: Sharing + Send + Sync + 's,
     S: BookRows + Send + 's,
     C: Clock + Copy + Sync + 's,
     H: Wait + Threads + Log + Sync + 's,
     R: Incoming + Send + Drop + 's,
     W: Write + Send + Drop + 's,
     D: Door<Reader = R, Writer = W> + Send + Drop + 's,
->(
-    scope: &Scope<'s, E>,
-    site: &'s Context<'x, A, T, U, S, C, H>,
-    inlet: &'s ChannelWork<A, D>,
-) -> bool {
+>(scope: &Scope<'s, E>, site: &'s Context<'x, A, S, C, H>, inlet: &'s ChannelWork<A, D>) -> bool {
     let started = scope.spawn(move || work_door(site, inlet)).is_ok();
     if !started {
         site.stop();
@@ -301,16 +282,14 @@ fn start_opening_all<
     's,
     'x: 's,
     E: 's,
-    A: ArrivalLedger + Send + Sync + 's,
-    T: Ledger + Sync + 's,
-    U: Ledger + Sync + 's,
+    A: Sharing + Send + Sync + 's,
     S: BookRows + Send + 's,
     C: Clock + Copy + Sync + 's,
     H: Wait + Threads + Log + Sync + 's,
     R: Incoming + Send + Drop + 's,
     W: Write + Send + Drop + 's,
     D: Door<Reader = R, Writer = W> + Send + Drop + 's,
->(scope: &Scope<'s, E>, site: &'s Context<'x, A, T, U, S, C, H>, inlets: &'s [ChannelWork<A, D>]) {
+>(scope: &Scope<'s, E>, site: &'s Context<'x, A, S, C, H>, inlets: &'s [ChannelWork<A, D>]) {
     for inlet in inlets {
         if site.is_stopped() || !start_opening(scope, site, inlet) {
             break;
@@ -322,16 +301,14 @@ fn start_opening_all<
 pub(crate) fn open_doors<
     'y,
     'x: 'y,
-    A: ArrivalLedger + Send + Sync,
-    T: Ledger + Sync,
-    U: Ledger + Sync,
+    A: Sharing + Send + Sync,
     S: BookRows + Send,
     C: Clock + Copy + Sync,
     H: Wait + Threads + Log + Sync,
     R: Incoming + Send + Drop,
     W: Write + Send + Drop,
     D: Door<Reader = R, Writer = W> + Send + Drop,
->(site: &'y Context<'x, A, T, U, S, C, H>, inlets: &'y [ChannelWork<A, D>]) {
+>(site: &'y Context<'x, A, S, C, H>, inlets: &'y [ChannelWork<A, D>]) {
     thread::scope(
         thread::scope_env(),
         site.rt,

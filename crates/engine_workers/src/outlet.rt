@@ -4,21 +4,20 @@ ghost use Rattle.std.specs.Prelude.{◌≡◌, ◌+◌, ◌++◌, ◌∷◌, [],
 ghost use Rattle.std.specs.List.{filter_map};
 ghost use Rattle.std.specs.Option.{ForSome};
 ghost use Rattle.delivery_worker.specs.Sent.{IsUnused};
-ghost use Rattle.engine_workers.specs.inner.Works.{HasDelivered};
+ghost use Rattle.delivery_worker.specs.inner.Works.{HasDelivered};
 
 use crate::door::{Door, Incoming};
 use crate::inlet::{ChannelWork, open_doors};
 use crate::loan::TakeCell;
 use crate::site::Context;
 use book_core::BookRows;
-use book_lock::{ArrivalLedger, Station};
+use book_lock::{Sharing, Station};
 use conn_worker::Clock;
 use delivery_worker::{DeliverReport, Link, deliver};
 use log::{Log, warn};
 use std::alloc::{AllocError, Global};
 use std::io::Write;
 use std::sync::Wait;
-use std::sync::ledger::Ledger;
 use std::thread::{Scope, Threads};
 use std::{thread, time};
 
@@ -27,19 +26,19 @@ use std::{thread, time};
 /// report is of this station: the station has counted as many takes since as the report has attempts, and its calls are
 /// those of these attempts, for this destination. Without a report it has made no call.
 #[derive(Drop)]
-pub struct DestinationWork<A: ArrivalLedger, T: Ledger, U: Ledger, L> {
+pub struct DestinationWork<A: Sharing, L> {
     pub destination: u32,
     pub link: L,
     pub before: u64,
-    pub station: Station<A, T, U>,
+    pub station: Station<A>,
     pub report: Option<DeliverReport>,
     ghost counted: { ForSome report (λ r. station.counts.takes ≡ before + r.taken) },
     ghost delivered: { ∥ HasDelivered A.opening destination station.seat report ∥₁ },
 }
 
-impl<A: ArrivalLedger, T: Ledger, U: Ledger, L> DestinationWork<A, T, U, L> {
+impl<A: Sharing, L> DestinationWork<A, L> {
     /// An outlet by which nothing was delivered yet, with a station that has made no call.
-    pub fn new(destination: u32, link: L, station: Station<A, T, U>) -> Self
+    pub fn new(destination: u32, link: L, station: Station<A>) -> Self
         requires { IsUnused station.seat }
         ensures destination { result.destination ≡ destination }
         ensures link { result.link ≡ link }
@@ -56,10 +55,10 @@ impl<A: ArrivalLedger, T: Ledger, U: Ledger, L> DestinationWork<A, T, U, L> {
 }
 
 /// Adds the station of an outlet to others, and its report, if it has one. The link is dropped.
-fn add_outlet<A: ArrivalLedger, T: Ledger, U: Ledger, L: Drop>(
-    stations: &mut Vec<Station<A, T, U>>,
+fn add_outlet<A: Sharing, L: Drop>(
+    stations: &mut Vec<Station<A>>,
     reports: &mut Vec<DeliverReport>,
-    outlet: DestinationWork<A, T, U, L>,
+    outlet: DestinationWork<A, L>,
 ) -> Result<(), AllocError>
     ensures stations { OnOk result (stations.new.items ≡ stations.old.items ++ outlet.station ∷ []) }
     ensures reports { OnOk result (reports.new.items ≡ reports.old.items ++ filter_map (λ o. o.report) (outlet ∷ [])) }
@@ -83,10 +82,10 @@ fn add_outlet<A: ArrivalLedger, T: Ledger, U: Ledger, L: Drop>(
 ///
 /// Where memory is refused.
 #[tactic(auto, using(crate::proofs::Parts::map_more, crate::proofs::Parts::filter_map_more))]
-pub fn stations_and_reports<A: ArrivalLedger, T: Ledger, U: Ledger, L: Drop>(
+pub fn stations_and_reports<A: Sharing, L: Drop>(
     alloc: Global,
-    outlets: Vec<DestinationWork<A, T, U, L>>,
-) -> Result<(Vec<Station<A, T, U>>, Vec<DeliverReport>), AllocError>
+    outlets: Vec<DestinationWork<A, L>>,
+) -> Result<(Vec<Station<A>>, Vec<DeliverReport>), AllocError>
     ensures stations { IfOk result (λ r. r.0.items ≡ map (λ o. o.station) outlets.items) }
     ensures reports { IfOk result (λ r. r.1.items ≡ filter_map (λ o. o.report) outlets.items) }
 {
@@ -99,14 +98,12 @@ pub fn stations_and_reports<A: ArrivalLedger, T: Ledger, U: Ledger, L: Drop>(
 
 /// Delivers the messages of a destination, and leaves the report with it. Where there is a report already, nothing is done.
 fn deliver_all<
-    A: ArrivalLedger,
-    T: Ledger,
-    U: Ledger,
+    A: Sharing,
     S: BookRows,
     C: Clock + Copy,
     H: Wait + time::Clock + Log,
     L: Link + Drop,
->(site: &Context<'_, A, T, U, S, C, H>, place: &TakeCell<DestinationWork<A, T, U, L>>) {
+>(site: &Context<'_, A, S, C, H>, place: &TakeCell<DestinationWork<A, L>>) {
     let Some(outlet) = place.take(site.rt) else {
         return;
     };
@@ -149,18 +146,16 @@ fn start_delivering<
     's,
     'x: 's,
     E: 's,
-    A: ArrivalLedger + Send + Sync + 's,
-    T: Ledger + Sync + 's,
-    U: Ledger + Sync + 's,
+    A: Sharing + Send + Sync + 's,
     S: BookRows + Send + 's,
     C: Clock + Copy + Sync + 's,
     H: Wait + time::Clock + Log + Sync + 's,
     L: Link + Send + Drop + 's,
 >(
     scope: &Scope<'s, E>,
-    site: &'s Context<'x, A, T, U, S, C, H>,
+    site: &'s Context<'x, A, S, C, H>,
     destination: u32,
-    outlet: &'s TakeCell<DestinationWork<A, T, U, L>>,
+    outlet: &'s TakeCell<DestinationWork<A, L>>,
 ) -> bool {
     let started = scope.spawn(move || deliver_all(site, outlet)).is_ok();
     if !started {
@@ -175,17 +170,15 @@ fn start_delivering_all<
     's,
     'x: 's,
     E: 's,
-    A: ArrivalLedger + Send + Sync + 's,
-    T: Ledger + Sync + 's,
-    U: Ledger + Sync + 's,
+    A: Sharing + Send + Sync + 's,
     S: BookRows + Send + 's,
     C: Clock + Copy + Sync + 's,
     H: Wait + time::Clock + Log + Sync + 's,
     L: Link + Send + Drop + 's,
 >(
     scope: &Scope<'s, E>,
-    site: &'s Context<'x, A, T, U, S, C, H>,
-    outlets: &'s [TakeCell<DestinationWork<A, T, U, L>>],
+    site: &'s Context<'x, A, S, C, H>,
+    outlets: &'s [TakeCell<DestinationWork<A, L>>],
 ) {
     for (destination, outlet) in (0..u32::MAX).zip(outlets) {
         if !start_delivering(scope, site, destination, outlet) {
@@ -199,9 +192,7 @@ fn start_delivering_all<
 pub(crate) fn work_all<
     'y,
     'x: 'y,
-    A: ArrivalLedger + Send + Sync,
-    T: Ledger + Sync,
-    U: Ledger + Sync,
+    A: Sharing + Send + Sync,
     S: BookRows + Send,
     C: Clock + Copy + Sync,
     H: Wait + Threads + time::Clock + Log + Sync,
@@ -210,9 +201,9 @@ pub(crate) fn work_all<
     D: Door<Reader = R, Writer = W> + Send + Drop,
     L: Link + Send + Drop,
 >(
-    site: &'y Context<'x, A, T, U, S, C, H>,
+    site: &'y Context<'x, A, S, C, H>,
     inlets: &'y [ChannelWork<A, D>],
-    outlets: &'y [TakeCell<DestinationWork<A, T, U, L>>],
+    outlets: &'y [TakeCell<DestinationWork<A, L>>],
 ) {
     thread::scope(thread::scope_env(), site.rt, |scope| {
         start_delivering_all(scope, &*site, outlets);

@@ -6,7 +6,7 @@ ghost use Rattle.std.specs.Option.{ForSome};
 ghost use Rattle.delivery_worker.specs.Sent.{IsUnused};
 ghost use Rattle.engine_workers.specs.inner.Works.{HasServed};
 
-use book_lock::{ArrivalLedger, Desk};
+use book_lock::{Desk, Sharing};
 use conn_worker::ServeReport;
 use std::alloc::{AllocError, Global};
 
@@ -15,7 +15,7 @@ use std::alloc::{AllocError, Global};
 /// The report is of this desk: the desk has counted as many arrivals since as the report has receipts, and what it added
 /// to the book's log is the arrivals of these receipts. Without a report it has added nothing.
 #[derive(Drop)]
-pub struct ConnectionSlot<A: ArrivalLedger> {
+pub struct ConnectionSlot<A: Sharing> {
     pub connection: u32,
     pub channel: u32,
     pub before: u64,
@@ -26,7 +26,7 @@ pub struct ConnectionSlot<A: ArrivalLedger> {
     ghost served: { ∥ HasServed A.opening desk.seat report ∥₁ },
 }
 
-impl<A: ArrivalLedger> ConnectionSlot<A> {
+impl<A: Sharing> ConnectionSlot<A> {
     /// The seat of a connection that was not served yet, with a desk at which nothing was booked.
     pub fn new(connection: u32, channel: u32, desk: Desk<A>) -> Self
         requires channel { channel < A.channels }
@@ -46,7 +46,7 @@ impl<A: ArrivalLedger> ConnectionSlot<A> {
 }
 
 /// Adds the desk of a seat to others, and its report, if it has one.
-fn add_seat<A: ArrivalLedger>(
+fn add_seat<A: Sharing>(
     desks: &mut Vec<Desk<A>>,
     reports: &mut Vec<ServeReport>,
     seat: ConnectionSlot<A>,
@@ -68,7 +68,7 @@ fn add_seat<A: ArrivalLedger>(
 ///
 /// Where memory is refused.
 #[tactic(auto, using(crate::proofs::Parts::map_more, crate::proofs::Parts::filter_map_more))]
-pub fn desks_and_reports<A: ArrivalLedger>(
+pub fn desks_and_reports<A: Sharing>(
     alloc: Global,
     seats: Vec<ConnectionSlot<A>>,
 ) -> Result<(Vec<Desk<A>>, Vec<ServeReport>), AllocError>

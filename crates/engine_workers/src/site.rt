@@ -1,30 +1,29 @@
 //! What all workers share.
 
 use book_core::BookRows;
-use book_lock::{ArrivalLedger, Shared};
+use book_lock::{Shared, Sharing};
 use plan_text::Plan;
 use std::alloc::Global;
 use std::sync::atomic::{AtomicBool, Ordering};
-use std::sync::ledger::Ledger;
 
 /// What all workers share: the runtime, the book, the plan, which names channels and destinations in the log, the clock that
 /// each has a copy of, and whether a thread or memory was refused, after which no further worker is started.
 #[derive(Drop)]
-pub struct Context<'x, A: ArrivalLedger, T: Ledger, U: Ledger, S: BookRows, C, H> {
+pub struct Context<'x, A: Sharing, S: BookRows, C, H> {
     pub rt: &'x H,
     pub alloc: Global,
-    pub shared: &'x Shared<A, T, U, S>,
+    pub shared: &'x Shared<A, S>,
     pub plan: &'x Plan,
     pub clock: C,
     stopped: AtomicBool,
 }
 
-impl<'x, A: ArrivalLedger, T: Ledger, U: Ledger, S: BookRows, C, H> Context<'x, A, T, U, S, C, H> {
+impl<'x, A: Sharing, S: BookRows, C, H> Context<'x, A, S, C, H> {
     /// A site at which nothing was refused yet.
     pub fn new(
         rt: &'x H,
         alloc: Global,
-        shared: &'x Shared<A, T, U, S>,
+        shared: &'x Shared<A, S>,
         plan: &'x Plan,
         clock: C,
     ) -> Self {

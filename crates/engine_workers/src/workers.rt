@@ -11,7 +11,7 @@ use crate::outlet::{DestinationWork, work_all};
 use crate::seat::ConnectionSlot;
 use crate::site::Context;
 use book_core::BookRows;
-use book_lock::{ArrivalLedger, Desk, Shared, Station};
+use book_lock::{Desk, Shared, Sharing, Station};
 use conn_worker::Clock;
 use delivery_worker::Link;
 use log::Log;
@@ -19,7 +19,6 @@ use plan_text::Plan;
 use std::alloc::{AllocError, Global};
 use std::io::Write;
 use std::sync::Wait;
-use std::sync::ledger::Ledger;
 use std::thread::Threads;
 use std::{time, vec};
 use thiserror::Error;
@@ -38,13 +37,13 @@ impl From<AllocError> for StartError {
 /// What the workers work with: a desk for each connection, a door for each channel, and for each destination a station and
 /// a link. No call was made at a desk or a station yet.
 #[derive(Drop)]
-pub struct Workers<A: ArrivalLedger, T: Ledger, U: Ledger, D, L> {
+pub struct Workers<A: Sharing, D, L> {
     /// The desks of the connections, those of the first channel's first.
     pub desks: Vec<Desk<A>>,
     /// The doors, in the order of the plan's channels.
     pub doors: Vec<D>,
     /// The stations, in the order of the plan's destinations.
-    pub stations: Vec<Station<A, T, U>>,
+    pub stations: Vec<Station<A>>,
     /// The links, in the order of the plan's destinations.
     pub links: Vec<L>,
     ghost unused_desks: { All (λ d. IsUnused d.seat) desks.items },
@@ -53,27 +52,27 @@ pub struct Workers<A: ArrivalLedger, T: Ledger, U: Ledger, D, L> {
 
 /// The result of the work: what the workers worked with, each report with the desk or the station that it is of.
 #[derive(Drop)]
-pub struct Finished<A: ArrivalLedger, T: Ledger, U: Ledger, D, L> {
+pub struct Finished<A: Sharing, D, L> {
     /// The seats, in the order of the numbers of the connections.
     pub seats: Vec<ConnectionSlot<A>>,
     /// The doors, in the order of the plan's channels.
     pub doors: Vec<D>,
     /// The outlets, in the order of the plan's destinations.
-    pub outlets: Vec<DestinationWork<A, T, U, L>>,
+    pub outlets: Vec<DestinationWork<A, L>>,
 }
 
 /// Where the workers work.
 #[derive(Drop)]
-struct Work<A: ArrivalLedger, T: Ledger, U: Ledger, D, L> {
+struct Work<A: Sharing, D, L> {
     /// The inlets, in the order of the plan's channels.
     inlets: Vec<ChannelWork<A, D>>,
     /// The outlets, in the order of the plan's destinations.
-    outlets: Vec<TakeCell<DestinationWork<A, T, U, L>>>,
+    outlets: Vec<TakeCell<DestinationWork<A, L>>>,
 }
 
 /// The seats of a channel's connections, at the next desks.
-#[tactic(auto, using(crate::proofs::Unused::unused_desk))]
-fn seats_at<A: ArrivalLedger>(
+#[tactic(auto, using(delivery_worker::proofs::Unused::unused_desk))]
+fn seats_at<A: Sharing>(
     alloc: Global,
     desks: &mut vec::IntoIter<Desk<A>>,
     channel: u32,
@@ -95,7 +94,7 @@ fn seats_at<A: ArrivalLedger>(
 }
 
 /// The inlets of the channels, each with the seats of its connections.
-fn inlets_of<A: ArrivalLedger, D: Drop>(
+fn inlets_of<A: Sharing, D: Drop>(
     alloc: Global,
     channels: u32,
     accept: u32,
@@ -123,11 +122,11 @@ fn inlets_of<A: ArrivalLedger, D: Drop>(
 }
 
 /// The outlets of the destinations.
-fn outlets_of<A: ArrivalLedger, T: Ledger, U: Ledger, L: Drop>(
+fn outlets_of<A: Sharing, L: Drop>(
     alloc: Global,
-    stations: Vec<Station<A, T, U>>,
+    stations: Vec<Station<A>>,
     links: Vec<L>,
-) -> Result<Vec<TakeCell<DestinationWork<A, T, U, L>>>, AllocError>
+) -> Result<Vec<TakeCell<DestinationWork<A, L>>>, AllocError>
     requires { All (λ s. IsUnused s.seat) stations.items }
 {
     let mut stations = stations.into_iter();
@@ -146,12 +145,12 @@ fn outlets_of<A: ArrivalLedger, T: Ledger, U: Ledger, L: Drop>(
 }
 
 /// The posts of a staff.
-fn posts_of<A: ArrivalLedger, T: Ledger, U: Ledger, D: Drop, L: Drop>(
+fn posts_of<A: Sharing, D: Drop, L: Drop>(
     alloc: Global,
     channels: u32,
     accept: u32,
-    staff: Workers<A, T, U, D, L>,
-) -> Result<Work<A, T, U, D, L>, AllocError>
+    staff: Workers<A, D, L>,
+) -> Result<Work<A, D, L>, AllocError>
     requires { channels ≡ A.channels }
 {
     let Workers {
@@ -166,7 +165,7 @@ fn posts_of<A: ArrivalLedger, T: Ledger, U: Ledger, D: Drop, L: Drop>(
 }
 
 /// Takes in the door of a channel, and the seats of its connections.
-fn take_inlet<A: ArrivalLedger, D: Drop>(
+fn take_inlet<A: Sharing, D: Drop>(
     seats: &mut Vec<ConnectionSlot<A>>,
     doors: &mut Vec<D>,
     inlet: ChannelWork<A, D>,
@@ -183,10 +182,10 @@ fn take_inlet<A: ArrivalLedger, D: Drop>(
 }
 
 /// Takes in what delivered to all destinations.
-fn outlets_back<A: ArrivalLedger, T: Ledger, U: Ledger, L: Drop>(
+fn outlets_back<A: Sharing, L: Drop>(
     alloc: Global,
-    places: Vec<TakeCell<DestinationWork<A, T, U, L>>>,
-) -> Result<Vec<DestinationWork<A, T, U, L>>, AllocError> {
+    places: Vec<TakeCell<DestinationWork<A, L>>>,
+) -> Result<Vec<DestinationWork<A, L>>, AllocError> {
     let mut outlets = Vec::new(alloc);
     for place in places {
         if let Some(outlet) = place.into_inner() {
@@ -197,10 +196,10 @@ fn outlets_back<A: ArrivalLedger, T: Ledger, U: Ledger, L: Drop>(
 }
 
 /// The result of the work at these posts.
-fn gather<A: ArrivalLedger, T: Ledger, U: Ledger, D: Drop, L: Drop>(
+fn gather<A: Sharing, D: Drop, L: Drop>(
     alloc: Global,
-    posts: Work<A, T, U, D, L>,
-) -> Result<Finished<A, T, U, D, L>, AllocError> {
+    posts: Work<A, D, L>,
+) -> Result<Finished<A, D, L>, AllocError> {
     let Work { inlets, outlets } = posts;
     let (mut seats, mut doors) = (Vec::new(alloc), Vec::new(alloc));
     for inlet in inlets {
@@ -216,9 +215,7 @@ fn gather<A: ArrivalLedger, T: Ledger, U: Ledger, D: Drop, L: Drop>(
 
 /// Has each worker work at its post. Whether all could be started.
 fn work_at<
-    A: ArrivalLedger + Send + Sync,
-    T: Ledger + Sync,
-    U: Ledger + Sync,
+    A: Sharing + Send + Sync,
     S: BookRows + Send,
     C: Clock + Copy + Sync,
     H: Wait + Threads + time::Clock + Log + Sync,
@@ -229,9 +226,9 @@ fn work_at<
 >(
     rt: &H,
     alloc: Global,
-    shared: &Shared<A, T, U, S>,
+    shared: &Shared<A, S>,
     plan: &Plan,
-    posts: &Work<A, T, U, D, L>,
+    posts: &Work<A, D, L>,
     clock: C,
 ) -> bool {
     let site = Context::new(rt, alloc, shared, plan, clock);
@@ -256,9 +253,7 @@ fn work_at<
 /// Where memory or a thread is refused, no further worker is started. Those that were started work to their end, and what
 /// all worked with is dropped.
 pub fn run_workers<
-    A: ArrivalLedger + Send + Sync,
-    T: Ledger + Sync,
-    U: Ledger + Sync,
+    A: Sharing + Send + Sync,
     S: BookRows + Send,
     C: Clock + Copy + Sync,
     H: Wait + Threads + time::Clock + Log + Sync,
@@ -269,11 +264,11 @@ pub fn run_workers<
 >(
     rt: &H,
     alloc: Global,
-    shared: &Shared<A, T, U, S>,
-    staff: Workers<A, T, U, D, L>,
+    shared: &Shared<A, S>,
+    staff: Workers<A, D, L>,
     accept: u32,
     clock: C,
-) -> Result<Finished<A, T, U, D, L>, StartError> {
+) -> Result<Finished<A, D, L>, StartError> {
     let plan = shared.plan(rt)?;
     let posts = posts_of(alloc, plan.channels(), accept, staff)?;
     if !work_at(rt, alloc, shared, &plan, &posts, clock) {

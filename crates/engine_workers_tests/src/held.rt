@@ -6,7 +6,7 @@ ghost use Rattle.event_log.specs.Counting.{counted};
 
 use crate::stage::{Gate, Partner, Stage};
 use book_core::{Book, EVENTS_MAX, Outbound, Receipt};
-use book_lock::{ArrivalLedger, Closed, Desk, LogEntry, Shared, audit, rising};
+use book_lock::{Closed, Desk, LogEntry, Opened, Shared, Sharing, audit, rising};
 use conn_worker::{ServeEnd, ServeReport, Still, nearest};
 use delivery_worker::{DeliverEnd, DeliverReport};
 use dest_queue::Queued;
@@ -21,7 +21,6 @@ use stat_count::Counts;
 use std::alloc::Global;
 use std::hash::RandomState;
 use std::marker::Brand;
-use std::sync::ledger::{Blank, Ledger};
 use std::sync::{Arc, Wait};
 use std::test::Fail;
 use std::thread::Threads;
@@ -74,9 +73,9 @@ struct Ended {
 }
 
 /// What is shown at two desks.
-fn shown_at<A: ArrivalLedger, T: Ledger, U: Ledger, H: Wait>(
+fn shown_at<A: Sharing, H: Wait>(
     rt: &H,
-    shared: &Shared<A, T, U, Rows>,
+    shared: &Shared<A, Rows>,
     desks: &mut [Desk<A>],
 ) -> Option<Shown> {
     let counts = shared.counts(rt, desks.first_mut()?);
@@ -85,11 +84,11 @@ fn shown_at<A: ArrivalLedger, T: Ledger, U: Ledger, H: Wait>(
 }
 
 /// Takes the book out of its lock, once the workers have ended. None where a share is missing.
-fn close<A: ArrivalLedger, T: Ledger, U: Ledger, H: Wait, D: Drop, L: Drop>(
+fn close<A: Sharing, H: Wait, D: Drop, L: Drop>(
     rt: &H,
     alloc: Global,
-    shared: Shared<A, T, U, Rows>,
-    worked: Finished<A, T, U, D, L>,
+    shared: Shared<A, Rows>,
+    worked: Finished<A, D, L>,
 ) -> Option<Ended> {
     let Finished { seats, outlets, .. } = worked;
     let (mut desks, served) = desks_and_reports(alloc, seats).ok()?;
@@ -106,20 +105,11 @@ fn close<A: ArrivalLedger, T: Ledger, U: Ledger, H: Wait, D: Drop, L: Drop>(
 
 /// Runs the workers of a book with two connections on its one channel, and closes it. None where memory is refused to all but
 /// the door, or something is missing at the end.
-fn run<
-    'a,
-    A: ArrivalLedger + Send + Sync,
-    T: Ledger + Send + Sync,
-    U: Ledger + Send + Sync,
-    H: Wait + Threads + time::Clock + Log + Sync,
->(
+fn run<'a, A: Sharing + Send + Sync, H: Wait + Threads + time::Clock + Log + Sync>(
     rt: &H,
     alloc: Global,
     book: Book<Rows>,
     log: BlankLog<LogEntry>,
-    arrivals: Blank,
-    takes: Blank,
-    settlements: Blank,
     doors: Vec<Gate<'a>>,
     links: Vec<Partner<'a>>,
 ) -> Option<Result<Ended, StartError>>
@@ -128,12 +118,17 @@ fn run<
     requires counts { counted book ≡ A.counts }
     requires first { next_place book ≡ A.first }
     requires channels { length (plan_in_force book).channels ≡ A.channels }
-    requires arrivals { (arrivals.name ≡ A.name) × (arrivals.parts ≡ A.parts) × (A.parts ≡ 3) }
-    requires takes { (takes.name ≡ T.name) × (takes.parts ≡ T.parts) × (T.parts ≡ 3) }
-    requires settlements { (settlements.name ≡ U.name) × (settlements.parts ≡ U.parts) × (U.parts ≡ 3) }
+    requires seats { (A.desks ≡ 2) × (A.stations ≡ 2) }
 {
-    let opened = Shared::<A, T, U, Rows>::new(alloc, book, 2, 2, log, arrivals, takes, settlements);
-    let Ok((shared, desks, stations)) = opened else {
+    let opened = Shared::<A, Rows>::new(alloc, book, 2, 2, log);
+    let Ok(
+        Opened {
+            shared,
+            desks,
+            stations,
+        },
+    ) = opened
+    else {
         return None;
     };
     let staff = Workers {
@@ -158,17 +153,7 @@ fn run_on<H: Wait + Threads + time::Clock + Log + Sync>(
 ) -> Option<Result<Ended, StartError>> {
     let (doors, links) = (doors_of(alloc, stage)?, links_of(alloc, stage)?);
     let log = BlankLog::new(alloc).ok()?;
-    run::<Brand, Brand, Brand, H>(
-        rt,
-        alloc,
-        book?,
-        log,
-        Blank::new(3),
-        Blank::new(3),
-        Blank::new(3),
-        doors,
-        links,
-    )
+    run::<Brand, H>(rt, alloc, book?, log, doors, links)
 }
 
 /// The receipts of both connections. None unless each has one, and ended as it should.

@@ -8,7 +8,7 @@ ghost use Rattle.event_log.specs.Counting.{counted};
 use crate::crowd::{BLOCK, MESSAGES, acceptance, replies_to, stream_of};
 use crate::many::{Ended, Rows, close, is_right};
 use book_core::{Book, EVENTS_MAX};
-use book_lock::{ArrivalLedger, LogEntry, Shared};
+use book_lock::{LogEntry, Opened, Shared, Sharing};
 use conn_worker::{Still, nearest};
 use delivery_worker::TcpLink;
 use engine_workers::{TcpDoor, Workers, run_workers};
@@ -20,7 +20,6 @@ use std::hash::RandomState;
 use std::io::{Read, Write};
 use std::marker::Brand;
 use std::net::{Net, Shutdown, SocketAddr, TcpListener, TcpStream};
-use std::sync::ledger::{Blank, Ledger};
 use std::sync::{Arc, Wait};
 use std::test::Fail;
 use std::thread::{JoinHandle, Threads};
@@ -149,18 +148,13 @@ fn links_of<'a, H: Net<Listener = TcpListener, Stream = TcpStream> + Clock + Log
 /// memory or a thread is refused, or something is missing at the end.
 fn run<
     'a,
-    A: ArrivalLedger + Send + Sync,
-    T: Ledger + Send + Sync,
-    U: Ledger + Send + Sync,
+    A: Sharing + Send + Sync,
     H: Wait + Threads + Clock + Log + Sync + Net<Listener = TcpListener, Stream = TcpStream>,
 >(
     rt: &'a H,
     alloc: Global,
     book: Book<Rows>,
     log: BlankLog<LogEntry>,
-    arrivals: Blank,
-    takes: Blank,
-    settlements: Blank,
     doors: Vec<TcpDoor<'a, H>>,
     links: Vec<TcpLink<'a, H, &'a Destination>>,
 ) -> Option<Ended>
@@ -169,12 +163,17 @@ fn run<
     requires counts { counted book ≡ A.counts }
     requires first { next_place book ≡ A.first }
     requires channels { length (plan_in_force book).channels ≡ A.channels }
-    requires arrivals { (arrivals.name ≡ A.name) × (arrivals.parts ≡ A.parts) × (A.parts ≡ 3) }
-    requires takes { (takes.name ≡ T.name) × (takes.parts ≡ T.parts) × (T.parts ≡ 3) }
-    requires settlements { (settlements.name ≡ U.name) × (settlements.parts ≡ U.parts) × (U.parts ≡ 3) }
+    requires seats { (A.desks ≡ 2) × (A.stations ≡ 2) }
 {
-    let opened = Shared::<A, T, U, Rows>::new(alloc, book, 2, 2, log, arrivals, takes, settlements);
-    let Ok((shared, desks, stations)) = opened else {
+    let opened = Shared::<A, Rows>::new(alloc, book, 2, 2, log);
+    let Ok(
+        Opened {
+            shared,
+            desks,
+            stations,
+        },
+    ) = opened
+    else {
         return None;
     };
     let staff = Workers {
@@ -203,17 +202,7 @@ fn run_on<
     let mut doors = Vec::new(alloc);
     doors.push(door).ok()?;
     let log = BlankLog::new(alloc).ok()?;
-    run::<Brand, Brand, Brand, H>(
-        rt,
-        alloc,
-        book?,
-        log,
-        Blank::new(3),
-        Blank::new(3),
-        Blank::new(3),
-        doors,
-        links,
-    )
+    run::<Brand, H>(rt, alloc, book?, log, doors, links)
 }
 
 /// Whether a sender was sent the replies to its messages, and nothing else.

@@ -68,7 +68,7 @@ module _ {X Y : Type 0} (f : X → Y) where
 -- ---- numbers
 
 -- a number that is hit counts this much
-abbrev hit : ℕ → ℕ → ℕ → ℕ
+abbrev pub hit : ℕ → ℕ → ℕ → ℕ
 hit n c k = cond (n == k) c 0
 
 contains_later : (k n : ℕ) (ks : List ℕ) → Contains ks n → Contains (k ∷ ks) n
@@ -77,11 +77,11 @@ contains_later k n ks h = (suc h.0, omega (arith, h.1), h.2)
 contains_first : (k n : ℕ) (ks : List ℕ) → k ≡ n → Contains (k ∷ ks) n
 contains_first k n ks same = (0, omega arith, same)
 
-hit_same : (n c k : ℕ) (b : Bool) → (n == k) ≡ b → n ≡ k → hit n c k ≡ c
+pub hit_same : (n c k : ℕ) (b : Bool) → (n == k) ≡ b → n ≡ k → hit n c k ≡ c
 hit_same n c k true is same = rw is refl
 hit_same n c k false is same = absurd (grind (arith, nat_tests))
 
-hit_other : (n c k : ℕ) (b : Bool) → (n == k) ≡ b → n ≢ k → hit n c k ≡ 0
+pub hit_other : (n c k : ℕ) (b : Bool) → (n == k) ≡ b → n ≢ k → hit n c k ≡ 0
 hit_other n c k true is apart = absurd (apart (grind (arith, nat_tests)))
 hit_other n c k false is apart = rw is refl
 
@@ -96,7 +96,7 @@ none_hit n c (k ∷ ks) h =
     let rest : sum_by (hit n c) ks ≡ 0 = none_hit n c ks (All-tail (λ k. n ≢ k) k ks h) in
     omega (arith, sum_by-cons (hit n c) k ks, first, rest)
 
-hits_more : (n c k : ℕ) (ks : List ℕ) → All (λ j. k ≢ j) ks → (n ≡ k) ⊎ (n ≢ k) → (sum_by (hit n c) ks ≡ 0) ⊎ ((sum_by (hit n c) ks ≡ c) × Contains ks n)
+pub hits_more : (n c k : ℕ) (ks : List ℕ) → All (λ j. k ≢ j) ks → (n ≡ k) ⊎ (n ≢ k) → (sum_by (hit n c) ks ≡ 0) ⊎ ((sum_by (hit n c) ks ≡ c) × Contains ks n)
     → (sum_by (hit n c) (k ∷ ks) ≡ 0) ⊎ ((sum_by (hit n c) (k ∷ ks) ≡ c) × Contains (k ∷ ks) n)
 hits_more n c k ks others (inl same) rest =
     let all : sum_by (hit n c) (k ∷ ks) ≡ hit n c k + sum_by (hit n c) ks = sum_by-cons (hit n c) k ks in
@@ -114,9 +114,32 @@ hits_more n c k ks others (inr other) (inr one) =
     inr (omega (arith, all, first, rest), contains_later k n ks one.1)
 
 -- of different numbers, one at most is hit
-hits : (n c : ℕ) (ks : List ℕ) → AllPairs (λ i j. i ≢ j) ks → (sum_by (hit n c) ks ≡ 0) ⊎ ((sum_by (hit n c) ks ≡ c) × Contains ks n)
+pub hits : (n c : ℕ) (ks : List ℕ) → AllPairs (λ i j. i ≢ j) ks → (sum_by (hit n c) ks ≡ 0) ⊎ ((sum_by (hit n c) ks ≡ c) × Contains ks n)
 hits n c [] apart = inl refl
 hits n c (k ∷ ks) apart = hits_more n c k ks (pairs_head (λ i j. i ≢ j) k ks apart) (same_or_not n k (n == k) refl) (hits n c ks (pairs_tail (λ i j. i ≢ j) k ks apart))
+
+-- and one is, where it is among them
+pub hit_found : (n c : ℕ) (ks : List ℕ) → AllPairs (λ i j. i ≢ j) ks → Contains ks n → sum_by (hit n c) ks ≡ c
+hit_found n c [] apart has = absurd (let lt = has.1 in omega (arith, lt))
+hit_found n c (k ∷ ks) apart has =
+    by (same_or_not n k (n == k) refl) (hit_found n c ks (pairs_tail (λ i j. i ≢ j) k ks apart))
+  where
+    others : All (λ j. k ≢ j) ks
+    others = pairs_head (λ i j. i ≢ j) k ks apart
+
+    later : n ≢ k → Contains (k ∷ ks) n → Contains ks n
+    later other (zero, lt, at) = absurd (other (sym at))
+    later other (suc i, lt, at) = (i, omega (arith, lt), at)
+
+    by : (n ≡ k) ⊎ (n ≢ k) → (Contains ks n → sum_by (hit n c) ks ≡ c) → sum_by (hit n c) (k ∷ ks) ≡ c
+    by (inl same) found =
+        let first : hit n c k ≡ c = hit_same n c k (n == k) refl same in
+        let none : sum_by (hit n c) ks ≡ 0 = none_hit n c ks (subst (λ m. All (λ j. m ≢ j) ks) (sym same) others) in
+        omega (arith, sum_by-cons (hit n c) k ks, first, none)
+    by (inr other) found =
+        let first : hit n c k ≡ 0 = hit_other n c k (n == k) refl other in
+        let rest : sum_by (hit n c) ks ≡ c = found (later other has) in
+        omega (arith, sum_by-cons (hit n c) k ks, first, rest)
 
 sums_add : (f g h : ℕ → ℕ) (ks : List ℕ) → ((k : ℕ) → h k ≡ f k + g k) → sum_by h ks ≡ sum_by f ks + sum_by g ks
 sums_add f g h [] each = refl
@@ -156,6 +179,21 @@ module _ {E : Type 0} (p : E → Bool) where
       (λ (none : sum_by (hit x.0 c) ks ≡ 0). omega (arith, more, all, few, none))
       (λ (one : (sum_by (hit x.0 c) ks ≡ c) × Contains ks x.0). let h = one.0 in omega (arith, more, all, few, h))
       (hits x.0 c ks apart)
+
+  -- where each entry that passes has one of these numbers, they added all
+  pub owned_whole : (ks : List ℕ) → AllPairs (λ i j. i ≢ j) ks → (log : List (ℕ × E)) → All (λ x. p x.1 ≡ true → Contains ks x.0) log → sum_by (count_own log) ks ≡ count_all log
+  owned_whole ks apart [] each = none_owned ks
+  owned_whole ks apart (x ∷ log) each =
+      let c : ℕ = cond (p x.1) 1 0 in
+      let more : sum_by (count_own (x ∷ log)) ks ≡ sum_by (hit x.0 c) ks + sum_by (count_own log) ks = owns_more x log ks in
+      let all : count_all (x ∷ log) ≡ c + count_all log = sum_by-cons (λ (y : ℕ × E). cond (p y.1) 1 0) x log in
+      let rest : sum_by (count_own log) ks ≡ count_all log = owned_whole ks apart log (All-tail (λ x. p x.1 ≡ true → Contains ks x.0) x log each) in
+      let here : sum_by (hit x.0 c) ks ≡ c = hit_here x.0 (p x.1) refl (All-head (λ x. p x.1 ≡ true → Contains ks x.0) x log each) in
+      omega (arith, more, all, rest, here)
+    where
+      hit_here : (n : ℕ) (b : Bool) → p x.1 ≡ b → (p x.1 ≡ true → Contains ks n) → sum_by (hit n (cond (p x.1) 1 0)) ks ≡ cond (p x.1) 1 0
+      hit_here n true is has = hit_found n (cond (p x.1) 1 0) ks apart (has is)
+      hit_here n false is has = ⊎_elim (λ none. none ∙ sym (rw is refl)) (λ one. one.0) (hits n (cond (p x.1) 1 0) ks apart)
 
   passes_one : (e : E) → p e ≡ true → ◌≡◌ {A = ℕ} (cond (p e) 1 0) 1
   passes_one e passes = rw passes refl
@@ -201,6 +239,19 @@ module _ {E : Type 0} (p : E → Bool) where
       let there : count_own log (seat x).0 ≡ count_own (seat x).1 (seat x).0 = own_shown (seat x).0 (seat x).1 log (All-head (λ x. Agrees (seat x).0 (seat x).1 log) x xs agreed) in
       let rest : sum_by made xs ≡ sum_by (count_own log) (map (λ x. (seat x).0) xs) = counts_owned made seat xs log (All-tail (λ x. made x ≡ count_own (seat x).1 (seat x).0) x xs own) (All-tail (λ x. Agrees (seat x).0 (seat x).1 log) x xs agreed) in
       omega (arith, sum_by-cons made x xs, sum_by-cons (count_own log) (seat x).0 (map (λ x. (seat x).0) xs), here, there, rest)
+
+  -- seats with different numbers, of which each entry that passes has one, count as many as the log has
+  pub all_counted : {X : Type 0} (made : X → ℕ) (seat : X → ℕ × List (ℕ × E)) (xs : List X) (log : List (ℕ × E)) → All (λ x. made x ≡ count_own (seat x).1 (seat x).0) xs → All (λ x. Agrees (seat x).0 (seat x).1 log) xs
+      → AllPairs (λ x y. (seat x).0 ≢ (seat y).0) xs → All (λ x. p x.1 ≡ true → Contains (map (λ x. (seat x).0) xs) x.0) log → sum_by made xs ≡ count_all log
+  all_counted made seat xs log own agreed apart each =
+      counts_owned made seat xs log own agreed ∙ owned_whole (map (λ x. (seat x).0) xs) (pairs_in_map (λ x. (seat x).0) (λ i j. i ≢ j) xs apart) log each
+
+  -- a seat counts no more of its own than the log has
+  pub own_few : (k : ℕ) (seen log : List (ℕ × E)) → Agrees k seen log → count_own seen k ≤ count_all log
+  own_few k seen log agreed =
+      let one : sum_by (count_own log) (k ∷ []) ≤ count_all log = owned_few (k ∷ []) (AllPairs-cons (λ i j. i ≢ j) k [] (All-nil (λ j. k ≢ j)) (pairs_none (λ i j. i ≢ j))) log in
+      let shown : count_own log k ≡ count_own seen k = own_shown k seen log agreed in
+      omega (arith, one, sum_by-cons (count_own log) k [], shown)
 
   -- seats with different numbers that count as many as the log has added each of them
   pub each_owned : {X : Type 0} (made : X → ℕ) (seat : X → ℕ × List (ℕ × E)) (xs : List X) (log : List (ℕ × E)) → All (λ x. made x ≡ count_own (seat x).1 (seat x).0) xs → All (λ x. Agrees (seat x).0 (seat x).1 log) xs

@@ -1,6 +1,6 @@
 -- Lemmas that each step keeps the rule.
 use Rattle.std.proofs.Common.{◌≡◌, ◌≢◌, ◌⊎◌, ℕ, zero, suc, ◌+◌, ◌<◌, ◌==◌, Bool, true, false, true≢false, List, [], ◌∷◌, ◌++◌, length, map, set, refl, sym, ap, ◌∙◌, subst, inl, inr, ⊎_elim, arith, length-set, All}
-use Rattle.std.proofs.lemmas.List.Elements.{All-append, All-cons, All-head, All-nil, All-weaker}
+use Rattle.std.proofs.lemmas.List.Elements.{All-append, All-cons, All-head, All-nil, All-tail, All-weaker}
 use Rattle.std.proofs.lemmas.List.Kept.{AllPairs-cons}
 use Rattle.std.proofs.lemmas.Bool.Decides.{nat_tests}
 use prog.Atomic.{either}
@@ -10,7 +10,8 @@ use Rattle.atomic_table.specs.Table.{Me, keeps, Allows, Splits, Joins}
 use Rattle.atomic_table.proofs.Lists.{at_set}
 use Rattle.ghost_log.specs.declared.rule.PassView.{PassView}
 use Rattle.ghost_log.specs.Seats.{Agrees}
-use Rattle.ghost_log.specs.inner.Passes.{AreApart, Fits, IsFitting, IsAlone, IsJoint, IsRoll, IsSeat, IsConsistent, HasCompared, HasAdded, with_entries, with_new_seat, seat_part, seat_view, joined_views, keeper_view, keeper_part, new_seat_view, empty_view, extended, first_seen, joint_view, roll_view}
+use Rattle.ghost_log.specs.inner.Passes.{AreApart, Fits, IsFirst, IsFitting, IsAlone, IsJoint, IsRoll, IsSeat, IsConsistent, HasCompared, HasAdded, with_entries, with_new_seat, seat_part, seat_view, joined_views, keeper_view, keeper_part, new_seat_view, empty_view, extended, first_held, first_seen, joint_view, others_held, roll_view}
+use Rattle.ghost_log.proofs.Counting.{pairs_head, pairs_tail}
 use Rattle.ghost_log.proofs.Seats.{agrees_self, agrees_others, none_yet, within_others}
 
 off : false ≡ true → ⊥
@@ -143,12 +144,24 @@ module _ {E : Type 0} where
     fitting by log n held views h at,
   )
 
-  pub leaves : (by : ℕ) (log : List (ℕ × E)) (n k : ℕ) (seen : List (ℕ × E)) (views : List (PassView E)) → IsConsistent views → get_elem? views by ≡ some (joint_view log n k seen)
-      → IsConsistent (set views by (keeper_view log n) ++ seat_view k seen ∷ [])
-  leaves by log n k seen views h at =
-      let mine = h.each by (joint_view log n k seen) at in
+  -- the other seats of a pass, once a number moves
+  seats_kept : (log : List (ℕ × E)) (issued : ℕ) (owner : ℕ → ℕ) (by k to : ℕ) (held : List (ℕ × List (ℕ × E))) → All (λ s. k ≢ s.0) held → All (IsSeat log issued owner by) held → All (IsSeat log issued (moved k to owner) by) held
+  seats_kept log issued owner by k to [] apart all = All-nil (IsSeat log issued (moved k to owner) by)
+  seats_kept log issued owner by k to (s ∷ held) apart all =
+      let h : IsSeat log issued owner by s = All-head (IsSeat log issued owner by) s held all in
+      let other : k ≢ s.0 = All-head (λ (s : ℕ × List (ℕ × E)). k ≢ s.0) s held apart in
+      All-cons (IsSeat log issued (moved k to owner) by) s held
+      (h.0, moved_else k to owner s.0 (λ (twice : s.0 ≡ k). other (sym twice)) ∙ h.1, h.2)
+      (seats_kept log issued owner by k to held (All-tail (λ (s : ℕ × List (ℕ × E)). k ≢ s.0) s held apart) (All-tail (IsSeat log issued owner by) s held all))
+
+  pub leaves : (by : ℕ) (log : List (ℕ × E)) (n k : ℕ) (seen : List (ℕ × E)) (held : List (ℕ × List (ℕ × E))) (views : List (PassView E)) → IsConsistent views → get_elem? views by ≡ some (roll_view log n ((k, seen) ∷ held))
+      → IsConsistent (set views by (roll_view log n held) ++ seat_view k seen ∷ [])
+  leaves by log n k seen held views h at =
+      let mine = h.each by (roll_view log n ((k, seen) ∷ held)) at in
       let known : (by ≡ h.keeper) × (log ≡ h.log) × (n ≡ h.issued) = mine.0 refl in
-      let own : IsSeat h.log h.issued h.owner by (k, seen) = All-head (IsSeat h.log h.issued h.owner by) (k, seen) [] mine.1 in
+      let own : IsSeat h.log h.issued h.owner by (k, seen) = All-head (IsSeat h.log h.issued h.owner by) (k, seen) held mine.1 in
+      let rest : All (IsSeat h.log h.issued h.owner by) held = All-tail (IsSeat h.log h.issued h.owner by) (k, seen) held mine.1 in
+      let others : All (λ s. k ≢ s.0) held = pairs_head (λ s t. s.0 ≢ t.0) (k, seen) held mine.2 in
       let end : ℕ = length views in
       let owner : ℕ → ℕ = moved k end h.owner in record {
         keeper = h.keeper;
@@ -156,11 +169,11 @@ module _ {E : Type 0} where
         issued = h.issued;
         owner = owner;
         within = h.within;
-        each = each_end (Fits h.keeper h.log h.issued owner) (set views by (keeper_view log n)) end (seat_view k seen) (sym (length-set views by (keeper_view log n)))
-            (each_set (Fits h.keeper h.log h.issued owner) views by (keeper_view log n)
+        each = each_end (Fits h.keeper h.log h.issued owner) (set views by (roll_view log n held)) end (seat_view k seen) (sym (length-set views by (roll_view log n held)))
+            (each_set (Fits h.keeper h.log h.issued owner) views by (roll_view log n held)
             (λ j u apart e. let was : Fits h.keeper h.log h.issued h.owner j u = h.each j u e in
             (was.0, seats_moved h.log h.issued h.owner j k end by u.held own.1 apart was.1, was.2))
-            (fits_keeper h.keeper h.log h.issued owner by log n known))
+            ((λ _. known), seats_kept h.log h.issued h.owner by k end held others rest, pairs_tail (λ s t. s.0 ≢ t.0) (k, seen) held mine.2))
             (fits_seat h.keeper h.log h.issued owner end k seen (own.0, moved_here k end h.owner, own.2));
       }
 
@@ -242,7 +255,18 @@ module _ {E : Type 0} where
     pub leaves_as : (id k : ℕ) (me : Me S (PassView E)) → IsJoint k me → Splits {S = S} (λ s. IsConsistent s.views) id me.0 (keeper_part me.0) (seat_part me.0)
     leaves_as id k me is s h at =
         let v = me.0 in
-        subst (λ (m : Me S (PassView E)). IsConsistent (set s.views id (keeper_part m.0) ++ seat_part m.0 ∷ [])) (sym is) (leaves id v.log v.issued k (first_seen v.held) s.views h (at ∙ ap (λ (m : Me S (PassView E)). some m.0) is))
+        subst (λ (m : Me S (PassView E)). IsConsistent (set s.views id (keeper_part m.0) ++ seat_part m.0 ∷ [])) (sym is) (leaves id v.log v.issued k (first_seen v.held) [] s.views h (at ∙ ap (λ (m : Me S (PassView E)). some m.0) is))
+
+    pub released_as : (id k : ℕ) (me : Me S (PassView E)) → IsRoll me → IsFirst k me.0.held → Splits {S = S} (λ s. IsConsistent s.views) id me.0 (keeper_part me.0) (seat_part me.0)
+    released_as id k me is first s h at = by me.0.held refl
+      where
+        by : (held : List (ℕ × List (ℕ × E))) → me.0.held ≡ held → IsConsistent (set s.views id (keeper_part me.0) ++ seat_part me.0 ∷ [])
+        by [] none = absurd (subst (IsFirst k) none first)
+        by (x ∷ held) some_held =
+            let v = me.0 in
+            let now : v ≡ roll_view v.log v.issued (x ∷ held) = ap (λ (m : Me S (PassView E)). m.0) is ∙ ap (roll_view v.log v.issued) some_held in
+            subst (λ (u : PassView E). IsConsistent (set s.views id (keeper_part u) ++ seat_part u ∷ [])) (sym now)
+            (leaves id v.log v.issued x.0 x.1 held s.views h (at ∙ ap some now))
 
     pub issues_as : (id : ℕ) (me : Me S (PassView E)) → IsAlone me → Splits {S = S} (λ s. IsConsistent s.views) id me.0 (with_new_seat me.0) (new_seat_view me.0)
     issues_as id me is s h at =

@@ -2,3 +2,4 @@ pub mod Seats
 pub mod Counting
 pub mod Keeping
 pub mod Sent
+pub mod Numbers

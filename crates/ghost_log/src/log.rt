@@ -1,7 +1,8 @@
 //! The log, and the seats through which entries are added to it.
 
-ghost use Rattle.std.specs.Prelude.{◌≡◌, ◌<◌, ◌+◌, ◌++◌, ◌^◌, [], All};
+ghost use Rattle.std.specs.Prelude.{◌≡◌, ◌<◌, ◌+◌, ◌++◌, ◌∷◌, ◌^◌, [], All};
 ghost use Rattle.ghost_log.specs.Seats.{Agrees};
+ghost use Rattle.ghost_log.specs.inner.Passes.{seat_view, seen_of};
 ghost use Rattle.ghost_log.specs.inner.Seats.{entries_by};
 
 use crate::rule::{BlankLog, Entries, LogRule, Naming, PassView};
@@ -38,7 +39,7 @@ pub struct GhostLog<J: Naming, E> {
     pub(crate) table: Memory<E>,
     pub(crate) keeper: Pass<E>,
     pub(crate) issued: u64,
-    of: PhantomData<J>,
+    pub(crate) of: PhantomData<J>,
 }
 
 impl<J: Naming, E> Model for GhostLog<J, E> {
@@ -54,6 +55,28 @@ impl<J: Naming, E> Model for GhostLog<J, E> {
         × (l.table.shared.table_id ≡ J.table)
         × (l.keeper.table_id ≡ J.table)
         × (l.keeper.me ≡ (keeper_view l.keeper.me.0.log l.issued, [])) };
+}
+
+impl<J: Naming, E> Seat<J, E> {
+    /// The seat of a number, by its pass.
+    pub(crate) fn of_badge(number: u64, badge: Badge<PassView<E>>) -> Seat<J, E>
+        requires table { badge.table_id ≡ J.table }
+        requires views { badge.views ≡ seat_view number (seen_of badge.views) ∷ [] }
+        ensures { result ≡ (number, seen_of badge.views) }
+    {
+        Seat {
+            number,
+            badge,
+            of: PhantomData,
+        }
+    }
+
+    /// The number of the seat.
+    pub fn number(&self) -> u64
+        ensures { result ≡ self.now.0 }
+    {
+        self.number
+    }
 }
 
 impl<J: Naming, E> GhostLog<J, E> {

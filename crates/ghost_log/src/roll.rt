@@ -2,13 +2,14 @@
 
 ghost use Rattle.std.specs.Prelude.{◌≡◌, ◌≢◌, ◌<◌, ◌∷◌, [], All, AllPairs};
 ghost use Rattle.ghost_log.specs.Seats.{Agrees};
+ghost use Rattle.ghost_log.specs.inner.Passes.{IsFirst};
 
 use crate::log::{GhostLog, Seat};
 use crate::rule::Naming;
-use crate::steps::{Memory, Pass, hold, review};
+use crate::steps::{Memory, Pass, hold, release, review};
 use std::marker::{Model, PhantomData};
 
-/// A log whose seats are handed in: contracts see its entries, how many seats were issued, and the seats that it holds, the
+/// A log whose seats are handed in, and may be handed back: contracts see its entries, how many seats were issued, and the seats that it holds, the
 /// last one first, each by its number and what it has seen.
 #[derive(Drop)]
 pub struct Roll<J: Naming, E> {
@@ -58,6 +59,35 @@ impl<J: Naming, E> Roll<J, E> {
     {
         let Seat { number, badge, .. } = seat;
         hold(&self.table, &mut self.keeper, badge, number);
+    }
+
+    /// Hands back the seat that it has held for the shortest time, which has this number.
+    pub fn release(&mut self, number: u64) -> Seat<J, E>
+        requires { IsFirst number self.old.2 }
+        ensures seat { result ∷ self.new.2 ≡ self.old.2 }
+        ensures same { (self.new.0 ≡ self.old.0) × (self.new.1 ≡ self.old.1) }
+    {
+        let badge = release(&self.table, &mut self.keeper, number);
+        Seat::of_badge(number, badge)
+    }
+
+    /// The log, once all seats were handed back.
+    pub fn into_log(self) -> GhostLog<J, E>
+        requires { self.2 ≡ [] }
+        ensures { result ≡ (self.0, self.1) }
+    {
+        let Roll {
+            table,
+            keeper,
+            issued,
+            ..
+        } = self;
+        GhostLog {
+            table,
+            keeper,
+            issued,
+            of: PhantomData,
+        }
     }
 
     /// Compares the seats that it holds with the log and with each other: each has seen a prefix of the log, with all

@@ -1,7 +1,7 @@
 //! The steps over the passes of a log.
 
 ghost use Rattle.std.specs.Prelude.{◌≡◌, ◌<◌, ◌+◌, ◌∷◌, [], All};
-ghost use Rattle.ghost_log.specs.inner.Passes.{IsAlone, IsFitting, IsJoint, IsRoll, extended, first_seen, joint_view, keeper_view, roll_view, seat_view, seen_of};
+ghost use Rattle.ghost_log.specs.inner.Passes.{IsAlone, IsFirst, IsFitting, IsJoint, IsRoll, extended, first_seen, joint_view, keeper_view, others_held, roll_view, seat_view, seen_of};
 ghost use Rattle.ghost_log.specs.Seats.{Agrees};
 
 use crate::rule::{AddsEntries, Compares, Entries, Issues, LogRule, PassView, Visits};
@@ -63,6 +63,25 @@ pub fn hold<E>(table: &Memory<E>, keeper: &mut Pass<E>, badge: Badge<PassView<E>
     let _ = number;
     let pass = badge.into_seat();
     table.shared.join_seat::<Visits>(keeper, pass);
+}
+
+/// Takes the pass of the seat that was joined last out of the keeper's again.
+pub fn release<E>(table: &Memory<E>, keeper: &mut Pass<E>, number: u64) -> Badge<PassView<E>>
+    requires words { table.now.shared.table_id.words ≡ 1 }
+    requires table { keeper.old.table_id ≡ table.now.shared.table_id }
+    requires keeper { IsRoll keeper.old.me }
+    requires first { IsFirst number keeper.old.me.0.held }
+    ensures table { keeper.new.table_id ≡ keeper.old.table_id }
+    ensures same { result.table_id ≡ keeper.old.table_id }
+    ensures keeper { keeper.new.me
+        ≡ (
+          roll_view keeper.old.me.0.log keeper.old.me.0.issued (others_held keeper.old.me.0.held),
+          [],
+        ) }
+    ensures badge { result.views ≡ seat_view number (first_seen keeper.old.me.0.held) ∷ [] }
+{
+    let _ = number;
+    table.shared.split_seat::<Visits>(keeper).into_badge()
 }
 
 /// Takes the pass of the seat out of the keeper's again.

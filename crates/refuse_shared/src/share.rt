@@ -7,7 +7,7 @@ ghost use Rattle.event_log.specs.Counting.{counted};
 use crate::stage::{Rows, Stage, plan_named};
 use anyhow::{Result, bail};
 use book_core::{Book, EVENTS_MAX, Receipt};
-use book_lock::{ArrivalLedger, Closed, Desk, LogEntry, Shared, Station, audit};
+use book_lock::{Closed, Desk, LogEntry, Opened, Shared, Sharing, Station, audit};
 use book_state::push_held;
 use call_window::Window;
 use ghost_log::BlankLog;
@@ -15,7 +15,6 @@ use log::Log;
 use std::hash::RandomState;
 use std::marker::Brand;
 use std::sync::Wait;
-use std::sync::ledger::{Blank, Ledger};
 use std::time::Clock;
 
 /// An empty book.
@@ -26,9 +25,9 @@ fn empty_book(host: &HostRuntime) -> Result<Book<Rows>> {
 }
 
 /// Writes a line, with the answer to its call.
-fn play_line<A: ArrivalLedger, T: Ledger, U: Ledger, H: Wait + Clock + Log>(
+fn play_line<A: Sharing, H: Wait + Clock + Log>(
     host: &HostRuntime,
-    stage: &mut Stage<'_, A, T, U, H>,
+    stage: &mut Stage<'_, A, H>,
     line: &str,
 ) -> Result<()> {
     if line.is_empty() || line.starts_with('#') {
@@ -43,9 +42,9 @@ fn play_line<A: ArrivalLedger, T: Ledger, U: Ledger, H: Wait + Clock + Log>(
 }
 
 /// Plays all lines of standard input.
-fn play_all<A: ArrivalLedger, T: Ledger, U: Ledger, H: Wait + Clock + Log>(
+fn play_all<A: Sharing, H: Wait + Clock + Log>(
     host: &HostRuntime,
-    stage: &mut Stage<'_, A, T, U, H>,
+    stage: &mut Stage<'_, A, H>,
 ) -> Result<()> {
     for line in host.lines(host.alloc()) {
         play_line(host, stage, line?.as_str())?;
@@ -55,12 +54,12 @@ fn play_all<A: ArrivalLedger, T: Ledger, U: Ledger, H: Wait + Clock + Log>(
 
 /// Plays all lines at the first desk and the first station of a shared book, and returns the
 /// receipts.
-fn play_at<A: ArrivalLedger, T: Ledger, U: Ledger, H: Wait + Clock + Log>(
+fn play_at<A: Sharing, H: Wait + Clock + Log>(
     rt: &H,
     host: &HostRuntime,
-    shared: &Shared<A, T, U, Rows>,
+    shared: &Shared<A, Rows>,
     desks: &mut [Desk<A>],
-    stations: &mut [Station<A, T, U>],
+    stations: &mut [Station<A>],
 ) -> Result<Vec<Receipt>> {
     let (Some(desk), Some(station)) = (desks.first_mut(), stations.first_mut()) else {
         bail!("there is no desk or no station");
@@ -81,35 +80,28 @@ fn tell_closed(host: &HostRuntime, closed: &Closed<Rows>, receipts: &[Receipt]) 
 }
 
 /// Shares a book between a desk and a station, plays all lines on it, and closes it.
-fn play_and_close<A: ArrivalLedger, T: Ledger, U: Ledger, H: Wait + Clock + Log>(
+fn play_and_close<A: Sharing, H: Wait + Clock + Log>(
     rt: &H,
     host: &HostRuntime,
     book: Book<Rows>,
     log: BlankLog<LogEntry>,
-    arrivals: Blank,
-    takes: Blank,
-    settlements: Blank,
 ) -> Result<()>
     requires opening { book ≡ A.opening }
     requires log { log.table.shared.table_id ≡ A.table }
     requires counts { counted book ≡ A.counts }
     requires first { next_place book ≡ A.first }
     requires channels { length (plan_in_force book).channels ≡ A.channels }
-    requires arrivals { (arrivals.name ≡ A.name) × (arrivals.parts ≡ A.parts) × (A.parts ≡ 2) }
-    requires takes { (takes.name ≡ T.name) × (takes.parts ≡ T.parts) × (T.parts ≡ 2) }
-    requires settlements { (settlements.name ≡ U.name) × (settlements.parts ≡ U.parts) × (U.parts ≡ 2) }
+    requires seats { (A.desks ≡ 1) × (A.stations ≡ 1) }
 {
-    let opened = Shared::<A, T, U, Rows>::new(
-        host.alloc(),
-        book,
-        1,
-        1,
-        log,
-        arrivals,
-        takes,
-        settlements,
-    );
-    let Ok((shared, mut desks, mut stations)) = opened else {
+    let opened = Shared::<A, Rows>::new(host.alloc(), book, 1, 1, log);
+    let Ok(
+        Opened {
+            shared,
+            mut desks,
+            mut stations,
+        },
+    ) = opened
+    else {
         bail!("the book was not shared");
     };
     shared.finish(rt);
@@ -123,15 +115,7 @@ fn play_and_close<A: ArrivalLedger, T: Ledger, U: Ledger, H: Wait + Clock + Log>
 /// Plays all lines of standard input on a shared book.
 fn play_on<H: Wait + Clock + Log>(rt: &H, host: &HostRuntime, book: Book<Rows>) -> Result<()> {
     let log = BlankLog::new(host.alloc())?;
-    play_and_close::<Brand, Brand, Brand, H>(
-        rt,
-        host,
-        book,
-        log,
-        Blank::new(2),
-        Blank::new(2),
-        Blank::new(2),
-    )
+    play_and_close::<Brand, H>(rt, host, book, log)
 }
 
 /// Plays all lines of standard input on an empty book that is shared.

@@ -6,7 +6,7 @@ use crate::devices::{Agreeing, Leaping, Sink, Source};
 use crate::shown::{push_message, push_queue, push_status};
 use anyhow::{Result, bail};
 use book_core::{NotBooked, Outbound, Receipt};
-use book_lock::{ArrivalLedger, Desk, Shared, Station};
+use book_lock::{Desk, Shared, Sharing, Station};
 use book_state::answers::{arrived, cancelled, deployed, fronts, numbers, pruned, taken};
 use book_state::words::{moment, number, outcome, ticket, word};
 use call_window::Window;
@@ -22,7 +22,6 @@ use row_store::QUEUES;
 use std::alloc::Global;
 use std::fs;
 use std::str::SplitWhitespace;
-use std::sync::ledger::Ledger;
 use std::sync::{Arc, Wait};
 use std::time::Clock;
 
@@ -41,12 +40,12 @@ const TURNS: u64 = 12;
 /// The shared book that calls are made on, the desk and the station that they are made at, and the
 /// receipts of the arrivals.
 #[derive(Drop)]
-pub struct Stage<'s, A: ArrivalLedger, T: Ledger, U: Ledger, H> {
+pub struct Stage<'s, A: Sharing, H> {
     rt: &'s H,
     alloc: Global,
-    shared: &'s Shared<A, T, U, Rows>,
+    shared: &'s Shared<A, Rows>,
     desk: &'s mut Desk<A>,
-    station: &'s mut Station<A, T, U>,
+    station: &'s mut Station<A>,
     pub receipts: Vec<Receipt>,
 }
 
@@ -91,14 +90,14 @@ fn delivered(alloc: Global, report: &DeliverReport, sent: &[u8]) -> Result<Strin
     )?)
 }
 
-impl<'s, A: ArrivalLedger, T: Ledger, U: Ledger, H: Wait + Clock + Log> Stage<'s, A, T, U, H> {
+impl<'s, A: Sharing, H: Wait + Clock + Log> Stage<'s, A, H> {
     /// With no call made yet.
     pub fn new(
         rt: &'s H,
         alloc: Global,
-        shared: &'s Shared<A, T, U, Rows>,
+        shared: &'s Shared<A, Rows>,
         desk: &'s mut Desk<A>,
-        station: &'s mut Station<A, T, U>,
+        station: &'s mut Station<A>,
     ) -> Self {
         Stage {
             rt,

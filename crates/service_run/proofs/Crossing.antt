@@ -8,8 +8,7 @@ use denote.Struct.Tuple.{TupleAt}
 use denote.Struct.Declared.{shape}
 use denote.Param.Send.{IsSend, IsSync, AllSend, sendable, recorded_sync, struct_sync, shr_send, shr_sync}
 use Rattle.std.proofs.Crossing.{crosses}
-use Rattle.std.specs.declared.sync.ledger.Ledger as Ledger
-use Rattle.book_lock.specs.declared.locked.ArrivalLedger as ArrivalLedger
+use Rattle.book_lock.specs.declared.locked.Sharing as Sharing
 use Rattle.ghost_log.specs.declared.rule.Naming as Naming
 use Rattle.book_lock.proofs.Sent.{shared_sync, tuple_send}
 use Rattle.record_list.specs.contracts.record_list.RecordList as RecordList
@@ -24,18 +23,17 @@ use Rattle.service_workers.specs.contracts.site.Site as Site
 rows_send : IsSend (RecordList.the_row (Queued.the_row Outbound.the_row))
 rows_send = search (sendable, crosses, record_list.the_send, addressed.the_send, letter.the_send) depth 60 fits 30000
 
-module _ (A T U H : RattleType) (o : ArrivalLedger.Ghosts A.Denot) (a : Ledger.Ghosts A.Denot) (n : Naming.Ghosts A.Denot) (t : Ledger.Ghosts T.Denot)
-    (u : Ledger.Ghosts U.Denot) where
+module _ (A H : RattleType) (o : Sharing.Ghosts A.Denot) (n : Naming.Ghosts A.Denot) where
   -- every worker may read what all share
-  pub site_sync : (x : NamedLft) → IsSync H → IsSync (Site.the_row x A T U H o a n t u)
+  pub site_sync : (x : NamedLft) → IsSync H → IsSync (Site.the_row x A H o n)
   site_sync x h =
-      recorded_sync (Site.the_field x A T U H o a n t u).row _ _ (Site.the_type x A T U H o a n t u).to_one
-      (struct_sync (shape (Site.the_type x A T U H o a n t u)) (
+      recorded_sync (Site.the_field x A H o n).row _ _ (Site.the_type x A H o n).to_one
+      (struct_sync (shape (Site.the_type x A H o n)) (
         shr_sync _ _ H h,
         (
           search (sendable, crosses) depth 20,
           (
-            shr_sync _ _ _ (shared_sync A T U _ o a n t u (record { rows = λ s. s.0; room = λ s. 0 }) rows_send),
+            shr_sync _ _ _ (shared_sync A _ o n (record { rows = λ s. s.0; room = λ s. 0 }) rows_send),
             search (sendable, crosses) depth 60 fits 30000,
           ),
         ),
@@ -43,12 +41,12 @@ module _ (A T U H : RattleType) (o : ArrivalLedger.Ghosts A.Denot) (a : Ledger.G
 
   -- a thread that is given it, and what else crosses
   pub at_site_send : (ν : Sym) (ℓ : Lifetime) (κ : Lft) (x : NamedLft) (Ts : List RattleType) → IsSync H → AllSend Ts
-      → IsSend (TupleAt ν (ShrRef ℓ κ (Site.the_row x A T U H o a n t u) ∷ Ts))
+      → IsSend (TupleAt ν (ShrRef ℓ κ (Site.the_row x A H o n) ∷ Ts))
   at_site_send ν ℓ κ x Ts h ts =
-      tuple_send ν (ShrRef ℓ κ (Site.the_row x A T U H o a n t u) ∷ Ts) (shr_send ℓ κ (Site.the_row x A T U H o a n t u) (site_sync x h), ts)
+      tuple_send ν (ShrRef ℓ κ (Site.the_row x A H o n) ∷ Ts) (shr_send ℓ κ (Site.the_row x A H o n) (site_sync x h), ts)
 
   -- a thread that is given it, a value that others may read, and what else crosses
   pub at_place_send : (ν : Sym) (ℓ ℓ2 : Lifetime) (κ κ2 : Lft) (x : NamedLft) (Y : RattleType) (Ts : List RattleType)
       → IsSync H → IsSync Y → AllSend Ts
-      → IsSend (TupleAt ν (ShrRef ℓ κ (Site.the_row x A T U H o a n t u) ∷ ShrRef ℓ2 κ2 Y ∷ Ts))
+      → IsSend (TupleAt ν (ShrRef ℓ κ (Site.the_row x A H o n) ∷ ShrRef ℓ2 κ2 Y ∷ Ts))
   at_place_send ν ℓ ℓ2 κ κ2 x Y Ts h y ts = at_site_send ν ℓ κ x (ShrRef ℓ2 κ2 Y ∷ Ts) h (shr_send ℓ2 κ2 Y y, ts)

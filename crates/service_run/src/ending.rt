@@ -4,20 +4,19 @@ use crate::output::{tell, write_text};
 use crate::questions::queued;
 use crate::service::RunEnd;
 use crate::workers::Returned;
-use book_lock::{ArrivalLedger, Shared};
+use book_lock::{Shared, Sharing};
 use engine_report::{Fault, Finding, statistics_text};
 use plan_text::Plan;
 use service_answers::{Listed, left_behind};
-use service_workers::{Crew, ServiceRows, Site};
+use service_workers::{Crew, ServiceRows, Site, close_book};
 use stat_count::{Counts, DestinationCounts};
 use std::alloc::{AllocError, Global};
-use std::sync::ledger::Ledger;
 
 /// Names each message that is left undelivered at a destination, a line each on standard error, as long as it is read. How many
 /// there are.
-fn name_left_at<A: ArrivalLedger, T: Ledger, U: Ledger, H: Crew>(
+fn name_left_at<A: Sharing, H: Crew>(
     rt: &HostRuntime,
-    site: &Site<'_, A, T, U, H>,
+    site: &Site<'_, A, H>,
     destination: u32,
     name: &str,
 ) -> Result<usize, AllocError> {
@@ -38,9 +37,9 @@ fn name_left_at<A: ArrivalLedger, T: Ledger, U: Ledger, H: Crew>(
 /// # Errors
 ///
 /// Where memory is refused: some may not have been named.
-pub(crate) fn name_left<A: ArrivalLedger, T: Ledger, U: Ledger, H: Crew>(
+pub(crate) fn name_left<A: Sharing, H: Crew>(
     rt: &HostRuntime,
-    site: &Site<'_, A, T, U, H>,
+    site: &Site<'_, A, H>,
 ) -> Result<usize, AllocError> {
     let plan = site.shared.plan(site.rt)?;
     let mut count: usize = 0;
@@ -75,15 +74,15 @@ fn is_any_left(plan: &Plan, counts: &Counts) -> bool {
 ///
 /// `Audit` where the shares of the workers don't add up, `Write` where standard output can't be written or nobody reads it for
 /// five seconds, `Memory`.
-pub(crate) fn conclude<'f, A: ArrivalLedger, T: Ledger, U: Ledger>(
+pub(crate) fn conclude<'f, A: Sharing>(
     rt: &HostRuntime,
     alloc: Global,
     plan: &Plan,
-    shared: Shared<A, T, U, ServiceRows>,
-    returned: Returned<A, T, U>,
+    shared: Shared<A, ServiceRows>,
+    returned: Returned<A>,
 ) -> Result<RunEnd, Fault<'f>> {
-    let Returned { desks, stations } = returned;
-    let Ok(closed) = shared.close(desks, stations) else {
+    let Returned { desks, posts } = returned;
+    let Some(closed) = close_book(alloc, shared, desks, posts)? else {
         return Err(Fault::Audit(Finding::SharesMissing));
     };
     let (_rows, counts) = closed.promise();

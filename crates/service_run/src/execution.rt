@@ -6,12 +6,11 @@ use crate::questions::{
 };
 use crate::settings::Settings;
 use crate::workers::Workers;
-use book_lock::ArrivalLedger;
+use book_lock::Sharing;
 use log::{Log, info};
 use service_commands::{Command, Input, UNKNOWN, read_command, read_line};
 use service_workers::{Crew, Gate, Site, Stage, StandardInput, has_ended, stop};
 use std::str;
-use std::sync::ledger::Ledger;
 use std::time::Duration;
 
 /// The most bytes of a line that is a command.
@@ -21,9 +20,9 @@ const LINE_BYTES: usize = 4_096;
 const LOOK_MILLIS: u64 = 100;
 
 /// Puts the plan in a file in force, where the path is text, and prints the result.
-fn deploy<A: ArrivalLedger, T: Ledger, U: Ledger, H: Crew>(
+fn deploy<A: Sharing, H: Crew>(
     rt: &HostRuntime,
-    site: &Site<'_, A, T, U, H>,
+    site: &Site<'_, A, H>,
     gates: &[Gate],
     path: &[u8],
 ) {
@@ -34,10 +33,10 @@ fn deploy<A: ArrivalLedger, T: Ledger, U: Ledger, H: Crew>(
 }
 
 /// Executes a command, and prints its answer.
-fn execute<A: ArrivalLedger, T: Ledger, U: Ledger, H: Crew>(
+fn execute<A: Sharing, H: Crew>(
     rt: &HostRuntime,
-    site: &Site<'_, A, T, U, H>,
-    workers: &Workers<A, T, U>,
+    site: &Site<'_, A, H>,
+    workers: &Workers<A>,
     settings: &Settings,
     started: u64,
     command: Command<&[u8]>,
@@ -58,10 +57,10 @@ fn execute<A: ArrivalLedger, T: Ledger, U: Ledger, H: Crew>(
 }
 
 /// Begins to end all workers, and prints that.
-fn begin_stop<A: ArrivalLedger, T: Ledger, U: Ledger, H: Crew>(
+fn begin_stop<A: Sharing, H: Crew>(
     rt: &HostRuntime,
-    site: &Site<'_, A, T, U, H>,
-    workers: &Workers<A, T, U>,
+    site: &Site<'_, A, H>,
+    workers: &Workers<A>,
     drains: bool,
     grace: u32,
 ) {
@@ -76,7 +75,7 @@ fn begin_stop<A: ArrivalLedger, T: Ledger, U: Ledger, H: Crew>(
 }
 
 /// Waits until all workers have ended.
-fn wait_for_end<A: ArrivalLedger, T: Ledger, U: Ledger, H: Crew>(site: &Site<'_, A, T, U, H>) {
+fn wait_for_end<A: Sharing, H: Crew>(site: &Site<'_, A, H>) {
     for _ in site.rt.forever() {
         if site.stage() != Stage::Open && has_ended(site) {
             return;
@@ -87,10 +86,10 @@ fn wait_for_end<A: ArrivalLedger, T: Ledger, U: Ledger, H: Crew>(site: &Site<'_,
 
 /// Obeys the commands on standard input, one after another, until the workers have ended. Where no command can follow any more,
 /// it waits for that.
-pub(crate) fn execute_all<A: ArrivalLedger, T: Ledger, U: Ledger, H: Crew>(
+pub(crate) fn execute_all<A: Sharing, H: Crew>(
     rt: &HostRuntime,
-    site: &Site<'_, A, T, U, H>,
-    workers: &Workers<A, T, U>,
+    site: &Site<'_, A, H>,
+    workers: &Workers<A>,
     settings: &Settings,
     started: u64,
 ) {

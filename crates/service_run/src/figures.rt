@@ -1,15 +1,11 @@
 //! What a service counts beside its book.
 
-use book_lock::ArrivalLedger;
+use book_lock::Sharing;
 use service_answers::{Figures, Unbooked};
 use service_workers::{Crew, Site};
-use std::sync::ledger::Ledger;
 
 /// What the workers of a service have counted so far.
-pub(crate) fn figures_of<A: ArrivalLedger, T: Ledger, U: Ledger, H: Crew>(
-    site: &Site<'_, A, T, U, H>,
-    started: u64,
-) -> Figures {
+pub(crate) fn figures_of<A: Sharing, H: Crew>(site: &Site<'_, A, H>, started: u64) -> Figures {
     let unbooked = site.unbooked();
     let mut received = [0; 64];
     for (moment, channel) in received.iter_mut().zip(0..u32::MAX) {

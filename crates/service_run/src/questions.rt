@@ -2,7 +2,7 @@
 
 use crate::figures::figures_of;
 use book_core::Front;
-use book_lock::ArrivalLedger;
+use book_lock::Sharing;
 use log::{Log, info, warn};
 use log_text::Escaped;
 use plan_text::Plan;
@@ -18,7 +18,6 @@ use std::alloc::{AllocError, Global};
 use std::fs;
 use std::io::ErrorKind;
 use std::sync::Arc;
-use std::sync::ledger::Ledger;
 
 /// How many message numbers are looked at while the book's lock is held.
 pub const SLICE: u32 = 4_096;
@@ -28,8 +27,8 @@ pub const SLICE: u32 = 4_096;
 /// # Errors
 ///
 /// Where memory is refused, or the plan has more owners than can be counted.
-pub(crate) fn ask_status<A: ArrivalLedger, T: Ledger, U: Ledger, H: Crew>(
-    site: &Site<'_, A, T, U, H>,
+pub(crate) fn ask_status<A: Sharing, H: Crew>(
+    site: &Site<'_, A, H>,
     started: u64,
 ) -> Result<String, AllocError> {
     let (status, plan) = site.shared.status(site.rt)?;
@@ -41,8 +40,8 @@ pub(crate) fn ask_status<A: ArrivalLedger, T: Ledger, U: Ledger, H: Crew>(
 /// # Errors
 ///
 /// Where memory is refused, or the plan has more owners than can be counted.
-pub(crate) fn ask_metrics<A: ArrivalLedger, T: Ledger, U: Ledger, H: Crew>(
-    site: &Site<'_, A, T, U, H>,
+pub(crate) fn ask_metrics<A: Sharing, H: Crew>(
+    site: &Site<'_, A, H>,
     started: u64,
 ) -> Result<String, AllocError> {
     let (status, plan) = site.shared.status(site.rt)?;
@@ -54,8 +53,8 @@ pub(crate) fn ask_metrics<A: ArrivalLedger, T: Ledger, U: Ledger, H: Crew>(
 /// # Errors
 ///
 /// Where memory is refused, or the plan has more owners than can be counted.
-pub(crate) fn ask_message<A: ArrivalLedger, T: Ledger, U: Ledger, H: Crew>(
-    site: &Site<'_, A, T, U, H>,
+pub(crate) fn ask_message<A: Sharing, H: Crew>(
+    site: &Site<'_, A, H>,
     number: u32,
 ) -> Result<String, AllocError> {
     let plan = site.shared.plan(site.rt)?;
@@ -67,8 +66,8 @@ pub(crate) fn ask_message<A: ArrivalLedger, T: Ledger, U: Ledger, H: Crew>(
 /// # Errors
 ///
 /// Where memory is refused.
-pub(crate) fn ask_find<A: ArrivalLedger, T: Ledger, U: Ledger, H: Crew>(
-    site: &Site<'_, A, T, U, H>,
+pub(crate) fn ask_find<A: Sharing, H: Crew>(
+    site: &Site<'_, A, H>,
     id: &[u8],
 ) -> Result<String, AllocError> {
     let gauge = site.shared.gauge(site.rt);
@@ -89,8 +88,8 @@ pub(crate) fn ask_find<A: ArrivalLedger, T: Ledger, U: Ledger, H: Crew>(
 /// # Errors
 ///
 /// Where memory is refused.
-pub(crate) fn queued<A: ArrivalLedger, T: Ledger, U: Ledger, H: Crew>(
-    site: &Site<'_, A, T, U, H>,
+pub(crate) fn queued<A: Sharing, H: Crew>(
+    site: &Site<'_, A, H>,
     destination: u32,
     most: usize,
 ) -> Result<Vec<Front>, AllocError> {
@@ -134,8 +133,8 @@ fn destination_named(plan: &Plan, counts: &Counts, name: &[u8]) -> Option<(u32, 
 /// # Errors
 ///
 /// Where memory is refused, or the plan has more owners than can be counted.
-pub(crate) fn ask_waiting<A: ArrivalLedger, T: Ledger, U: Ledger, H: Crew>(
-    site: &Site<'_, A, T, U, H>,
+pub(crate) fn ask_waiting<A: Sharing, H: Crew>(
+    site: &Site<'_, A, H>,
     name: &[u8],
 ) -> Result<String, AllocError> {
     let (status, plan) = site.shared.status(site.rt)?;
@@ -155,9 +154,7 @@ pub(crate) fn ask_waiting<A: ArrivalLedger, T: Ledger, U: Ledger, H: Crew>(
 /// # Errors
 ///
 /// Where memory is refused.
-pub(crate) fn do_prune<A: ArrivalLedger, T: Ledger, U: Ledger, H: Crew>(
-    site: &Site<'_, A, T, U, H>,
-) -> Result<String, AllocError> {
+pub(crate) fn do_prune<A: Sharing, H: Crew>(site: &Site<'_, A, H>) -> Result<String, AllocError> {
     match site.shared.prune_settled(site.rt, site.keep) {
         Ok(before) => {
             info!(site.rt; target: "always", before; "settled messages are forgotten");
@@ -178,8 +175,8 @@ pub(crate) fn do_prune<A: ArrivalLedger, T: Ledger, U: Ledger, H: Crew>(
 /// # Errors
 ///
 /// Where memory is refused, or the plan has more owners than can be counted.
-pub(crate) fn do_cancel<A: ArrivalLedger, T: Ledger, U: Ledger, H: Crew>(
-    site: &Site<'_, A, T, U, H>,
+pub(crate) fn do_cancel<A: Sharing, H: Crew>(
+    site: &Site<'_, A, H>,
     number: u32,
 ) -> Result<String, AllocError> {
     let plan = site.shared.plan(site.rt)?;
@@ -193,9 +190,9 @@ pub(crate) fn do_cancel<A: ArrivalLedger, T: Ledger, U: Ledger, H: Crew>(
 }
 
 /// The plan in a file, or the answer that says why there is none.
-fn read_plan<A: ArrivalLedger, T: Ledger, U: Ledger, H: Crew>(
+fn read_plan<A: Sharing, H: Crew>(
     rt: &HostRuntime,
-    site: &Site<'_, A, T, U, H>,
+    site: &Site<'_, A, H>,
     path: &str,
 ) -> Result<Result<Arc<Plan>, String>, AllocError> {
     let text = match fs::read(rt, path) {
@@ -228,9 +225,9 @@ fn deployed(alloc: Global, gates: &[Gate], plan: &Plan) -> Result<String, AllocE
 /// # Errors
 ///
 /// Where memory is refused, or the plan has more owners than can be counted.
-pub(crate) fn do_deploy<A: ArrivalLedger, T: Ledger, U: Ledger, H: Crew>(
+pub(crate) fn do_deploy<A: Sharing, H: Crew>(
     rt: &HostRuntime,
-    site: &Site<'_, A, T, U, H>,
+    site: &Site<'_, A, H>,
     gates: &[Gate],
     path: &str,
 ) -> Result<String, AllocError> {

@@ -10,7 +10,7 @@ use crate::settings::Settings;
 use crate::threads::work;
 use crate::workers::Workers;
 use book_core::{Book, EVENTS_MAX};
-use book_lock::{ArrivalLedger, LogEntry, Shared};
+use book_lock::{LogEntry, Opened, Shared, Sharing};
 use descriptors::allowed;
 use engine_journal::{Journal, Outbox, Repeats};
 use engine_report::{Fault, connections_of, descriptors_of, hasher};
@@ -21,7 +21,6 @@ use plan_text::Plan;
 use service_workers::{Crew, Gate, ServiceRows, Site};
 use std::alloc::AllocError;
 use std::marker::Brand;
-use std::sync::ledger::{Blank, Ledger};
 use std::sync::{Arc, Mutex};
 use std::thread;
 use std::thread::{Builder, Threads};
@@ -47,17 +46,12 @@ pub enum RunEnd {
 
 /// Runs all workers over a shared book until they have ended, and names what is left undelivered. Whether enough threads could
 /// be started.
-fn run_workers<
-    A: ArrivalLedger + Send + Sync,
-    T: Ledger + Sync,
-    U: Ledger + Sync,
-    H: Crew + Threads + Sync,
->(
+fn run_workers<A: Sharing + Send + Sync, H: Crew + Threads + Sync>(
     rt: &HostRuntime,
     handle: &H,
     settings: &Settings,
-    shared: &Shared<A, T, U, ServiceRows>,
-    workers: &Workers<A, T, U>,
+    shared: &Shared<A, ServiceRows>,
+    workers: &Workers<A>,
 ) -> bool {
     let alloc = rt.alloc();
     let started = seconds_now(handle);
@@ -72,13 +66,7 @@ fn run_workers<
 }
 
 /// Shares the book, runs all workers over it, closes it, and prints the statistics.
-fn serve<
-    'f,
-    A: ArrivalLedger + Send + Sync,
-    T: Ledger + Sync,
-    U: Ledger + Sync,
-    H: Crew + Threads + Sync,
->(
+fn serve<'f, A: Sharing + Send + Sync, H: Crew + Threads + Sync>(
     rt: &HostRuntime,
     handle: &H,
     settings: &Settings,
@@ -86,31 +74,24 @@ fn serve<
     book: Book<ServiceRows>,
     desks: u32,
     log: BlankLog<LogEntry>,
-    arrivals: Blank,
-    takes: Blank,
-    settlements: Blank,
 ) -> Result<RunEnd, Fault<'f>>
     requires opening { book ≡ A.opening }
     requires log { log.table.shared.table_id ≡ A.table }
     requires counts { counted book ≡ A.counts }
     requires first { next_place book ≡ A.first }
     requires channels { length (plan_in_force book).channels ≡ A.channels }
-    requires arrivals { (arrivals.name ≡ A.name) × (arrivals.parts ≡ A.parts) × (A.parts ≡ desks + 1) }
-    requires takes { (takes.name ≡ T.name) × (takes.parts ≡ T.parts) × (T.parts ≡ 33) }
-    requires settlements { (settlements.name ≡ U.name) × (settlements.parts ≡ U.parts) × (U.parts ≡ 33) }
+    requires seats { (A.desks ≡ desks) × (A.stations ≡ 32) }
 {
     let alloc = rt.alloc();
-    let opened = Shared::<A, T, U, ServiceRows>::new(
-        alloc,
-        book,
-        desks as usize,
-        POSTS as usize,
-        log,
-        arrivals,
-        takes,
-        settlements,
-    );
-    let Ok((shared, desks, stations)) = opened else {
+    let opened = Shared::<A, ServiceRows>::new(alloc, book, desks as usize, POSTS as usize, log);
+    let Ok(
+        Opened {
+            shared,
+            desks,
+            stations,
+        },
+    ) = opened
+    else {
         return Err(Fault::Memory);
     };
     let workers = Workers::new(alloc, gates, desks, stations)?;
@@ -176,18 +157,7 @@ fn run_by<'f, H: Crew + Threads + Sync>(
     let events = settings.events.clamp(1, EVENTS_MAX);
     let book = Book::<ServiceRows>::new(alloc, shared_plan, events, hasher);
     let log = BlankLog::new(alloc)?;
-    serve::<Brand, Brand, Brand, _>(
-        rt,
-        handle,
-        settings,
-        gates,
-        book,
-        desks,
-        log,
-        Blank::new(u64::from(desks) + 1),
-        Blank::new(u64::from(POSTS) + 1),
-        Blank::new(u64::from(POSTS) + 1),
-    )
+    serve::<Brand, _>(rt, handle, settings, gates, book, desks, log)
 }
 
 /// Runs the service by a plan, which was read from the file `path`, until it is stopped. Lines of the log are written by a

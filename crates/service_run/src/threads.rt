@@ -3,10 +3,9 @@
 use crate::execution::execute_all;
 use crate::settings::Settings;
 use crate::workers::Workers;
-use book_lock::ArrivalLedger;
+use book_lock::Sharing;
 use log::{Log, info, warn};
 use service_workers::{Crew, Gate, Place, Post, Site, stop, work_place, work_post, work_warden};
-use std::sync::ledger::Ledger;
 use std::thread;
 use std::thread::{Builder, Scope, Threads};
 use std::time::Duration;
@@ -15,21 +14,17 @@ use std::time::Duration;
 const STACK_BYTES: usize = 262_144;
 
 /// Starts a thread for each post. How many threads were refused.
-fn start_posts<
-    's,
-    'x: 's,
-    E: 's,
-    A: ArrivalLedger + Send + Sync + 's,
-    T: Ledger + Sync + 's,
-    U: Ledger + Sync + 's,
-    H: Crew + Sync + 's,
->(scope: &Scope<'s, E>, site: &'s Site<'x, A, T, U, H>, posts: &'s [Post<A, T, U>]) -> u32 {
+fn start_posts<'s, 'x: 's, E: 's, A: Sharing + Send + Sync + 's, H: Crew + Sync + 's>(
+    scope: &Scope<'s, E>,
+    site: &'s Site<'x, A, H>,
+    posts: &'s [Post<A>],
+) -> u32 {
     let mut refused: u32 = 0;
-    for (post, destination) in posts.iter().zip(0..u32::MAX) {
+    for post in posts {
         site.begin_post();
         let started = Builder::new()
             .stack_size(STACK_BYTES)
-            .spawn_scoped(scope, move || work_post(site, post, destination));
+            .spawn_scoped(scope, move || work_post(site, post));
         if started.is_err() {
             site.end_post();
             refused = refused.saturating_add(1);
@@ -45,17 +40,9 @@ fn gate_of(gates: &[Gate], index: u32) -> Option<&Gate> {
 }
 
 /// Starts a thread for each place. How many threads were refused.
-fn start_places<
-    's,
-    'x: 's,
-    E: 's,
-    A: ArrivalLedger + Send + Sync + 's,
-    T: Ledger + Sync + 's,
-    U: Ledger + Sync + 's,
-    H: Crew + Sync + 's,
->(
+fn start_places<'s, 'x: 's, E: 's, A: Sharing + Send + Sync + 's, H: Crew + Sync + 's>(
     scope: &Scope<'s, E>,
-    site: &'s Site<'x, A, T, U, H>,
+    site: &'s Site<'x, A, H>,
     gates: &'s [Gate],
     places: &'s [Place<A>],
 ) -> u32 {
@@ -77,15 +64,10 @@ fn start_places<
 }
 
 /// Starts the thread that watches how full the book is. Whether it was started.
-fn start_warden<
-    's,
-    'x: 's,
-    E: 's,
-    A: ArrivalLedger + Send + Sync + 's,
-    T: Ledger + Sync + 's,
-    U: Ledger + Sync + 's,
-    H: Crew + Sync + 's,
->(scope: &Scope<'s, E>, site: &'s Site<'x, A, T, U, H>) -> bool {
+fn start_warden<'s, 'x: 's, E: 's, A: Sharing + Send + Sync + 's, H: Crew + Sync + 's>(
+    scope: &Scope<'s, E>,
+    site: &'s Site<'x, A, H>,
+) -> bool {
     Builder::new()
         .stack_size(STACK_BYTES)
         .spawn_scoped(scope, move || work_warden(site))
@@ -93,15 +75,11 @@ fn start_warden<
 }
 
 /// Starts all workers. Whether enough threads could be started: that of each post, the warden's, and one for each channel.
-fn start_all<
-    's,
-    'x: 's,
-    E: 's,
-    A: ArrivalLedger + Send + Sync + 's,
-    T: Ledger + Sync + 's,
-    U: Ledger + Sync + 's,
-    H: Crew + Sync + 's,
->(scope: &Scope<'s, E>, site: &'s Site<'x, A, T, U, H>, workers: &'s Workers<A, T, U>) -> bool {
+fn start_all<'s, 'x: 's, E: 's, A: Sharing + Send + Sync + 's, H: Crew + Sync + 's>(
+    scope: &Scope<'s, E>,
+    site: &'s Site<'x, A, H>,
+    workers: &'s Workers<A>,
+) -> bool {
     if start_posts(scope, site, &workers.posts) > 0 || !start_warden(scope, site) {
         return false;
     }
@@ -115,19 +93,11 @@ fn start_all<
 
 /// Starts all workers, and obeys commands until they have ended. Whether enough threads could be started; where not, those that
 /// were are ended.
-fn work_within<
-    's,
-    'x: 's,
-    E: 's,
-    A: ArrivalLedger + Send + Sync + 's,
-    T: Ledger + Sync + 's,
-    U: Ledger + Sync + 's,
-    H: Crew + Sync + 's,
->(
+fn work_within<'s, 'x: 's, E: 's, A: Sharing + Send + Sync + 's, H: Crew + Sync + 's>(
     scope: &Scope<'s, E>,
     rt: &HostRuntime,
-    site: &'s Site<'x, A, T, U, H>,
-    workers: &'s Workers<A, T, U>,
+    site: &'s Site<'x, A, H>,
+    workers: &'s Workers<A>,
     settings: &Settings,
     started: u64,
 ) -> bool {
@@ -142,18 +112,11 @@ fn work_within<
 }
 
 /// Works until all workers have ended. Whether enough threads could be started.
-pub(crate) fn work<
-    'y,
-    'x: 'y,
-    A: ArrivalLedger + Send + Sync,
-    T: Ledger + Sync,
-    U: Ledger + Sync,
-    H: Crew + Threads + Sync,
->(
+pub(crate) fn work<'y, 'x: 'y, A: Sharing + Send + Sync, H: Crew + Threads + Sync>(
     rt: &HostRuntime,
     handle: &H,
-    site: &'y Site<'x, A, T, U, H>,
-    workers: &'y Workers<A, T, U>,
+    site: &'y Site<'x, A, H>,
+    workers: &'y Workers<A>,
     settings: &Settings,
     started: u64,
 ) -> bool {

@@ -1,33 +1,32 @@
 //! What works in a service.
 
-use book_lock::{ArrivalLedger, Desk, Station};
-use service_workers::{Gate, Place, Post};
+ghost use Rattle.std.specs.Prelude.{All};
+ghost use Rattle.delivery_worker.specs.Sent.{IsUnused};
+
+use book_lock::{Desk, Sharing, Station};
+use service_workers::{Gate, Place, Post, PostWork};
 use std::alloc::{AllocError, Global};
-use std::sync::ledger::Ledger;
 
 /// What works: the listeners of the channels, the places at which connections are served, and the posts that deliver.
 #[derive(Drop)]
-pub struct Workers<A: ArrivalLedger, T: Ledger, U: Ledger> {
+pub struct Workers<A: Sharing> {
     /// The listeners, in the order of the plan's channels.
     pub gates: Vec<Gate>,
     /// The place at index `k` is one of channel `k` modulo the number of channels.
     pub places: Vec<Place<A>>,
     /// The posts, by destination.
-    pub posts: Vec<Post<A, T, U>>,
+    pub posts: Vec<Post<A>>,
 }
 
-/// The desks and stations of workers that have ended.
+/// The desks of workers that have ended, and what delivered.
 #[derive(Drop)]
-pub struct Returned<A: ArrivalLedger, T: Ledger, U: Ledger> {
+pub struct Returned<A: Sharing> {
     pub desks: Vec<Desk<A>>,
-    pub stations: Vec<Station<A, T, U>>,
+    pub posts: Vec<PostWork<A>>,
 }
 
 /// A place for each desk.
-fn places_of<A: ArrivalLedger>(
-    alloc: Global,
-    desks: Vec<Desk<A>>,
-) -> Result<Vec<Place<A>>, AllocError> {
+fn places_of<A: Sharing>(alloc: Global, desks: Vec<Desk<A>>) -> Result<Vec<Place<A>>, AllocError> {
     let mut places = Vec::new(alloc);
     for desk in desks {
         places.push(Place::new(desk))?;
@@ -35,23 +34,26 @@ fn places_of<A: ArrivalLedger>(
     Ok(places)
 }
 
-/// A post for each station.
-fn posts_of<A: ArrivalLedger, T: Ledger, U: Ledger>(
+/// A post for each station, which has made no call: the first is that of the first destination.
+fn posts_of<A: Sharing>(
     alloc: Global,
-    stations: Vec<Station<A, T, U>>,
-) -> Result<Vec<Post<A, T, U>>, AllocError> {
+    stations: Vec<Station<A>>,
+) -> Result<Vec<Post<A>>, AllocError>
+    requires { All (λ s. IsUnused s.seat) stations.items }
+{
+    let mut stations = stations.into_iter();
     let mut posts = Vec::new(alloc);
-    for station in stations {
-        posts.push(Post::new(station))?;
+    for destination in 0..u32::MAX {
+        let Some(station) = stations.next() else {
+            break;
+        };
+        posts.push(Post::new(destination, station))?;
     }
     Ok(posts)
 }
 
 /// The desks of places that have ended.
-fn desks_of<A: ArrivalLedger>(
-    alloc: Global,
-    places: Vec<Place<A>>,
-) -> Result<Vec<Desk<A>>, AllocError> {
+fn desks_of<A: Sharing>(alloc: Global, places: Vec<Place<A>>) -> Result<Vec<Desk<A>>, AllocError> {
     let mut desks = Vec::new(alloc);
     for place in places {
         if let Some(desk) = place.into_desk() {
@@ -61,22 +63,22 @@ fn desks_of<A: ArrivalLedger>(
     Ok(desks)
 }
 
-/// The stations of posts that have ended.
-fn stations_of<A: ArrivalLedger, T: Ledger, U: Ledger>(
+/// What delivered at posts that have ended.
+fn works_of<A: Sharing>(
     alloc: Global,
-    posts: Vec<Post<A, T, U>>,
-) -> Result<Vec<Station<A, T, U>>, AllocError> {
-    let mut stations = Vec::new(alloc);
+    posts: Vec<Post<A>>,
+) -> Result<Vec<PostWork<A>>, AllocError> {
+    let mut works = Vec::new(alloc);
     for post in posts {
-        if let Some(station) = post.into_station() {
-            stations.push(station)?;
+        if let Some(work) = post.into_work() {
+            works.push(work)?;
         }
     }
-    Ok(stations)
+    Ok(works)
 }
 
-impl<A: ArrivalLedger, T: Ledger, U: Ledger> Workers<A, T, U> {
-    /// A place for each desk, and a post for each station.
+impl<A: Sharing> Workers<A> {
+    /// A place for each desk, and a post for each station, which has made no call.
     ///
     /// # Errors
     ///
@@ -85,8 +87,10 @@ impl<A: ArrivalLedger, T: Ledger, U: Ledger> Workers<A, T, U> {
         alloc: Global,
         gates: Vec<Gate>,
         desks: Vec<Desk<A>>,
-        stations: Vec<Station<A, T, U>>,
-    ) -> Result<Self, AllocError> {
+        stations: Vec<Station<A>>,
+    ) -> Result<Self, AllocError>
+        requires { All (λ s. IsUnused s.seat) stations.items }
+    {
         Ok(Workers {
             gates,
             places: places_of(alloc, desks)?,
@@ -94,16 +98,16 @@ impl<A: ArrivalLedger, T: Ledger, U: Ledger> Workers<A, T, U> {
         })
     }
 
-    /// The desks and stations, once all workers have ended.
+    /// The desks, and what delivered, once all workers have ended.
     ///
     /// # Errors
     ///
     /// Where memory is refused.
-    pub fn into_returned(self, alloc: Global) -> Result<Returned<A, T, U>, AllocError> {
+    pub fn into_returned(self, alloc: Global) -> Result<Returned<A>, AllocError> {
         let Workers { places, posts, .. } = self;
         Ok(Returned {
             desks: desks_of(alloc, places)?,
-            stations: stations_of(alloc, posts)?,
+            posts: works_of(alloc, posts)?,
         })
     }
 }

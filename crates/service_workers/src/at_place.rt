@@ -3,7 +3,7 @@
 use crate::pauses::paused_by;
 use crate::site::{Crew, Site};
 use book_core::{NotBooked, Receipt};
-use book_lock::{ArrivalLedger, Desk, Tidied, Tidying};
+use book_lock::{Desk, Sharing, Tidied, Tidying};
 use conn_core::Booking;
 use conn_worker::{log_arrival, log_break, log_fill, log_passed_over};
 use judge_core::Judged;
@@ -12,7 +12,6 @@ use mllp_frame::Break;
 use plan_text::Plan;
 use std::alloc::AllocError;
 use std::sync::Arc;
-use std::sync::ledger::Ledger;
 
 /// How many entries lie between two looks at how full the book is, for the log and for pausing.
 const FILL_STEP: usize = 16;
@@ -20,8 +19,8 @@ const FILL_STEP: usize = 16;
 /// A desk of a shared book. An arrival that finds the book tight first forgets what is settled, but for the last messages
 /// that the site keeps. Each call takes the book's lock for a moment. What is not booked is counted at once.
 #[derive(Drop)]
-pub struct AtPlace<'a, 'x, A: ArrivalLedger, T: Ledger, U: Ledger, H> {
-    pub site: &'a Site<'x, A, T, U, H>,
+pub struct AtPlace<'a, 'x, A: Sharing, H> {
+    pub site: &'a Site<'x, A, H>,
     pub desk: &'a mut Desk<A>,
 }
 
@@ -36,15 +35,14 @@ fn log_tidying<H: Log>(rt: &H, tidying: Tidying) {
 
 /// Has reading pause at the channels that the book has no room for, at once: many messages may be received before the warden
 /// looks. It is the warden that logs it, and has reading go on.
-fn pause_early<A: ArrivalLedger, T: Ledger, U: Ledger, H: Crew>(site: &Site<'_, A, T, U, H>) {
+fn pause_early<A: Sharing, H: Crew>(site: &Site<'_, A, H>) {
     // Where the plan can't be shared, the warden looks soon.
     if let Ok((status, plan)) = site.shared.status(site.rt) {
         site.pause_also(paused_by(&plan, &status, site.keep, site.paused()));
     }
 }
 
-impl<'a, 'x, A: ArrivalLedger, T: Ledger, U: Ledger, H: Crew> Booking
-    for AtPlace<'a, 'x, A, T, U, H> {
+impl<'a, 'x, A: Sharing, H: Crew> Booking for AtPlace<'a, 'x, A, H> {
     ghost use Rattle.std.specs.Prelude.{refl, ⊤};
     ghost use Rattle.conn_worker.specs.inner.Arriving.{BooksAtDesk, desk_after, desk_nothing};
 

@@ -3,10 +3,12 @@
 //!
 //! What the workers share is a site. What is counted there is counted at once, and each counter is read by itself.
 //!
-//! No contract says that a connection is served, that a message is delivered, or that a worker ends.
+//! The book that `close_book` takes out of its lock is traced to the desks and stations at which they worked. No contract says
+//! that a connection is served, that a message is delivered, or that a worker ends.
 #![tactic(auto)]
 
 mod at_place;
+mod ending;
 mod gate;
 mod half;
 mod hold;
@@ -21,11 +23,12 @@ mod tallies;
 mod warden;
 mod way;
 
+pub use ending::close_book;
 pub use gate::Gate;
 pub use hold::Hold;
 pub use pauses::{PauseCause, pause_cause, paused_by};
 pub use place::{Place, work_place};
-pub use post::{Post, work_post};
+pub use post::{Post, PostWork, work_post};
 pub use site::{Crew, ServiceRows, Site};
 pub use stage::Stage;
 pub use standard_input::StandardInput;

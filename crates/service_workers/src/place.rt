@@ -8,7 +8,7 @@ use crate::half::{Label, bound_writes};
 use crate::hold::Hold;
 use crate::site::{Crew, Site};
 use crate::stage::Stage;
-use book_lock::{ArrivalLedger, Desk};
+use book_lock::{Desk, Sharing};
 use conn_core::ConnectionId;
 use conn_worker::{
     Counted, DiscardReceipts, Running, ServeEnd, ServeReport, TURNS_MAX, serve_within,
@@ -17,7 +17,6 @@ use log::{Log, info, warn};
 use socket_options::keep_alive;
 use std::alloc::AllocError;
 use std::net::{Shutdown, SocketAddr, TcpStream};
-use std::sync::ledger::Ledger;
 use std::sync::{Arc, Mutex};
 use std::time::Duration;
 use std::{io, thread};
@@ -27,12 +26,12 @@ const RETRY_MILLIS: u64 = 100;
 
 /// A place of a channel: its desk, and the stream that it serves.
 #[derive(Drop)]
-pub struct Place<A: ArrivalLedger> {
+pub struct Place<A: Sharing> {
     desk: Mutex<Option<Desk<A>>>,
     hold: Hold,
 }
 
-impl<A: ArrivalLedger> Place<A> {
+impl<A: Sharing> Place<A> {
     /// A place with this desk.
     pub fn new(desk: Desk<A>) -> Self {
         Place {
@@ -76,8 +75,8 @@ struct Served {
 /// # Errors
 ///
 /// Where memory is refused for its stream.
-fn serve_stream<A: ArrivalLedger, T: Ledger, U: Ledger, H: Crew>(
-    site: &Site<'_, A, T, U, H>,
+fn serve_stream<A: Sharing, H: Crew>(
+    site: &Site<'_, A, H>,
     channel: u32,
     hold: &Hold,
     desk: &mut Desk<A>,
@@ -122,8 +121,8 @@ fn serve_stream<A: ArrivalLedger, T: Ledger, U: Ledger, H: Crew>(
 }
 
 /// Logs that a connection ended, why, and what it brought. Whether it ended because memory was refused.
-fn log_end<A: ArrivalLedger, T: Ledger, U: Ledger, H: Crew>(
-    site: &Site<'_, A, T, U, H>,
+fn log_end<A: Sharing, H: Crew>(
+    site: &Site<'_, A, H>,
     label: Label<'_>,
     served: Result<Served, AllocError>,
 ) -> bool {
@@ -163,8 +162,8 @@ fn log_end<A: ArrivalLedger, T: Ledger, U: Ledger, H: Crew>(
 }
 
 /// Serves a connection that was accepted, under a number of its own. Where no number is left, the connection is closed.
-fn serve_accepted<A: ArrivalLedger, T: Ledger, U: Ledger, H: Crew>(
-    site: &Site<'_, A, T, U, H>,
+fn serve_accepted<A: Sharing, H: Crew>(
+    site: &Site<'_, A, H>,
     gate: &Gate,
     hold: &Hold,
     desk: &mut Desk<A>,
@@ -195,11 +194,7 @@ fn serve_accepted<A: ArrivalLedger, T: Ledger, U: Ledger, H: Crew>(
 }
 
 /// Waits a moment after a failure to accept. The first of a row is logged.
-fn wait_after_failure<A: ArrivalLedger, T: Ledger, U: Ledger, H: Crew>(
-    site: &Site<'_, A, T, U, H>,
-    gate: &Gate,
-    error: &io::Error,
-) {
+fn wait_after_failure<A: Sharing, H: Crew>(site: &Site<'_, A, H>, gate: &Gate, error: &io::Error) {
     if gate.count_failure() == 0 {
         let channel = gate.name();
         warn!(site.rt; channel; "accepting a connection failed, trying again: {error}");
@@ -217,8 +212,8 @@ fn log_recovery<H: Log>(rt: &H, gate: &Gate) {
 }
 
 /// Accepts one connection after another, and serves each to its end, until the service closes.
-fn serve_all<A: ArrivalLedger, T: Ledger, U: Ledger, H: Crew>(
-    site: &Site<'_, A, T, U, H>,
+fn serve_all<A: Sharing, H: Crew>(
+    site: &Site<'_, A, H>,
     gate: &Gate,
     hold: &Hold,
     desk: &mut Desk<A>,
@@ -244,10 +239,7 @@ fn serve_all<A: ArrivalLedger, T: Ledger, U: Ledger, H: Crew>(
 }
 
 /// Whether the channel of a gate is one of the plan in force, as it is of each gate that was opened for the plan.
-fn is_planned<A: ArrivalLedger, T: Ledger, U: Ledger, H: Crew>(
-    site: &Site<'_, A, T, U, H>,
-    gate: &Gate,
-) -> bool
+fn is_planned<A: Sharing, H: Crew>(site: &Site<'_, A, H>, gate: &Gate) -> bool
     ensures { IsTrue result → gate.now.channel < A.channels }
 {
     match site.shared.plan(site.rt) {
@@ -257,11 +249,7 @@ fn is_planned<A: ArrivalLedger, T: Ledger, U: Ledger, H: Crew>(
 }
 
 /// Works at a place of the gate's channel until the service closes.
-pub fn work_place<A: ArrivalLedger, T: Ledger, U: Ledger, H: Crew>(
-    site: &Site<'_, A, T, U, H>,
-    gate: &Gate,
-    place: &Place<A>,
-) {
+pub fn work_place<A: Sharing, H: Crew>(site: &Site<'_, A, H>, gate: &Gate, place: &Place<A>) {
     let taken = place.desk.lock(site.rt).take();
     if let Some(mut desk) = taken {
         if is_planned(site, gate) {

@@ -4,14 +4,13 @@ use crate::half::{Half, Label};
 use crate::stage::Stage;
 use crate::tallies::{Tallies, Unbooked};
 use book_core::{NotBooked, Outbound};
-use book_lock::{ArrivalLedger, Shared};
+use book_lock::{Shared, Sharing};
 use dest_queue::Queued;
 use log::Log;
 use record_list::RecordList;
 use std::alloc::Global;
 use std::net::{Net, TcpListener, TcpStream};
 use std::sync::atomic::{AtomicU32, AtomicU64, Ordering};
-use std::sync::ledger::Ledger;
 use std::sync::{Arc, Wait};
 use std::time::Clock;
 
@@ -25,13 +24,13 @@ impl<H: Clock + Net<Listener = TcpListener, Stream = TcpStream> + Log + Wait> Cr
 
 /// What all workers of a service share.
 #[derive(Drop)]
-pub struct Site<'x, A: ArrivalLedger, T: Ledger, U: Ledger, H> {
+pub struct Site<'x, A: Sharing, H> {
     /// The system and the log.
     pub rt: &'x H,
     /// The allocator.
     pub alloc: Global,
     /// The book.
-    pub shared: &'x Shared<A, T, U, ServiceRows>,
+    pub shared: &'x Shared<A, ServiceRows>,
     /// How many settled messages a pruning keeps.
     pub keep: u32,
     /// After how many seconds without a byte a connection ends; 0: never.
@@ -49,12 +48,12 @@ pub struct Site<'x, A: ArrivalLedger, T: Ledger, U: Ledger, H> {
     tallies: Tallies,
 }
 
-impl<'x, A: ArrivalLedger, T: Ledger, U: Ledger, H: Crew> Site<'x, A, T, U, H> {
+impl<'x, A: Sharing, H: Crew> Site<'x, A, H> {
     /// A site where nothing works yet.
     pub fn new(
         rt: &'x H,
         alloc: Global,
-        shared: &'x Shared<A, T, U, ServiceRows>,
+        shared: &'x Shared<A, ServiceRows>,
         keep: u32,
         idle: u32,
     ) -> Self {

@@ -3,12 +3,11 @@
 use crate::site::{Crew, Site};
 use crate::stage::Stage;
 use crate::stopping::has_ended;
-use book_lock::ArrivalLedger;
+use book_lock::Sharing;
 use libc::net as c;
 use libc::types::pollfd;
 use std::io;
 use std::io::Read;
-use std::sync::ledger::Ledger;
 
 /// The descriptor of standard input.
 const STANDARD_INPUT: i32 = 0;
@@ -19,22 +18,14 @@ const LOOK_MILLIS: i32 = 100;
 /// A reader of standard input. While the service ends, it is at its end once all workers have ended, even where its writer
 /// keeps it open.
 #[derive(Drop)]
-pub struct StandardInput<'s, 'x, A: ArrivalLedger, T: Ledger, U: Ledger, H, R> {
-    site: &'s Site<'x, A, T, U, H>,
+pub struct StandardInput<'s, 'x, A: Sharing, H, R> {
+    site: &'s Site<'x, A, H>,
     input: R,
 }
 
-impl<'s, 'x, A: ArrivalLedger, T: Ledger, U: Ledger, H: Crew, R: Read> StandardInput<
-    's,
-    'x,
-    A,
-    T,
-    U,
-    H,
-    R,
-> {
+impl<'s, 'x, A: Sharing, H: Crew, R: Read> StandardInput<'s, 'x, A, H, R> {
     /// A reader of this input, which reads descriptor 0.
-    pub fn new(site: &'s Site<'x, A, T, U, H>, input: R) -> Self {
+    pub fn new(site: &'s Site<'x, A, H>, input: R) -> Self {
         StandardInput { site, input }
     }
 
@@ -60,8 +51,7 @@ impl<'s, 'x, A: ArrivalLedger, T: Ledger, U: Ledger, H: Crew, R: Read> StandardI
     }
 }
 
-impl<A: ArrivalLedger, T: Ledger, U: Ledger, H: Crew, R: Read> Read
-    for StandardInput<'_, '_, A, T, U, H, R> {
+impl<A: Sharing, H: Crew, R: Read> Read for StandardInput<'_, '_, A, H, R> {
     fn read(&mut self, buf: &mut [u8]) -> io::Result<usize> {
         if self.wait() {
             self.input.read(buf)

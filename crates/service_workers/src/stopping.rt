@@ -4,9 +4,8 @@ use crate::gate::Gate;
 use crate::place::Place;
 use crate::site::{Crew, Site};
 use crate::stage::Stage;
-use book_lock::ArrivalLedger;
+use book_lock::Sharing;
 use std::net::Shutdown;
-use std::sync::ledger::Ledger;
 use std::thread;
 use std::time::{Duration, Instant};
 
@@ -14,10 +13,7 @@ use std::time::{Duration, Instant};
 const LOOK_MILLIS: u64 = 10;
 
 /// Waits until all places have ended, for the grace at most. Whether all have.
-fn wait_for_places<A: ArrivalLedger, T: Ledger, U: Ledger, H: Crew>(
-    site: &Site<'_, A, T, U, H>,
-    grace: Duration,
-) -> bool {
+fn wait_for_places<A: Sharing, H: Crew>(site: &Site<'_, A, H>, grace: Duration) -> bool {
     let Ok(start) = Instant::now(site.rt) else {
         return false;
     };
@@ -37,8 +33,8 @@ fn wait_for_places<A: ArrivalLedger, T: Ledger, U: Ledger, H: Crew>(
 
 /// Accepts no further connection and reads no further block: what was read is answered within `grace`, and then each
 /// connection that has not ended is cut.
-fn close<A: ArrivalLedger, T: Ledger, U: Ledger, H: Crew>(
-    site: &Site<'_, A, T, U, H>,
+fn close<A: Sharing, H: Crew>(
+    site: &Site<'_, A, H>,
     gates: &[Gate],
     places: &[Place<A>],
     grace: Duration,
@@ -60,8 +56,8 @@ fn close<A: ArrivalLedger, T: Ledger, U: Ledger, H: Crew>(
 
 /// Ends all workers. With `drains` the posts go on until nothing waits; else no further attempt begins, and a destination that
 /// doesn't answer is not waited for.
-pub fn stop<A: ArrivalLedger, T: Ledger, U: Ledger, H: Crew>(
-    site: &Site<'_, A, T, U, H>,
+pub fn stop<A: Sharing, H: Crew>(
+    site: &Site<'_, A, H>,
     gates: &[Gate],
     places: &[Place<A>],
     drains: bool,
@@ -77,8 +73,6 @@ pub fn stop<A: ArrivalLedger, T: Ledger, U: Ledger, H: Crew>(
 }
 
 /// Whether all places and posts have ended.
-pub fn has_ended<A: ArrivalLedger, T: Ledger, U: Ledger, H: Crew>(
-    site: &Site<'_, A, T, U, H>,
-) -> bool {
+pub fn has_ended<A: Sharing, H: Crew>(site: &Site<'_, A, H>) -> bool {
     site.places() == 0 && site.posts() == 0
 }

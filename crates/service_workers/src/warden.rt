@@ -3,11 +3,10 @@
 use crate::pauses::{PauseCause, frees_enough, has_channel, is_overfull, pause_cause, paused_by};
 use crate::site::{Crew, Site};
 use crate::stage::Stage;
-use book_lock::{ArrivalLedger, Gauge, Status};
+use book_lock::{Gauge, Sharing, Status};
 use fixed_numbers::{DEPLOYMENTS_MAX, DESTINATIONS, PRUNINGS_MAX};
 use log::{Log, info, warn};
 use plan_text::{Channel, Plan};
-use std::sync::ledger::Ledger;
 use std::thread;
 use std::time::Duration;
 
@@ -136,10 +135,7 @@ fn log_changes<H: Log>(rt: &H, plan: &Plan, status: &Status, keep: u32, before: 
 
 /// Forgets what is settled, where as many messages are remembered as may be. No arrival does it then, since no channel is
 /// read.
-fn make_room<A: ArrivalLedger, T: Ledger, U: Ledger, H: Crew>(
-    site: &Site<'_, A, T, U, H>,
-    status: &Status,
-) {
+fn make_room<A: Sharing, H: Crew>(site: &Site<'_, A, H>, status: &Status) {
     if !is_overfull(status.gauge, site.keep)
         || status.gauge.prunings >= PRUNINGS_MAX
         || !frees_enough(status, site.keep)
@@ -153,10 +149,7 @@ fn make_room<A: ArrivalLedger, T: Ledger, U: Ledger, H: Crew>(
 }
 
 /// Looks at the book once: which channels pause, and what runs out.
-fn look<A: ArrivalLedger, T: Ledger, U: Ledger, H: Crew>(
-    site: &Site<'_, A, T, U, H>,
-    watch: &mut Watch,
-) {
+fn look<A: Sharing, H: Crew>(site: &Site<'_, A, H>, watch: &mut Watch) {
     // Where the plan can't be shared, all stays as it is until the next look.
     let Ok((status, plan)) = site.shared.status(site.rt) else {
         return;
@@ -171,7 +164,7 @@ fn look<A: ArrivalLedger, T: Ledger, U: Ledger, H: Crew>(
 }
 
 /// Whether nothing is left to look after: the service is halted, or it closes and no post works.
-fn is_over<A: ArrivalLedger, T: Ledger, U: Ledger, H: Crew>(site: &Site<'_, A, T, U, H>) -> bool {
+fn is_over<A: Sharing, H: Crew>(site: &Site<'_, A, H>) -> bool {
     match site.stage() {
         Stage::Open => false,
         Stage::Closing => site.posts() == 0,
@@ -181,7 +174,7 @@ fn is_over<A: ArrivalLedger, T: Ledger, U: Ledger, H: Crew>(site: &Site<'_, A, T
 
 /// Looks at the book 20 times a second, until the service is halted, or closes and no post works. Reading pauses at the
 /// channels that the book has no room for, and goes on once it has. Lines that the log holds back are written at each look.
-pub fn work_warden<A: ArrivalLedger, T: Ledger, U: Ledger, H: Crew>(site: &Site<'_, A, T, U, H>) {
+pub fn work_warden<A: Sharing, H: Crew>(site: &Site<'_, A, H>) {
     let mut watch = Watch::new();
     for _ in site.rt.forever() {
         if is_over(site) {

@@ -2,17 +2,16 @@
 
 use crate::site::{Crew, Site};
 use crate::stage::Stage;
-use book_lock::ArrivalLedger;
+use book_lock::Sharing;
 use delivery_worker::Way;
 use dest_queue::Outcome;
 use plan_text::{Destination, Plan};
 use std::sync::Arc;
-use std::sync::ledger::Ledger;
 
 /// The way to the destination at an index of the plan in force.
 #[derive(Drop)]
-pub struct PlanWay<'s, 'x, A: ArrivalLedger, T: Ledger, U: Ledger, H> {
-    site: &'s Site<'x, A, T, U, H>,
+pub struct PlanWay<'s, 'x, A: Sharing, H> {
+    site: &'s Site<'x, A, H>,
     index: u32,
     /// The plan that was taken up last, if one could be.
     plan: Option<Arc<Plan>>,
@@ -29,9 +28,9 @@ fn is_same_way(old: &Plan, new: &Plan, index: u32) -> bool {
     }
 }
 
-impl<'s, 'x, A: ArrivalLedger, T: Ledger, U: Ledger, H: Crew> PlanWay<'s, 'x, A, T, U, H> {
+impl<'s, 'x, A: Sharing, H: Crew> PlanWay<'s, 'x, A, H> {
     /// The way by the plan in force at this moment.
-    pub fn new(site: &'s Site<'x, A, T, U, H>, index: u32) -> Self {
+    pub fn new(site: &'s Site<'x, A, H>, index: u32) -> Self {
         PlanWay {
             site,
             index,
@@ -40,7 +39,7 @@ impl<'s, 'x, A: ArrivalLedger, T: Ledger, U: Ledger, H: Crew> PlanWay<'s, 'x, A,
     }
 }
 
-impl<A: ArrivalLedger, T: Ledger, U: Ledger, H: Crew> Way for PlanWay<'_, '_, A, T, U, H> {
+impl<A: Sharing, H: Crew> Way for PlanWay<'_, '_, A, H> {
     fn destination(&self) -> Option<&Destination> {
         match &self.plan {
             Some(plan) => plan.destination(self.index),

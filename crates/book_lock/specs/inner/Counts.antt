@@ -1,5 +1,5 @@
 -- What is counted of a log: its arrivals, its takes and its settlements, all of them and those of one seat.
-use Rattle.std.specs.Prelude.{◌≡◌, ℕ, Bool, true, false, count_by}
+use Rattle.std.specs.Prelude.{◌≡◌, ◌+◌, ◌<◌, ◌≤◌, ℕ, All, Bool, true, false, count_by}
 use Rattle.dest_queue.specs.declared.Outcome.{Outcome}
 use Rattle.dest_queue.specs.declared.SlotState.{SlotState}
 use Rattle.event_log.specs.declared.entry.Entry.TheVariants.{Arrival, Take, Settle, Cancel, Deploy}
@@ -61,8 +61,11 @@ count_of kind number log = count_by kind (entries_of number log)
 abbrev pub count_in : (LogEntry → Bool) → Log → ℕ
 count_in kind log = count_by (λ x. kind x.1) log
 
--- the ledgers have as many arrivals, takes and settlements as the log
-pub record IsLogged (entries : Log) (made took settled_there : ℕ) : Type 0 where
-  pub arrivals : made ≡ count_in is_arrival entries
-  pub takes : took ≡ count_in is_take entries
-  pub settlements : settled_there ≡ count_in is_settlement entries
+-- ---- who adds what
+
+-- Arrivals have the numbers of desks, and takes and settlements those of stations, which follow them.
+pub record IsManned (desks stations : ℕ) (entries : Log) : Type 0 where
+  pub arrivals : All (λ x. is_arrival x.1 ≡ true → x.0 < desks) entries
+  pub takes : All (λ x. is_take x.1 ≡ true → (desks ≤ x.0) × (x.0 < desks + stations)) entries
+  pub settlements : All (λ x. is_settlement x.1 ≡ true →
+      (desks ≤ x.0) × (x.0 < desks + stations)) entries

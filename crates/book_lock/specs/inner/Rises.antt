@@ -3,6 +3,8 @@ use Rattle.std.specs.Prelude.{◌≡◌, ℕ, ◌+◌, ◌≤◌, length}
 use Rattle.stat_count.specs.Statistics.{Statistics}
 use Rattle.stat_count.specs.Sums.{arrivals, settlements, takes}
 use Rattle.event_log.specs.History.{History, next_place, plan_in_force}
+use Rattle.book_lock.specs.Log.{Log}
+use Rattle.book_lock.specs.inner.Counts.{count_in, is_arrival, is_settlement, is_take}
 use Rattle.book_lock.specs.Rises.{arrived, taken, settled, SharedBook}
 
 -- the same book, shared at the same moment
@@ -17,14 +19,19 @@ pub record IsOpened (h : SharedBook) (counts : Statistics) (first channels : ℕ
   pub first_is : h.first ≡ first
   pub channels_are : length (plan_in_force h.book).channels ≡ channels
 
--- the ledgers have as many arrivals, takes and settlements as there were since the book was shared
+-- there were as many arrivals, takes and settlements since the book was shared
 pub record IsCounted (h : SharedBook) (made took settled_there : ℕ) : Type 0 where
   pub arrivals_are : arrived h.book ≡ arrivals h.opening + made
   pub takes_are : taken h.book ≡ takes h.opening + took
   pub settlements_are : settled h.book ≡ settlements h.opening + settled_there
   pub since : h.first ≤ next_place h.book
 
--- what is left over of a ledger: a part that has counted nothing
-pub record IsLeft (parts amount : ℕ) : Type 0 where
-  pub one : parts ≡ 1
-  pub none : amount ≡ 0
+-- as many as the entries of this log have
+abbrev pub IsCountedIn : SharedBook → Log → Type 0
+IsCountedIn h entries =
+    IsCounted h (count_in is_arrival entries) (count_in is_take entries) (count_in is_settlement entries)
+
+-- a shared book, by its parts
+abbrev pub shared : History → Statistics → ℕ → ℕ → SharedBook
+shared book opening first admitted =
+    record { book = book; opening = opening; first = first; admitted = admitted }

@@ -39,6 +39,20 @@ module _ {E : Type 0} where
   first_seen [] = []
   first_seen (h ∷ hs) = h.1
 
+  -- the first of these seats, if there is one, and the others
+  abbrev pub first_held : List (ℕ × List (ℕ × E)) → List (ℕ × List (ℕ × E))
+  first_held [] = []
+  first_held (h ∷ hs) = h ∷ []
+
+  abbrev pub others_held : List (ℕ × List (ℕ × E)) → List (ℕ × List (ℕ × E))
+  others_held [] = []
+  others_held (h ∷ hs) = hs
+
+  -- the first of these seats has this number
+  abbrev pub IsFirst : ℕ → List (ℕ × List (ℕ × E)) → Type 0
+  IsFirst k [] = ⊥
+  IsFirst k (h ∷ hs) = h.0 ≡ k
+
   -- what the pass of a seat has seen
   abbrev pub seen_of : List (PassView E) → List (ℕ × E)
   seen_of [] = []
@@ -48,12 +62,12 @@ module _ {E : Type 0} where
   abbrev pub joined_views : PassView E → PassView E → PassView E
   joined_views v w = record { keeps = v.keeps; log = v.log; issued = v.issued; held = w.held ++ v.held }
 
-  -- the two parts, once it leaves
+  -- the two parts, once the first of the seats leaves
   abbrev pub keeper_part : PassView E → PassView E
-  keeper_part v = record { keeps = v.keeps; log = v.log; issued = v.issued; held = [] }
+  keeper_part v = record { keeps = v.keeps; log = v.log; issued = v.issued; held = others_held v.held }
 
   abbrev pub seat_part : PassView E → PassView E
-  seat_part v = record { keeps = false; log = []; issued = 0; held = v.held }
+  seat_part v = record { keeps = false; log = []; issued = 0; held = first_held v.held }
 
   -- the keeper's pass and a new seat's, once a seat is issued
   abbrev pub with_new_seat : PassView E → PassView E

@@ -12,7 +12,7 @@ use crate::commands::devices::{Devices, listen_faults, open_devices};
 use crate::commands::{EngineBook, EngineRows, warned_shared_plan};
 use crate::handle::Handle;
 use book_core::EVENTS_MAX;
-use book_lock::{ArrivalLedger, Closed, LogEntry, Shared};
+use book_lock::{Closed, LogEntry, Opened, Shared, Sharing};
 use conn_worker::{ServeReport, Steady};
 use delivery_worker::TcpLink;
 use descriptors::allowed;
@@ -26,7 +26,6 @@ use log::{Log, warn};
 use plan_text::{Destination, Plan};
 use std::alloc::{AllocError, Global};
 use std::marker::Brand;
-use std::sync::ledger::{Blank, Ledger};
 use std::sync::{Arc, Mutex};
 
 /// How the work ended: the book, unless shares of it are missing, the result of serving each connection, and a fault for
@@ -40,11 +39,11 @@ struct Ended<'f> {
 
 /// Takes the book out of its lock, once the workers have ended. The messages of a closed book are traced: each arrival has
 /// one of the receipts, and each delivered message was sent.
-fn close<'f, A: ArrivalLedger, T: Ledger, U: Ledger, D: Door + Drop, L: Drop>(
+fn close<'f, A: Sharing, D: Door + Drop, L: Drop>(
     alloc: Global,
     plan: &Plan,
-    shared: Shared<A, T, U, EngineRows>,
-    worked: Finished<A, T, U, D, L>,
+    shared: Shared<A, EngineRows>,
+    worked: Finished<A, D, L>,
 ) -> Result<Ended<'f>, AllocError>
     ensures opening { IfOk result (λ ended. IfSome ended.closed (λ closed. (closed.opening ≡ A.counts) × (closed.first ≡ A.first))) }
     ensures traced { IfOk result (λ ended. IfSome ended.closed (λ closed.
@@ -61,12 +60,12 @@ fn close<'f, A: ArrivalLedger, T: Ledger, U: Ledger, D: Door + Drop, L: Drop>(
 }
 
 /// Runs all workers over a shared book, and closes it.
-fn work_at<'a, 'f, A: ArrivalLedger + Send + Sync, T: Ledger + Sync, U: Ledger + Sync, H: Handle>(
+fn work_at<'a, 'f, A: Sharing + Send + Sync, H: Handle>(
     rt: &'a H,
     alloc: Global,
     plan: &'a Plan,
-    shared: Shared<A, T, U, EngineRows>,
-    staff: Workers<A, T, U, TcpDoor<'a, H>, TcpLink<'a, H, &'a Destination>>,
+    shared: Shared<A, EngineRows>,
+    staff: Workers<A, TcpDoor<'a, H>, TcpLink<'a, H, &'a Destination>>,
     accept: u32,
 ) -> Result<Ended<'f>, AllocError>
     ensures opening { IfOk result (λ ended. IfSome ended.closed (λ closed. (closed.opening ≡ A.counts) × (closed.first ≡ A.first))) }
@@ -81,7 +80,7 @@ fn work_at<'a, 'f, A: ArrivalLedger + Send + Sync, T: Ledger + Sync, U: Ledger +
 }
 
 /// Shares the book, runs all workers over it, and closes it.
-fn work<'a, 'f, A: ArrivalLedger + Send + Sync, T: Ledger + Sync, U: Ledger + Sync, H: Handle>(
+fn work<'a, 'f, A: Sharing + Send + Sync, H: Handle>(
     rt: &'a H,
     alloc: Global,
     plan: &'a Plan,
@@ -90,36 +89,34 @@ fn work<'a, 'f, A: ArrivalLedger + Send + Sync, T: Ledger + Sync, U: Ledger + Sy
     accept: u32,
     connections: u32,
     log: BlankLog<LogEntry>,
-    arrivals: Blank,
-    takes: Blank,
-    settlements: Blank,
 ) -> Result<Ended<'f>, AllocError>
     requires opening { book ≡ A.opening }
     requires log { log.table.shared.table_id ≡ A.table }
     requires counts { counted book ≡ A.counts }
     requires first { next_place book ≡ A.first }
     requires channels { length (plan_in_force book).channels ≡ A.channels }
-    requires arrivals { (arrivals.name ≡ A.name) × (arrivals.parts ≡ A.parts) × (A.parts ≡ connections + 1) }
-    requires takes { (takes.name ≡ T.name) × (takes.parts ≡ T.parts) × (T.parts ≡ length plan.now.destinations + 1) }
-    requires settlements { (settlements.name ≡ U.name) × (settlements.parts ≡ U.parts) × (U.parts ≡ length plan.now.destinations + 1) }
+    requires seats { (A.desks ≡ connections) × (A.stations ≡ length plan.now.destinations) }
     ensures opening { IfOk result (λ ended. IfSome ended.closed (λ closed. (closed.opening ≡ A.counts) × (closed.first ≡ A.first))) }
     ensures traced { IfOk result (λ ended. IfSome ended.closed (λ closed.
         ∥ ((works : List (StationWork A.opening)) × IsTraced A.opening
         (receipts_in ended.served.items) works closed.book) ∥₁)) }
 {
     let Devices { doors, links } = devices;
-    let opened = Shared::<A, T, U, EngineRows>::new(
+    let opened = Shared::<A, EngineRows>::new(
         alloc,
         book,
         connections as usize,
         plan.destinations() as usize,
         log,
-        arrivals,
-        takes,
-        settlements,
     );
     match opened {
-        Ok((shared, desks, stations)) => {
+        Ok(
+            Opened {
+                shared,
+                desks,
+                stations,
+            },
+        ) => {
             let staff = Workers {
                 desks,
                 doors,
@@ -246,21 +243,8 @@ fn run_by<'a, 'f, H: Handle>(
     let shared_plan = Arc::try_clone(plan)?;
     let devices = open_devices(rt, handle, alloc, plan, accept)?;
     let book = EngineBook::new(alloc, shared_plan, events, hasher);
-    let stations = u64::from(plan.destinations()) + 1;
     let log = BlankLog::new(alloc)?;
-    Ok(work::<Brand, Brand, Brand, _>(
-        handle,
-        alloc,
-        plan,
-        book,
-        devices,
-        accept,
-        connections,
-        log,
-        Blank::new(u64::from(connections) + 1),
-        Blank::new(stations),
-        Blank::new(stations),
-    )?)
+    Ok(work::<Brand, _>(handle, alloc, plan, book, devices, accept, connections, log)?)
 }
 
 /// Listens for all channels of the plan in a file, takes `accept` connections on each, serves them, and delivers what they

@@ -1,7 +1,7 @@
 use Rattle.std.proofs.Common.{◌≡◌, ◌++◌, All, map, vec_len}
 use Rattle.book_lock.specs.Shares.{DeskView}
 use Rattle.book_lock.specs.inner.Counts.{count_of, is_arrival}
-use Rattle.book_lock.proofs.HandedIn.{desk_seat}
+use Rattle.book_lock.specs.inner.Log.{desk_seat}
 use Rattle.book_lock.proofs.desks.hand_in_desks.Given as goal
 
 abbrev pub invariant-loop-desk : goal.invariant-loop-desk

@@ -1,7 +1,7 @@
 use Rattle.std.proofs.Common.{◌≡◌, ◌++◌, All, map, vec_len}
 use Rattle.book_lock.specs.Shares.{StationView}
 use Rattle.book_lock.specs.inner.Counts.{count_of, is_take, is_settlement}
-use Rattle.book_lock.proofs.HandedIn.{station_seat}
+use Rattle.book_lock.specs.inner.Log.{station_seat}
 use Rattle.book_lock.proofs.desks.hand_in_stations.Given as goal
 
 abbrev pub invariant-loop-station : goal.invariant-loop-station

@@ -11,12 +11,8 @@ loop-preserved g c =
     let inv = c.loop.invariant in (
       search rules,
       search rules,
-      search rules,
-      search rules,
-      search rules,
-      search rules,
-      subst (All (λ (d : StationView). d.counts ≡ no_calls)) (sym c.push_reserved.ensures.items) (All-append (λ (d : StationView). d.counts ≡ no_calls) c.loop.stations.items _ inv.6 (All-cons (λ (d : StationView). d.counts ≡ no_calls) _ [] refl (All-nil (λ (d : StationView). d.counts ≡ no_calls)))),
-      one_issued c.args.log.now c.loop.log c.issue.new.self c.loop.counter inv.7 c.issue.ensures.log,
+      subst (All (λ (d : StationView). d.counts ≡ no_calls)) (sym c.push_reserved.ensures.items) (All-append (λ (d : StationView). d.counts ≡ no_calls) c.loop.stations.items _ inv.2 (All-cons (λ (d : StationView). d.counts ≡ no_calls) _ [] refl (All-nil (λ (d : StationView). d.counts ≡ no_calls)))),
+      one_issued c.args.log.now c.loop.log c.issue.new.self c.loop.counter inv.3 c.issue.ensures.log,
       ap (map (λ (d : StationView). d.seat)) c.push_reserved.ensures.items
-          ∙ seats_more (λ (d : StationView). d.seat) c.loop.stations.items _ c.args.log.now.1 c.loop.counter inv.8 (new_seat_is c.issue.result c.loop.log c.args.log.now c.loop.counter c.issue.ensures.seat inv.7),
+          ∙ seats_more (λ (d : StationView). d.seat) c.loop.stations.items _ c.args.log.now.1 c.loop.counter inv.4 (new_seat_is c.issue.result c.loop.log c.args.log.now c.loop.counter c.issue.ensures.seat inv.3),
     )

@@ -5,8 +5,6 @@ use Rattle.book_lock.proofs.desks.open_stations.Given as goal
 
 abbrev pub invariant-loop : goal.invariant-loop
 invariant-loop g l =
-    (l.left_takes.parts + l.counter ≡ l.count + 1) × (l.left_takes.amount ≡ 0)
-    × (l.left_settlements.parts + l.counter ≡ l.count + 1) × (l.left_settlements.amount ≡ 0)
-    × (vec_len l.stations ≡ l.counter) × (vec_capacity l.stations ≡ l.count)
+    (vec_len l.stations ≡ l.counter) × (vec_capacity l.stations ≡ l.count)
     × All (λ s. s.counts ≡ no_calls) l.stations.items
     × (l.log ≡ (l.initial.log.0, l.initial.log.1 + l.counter)) × (map (λ s. s.seat) l.stations.items ≡ new_seats l.initial.log.1 l.counter)

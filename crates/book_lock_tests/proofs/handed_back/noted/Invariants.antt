@@ -3,17 +3,8 @@ use Rattle.event_log.specs.Counting.{counted}
 use Rattle.event_log.specs.History.{next_place, plan_in_force}
 use Rattle.book_lock_tests.proofs.handed_back.noted.Given as goal
 
-abbrev pub ghosts-noted_after_close-A-ArrivalLedger : goal.ghosts-noted_after_close-A-ArrivalLedger
-ghosts-noted_after_close-A-ArrivalLedger g a = record { opening = a.book; counts = counted a.book; first = next_place a.book; channels = length (plan_in_force a.book).channels }
-
-abbrev pub ghosts-noted_after_close-A-Ledger : goal.ghosts-noted_after_close-A-Ledger
-ghosts-noted_after_close-A-Ledger g a = record { name = a.arrivals.name; parts = a.arrivals.parts }
+abbrev pub ghosts-noted_after_close-A-Sharing : goal.ghosts-noted_after_close-A-Sharing
+ghosts-noted_after_close-A-Sharing g a = record { opening = a.book; counts = counted a.book; first = next_place a.book; channels = length (plan_in_force a.book).channels; desks = 1; stations = 0 }
 
 abbrev pub ghosts-noted_after_close-A-Naming : goal.ghosts-noted_after_close-A-Naming
 ghosts-noted_after_close-A-Naming g a = record { table = a.log.table.shared.table_id }
-
-abbrev pub ghosts-noted_after_close-T-Ledger : goal.ghosts-noted_after_close-T-Ledger
-ghosts-noted_after_close-T-Ledger g a = record { name = a.takes.name; parts = a.takes.parts }
-
-abbrev pub ghosts-noted_after_close-U-Ledger : goal.ghosts-noted_after_close-U-Ledger
-ghosts-noted_after_close-U-Ledger g a = record { name = a.settlements.name; parts = a.settlements.parts }

@@ -11,10 +11,8 @@ pub join-station-requires-send-F : goal.join-station-requires-send-F
 join-station-requires-send-F g c κs within =
     let b = c.type_bounds in
     let A = param 0 g.row.A in
-    let T = param 1 g.row.T in
-    let U = param 2 g.row.U in
-    let S = param 3 g.row.S in
-    let H = param 4 g.row.H in
-    let Row = Shared.the_row A T U S g.A.ArrivalLedger g.A.Ledger g.A.Naming g.T.Ledger g.U.Ledger g.S.RowStore in
-    let sync = shared_sync A T U S g.A.ArrivalLedger g.A.Ledger g.A.Naming g.T.Ledger g.U.Ledger g.S.RowStore b.send-S in
+    let S = param 1 g.row.S in
+    let H = param 2 g.row.H in
+    let Row = Shared.the_row A S g.A.Sharing g.A.Naming g.S.RowStore in
+    let sync = shared_sync A S g.A.Sharing g.A.Naming g.S.RowStore b.send-S in
     param_send 1 _ (arg_send _ no _ (tuple_send _ (ShrRef _ _ H ∷ ShrRef _ _ Row ∷ []) (shr_send _ _ H b.sync-H, (shr_send _ _ Row sync, tt))))

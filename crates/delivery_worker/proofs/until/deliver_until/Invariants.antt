@@ -8,6 +8,6 @@ use Rattle.delivery_worker.proofs.until.deliver_until.Given as goal
 abbrev pub invariant-turns : goal.invariant-turns
 invariant-turns g l =
     record {
-      so_far : SoFar g.A.ArrivalLedger.opening l.d (g.L.Link.sent l.fn.link) (g.L.Link.sent l.link) (g.L.Link.received l.fn.link) (g.L.Link.received l.link) l.fn.station l.station l.counter l.report;
+      so_far : SoFar g.A.Sharing.opening l.d (g.L.Link.sent l.fn.link) (g.L.Link.sent l.link) (g.L.Link.received l.fn.link) (g.L.Link.received l.link) l.fn.station l.station l.counter l.report;
       calls : CallsUpTo (g.L.Link.receives l.fn.link) (g.L.Link.receives l.link) (RECEIVES_MAX * l.report.taken);
     }

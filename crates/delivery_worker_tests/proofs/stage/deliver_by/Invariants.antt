@@ -3,17 +3,8 @@ use Rattle.event_log.specs.Counting.{counted}
 use Rattle.event_log.specs.History.{next_place, plan_in_force}
 use Rattle.delivery_worker_tests.proofs.stage.deliver_by.Given as goal
 
-abbrev pub ghosts-deliver_and_close-A-ArrivalLedger : goal.ghosts-deliver_and_close-A-ArrivalLedger
-ghosts-deliver_and_close-A-ArrivalLedger g a = record { opening = a.book; counts = counted a.book; first = next_place a.book; channels = length (plan_in_force a.book).channels }
-
-abbrev pub ghosts-deliver_and_close-A-Ledger : goal.ghosts-deliver_and_close-A-Ledger
-ghosts-deliver_and_close-A-Ledger g a = record { name = a.arrivals.name; parts = a.arrivals.parts }
+abbrev pub ghosts-deliver_and_close-A-Sharing : goal.ghosts-deliver_and_close-A-Sharing
+ghosts-deliver_and_close-A-Sharing g a = record { opening = a.book; counts = counted a.book; first = next_place a.book; channels = length (plan_in_force a.book).channels; desks = 0; stations = 1 }
 
 abbrev pub ghosts-deliver_and_close-A-Naming : goal.ghosts-deliver_and_close-A-Naming
 ghosts-deliver_and_close-A-Naming g a = record { table = a.log.table.shared.table_id }
-
-abbrev pub ghosts-deliver_and_close-T-Ledger : goal.ghosts-deliver_and_close-T-Ledger
-ghosts-deliver_and_close-T-Ledger g a = record { name = a.takes.name; parts = a.takes.parts }
-
-abbrev pub ghosts-deliver_and_close-U-Ledger : goal.ghosts-deliver_and_close-U-Ledger
-ghosts-deliver_and_close-U-Ledger g a = record { name = a.settlements.name; parts = a.settlements.parts }

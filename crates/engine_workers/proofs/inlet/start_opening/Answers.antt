@@ -14,8 +14,8 @@ pub spawn-requires-send-F : goal.spawn-requires-send-F
 spawn-requires-send-F g c κs within =
     let b = c.type_bounds in
     param_send 1 _ (arg_send _ no _ (
-    at_place_send (param 1 g.row.A) (param 2 g.row.T) (param 3 g.row.U) (param 4 g.row.S) (copied 5 g.row.C) (param 6 g.row.H)
-    g.A.ArrivalLedger g.A.Ledger g.A.Naming g.T.Ledger g.U.Ledger g.S.RowStore _ _ _ _ _ _ (ChannelWork.the_row (param 1 g.row.A) (param 9 g.row.D) g.A.ArrivalLedger g.A.Naming g.A.Ledger)
-    (ClosureMark.the_row (Tuple (param 7 g.row.R ∷ param 8 g.row.W ∷ [])) ∷ [])
-    b.send-S (copied_sync 5 _ b.sync-C) b.sync-H (inlet.the_sync _ _ _ _ _ b.send-D) (search (sendable, crosses) depth 20, tt)
+    at_place_send (param 1 g.row.A) (param 2 g.row.S) (copied 3 g.row.C) (param 4 g.row.H)
+    g.A.Sharing g.A.Naming g.S.RowStore _ _ _ _ _ _ (ChannelWork.the_row (param 1 g.row.A) (param 7 g.row.D) g.A.Sharing g.A.Naming)
+    (ClosureMark.the_row (Tuple (param 5 g.row.R ∷ param 6 g.row.W ∷ [])) ∷ [])
+    b.send-S (copied_sync 3 _ b.sync-C) b.sync-H (inlet.the_sync _ _ _ _ b.send-D) (search (sendable, crosses) depth 20, tt)
     ))

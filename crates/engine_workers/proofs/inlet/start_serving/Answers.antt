@@ -12,9 +12,9 @@ use Rattle.engine_workers.proofs.inlet.start_serving.Goals as goal
 pub spawn_scoped-requires-send-F : goal.spawn_scoped-requires-send-F
 spawn_scoped-requires-send-F g c κs within =
     let b = c.type_bounds in
-    let Place = ConnectionSlot.the_row (param 1 g.row.A) g.A.ArrivalLedger g.A.Naming g.A.Ledger in
+    let Place = ConnectionSlot.the_row (param 1 g.row.A) g.A.Sharing g.A.Naming in
     param_send 1 _ (arg_send _ no _ (
-    at_place_send (param 1 g.row.A) (param 2 g.row.T) (param 3 g.row.U) (param 4 g.row.S) (copied 5 g.row.C) (param 6 g.row.H)
-    g.A.ArrivalLedger g.A.Ledger g.A.Naming g.T.Ledger g.U.Ledger g.S.RowStore _ _ _ _ _ _ (TakeCell.the_row Place) (param 7 g.row.R ∷ param 8 g.row.W ∷ [])
-    b.send-S (copied_sync 5 _ b.sync-C) b.sync-H (loan.the_sync Place (seat.the_send _ _ _ _)) (b.send-R, (b.send-W, tt))
+    at_place_send (param 1 g.row.A) (param 2 g.row.S) (copied 3 g.row.C) (param 4 g.row.H)
+    g.A.Sharing g.A.Naming g.S.RowStore _ _ _ _ _ _ (TakeCell.the_row Place) (param 5 g.row.R ∷ param 6 g.row.W ∷ [])
+    b.send-S (copied_sync 3 _ b.sync-C) b.sync-H (loan.the_sync Place (seat.the_send _ _ _)) (b.send-R, (b.send-W, tt))
     ))

@@ -1,4 +1,4 @@
-use Rattle.engine_workers.proofs.Unused.{unused_station, unused_stations}
+use Rattle.delivery_worker.proofs.Unused.{unused_station, unused_stations}
 use Rattle.engine_workers.proofs.workers.outlets_of.Goals as goal
 
 pub new-requires : goal.new-requires

@@ -1,4 +1,4 @@
-use Rattle.engine_workers.proofs.Unused.{unused_desks}
+use Rattle.delivery_worker.proofs.Unused.{unused_desks}
 use Rattle.engine_workers.proofs.workers.seats_at.Goals as goal
 
 pub loop-k-preserved : goal.loop-k-preserved

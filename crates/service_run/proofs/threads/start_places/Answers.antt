@@ -14,7 +14,7 @@ pub spawn_scoped-started-requires-send-F : goal.spawn_scoped-started-requires-se
 spawn_scoped-started-requires-send-F g c κs within =
     let b = c.type_bounds in
     param_send 1 _ (arg_send _ no _ (
-    at_place_send (param 1 g.row.A) (param 2 g.row.T) (param 3 g.row.U) (param 4 g.row.H) g.A.ArrivalLedger g.A.Ledger g.A.Naming g.T.Ledger g.U.Ledger
-    _ _ _ _ _ _ Gate.the_row (ShrRef _ _ (Place.the_row (param 1 g.row.A) g.A.ArrivalLedger g.A.Ledger g.A.Naming) ∷ [])
-    b.sync-H gate.the_sync (shr_send _ _ _ (place.the_sync (param 1 g.row.A) g.A.ArrivalLedger g.A.Ledger g.A.Naming), tt)
+    at_place_send (param 1 g.row.A) (param 2 g.row.H) g.A.Sharing g.A.Naming
+    _ _ _ _ _ _ Gate.the_row (ShrRef _ _ (Place.the_row (param 1 g.row.A) g.A.Sharing g.A.Naming) ∷ [])
+    b.sync-H gate.the_sync (shr_send _ _ _ (place.the_sync (param 1 g.row.A) g.A.Sharing g.A.Naming), tt)
     ))

@@ -9,6 +9,6 @@ pub spawn_scoped-requires-send-F : goal.spawn_scoped-requires-send-F
 spawn_scoped-requires-send-F g c κs within =
     let b = c.type_bounds in
     param_send 1 _ (arg_send _ no _ (
-    at_site_send (param 1 g.row.A) (param 2 g.row.T) (param 3 g.row.U) (param 4 g.row.H) g.A.ArrivalLedger g.A.Ledger g.A.Naming g.T.Ledger g.U.Ledger
+    at_site_send (param 1 g.row.A) (param 2 g.row.H) g.A.Sharing g.A.Naming
     _ _ _ _ [] b.sync-H tt
     ))

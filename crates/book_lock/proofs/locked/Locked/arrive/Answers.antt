@@ -1,23 +1,25 @@
 use Rattle.std.proofs.lemmas.List.{append-nil}
-use Rattle.std.proofs.Common.{Err, sym, ap, arith, refl, subst, ℕ, Ok, [], ◌∷◌, ◌++◌, ◌+◌, ◌∙◌}
+use Rattle.std.proofs.Common.{◌≡◌, ◌<◌, ◌^◌, Err, sym, ap, arith, refl, subst, ℕ, Ok, [], ◌∷◌, ◌++◌, ◌+◌, ◌∙◌}
 use Rattle.event_log.specs.History.{plan_in_force}
 use Rattle.event_log.specs.declared.entry.Entry.TheVariants.{Arrival}
 use Rattle.event_log.specs.Event.{Does, arrive}
 use Rattle.book_core.specs.Receiving.{arrival_reply}
 use Rattle.event_log.proofs.Events.{does-follow}
 use Rattle.book_lock.specs.Rises.{SharedBook}
-use Rattle.book_lock.proofs.Following.{arrivals_fit, few_entries, known_channel, next, still}
+use Rattle.book_lock.proofs.Following.{arrivals_fit, few_entries, known_channel, still}
 use Rattle.book_lock.specs.Log.{Log}
 use Rattle.book_lock.specs.declared.log_entry.LogEntry.TheVariants.{Booked}
 use Rattle.book_lock.proofs.Logging.{book_called, called_arrival, pushed}
-use Rattle.book_lock.proofs.HandedIn.{logged_more}
+use Rattle.book_lock.specs.inner.Counts.{count_in, is_arrival, is_settlement, is_take}
+use Rattle.book_lock.proofs.HandedIn.{counted_next, manned_more}
 use Rattle.book_lock.proofs.locked.Locked.arrive.Goals as goal
 
 pub add_arrival-requires : goal.add_arrival-requires
 add_arrival-requires g c =
     let h : SharedBook = record { book = c.self.inside.book; opening = c.self.inside.opening; first = c.self.inside.first; admitted = c.self.inside.admitted } in
-    arrivals_fit h c.self.inside.arrivals.total c.self.inside.takes.total c.self.inside.settlements.total c.self.invariant.1
-    (c.three_sums.ensures.few_arrivals h.book c.rules.ensures.sound (few_entries h.book c.rules.ensures.sound c.rules.ensures.few))
+    subst (λ (l : Log × ℕ). count_in is_arrival l.0 + 1 < 2 ^ 64) (sym c.observe.ensures.log)
+    (arrivals_fit h (count_in is_arrival c.self.inside.log.0) (count_in is_take c.self.inside.log.0) (count_in is_settlement c.self.inside.log.0) c.self.invariant.1
+    (c.three_sums.ensures.few_arrivals h.book c.rules.ensures.sound (few_entries h.book c.rules.ensures.sound c.rules.ensures.few)))
 
 pub invariant_of-self-2 : goal.invariant_of-self-2
 invariant_of-self-2 g c =
@@ -26,25 +28,25 @@ invariant_of-self-2 g c =
     let told = c.in-Ok.receipt.told in
     let known = known_channel judged.plan (plan_in_force h.book) judged.channel (λ other. let w = c.in-Ok.ensures.plan.1 other in cc) (omega (arith, c.channel-channel.ensures.value, c.channel-channel.ensures.known)) in
     let rise = c.three_sums.ensures.arrival h.book c.args.conn judged.channel judged.raw told c.rules.ensures.sound (does-follow (arrive c.args.conn judged.channel judged.raw) h.book c.arrive.new.self told c.in-Ok.ensures.does) known in
-    let n = next h (Arrival c.args.conn judged.channel judged.raw told) c.arrive.new.self g.A.ArrivalLedger.counts g.A.ArrivalLedger.first g.A.ArrivalLedger.channels
-    c.self.inside.arrivals.total c.self.inside.takes.total c.self.inside.settlements.total 1 0 0 c.add_arrival.new.book.total c.self.inside.takes.total c.self.inside.settlements.total
-    c.in-Ok.ensures.does.booked (still h (Arrival c.args.conn judged.channel judged.raw told) refl) c.self.invariant.0 c.self.invariant.1 rise c.add_arrival.ensures.total (omega arith) (omega arith) in
     let p = pushed c.args.desk.now.seat c.observe.new.self.seat c.observe.new.self.seat c.add_arrival.new.self.seat c.self.inside.log.0 c.observe.new.log.0 c.add_arrival.new.log.0 (Booked (Arrival c.in-Ok.receipt.conn c.in-Ok.receipt.channel c.in-Ok.receipt.raw told) ∷ [])
     c.observe.ensures.seat refl (ap (λ (l : Log × ℕ). l.0) c.observe.ensures.log) (ap (λ (l : Log × ℕ). l.0) c.add_arrival.ensures.log) c.add_arrival.ensures.seat in
-    (n.0, n.1, c.self.invariant.2, c.self.invariant.3, c.self.invariant.4, book_called g.A.ArrivalLedger.opening c.self.inside.log.0 c.add_arrival.new.log.0 c.args.desk.now.seat.number (arrive c.args.conn judged.channel judged.raw) c.self.inside.book c.arrive.new.self (Ok told) c.self.invariant.5 c.in-Ok.ensures.does (p.0 ∙ (λ i. c.self.inside.log.0 ++ (c.args.desk.now.seat.number, Booked (Arrival (c.in-Ok.ensures.receipt.conn i) (c.in-Ok.ensures.receipt.channel i) (c.in-Ok.ensures.receipt.raw i) c.in-Ok.receipt.told)) ∷ [])), ap (λ (l : Log × ℕ). l.1 + 1) c.add_arrival.ensures.log ∙ (ap (λ (l : Log × ℕ). l.1 + 1) c.observe.ensures.log ∙ c.self.invariant.6), c.self.invariant.7, logged_more c.self.inside.log.0 c.add_arrival.new.log.0 (c.args.desk.now.seat.number, Booked (Arrival c.in-Ok.receipt.conn c.in-Ok.receipt.channel c.in-Ok.receipt.raw c.in-Ok.receipt.told)) c.self.inside.arrivals.total c.self.inside.takes.total c.self.inside.settlements.total c.add_arrival.new.book.total c.self.inside.takes.total c.self.inside.settlements.total c.self.invariant.8 p.0 c.add_arrival.ensures.total (omega arith) (omega arith))
+    let added : c.add_arrival.new.log.0 ≡ c.self.inside.log.0 ++ (c.args.desk.now.seat.number, Booked (Arrival c.args.conn judged.channel judged.raw told)) ∷ [] = p.0 ∙ (λ i. c.self.inside.log.0 ++ (c.args.desk.now.seat.number, Booked (Arrival (c.in-Ok.ensures.receipt.conn i) (c.in-Ok.ensures.receipt.channel i) (c.in-Ok.ensures.receipt.raw i) c.in-Ok.receipt.told)) ∷ []) in
+    let n = counted_next h (Arrival c.args.conn judged.channel judged.raw told) c.arrive.new.self g.A.Sharing.counts g.A.Sharing.first g.A.Sharing.channels c.args.desk.now.seat.number c.self.inside.log.0 c.add_arrival.new.log.0
+    c.in-Ok.ensures.does.booked (still h (Arrival c.args.conn judged.channel judged.raw told) refl) c.self.invariant.0 c.self.invariant.1 rise added in
+    (n.0, n.1, book_called g.A.Sharing.opening c.self.inside.log.0 c.add_arrival.new.log.0 c.args.desk.now.seat.number (arrive c.args.conn judged.channel judged.raw) c.self.inside.book c.arrive.new.self (Ok told) c.self.invariant.2 c.in-Ok.ensures.does added, ap (λ (l : Log × ℕ). l.1) c.add_arrival.ensures.log ∙ (ap (λ (l : Log × ℕ). l.1) c.observe.ensures.log ∙ c.self.invariant.3), c.self.invariant.4, manned_more g.A.Sharing.desks g.A.Sharing.stations c.self.inside.log.0 c.add_arrival.new.log.0 (c.args.desk.now.seat.number, Booked (Arrival c.args.conn judged.channel judged.raw told)) c.self.invariant.5 added (λ _. c.observe.ensures.number) (λ e. absurd cc) (λ e. absurd cc))
 
 pub returns-clause-call : goal.returns-clause-call
 returns-clause-call g c =
     let judged = c.args.judged.now in
     let p = pushed c.args.desk.now.seat c.observe.new.self.seat c.observe.new.self.seat c.add_arrival.new.self.seat c.self.inside.log.0 c.observe.new.log.0 c.add_arrival.new.log.0 (Booked (Arrival c.in-Ok.receipt.conn c.in-Ok.receipt.channel c.in-Ok.receipt.raw c.in-Ok.receipt.told) ∷ [])
     c.observe.ensures.seat refl (ap (λ (l : Log × ℕ). l.0) c.observe.ensures.log) (ap (λ (l : Log × ℕ). l.0) c.add_arrival.ensures.log) c.add_arrival.ensures.seat in
-    called_arrival g.A.ArrivalLedger.opening c.args.conn judged c.args.desk.now.seat c.add_arrival.new.self.seat c.self.inside.log.0 c.add_arrival.new.log.0 c.self.inside.book c.arrive.new.self (Ok c.in-Ok.receipt) c.self.invariant.5
+    called_arrival g.A.Sharing.opening c.args.conn judged c.args.desk.now.seat c.add_arrival.new.self.seat c.self.inside.log.0 c.add_arrival.new.log.0 c.self.inside.book c.arrive.new.self (Ok c.in-Ok.receipt) c.self.invariant.2
     c.observe.ensures.agreed c.in-Ok.ensures.does c.in-Ok.ensures.memory c.in-Ok.ensures.receipt c.in-Ok.ensures.plan c.in-Ok.ensures.same_plan (p.0 ∙ (λ i. c.self.inside.log.0 ++ (c.args.desk.now.seat.number, Booked (Arrival (c.in-Ok.ensures.receipt.conn i) (c.in-Ok.ensures.receipt.channel i) (c.in-Ok.ensures.receipt.raw i) c.in-Ok.receipt.told)) ∷ [])) p.1
 
 pub returns-in-Err-clause-call : goal.returns-in-Err-clause-call
 returns-in-Err-clause-call g c =
     let judged = c.args.judged.now in
-    called_arrival g.A.ArrivalLedger.opening c.args.conn judged c.args.desk.now.seat c.observe.new.self.seat c.self.inside.log.0 c.self.inside.log.0 c.self.inside.book c.arrive.new.self (Err c.in-Err.refusal) c.self.invariant.5
+    called_arrival g.A.Sharing.opening c.args.conn judged c.args.desk.now.seat c.observe.new.self.seat c.self.inside.log.0 c.self.inside.log.0 c.self.inside.book c.arrive.new.self (Err c.in-Err.refusal) c.self.invariant.2
     c.observe.ensures.agreed c.in-Err.ensures.does c.in-Err.ensures.memory tt c.in-Err.ensures.plan c.in-Err.ensures.same_plan (sym (append-nil c.self.inside.log.0)) c.observe.ensures.seat
 
 pub returns-in-Err-clause-does : goal.returns-in-Err-clause-does

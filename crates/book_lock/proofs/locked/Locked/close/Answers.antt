@@ -1,4 +1,4 @@
-use Rattle.std.proofs.Common.{◌-◌, ◌+◌, sym, subst}
+use Rattle.std.proofs.Common.{◌+◌, sym, subst}
 use Rattle.book_lock.specs.Rises.{AddsUp, SharedBook}
 use Rattle.book_lock.proofs.HandedIn.{are_callers, closed_by, handed_in, one_history}
 use Rattle.book_lock.proofs.locked.Locked.close.Goals as goal
@@ -10,7 +10,7 @@ returns-clause-one_history g c =
     let ss = c.args.stations.items in
     let seats = handed_in log.0 log.1 ds ss c.of-roll.result c.hand_in_stations.new.roll c.hand_in_desks.new.roll c.of-roll.ensures c.hand_in_stations.ensures.roll c.hand_in_desks.ensures.roll
     c.compare.ensures.agreed c.compare.ensures.apart c.compare.ensures.within in
-    one_history g.A.ArrivalLedger.opening c.self.inside.book log.0 log.1 g.A.Ledger.parts g.T.Ledger.parts ds ss c.self.invariant.5 c.self.invariant.6 seats
+    one_history g.A.Sharing.opening c.self.inside.book log.0 log.1 (g.A.Sharing.desks + g.A.Sharing.stations + 1) ds ss c.self.invariant.2 c.self.invariant.3 seats
 
 pub returns-clause-closed : goal.returns-clause-closed
 returns-clause-closed g c =
@@ -20,8 +20,8 @@ returns-clause-closed g c =
     let h : SharedBook = record { book = c.self.inside.book; opening = c.self.inside.opening; first = c.self.inside.first; admitted = c.self.inside.admitted } in
     let seats = handed_in log.0 log.1 ds ss c.of-roll.result c.hand_in_stations.new.roll c.hand_in_desks.new.roll c.of-roll.ensures c.hand_in_stations.ensures.roll c.hand_in_desks.ensures.roll
     c.compare.ensures.agreed c.compare.ensures.apart c.compare.ensures.within in
-    let one = one_history g.A.ArrivalLedger.opening c.self.inside.book log.0 log.1 g.A.Ledger.parts g.T.Ledger.parts ds ss c.self.invariant.5 c.self.invariant.6 seats in
+    let one = one_history g.A.Sharing.opening c.self.inside.book log.0 log.1 (g.A.Sharing.desks + g.A.Sharing.stations + 1) ds ss c.self.invariant.2 c.self.invariant.3 seats in
     λ up.
-    closed_by g.A.ArrivalLedger.opening c.self.inside.book (g.A.Ledger.parts + g.T.Ledger.parts - 1) ds ss c.self.invariant.7 one
-    (are_callers h log.0 ds ss c.self.inside.arrivals.total c.self.inside.takes.total c.self.inside.settlements.total c.self.invariant.1 c.self.invariant.8
+    closed_by g.A.Sharing.opening c.self.inside.book (g.A.Sharing.desks + g.A.Sharing.stations + 1) ds ss c.self.invariant.4 one
+    (are_callers h log.0 ds ss c.self.invariant.1
     (subst (λ (k : SharedBook). AddsUp k ds ss) (sym c.self.view_is) up) seats.desks seats.stations c.hand_in_desks.ensures.made c.hand_in_stations.ensures.taken c.hand_in_stations.ensures.settled)

@@ -7,15 +7,16 @@ use Rattle.event_log.specs.Folding.{is_live_message, prune_answer}
 use Rattle.event_log.specs.History.{message_count}
 use Rattle.book_core.specs.inner.Questions.{settled_before}
 use Rattle.book_lock.proofs.Logging.{book_same}
+use Rattle.book_lock.specs.inner.Counts.{count_in, is_arrival, is_settlement, is_take}
 use Rattle.book_lock.proofs.locked.Locked.settled_before.Goals as goal
 
 pub invariant_of-self : goal.invariant_of-self
 invariant_of-self g c =
     let h : SharedBook = record { book = c.self.inside.book; opening = c.self.inside.opening; first = c.self.inside.first; admitted = c.self.inside.admitted } in
-    let n = unchanged h c.settled_before.new.self g.A.ArrivalLedger.counts g.A.ArrivalLedger.first g.A.ArrivalLedger.channels
-    c.self.inside.arrivals.total c.self.inside.takes.total c.self.inside.settlements.total
+    let n = unchanged h c.settled_before.new.self g.A.Sharing.counts g.A.Sharing.first g.A.Sharing.channels
+    (count_in is_arrival c.self.inside.log.0) (count_in is_take c.self.inside.log.0) (count_in is_settlement c.self.inside.log.0)
     c.settled_before.ensures.unchanged c.self.invariant.0 c.self.invariant.1 in
-    (n.0, n.1, c.self.invariant.2, c.self.invariant.3, c.self.invariant.4, book_same g.A.ArrivalLedger.opening c.self.inside.log.0 c.self.inside.log.0 c.self.inside.book c.settled_before.new.self c.self.invariant.5 refl c.settled_before.ensures.unchanged, c.self.invariant.6, c.self.invariant.7, c.self.invariant.8)
+    (n.0, n.1, book_same g.A.Sharing.opening c.self.inside.log.0 c.self.inside.log.0 c.self.inside.book c.settled_before.new.self c.self.invariant.2 refl c.settled_before.ensures.unchanged, c.self.invariant.3, c.self.invariant.4, c.self.invariant.5)
 
 pub returns-clause-before : goal.returns-clause-before
 returns-clause-before g c = c.settled_before.ensures.before ∙ ap (λ (h : SharedBook). settled_before c.args.keep h.book) c.self.view_is

@@ -1,31 +1,32 @@
-use Rattle.std.proofs.Common.{rules, ◌≡◌, ap, ◌∙◌, arith, refl, ℕ, Ok, [], ◌∷◌, ◌+◌}
+use Rattle.std.proofs.Common.{rules, sym, subst, ◌<◌, ◌^◌, ◌≡◌, ap, ◌∙◌, arith, refl, ℕ, Ok, [], ◌∷◌, ◌+◌}
 use Rattle.event_log.specs.declared.entry.Entry.TheVariants.{Take}
 use Rattle.event_log.specs.History.{History, control_id, payload}
 use Rattle.book_lock.specs.Rises.{SharedBook}
-use Rattle.book_lock.proofs.Following.{few_entries, next, still, takes_fit}
+use Rattle.book_lock.proofs.Following.{few_entries, still, takes_fit}
 use Rattle.event_log.specs.Event.{Does, MemoryIsLast, result_map, take}
 use Rattle.book_lock.specs.Log.{Log}
 use Rattle.book_lock.specs.declared.log_entry.LogEntry.TheVariants.{Booked}
 use Rattle.book_lock.proofs.Logging.{book_called, called_take, if_ok_none, pushed, take_none}
-use Rattle.book_lock.proofs.HandedIn.{logged_more}
+use Rattle.book_lock.specs.inner.Counts.{count_in, is_arrival, is_settlement, is_take}
+use Rattle.book_lock.proofs.HandedIn.{counted_next, manned_more}
 use Rattle.book_lock.proofs.locked.Locked.take.Goals as goal
 
 pub add_take-requires : goal.add_take-requires
 add_take-requires g c =
     let h : SharedBook = record { book = c.self.inside.book; opening = c.self.inside.opening; first = c.self.inside.first; admitted = c.self.inside.admitted } in
-    takes_fit h c.self.inside.arrivals.total c.self.inside.takes.total c.self.inside.settlements.total c.self.invariant.1
-    (c.three_sums.ensures.few_takes h.book c.rules.ensures.sound (few_entries h.book c.rules.ensures.sound c.rules.ensures.few))
+    subst (λ (l : Log × ℕ). count_in is_take l.0 + 1 < 2 ^ 64) (sym c.observe.ensures.log)
+    (takes_fit h (count_in is_arrival c.self.inside.log.0) (count_in is_take c.self.inside.log.0) (count_in is_settlement c.self.inside.log.0) c.self.invariant.1
+    (c.three_sums.ensures.few_takes h.book c.rules.ensures.sound (few_entries h.book c.rules.ensures.sound c.rules.ensures.few)))
 
 pub invariant_of-self-2 : goal.invariant_of-self-2
 invariant_of-self-2 g c =
     let h : SharedBook = record { book = c.self.inside.book; opening = c.self.inside.opening; first = c.self.inside.first; admitted = c.self.inside.admitted } in
     let rise = c.three_sums.ensures.take h.book c.args.d c.args.now c.in_ok-job.job.ticket c.rules.ensures.sound c.in_ok-job.ensures.does.replied in
-    let n = next h (Take c.in_ok-job.job.ticket c.args.now) c.take.new.self g.A.ArrivalLedger.counts g.A.ArrivalLedger.first g.A.ArrivalLedger.channels
-    c.self.inside.arrivals.total c.self.inside.takes.total c.self.inside.settlements.total 0 1 0 c.self.inside.arrivals.total c.add_take.new.book.total c.self.inside.settlements.total
-    c.in_ok-job.ensures.does.booked (still h (Take c.in_ok-job.job.ticket c.args.now) refl) c.self.invariant.0 c.self.invariant.1 rise (omega arith) c.add_take.ensures.total (omega arith) in
     let p = pushed c.args.station.now.seat c.observe.new.self.seat c.observe.new.self.seat c.add_take.new.self.seat c.self.inside.log.0 c.observe.new.log.0 c.add_take.new.log.0 (Booked (Take c.in_ok-job.job.ticket c.args.now) ∷ [])
     c.observe.ensures.seat refl (ap (λ (l : Log × ℕ). l.0) c.observe.ensures.log) (ap (λ (l : Log × ℕ). l.0) c.add_take.ensures.log) c.add_take.ensures.seat in
-    (n.0, n.1, c.self.invariant.2, c.self.invariant.3, c.self.invariant.4, book_called g.A.ArrivalLedger.opening c.self.inside.log.0 c.add_take.new.log.0 c.args.station.now.seat.number (take c.args.d c.args.now) c.self.inside.book c.take.new.self (Ok c.in_ok-job.job.ticket) c.self.invariant.5 c.in_ok-job.ensures.does p.0, ap (λ (l : Log × ℕ). l.1 + 1) c.add_take.ensures.log ∙ (ap (λ (l : Log × ℕ). l.1 + 1) c.observe.ensures.log ∙ c.self.invariant.6), c.self.invariant.7, logged_more c.self.inside.log.0 c.add_take.new.log.0 (c.args.station.now.seat.number, Booked (Take c.in_ok-job.job.ticket c.args.now)) c.self.inside.arrivals.total c.self.inside.takes.total c.self.inside.settlements.total c.self.inside.arrivals.total c.add_take.new.book.total c.self.inside.settlements.total c.self.invariant.8 p.0 (omega arith) c.add_take.ensures.total (omega arith))
+    let n = counted_next h (Take c.in_ok-job.job.ticket c.args.now) c.take.new.self g.A.Sharing.counts g.A.Sharing.first g.A.Sharing.channels c.args.station.now.seat.number c.self.inside.log.0 c.add_take.new.log.0
+    c.in_ok-job.ensures.does.booked (still h (Take c.in_ok-job.job.ticket c.args.now) refl) c.self.invariant.0 c.self.invariant.1 rise p.0 in
+    (n.0, n.1, book_called g.A.Sharing.opening c.self.inside.log.0 c.add_take.new.log.0 c.args.station.now.seat.number (take c.args.d c.args.now) c.self.inside.book c.take.new.self (Ok c.in_ok-job.job.ticket) c.self.invariant.2 c.in_ok-job.ensures.does p.0, ap (λ (l : Log × ℕ). l.1) c.add_take.ensures.log ∙ (ap (λ (l : Log × ℕ). l.1) c.observe.ensures.log ∙ c.self.invariant.3), c.self.invariant.4, manned_more g.A.Sharing.desks g.A.Sharing.stations c.self.inside.log.0 c.add_take.new.log.0 (c.args.station.now.seat.number, Booked (Take c.in_ok-job.job.ticket c.args.now)) c.self.invariant.5 p.0 (λ e. absurd cc) (λ _. c.observe.ensures.number) (λ e. absurd cc))
 
 pub returns-clause-control_id : goal.returns-clause-control_id
 returns-clause-control_id g c =
@@ -42,12 +43,12 @@ returns-clause-call g c =
     let job = c.in_ok-job.job in
     let p = pushed c.args.station.now.seat c.observe.new.self.seat c.observe.new.self.seat c.add_take.new.self.seat c.self.inside.log.0 c.observe.new.log.0 c.add_take.new.log.0 (Booked (Take job.ticket c.args.now) ∷ [])
     c.observe.ensures.seat refl (ap (λ (l : Log × ℕ). l.0) c.observe.ensures.log) (ap (λ (l : Log × ℕ). l.0) c.add_take.ensures.log) c.add_take.ensures.seat in
-    called_take g.A.ArrivalLedger.opening c.args.d c.args.now c.args.station.now.seat c.add_take.new.self.seat c.self.inside.log.0 c.add_take.new.log.0 c.self.inside.book c.take.new.self (Ok job) c.self.invariant.5
+    called_take g.A.Sharing.opening c.args.d c.args.now c.args.station.now.seat c.add_take.new.self.seat c.self.inside.log.0 c.add_take.new.log.0 c.self.inside.book c.take.new.self (Ok job) c.self.invariant.2
     c.observe.ensures.agreed c.in_ok-job.ensures.does c.in_ok-job.ensures.memory (record { control_id = c.in_ok-job.ensures.control_id; payload = c.in_ok-job.ensures.payload; ack = c.in_ok-job.ensures.ack }) p.0 p.1
 
 pub returns-in_err-job-clause-call : goal.returns-in_err-job-clause-call
 returns-in_err-job-clause-call g c =
     let does : Does (take c.args.d c.args.now) c.self.inside.book c.take.new.self (result_map (λ job. job.ticket) c.from_residual.result) = search rules in
     let memory : MemoryIsLast (take c.args.d c.args.now) c.self.inside.book (result_map (λ job. job.ticket) c.from_residual.result) = search rules in
-    called_take g.A.ArrivalLedger.opening c.args.d c.args.now c.args.station.now.seat c.observe.new.self.seat c.self.inside.log.0 c.self.inside.log.0 c.self.inside.book c.take.new.self c.from_residual.result c.self.invariant.5
+    called_take g.A.Sharing.opening c.args.d c.args.now c.args.station.now.seat c.observe.new.self.seat c.self.inside.log.0 c.self.inside.log.0 c.self.inside.book c.take.new.self c.from_residual.result c.self.invariant.2
     c.observe.ensures.agreed does memory (if_ok_none _ c.from_residual.result c.from_residual.ensures.0) (take_none c.args.station.now.seat.number c.args.d c.args.now c.from_residual.result c.self.inside.log.0 c.from_residual.ensures.0) c.observe.ensures.seat

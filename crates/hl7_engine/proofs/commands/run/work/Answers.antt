@@ -3,6 +3,6 @@ use Rattle.hl7_engine.proofs.commands.run.work.Goals as goal
 
 pub invariant_of-staff : goal.invariant_of-staff
 invariant_of-staff g c = record {
-  unused_desks = unused_seats (λ d. d.seat) c.in-Ok.desks.items _ _ c.in-Ok.ensures.seats.0;
-  unused_stations = unused_seats (λ s. s.seat) c.in-Ok.stations.items _ _ c.in-Ok.ensures.seats.1;
+  unused_desks = unused_seats (λ d. d.seat) c.in-Ok.field-0.desks.items 0 c.args.connections c.in-Ok.ensures.seats.0;
+  unused_stations = unused_seats (λ s. s.seat) c.in-Ok.field-0.stations.items c.args.connections c.destinations.result c.in-Ok.ensures.seats.1;
 }

@@ -5,4 +5,4 @@ use Rattle.hl7_engine.proofs.Crossing.{door_send}
 use Rattle.hl7_engine.proofs.commands.run.work_at.Goals as goal
 
 pub run_workers-requires-send-D : goal.run_workers-requires-send-D
-run_workers-requires-send-D g c κs within = param_send 8 _ (arg_send _ no _ (door_send (record { mir = erased; lft = _ }) _ c.type_bounds.sync-H))
+run_workers-requires-send-D g c κs within = param_send 6 _ (arg_send _ no _ (door_send (record { mir = erased; lft = _ }) _ c.type_bounds.sync-H))

@@ -1,0 +1,15 @@
+use Rattle.std.proofs.Common.{◌≡◌}
+use Rattle.book_lock.specs.Rises.{SharedBook}
+use Rattle.delivery_worker.proofs.Works.{traced_close}
+use Rattle.service_workers.proofs.Closed.{where_some}
+use Rattle.service_workers.proofs.ending.close_book.Goals as goal
+
+pub returns-clause-traced : goal.returns-clause-traced
+returns-clause-traced g c =
+    traced_close g.A.Sharing.opening _ c.args.desks.items c.args.posts.items (λ p. p.station) (λ p. p.destination) (λ p. p.report)
+    (λ p. p.delivered) (λ closed. closed.book) c.close.result _ c.close.ensures.closed c.in_ok-stations.ensures _ c.ok.ensures.value
+
+pub returns-clause-opening : goal.returns-clause-opening
+returns-clause-opening g c =
+    where_some (λ (closed : SharedBook). (closed.opening ≡ g.A.Sharing.counts) × (closed.first ≡ g.A.Sharing.first))
+    c.close.result _ c.ok.ensures.value c.close.ensures.opening
