@@ -1,9 +1,8 @@
 -- Lemmas on what is counted of a log, and on who made its calls.
-use Rattle.std.proofs.Common.{◌≡◌, ◌≢◌, ℕ, ◌+◌, ◌-◌, ◌<◌, ◌≤◌, ◌^◌, List, [], ◌∷◌, ◌++◌, map, cond, None, Some, refl, ap, sym, ◌∙◌, subst, arith, All, Bool, take, drop, length, append_assoc}
+use Rattle.std.proofs.Common.{◌≡◌, ◌≢◌, ℕ, ◌+◌, ◌-◌, ◌<◌, ◌≤◌, ◌^◌, List, [], ◌∷◌, ◌++◌, map, cond, None, Some, refl, ap, sym, ◌∙◌, subst, arith, All, Bool, take, length, append_assoc}
 use Rattle.std.specs.Prelude.{AllPairs, false, slice_get, sum_by, true}
 use Rattle.std.specs.List.{Contains}
 use Rattle.std.proofs.lemmas.List.{append-nil, length-map, map-append}
-use Rattle.std.proofs.Math.Seq.{take-append_seam}
 use Rattle.std.proofs.lemmas.List.Elements.{All-append, All-cons, All-nil, All-weaker}
 use Rattle.std.proofs.lemmas.Simd.{map-map}
 use Rattle.stat_count.specs.Sums.{arrivals, settlements, takes}

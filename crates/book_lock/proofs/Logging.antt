@@ -1,5 +1,5 @@
 -- Lemmas on the log of a shared book: one more entry, and a call as its seat sees it.
-use Rattle.std.proofs.Common.{◌≡◌, ◌≢◌, ◌↔◌, ◌⊎◌, ℕ, zero, suc, ◌<◌, List, [], ◌∷◌, ◌++◌, length, map, take, Some, None, slice_get, Result, Ok, Err, IfOk, IfErr, IsErrOf, OnOk, refl, ap, sym, ◌∙◌, subst, inl, inr, All, ◌+◌, ◌-◌, arith}
+use Rattle.std.proofs.Common.{◌≡◌, ◌≢◌, ◌↔◌, ◌⊎◌, ℕ, zero, suc, List, [], ◌∷◌, ◌++◌, length, map, take, Some, None, slice_get, Result, Ok, Err, IfOk, IfErr, IsErrOf, OnOk, refl, ap, sym, ◌∙◌, subst, inl, inr, All, ◌+◌, arith}
 use Rattle.std.proofs.lemmas.List.{append-nil, map-append}
 use Rattle.std.proofs.lemmas.List.Elements.{All-append, All-map}
 use Rattle.std.proofs.lemmas.List.FromFn.{map-range_with_len_more}

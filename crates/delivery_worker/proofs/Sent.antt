@@ -19,7 +19,6 @@ use Rattle.book_lock.specs.Log.{Log, SeatView, after_log}
 use Rattle.book_lock.specs.Callers.{HasNumber, IsClosedBy}
 use Rattle.book_lock.specs.Outcomes.{IsAccountedFor, SettledAs}
 use Rattle.book_lock.specs.Shares.{DeskView, StationView, seats_of}
-use Rattle.book_core.specs.declared.receipt.Receipt.{Receipt}
 use Rattle.conn_worker.specs.Arriving.{arrival_entry}
 use Rattle.delivery_worker.specs.Answers.{answer_in, outcome_of}
 use Rattle.delivery_worker.specs.Delivering.{Sending, attempt_outcome, sending_outcome}

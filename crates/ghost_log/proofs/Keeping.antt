@@ -10,7 +10,7 @@ use Rattle.atomic_table.specs.Table.{Me, keeps, Allows, Splits, Joins}
 use Rattle.atomic_table.proofs.Lists.{at_set}
 use Rattle.ghost_log.specs.declared.rule.PassView.{PassView}
 use Rattle.ghost_log.specs.Seats.{Agrees}
-use Rattle.ghost_log.specs.inner.Passes.{AreApart, Fits, IsFirst, IsFitting, IsAlone, IsJoint, IsRoll, IsSeat, IsConsistent, HasCompared, HasAdded, with_entries, with_new_seat, seat_part, seat_view, joined_views, keeper_view, keeper_part, new_seat_view, empty_view, extended, first_held, first_seen, joint_view, others_held, roll_view}
+use Rattle.ghost_log.specs.inner.Passes.{AreApart, Fits, IsFirst, IsFitting, IsAlone, IsJoint, IsRoll, IsSeat, IsConsistent, HasCompared, HasAdded, with_entries, with_new_seat, seat_part, seat_view, joined_views, keeper_view, keeper_part, new_seat_view, empty_view, extended, first_seen, joint_view, roll_view}
 use Rattle.ghost_log.proofs.Counting.{pairs_head, pairs_tail}
 use Rattle.ghost_log.proofs.Seats.{agrees_self, agrees_others, none_yet, within_others}
 

@@ -1,4 +1,4 @@
-use Rattle.std.proofs.Common.{◌≡◌, rules, sym, arith, refl, ap, ℕ, Ok, ◌+◌, ◌∙◌, ◌++◌, ◌∷◌, []}
+use Rattle.std.proofs.Common.{◌≡◌, rules, sym, refl, ap, ℕ, Ok, ◌∙◌, ◌++◌, ◌∷◌, []}
 use Rattle.event_log.specs.declared.entry.Entry.TheVariants.{Cancel}
 use Rattle.book_lock.specs.Rises.{SharedBook}
 use Rattle.book_lock.proofs.Following.{still}

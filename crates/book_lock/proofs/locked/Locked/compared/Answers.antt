@@ -1,4 +1,4 @@
-use Rattle.std.proofs.Common.{◌++◌, ◌∙◌, map, subst, sym}
+use Rattle.std.proofs.Common.{◌++◌, ◌∙◌, map, subst}
 use Rattle.book_lock.specs.Rises.{AddsUp, SharedBook}
 use Rattle.book_lock.specs.inner.Log.{AreInLog, desk_seat, station_seat}
 use Rattle.book_lock.proofs.HandedIn.{RollView, adds_up}

@@ -1,4 +1,4 @@
-use Rattle.std.proofs.Common.{rules, refl, sym, ◌≡◌, ◌∙◌, ap, arith, ℕ, Ok, ◌+◌, ◌++◌, ◌∷◌, []}
+use Rattle.std.proofs.Common.{rules, refl, sym, ◌≡◌, ◌∙◌, ap, ℕ, Ok, ◌++◌, ◌∷◌, []}
 use Rattle.std.specs.Prelude.{length}
 use Rattle.std.specs.Arc.{arc_value}
 use Rattle.plan_text.specs.Entries.{PlanEntry}

@@ -1,4 +1,4 @@
-use Rattle.std.proofs.Common.{refl, ◌≡◌, None, ap, subst, arith, ℕ, ◌+◌, ◌∙◌, Ok}
+use Rattle.std.proofs.Common.{refl, ◌≡◌, None, ap, subst, ℕ, ◌∙◌, Ok}
 use Rattle.event_log.specs.Folding.{prune_answer, pruned}
 use Rattle.event_log.specs.History.{History}
 use Rattle.book_lock.specs.Rises.{SharedBook}

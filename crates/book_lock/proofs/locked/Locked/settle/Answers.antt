@@ -1,4 +1,4 @@
-use Rattle.std.proofs.Common.{rules, sym, subst, ◌<◌, ◌^◌, arith, refl, ap, ℕ, Ok, [], ◌∷◌, ◌+◌, ◌∙◌}
+use Rattle.std.proofs.Common.{rules, sym, subst, ◌<◌, ◌^◌, refl, ap, ℕ, Ok, [], ◌∷◌, ◌+◌, ◌∙◌}
 use Rattle.event_log.specs.declared.entry.Entry.TheVariants.{Settle}
 use Rattle.book_lock.specs.Rises.{SharedBook}
 use Rattle.book_lock.proofs.Following.{few_entries, settlements_fit, still}

@@ -1,4 +1,4 @@
-use Rattle.std.proofs.Common.{rules, sym, subst, ◌<◌, ◌^◌, ◌≡◌, ap, ◌∙◌, arith, refl, ℕ, Ok, [], ◌∷◌, ◌+◌}
+use Rattle.std.proofs.Common.{rules, sym, subst, ◌<◌, ◌^◌, ◌≡◌, ap, ◌∙◌, refl, ℕ, Ok, [], ◌∷◌, ◌+◌}
 use Rattle.event_log.specs.declared.entry.Entry.TheVariants.{Take}
 use Rattle.event_log.specs.History.{History, control_id, payload}
 use Rattle.book_lock.specs.Rises.{SharedBook}
