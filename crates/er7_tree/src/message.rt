@@ -1,7 +1,7 @@
 //! A message is kept as one text and the spans of its segments in it, so that reading copies the text at most once and a piece
 //! is a part of that text. Nothing below a segment is kept: a piece is found when it is requested.
 
-ghost use Rattle.std.specs.Prelude.{◌≡◌, ◌<◌, ◌≤◌, ◌-◌, IfOk, IfSome, IfNone, IsTrue, MatchResult, None, Ok, OnOk, OnErr, Some, codes, filter, length, map, not, slice_get, slice_set, take, true, false};
+ghost use Rattle.std.specs.Prelude.{◌≡◌, ◌<◌, ◌≤◌, ◌-◌, [], IfOk, IfSome, IfNone, IsTrue, MatchResult, None, Ok, OnOk, OnErr, Some, codes, filter, length, map, not, slice_get, slice_set, take, true, false};
 ghost use Rattle.std.specs.List.{find, flat_map};
 ghost use Rattle.std.specs.Option.{option_copied};
 ghost use Rattle.er7_tree.specs.Path.{header_place, raw, segment_at, value};
@@ -117,16 +117,17 @@ fn are_printed(text: &[u8], spans: &[Span]) -> bool
     at == text.len()
 }
 
-/// The delimiters that a text declares, and the spans of its segments.
-fn spans_of(alloc: Global, text: &[u8]) -> Result<(Delims, Spans), Refusal>
+/// Finds the delimiters that a text declares, and the spans of its segments, which are written where the caller keeps them.
+fn spans_of(text: &[u8], spans: &mut Spans) -> Result<Delims, Refusal>
+    requires none { spans.old.items ≡ [] }
     ensures value { MatchResult result
-        (λ read. tree text.now ≡ Ok (spanned read.0 text.now read.1.items))
+        (λ delims. tree text.now ≡ Ok (spanned delims text.now spans.new.items))
         (λ refusal. Gives (Err refusal) (tree text.now)) }
-    ensures in_order { IfOk result (λ read. InOrder 0 (length text.now) read.1.items) }
+    ensures in_order { OnOk result (InOrder 0 (length text.now) spans.new.items) }
 {
     let (header, delims, ends) = read_header(text)?;
-    let spans = read_spans(alloc, text, header, delims, ends)?;
-    Ok((delims, spans))
+    read_spans(text, header, delims, ends, spans)?;
+    Ok(delims)
 }
 
 /// The segments that the spans cover, with another one at an index: a text that holds them one after another, and
@@ -166,7 +167,8 @@ impl Message {
         ensures value { Gives result (tree text.now) }
         ensures message { IfOk result IsMessage }
     {
-        let (delims, spans) = spans_of(alloc, text)?;
+        let mut spans = Spans::new(alloc);
+        let delims = spans_of(text, &mut spans)?;
         let bytes = Vec::from_slice(alloc, text)?;
         let text = Arc::new(alloc, bytes)?;
         Ok(Message {
@@ -185,7 +187,8 @@ impl Message {
         ensures value { Gives result (tree (arc_value text.now).items) }
         ensures message { IfOk result IsMessage }
     {
-        let (delims, spans) = spans_of(alloc, text.as_slice())?;
+        let mut spans = Spans::new(alloc);
+        let delims = spans_of(text.as_slice(), &mut spans)?;
         let text = Arc::try_clone(text)?;
         Ok(Message {
             delims,

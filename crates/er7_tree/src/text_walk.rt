@@ -1,6 +1,6 @@
 //! Reading a text: first its header, which declares the delimiters, and then all segments in one walk.
 
-ghost use Rattle.std.specs.Prelude.{◌≡◌, ◌∷◌, ◌≤◌, drop, length, true, Ok, IfOk, MatchResult};
+ghost use Rattle.std.specs.Prelude.{◌≡◌, ◌∷◌, [], ◌≤◌, drop, length, true, Ok, IfOk, OnOk, MatchResult};
 ghost use Rattle.lane_scan.specs.inner.Scan.{AreAhead};
 ghost use Rattle.er7_tree.specs.inner.Spans.{covered, spanned, IsBetween, IsNear, InOrder};
 ghost use Rattle.er7_tree.specs.Tree.{segment_end, checked_tree, segments_of, tree};
@@ -11,7 +11,6 @@ use crate::refusal::Refusal;
 use crate::segments::{Span, Spans, is_body, is_header, next_span};
 use fixed_numbers::MAX_SEGMENTS;
 use lane_scan::Ahead;
-use std::alloc::Global;
 
 /// The header of a text, the delimiters that it declares, and the search for the ends of the segments behind it.
 ///
@@ -37,30 +36,31 @@ pub(crate) fn read_header(text: &[u8]) -> Result<(Span, Delims, Ahead), Refusal>
     Ok((header, delims, ends))
 }
 
-/// The spans of a text's segments, of which the header is the first. One walk finds them, counts them and tests their
+/// Finds the spans of a text's segments, of which the header is the first. One walk finds them, counts them and tests their
 /// names; where a growth is refused it goes on without keeping them, since a refusal of the text itself is reported
-/// before a refusal for memory.
+/// before a refusal for memory. They are written where the caller keeps them, for speed: eight spans take 150 bytes, and
+/// each move of them some 30 instructions.
 ///
 /// # Errors
 ///
 /// `TooManySegments`, then `BadSegmentName`; `NoMemory` where memory is refused and neither applies.
 pub(crate) fn read_spans(
-    alloc: Global,
     text: &[u8],
     header: Span,
     delims: Delims,
     ends: Ahead,
-) -> Result<Spans, Refusal>
+    spans: &mut Spans,
+) -> Result<(), Refusal>
     requires first { segments_of text.now ≡ covered text.now header ∷ segments_of (drop header.end text.now) }
     requires between { IsBetween 0 (length text.now) header }
     requires ends { AreAhead segment_end text.now ends.at ends.end ends.bits }
     requires near { IsNear text.now header.end ends.at }
+    requires none { spans.old.items ≡ [] }
     ensures value { MatchResult result
-        (λ spans. checked_tree (record { delims = delims; segments = segments_of text.now }) ≡ Ok (spanned delims text.now spans.items))
+        (λ _. checked_tree (record { delims = delims; segments = segments_of text.now }) ≡ Ok (spanned delims text.now spans.new.items))
         (λ refusal. Gives (Err refusal) (checked_tree (record { delims = delims; segments = segments_of text.now }))) }
-    ensures in_order { IfOk result (λ spans. InOrder 0 (length text.now) spans.items) }
+    ensures in_order { OnOk result (InOrder 0 (length text.now) spans.new.items) }
 {
-    let mut spans = Spans::new(alloc);
     let mut kept = spans.push(header).is_ok();
     let mut bad = None;
     let mut place = 1;
@@ -79,7 +79,7 @@ pub(crate) fn read_spans(
     }
     match bad {
         Some(place) => Err(Refusal::BadSegmentName(place)),
-        None if kept => Ok(spans),
+        None if kept => Ok(()),
         None => Err(Refusal::NoMemory),
     }
 }
