@@ -1,6 +1,7 @@
 mod Rows
 pub mod Counting
 pub mod Cutting
+pub mod Components
 pub mod HeaderSegment
 pub mod Assembling
 pub mod Fronts

@@ -17,10 +17,10 @@ loop-piece-init g c = record {
 
 pub loop-piece-preserved : goal.loop-piece-preserved
 loop-piece-preserved g c =
-    let more = reads_more _ _ _ _ _ _ _ _ c.loop-piece-test.true c.piece_ahead.ensures.read c.loop-piece.invariant.reads in
-    let least = c.min.ensures in
+    let more = reads_more _ _ _ _ _ _ _ _ c.loop-piece-test.true c.piece_ahead-start.ensures.read c.loop-piece.invariant.reads in
+    let least = c.piece_ahead-start.ensures.next in
     record {
-      reads = rw c.min.ensures more;
-      ahead = c.piece_ahead.ensures.ahead;
-      here = λ lt. let at = c.piece_ahead.ensures.here (omega (arith, least, lt)) in omega (arith, least, lt, at);
+      reads = rw least more;
+      ahead = c.piece_ahead-start.ensures.ahead;
+      here = λ lt. let at = c.piece_ahead-start.ensures.here (omega (arith, least, lt)) in omega (arith, least, lt, at);
     }

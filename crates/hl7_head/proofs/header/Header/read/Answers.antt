@@ -11,8 +11,8 @@ pub returns : goal.returns
 returns c =
     let t = c.args.message.now in
     let span = c.shared_header.result.1 in
-    let shared = c.as_slice.ensures.value ∙ ap (λ (v : Vec ℕ Global). v.items) c.deref.ensures in
-    let kept = c.as_slice.ensures.value ∙ ap (λ (v : Vec ℕ Global). v.items) (c.deref.ensures ∙ sym c.in_ok-try_clone.ensures) in
+    let kept = c.as_slice.ensures.value ∙ ap (λ (v : Vec ℕ Global). v.items) c.deref.ensures in
+    let shared = kept ∙ ap (λ (v : Vec ℕ Global). v.items) c.in_ok-text.ensures in
     ap (λ (text : List ℕ). pieces_at c.delims-delims.result text c.of-places.result) (sym kept)
     ∙ c.of-places.ensures.pieces
     ∙ ap (λ (d : Delims). header_in d (covered c.as_slice.result.now span)) c.delims-delims.ensures
