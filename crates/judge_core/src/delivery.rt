@@ -131,6 +131,19 @@ pub(crate) fn transformed(steps: &[Step], message: Message) -> Result<Option<Mes
     }
 }
 
+/// The text of a message after a route's steps, or nothing where one of them can't be taken. It is not inlined, for speed:
+/// what it keeps of the changed message would be cleared for each message, which takes some 30 instructions.
+#[inline(never)]
+fn text_after(alloc: Global, steps: &[Step], message: &Message) -> Result<Option<Text>, AllocError>
+    requires stand { AllStand (steps_view steps.now) }
+    ensures { IfOk result (λ text. text ≡ option_map text_of (result_ok (after_steps (steps_view steps.now) message.now))) }
+{
+    match transformed(steps, message.clone()?)? {
+        Some(message) => Ok(Some(Text::new(alloc, message.print()?)?)),
+        None => Ok(None),
+    }
+}
+
 /// The text of a message after a route's steps, or nothing where one of them can't be taken; `payload` is its text
 /// before them.
 fn text_by(
@@ -146,10 +159,7 @@ fn text_by(
     if steps.is_empty() {
         return Ok(Some(payload.share()?));
     }
-    match transformed(steps, message.clone()?)? {
-        Some(message) => Ok(Some(Text::new(alloc, message.print()?)?)),
-        None => Ok(None),
-    }
+    text_after(alloc, steps, message)
 }
 
 /// What goes by each route whose filter the message passes, or nothing where the steps of one can't be taken;

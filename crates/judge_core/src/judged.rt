@@ -1,6 +1,6 @@
 //! A text with what was decided of it.
 
-ghost use Rattle.std.specs.Prelude.{◌≡◌, ◌<◌, IfOk, IfSome, IsTrue, Some, All, length, option_copied, option_map};
+ghost use Rattle.std.specs.Prelude.{◌≡◌, ◌+◌, ◌<◌, ◌≤◌, ◌∷◌, ◌++◌, IfOk, IfSome, IsTrue, None, Some, All, length, option_copied, option_map, take};
 ghost use Rattle.mllp_frame.specs.Framing.{IsBlockData};
 ghost use Rattle.hl7_transform.specs.Step.{after_steps};
 ghost use Rattle.plan_text.specs.Entries.{AllStand};
@@ -88,17 +88,6 @@ impl Model for Judged {
     } };
 }
 
-/// The message that a text says, if it says one.
-fn read(alloc: Global, text: &Arc<Vec<u8>>) -> Result<Option<Message>, AllocError>
-    ensures { IfOk result (λ read. read ≡ result_ok (tree (arc_value text.now).items)) }
-{
-    match Message::parse_shared(alloc, text) {
-        Ok(message) => Ok(Some(message)),
-        Err(Refusal::NoMemory) => Err(AllocError),
-        Err(_) => Ok(None),
-    }
-}
-
 /// The first fault of a message's header, if it has one: what the channel doesn't take, or a bad control id.
 #[tactic(auto, unfolding(crate::specs::Judging::header_fault))]
 fn header_fault(channel: &Channel, header: &Header) -> Option<Cause>
@@ -143,17 +132,62 @@ fn control_id_of(header: &Header) -> Result<TextPiece, AllocError>
     TextPiece::of(text, place)
 }
 
-/// The key of a message, by which its repeats are known.
-fn key_bytes(alloc: Global, channel: u8, header: &Header) -> Result<Key, AllocError>
-    ensures { IfOk result (λ key. key ≡ key_by channel header.now) }
+/// The most bytes of a key that is put together in a run.
+const RUN_MAX: usize = 30;
+
+/// Writes bytes into a run at an offset, and returns the offset behind them.
+#[inline(always)]
+fn put(run: &mut [u8; RUN_MAX], at: usize, bytes: &[u8]) -> usize
+    requires { at + length bytes.now ≤ RUN_MAX }
+    ensures end { result ≡ at + length bytes.now }
+    ensures written { take result run.new ≡ take at run.old ++ bytes.now }
+{
+    let end = at + bytes.len();
+    run[at..end].copy_from_slice(bytes);
+    end
+}
+
+/// The key of a message with these three fields, of any length.
+#[inline(never)]
+fn long_key(
+    alloc: Global,
+    channel: u8,
+    application: &[u8],
+    facility: &[u8],
+    control_id: &[u8],
+) -> Result<Key, AllocError>
+    ensures { IfOk result (λ key. key
+        ≡ channel ∷ application.now ++ 13 ∷ facility.now ++ 13 ∷ control_id.now) }
 {
     Key::new()
         .with(alloc, &[channel])?
-        .with(alloc, header.sending_application())?
+        .with(alloc, application)?
         .with(alloc, b"\r")?
-        .with(alloc, header.sending_facility())?
+        .with(alloc, facility)?
         .with(alloc, b"\r")?
-        .with(alloc, header.control_id())
+        .with(alloc, control_id)
+}
+
+/// The key of a message, by which its repeats are known. A short one is put together in a run, for speed: a key that is made
+/// of six parts is moved six times, which takes some 150 instructions more.
+fn key_bytes(alloc: Global, channel: u8, header: &Header) -> Result<Key, AllocError>
+    ensures { IfOk result (λ key. key ≡ key_by channel header.now) }
+{
+    let application = header.sending_application();
+    let facility = header.sending_facility();
+    let control_id = header.control_id();
+    let fields = application.len().saturating_add(facility.len());
+    if fields.saturating_add(control_id.len()) > RUN_MAX - 3 {
+        return long_key(alloc, channel, application, facility, control_id);
+    }
+    let mut run = [0; RUN_MAX];
+    let at = put(&mut run, 0, &[channel]);
+    let at = put(&mut run, at, application);
+    let at = put(&mut run, at, b"\r");
+    let at = put(&mut run, at, facility);
+    let at = put(&mut run, at, b"\r");
+    let at = put(&mut run, at, control_id);
+    Key::new().with(alloc, &run[..at])
 }
 
 /// What becomes of a message by routes; `payload` is its text. Where the steps of one can't be taken, the whole message is
@@ -193,39 +227,56 @@ fn sent_by(
     routed(alloc, routes, message, &payload)
 }
 
-/// What becomes of a message that passes the channel's filter. One that the channel doesn't change is not moved.
-fn stepped(
+/// What becomes of a message that the channel changes. It is not inlined, for speed: what it keeps of the changed message
+/// would be cleared for each message that isn't changed, which takes some 40 instructions.
+#[inline(never)]
+fn changed(
     alloc: Global,
     channel: &Channel,
-    message: Message,
+    message: &Message,
     raw: &Text,
 ) -> Result<Verdict, AllocError>
     requires stand { AllStand channel.now.steps }
     requires routes_stand { All (λ r. AllStand r.steps) channel.now.routes }
-    requires goes { IfOk (after_steps channel.now.steps message) (λ t. AreDeliveries (deliveries_by channel.now.routes t)) }
-    ensures { IfOk result (λ verdict. verdict ≡ stepped channel.now.routes (after_steps channel.now.steps message)) }
+    requires goes { IfOk (after_steps channel.now.steps message.now) (λ t. AreDeliveries (deliveries_by channel.now.routes t)) }
+    ensures { IfOk result (λ verdict. verdict ≡ stepped channel.now.routes (after_steps channel.now.steps message.now)) }
 {
-    if channel.steps().is_empty() {
-        return sent_by(alloc, channel.routes(), &message, raw);
-    }
-    let Some(message) = transformed(channel.steps(), message)? else {
+    let Some(message) = transformed(channel.steps(), message.clone()?)? else {
         return Ok(Verdict::Refuse(Cause::SourceTransform));
     };
     sent_by(alloc, channel.routes(), &message, raw)
+}
+
+/// What becomes of a message that passes the channel's filter. One that the channel doesn't change is not copied.
+fn stepped(
+    alloc: Global,
+    channel: &Channel,
+    message: &Message,
+    raw: &Text,
+) -> Result<Verdict, AllocError>
+    requires stand { AllStand channel.now.steps }
+    requires routes_stand { All (λ r. AllStand r.steps) channel.now.routes }
+    requires goes { IfOk (after_steps channel.now.steps message.now) (λ t. AreDeliveries (deliveries_by channel.now.routes t)) }
+    ensures { IfOk result (λ verdict. verdict ≡ stepped channel.now.routes (after_steps channel.now.steps message.now)) }
+{
+    if !channel.steps().is_empty() {
+        return changed(alloc, channel, message, raw);
+    }
+    sent_by(alloc, channel.routes(), message, raw)
 }
 
 /// What a channel decides of a message.
 fn decide(
     alloc: Global,
     channel: &Channel,
-    message: Message,
+    message: &Message,
     header: &Header,
     raw: &Text,
 ) -> Result<Verdict, AllocError>
     requires stand { AllStand channel.now.steps }
     requires routes_stand { All (λ r. AllStand r.steps) channel.now.routes }
-    requires goes { IfOk (after_steps channel.now.steps message) (λ t. AreDeliveries (deliveries_by channel.now.routes t)) }
-    ensures { IfOk result (λ verdict. verdict ≡ verdict_of (Some channel.now) header.now message) }
+    requires goes { IfOk (after_steps channel.now.steps message.now) (λ t. AreDeliveries (deliveries_by channel.now.routes t)) }
+    ensures { IfOk result (λ verdict. verdict ≡ verdict_of (Some channel.now) header.now message.now) }
 {
     if header.message_code() == b"ACK".as_slice() {
         return Ok(Verdict::Stray);
@@ -233,10 +284,58 @@ fn decide(
     if let Some(cause) = header_fault(channel, header) {
         return Ok(Verdict::Refuse(cause));
     }
-    if !passes(channel.filter(), &message)? {
+    if !passes(channel.filter(), message)? {
         return Ok(Verdict::Filtered);
     }
     stepped(alloc, channel, message, raw)
+}
+
+/// A text that is no message, as it is judged.
+fn unreadable(plan: Arc<Plan>, channel: u32, raw: Text) -> Judged
+    requires known { channel < length (arc_value plan).channels }
+    requires fits { IsBlockData raw }
+    requires none { result_ok (tree raw) ≡ None }
+    ensures { result ≡ record { plan = arc_value plan; channel = channel; raw = raw } }
+{
+    Judged {
+        plan,
+        channel,
+        raw,
+        header: None,
+        control_id: None,
+        key: Key::new(),
+        verdict: Verdict::Unreadable,
+    }
+}
+
+/// Judges a message that was read from a text.
+fn judge_message(
+    alloc: Global,
+    plan: Arc<Plan>,
+    channel: u32,
+    raw: Text,
+    message: &Message,
+) -> Result<Judged, AllocError>
+    requires known { channel < length (arc_value plan).channels }
+    requires fits { IsBlockData raw }
+    requires read { result_ok (tree raw) ≡ Some message.now }
+    ensures { IfOk result (λ judged. judged ≡ record { plan = arc_value plan; channel = channel; raw = raw }) }
+{
+    plan.rules();
+    let header = Header::read(message)?;
+    let control_id = control_id_of(&header)?;
+    let key = key_bytes(alloc, channel as u8, &header)?;
+    let rules = plan.channel(channel).unwrap();
+    let verdict = decide(alloc, rules, message, &header, &raw)?;
+    Ok(Judged {
+        plan,
+        channel,
+        raw,
+        header: Some(header),
+        control_id: Some(control_id),
+        key,
+        verdict,
+    })
 }
 
 /// Judges a text that arrived on a channel of the plan.
@@ -254,36 +353,16 @@ pub fn judge(
     requires fits { IsBlockData raw.items }
     ensures { IfOk result (λ judged. judged ≡ record { plan = arc_value plan.now; channel = channel; raw = raw.items }) }
 {
-    plan.rules();
     let shared = Arc::new(alloc, raw)?;
     let plan = Arc::try_clone(plan)?;
-    let read = read(alloc, &shared)?;
+    // What was read is judged where it is, and not moved, for speed: it takes 170 bytes.
+    let read = Message::parse_shared(alloc, &shared);
     let raw = Text::of(shared);
-    let Some(message) = read else {
-        return Ok(Judged {
-            plan,
-            channel,
-            raw,
-            header: None,
-            control_id: None,
-            key: Key::new(),
-            verdict: Verdict::Unreadable,
-        });
-    };
-    let header = Header::read(&message)?;
-    let control_id = control_id_of(&header)?;
-    let key = key_bytes(alloc, channel as u8, &header)?;
-    let rules = plan.channel(channel).unwrap();
-    let verdict = decide(alloc, rules, message, &header, &raw)?;
-    Ok(Judged {
-        plan,
-        channel,
-        raw,
-        header: Some(header),
-        control_id: Some(control_id),
-        key,
-        verdict,
-    })
+    match &read {
+        Ok(message) => judge_message(alloc, plan, channel, raw, message),
+        Err(Refusal::NoMemory) => Err(AllocError),
+        Err(_) => Ok(unreadable(plan, channel, raw)),
+    }
 }
 
 impl Judged {
