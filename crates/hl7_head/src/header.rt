@@ -46,7 +46,6 @@ impl Header {
         let delims = message.delims();
         let (text, segment) = message.shared_header();
         let text = Arc::try_clone(text)?;
-        // No error follows the pieces, for speed: their 224 bytes are then moved once less.
         let places = Places::of(text.as_slice(), segment, delims);
         Ok(Header {
             delims,
