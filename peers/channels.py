@@ -25,6 +25,17 @@ def refused(port):
         return False
 
 
+def soon_refused(port, limit=5.0):
+    """Whether connecting there is refused within some seconds: a channel logs that it takes no further connection just
+    before its listener is closed."""
+    until = time.monotonic() + limit
+    while not refused(port):
+        if time.monotonic() > until:
+            return False
+        time.sleep(0.05)
+    return True
+
+
 def allow(pid, number):
     """Lets a process have so many descriptors, and gives how many it might have before."""
     before = resource.prlimit(pid, resource.RLIMIT_NOFILE)
@@ -177,7 +188,7 @@ def a_lasting_lack(program, folder):
         with connected(port) as second:
             replies.append(speak(second, message(b'M1')))
             is_told = engine.heard('no further one is taken', 'channel=ADT', limit=PATIENCE + late(program))
-            waited, is_refused = time.monotonic() - began, refused(port)
+            waited, is_refused = time.monotonic() - began, soon_refused(port)
             allow(engine.process.pid, before)
             replies += [speak(first, message(b'M2')), speak(second, message(b'M3'))]
         first.close()
