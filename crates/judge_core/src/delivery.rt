@@ -132,7 +132,7 @@ pub(crate) fn transformed(steps: &[Step], message: Message) -> Result<Option<Mes
 }
 
 /// The text of a message after a route's steps, or nothing where one of them can't be taken. It is not inlined, for speed:
-/// what it keeps of the changed message would be cleared for each message, which takes some 30 instructions.
+/// what it keeps of the changed message would be cleared for each message, some 30 instructions by an estimate.
 #[inline(never)]
 fn text_after(alloc: Global, steps: &[Step], message: &Message) -> Result<Option<Text>, AllocError>
     requires stand { AllStand (steps_view steps.now) }

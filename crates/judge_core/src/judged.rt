@@ -169,7 +169,7 @@ fn long_key(
 }
 
 /// The key of a message, by which its repeats are known. A short one is put together in a run, for speed: a key that is made
-/// of six parts is moved six times, which takes some 150 instructions more.
+/// of six parts is moved six times, some 150 instructions more by an estimate.
 fn key_bytes(alloc: Global, channel: u8, header: &Header) -> Result<Key, AllocError>
     ensures { IfOk result (λ key. key ≡ key_by channel header.now) }
 {
@@ -228,7 +228,7 @@ fn sent_by(
 }
 
 /// What becomes of a message that the channel changes. It is not inlined, for speed: what it keeps of the changed message
-/// would be cleared for each message that isn't changed, which takes some 40 instructions.
+/// would be cleared for each message that isn't changed, some 40 instructions by an estimate.
 #[inline(never)]
 fn changed(
     alloc: Global,
