@@ -2,7 +2,7 @@
 machine doesn't change these. Where valgrind isn't installed it is the processor time in nanoseconds, the system's share included, and
 no system calls; a measure then takes the least of several runs.
 
-For bench/hostile.py, bench/cuts.py and bench/growth.py; it has no command line of its own.
+For bench/cuts.py, bench/growth.py, bench/hostile.py, bench/run.py and bench/twins.py; it has no command line of its own.
 """
 import fcntl
 import os
@@ -12,9 +12,11 @@ import shutil
 import subprocess
 import tempfile
 import threading
+import time
 from typing import NamedTuple
 
 LIMIT = 600  # the longest that one run may last, in seconds
+IDLE = 0.6  # seconds without work after which a program under valgrind has nothing left to do
 MIB = 1024 * 1024
 COUNTS = shutil.which('valgrind') is not None
 UNIT = 'instructions' if COUNTS else 'nanoseconds of processor time'
@@ -40,6 +42,26 @@ def counted(lines, seconds):
     if found is None:
         raise RuntimeError(f'valgrind counted nothing: {lines[-500:]}')
     return Taken(int(found[1]), int(found[2]))
+
+
+def seconds_of(process):
+    """Processor seconds of a process that runs."""
+    with open(f'/proc/{process.pid}/stat', encoding='utf-8') as file:
+        words = file.read().rsplit(') ', 1)[1].split()
+    return (int(words[11]) + int(words[12])) / os.sysconf('SC_CLK_TCK')
+
+
+def instructions_so_far(process, out):
+    """The instructions of a program until now, once it has nothing left to do. It runs under callgrind, with `out` as its
+    `--callgrind-out-file`. Only what is counted before the first such call is returned by it."""
+    before = -1
+    while before != (now := seconds_of(process)):
+        before = now
+        time.sleep(IDLE)
+    subprocess.run(['callgrind_control', '--dump', str(process.pid)], stdout=subprocess.DEVNULL, stderr=subprocess.DEVNULL, check=True,
+                   timeout=60)
+    with open(f'{out}.1', encoding='utf-8') as file:
+        return int(re.search(r'^totals: (\d+)', file.read(), re.MULTILINE)[1])
 
 
 def children_seconds():

@@ -26,6 +26,7 @@ sys.path.insert(0, os.path.join(os.path.dirname(os.path.abspath(__file__)), '..'
 from answer import COUNTED, TOOLS, framed, shorter  # noqa: E402
 from engine import PROGRAM, Engine, one_channel  # noqa: E402
 from hostile import idle_connections  # noqa: E402
+from meter import instructions_so_far, seconds_of  # noqa: E402
 from mllp import block, field, free_ports, message  # noqa: E402
 from plain import SYSTEM_PYTHON  # noqa: E402
 
@@ -131,12 +132,6 @@ class Server:
         self._process.wait()
 
 
-def processor_seconds(process):
-    with open(f'/proc/{process.pid}/stat', encoding='utf-8') as file:
-        words = file.read().rsplit(') ', 1)[1].split()
-    return (int(words[11]) + int(words[12])) / os.sysconf('SC_CLK_TCK')
-
-
 def engine_rates(program, folder, connections, destinations, messages):
     """Messages a second that were acknowledged, and that were delivered to all destinations."""
     sinks, port = [Server('acknowledged') for _ in range(destinations)], free_ports(1)[0]
@@ -171,14 +166,16 @@ def idle_share(program, folder):
     with Engine(program, one_channel(port, [(f'D{n}', at, []) for n, at in enumerate(ports)]), 1, folder) as engine:
         with socket.create_connection(('127.0.0.1', port)):
             time.sleep(0.5)
-            before = processor_seconds(engine.process)
+            before = seconds_of(engine.process)
             time.sleep(10)
-            return (processor_seconds(engine.process) - before) / 10
+            return (seconds_of(engine.process) - before) / 10
 
 
 def counted(program, folder, messages, tool, told):
-    """The number that a tool of valgrind tells of an engine that so many messages come to, all for one destination."""
-    under = ['valgrind', f'--tool={tool}', *(['--callgrind-out-file=/dev/null'] if tool == 'callgrind' else [])]
+    """The number that a tool of valgrind prints of an engine that has received this many messages, all for one destination;
+    and under callgrind the instructions until the last of them was settled, before the book is closed and audited."""
+    out = os.path.join(folder, f'callgrind.{os.path.basename(program)}.{messages}')
+    under = ['valgrind', f'--tool={tool}', *([f'--callgrind-out-file={out}'] if tool == 'callgrind' else [])]
     port, = free_ports(1)
     with Server('acknowledged') as sink:
         text = one_channel(port, [('D0', sink.port, ['attempts = 1'])])
@@ -188,21 +185,27 @@ def counted(program, folder, messages, tool, told):
                     peer.sendall(framed(shorter(n)))
                     while not peer.recv(65_536).endswith(b'\x1c\r'):
                         pass
+                settled = instructions_so_far(engine.process, out) if tool == 'callgrind' else None
             status, counts = engine.ended(300)
     if status != 0 or counts['destination', 'D0']['delivered'] != messages:
         raise RuntimeError(f'{status} {counts}')
-    return int(re.search(told, '\n'.join(engine.told)).group(1).replace(',', ''))
+    return int(re.search(told, '\n'.join(engine.told)).group(1).replace(',', '')), settled
 
 
 def measure_work(program, folder):
-    """What a message costs from its block to its delivery's settlement, without the system's share."""
+    """What a message costs from its block to its delivery's settlement, without the system's share; and with its share of the
+    end, where the book is closed, audited and released."""
     if shutil.which('valgrind') is None:
         print('valgrind is not installed: no instructions and no requests for memory of a message')
         return
     few, many = COUNTED
     for tool, told, what, _ in TOOLS:
-        more = counted(program, folder, many, tool, told) - counted(program, folder, few, tool, told)
-        print(f'run, one connection, one destination: {more / (many - few):,.1f} {what} a message of 676 bytes', flush=True)
+        (all_few, settled_few), (all_many, settled_many) = (counted(program, folder, n, tool, told) for n in (few, many))
+        each = f'{(all_many - all_few) / (many - few):,.1f} {what} a message of 676 bytes'
+        if settled_few is not None:
+            each = (f'{(settled_many - settled_few) / (many - few):,.1f} {what} a message of 676 bytes until it is settled, and '
+                    f'{each} with its share of the end')
+        print(f'run, one connection, one destination: {each}', flush=True)
 
 
 def measure(program, folder, messages, idle):

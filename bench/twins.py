@@ -357,11 +357,14 @@ def measure_run_work(programs, table, count):
         return
     names = [name for name in ('engine', 'threaded') if name != 'engine' or not programs.checked]
     for tool, told, what, _ in TOOLS:
-        found = {}
+        found, settled = {}, {}
         for name in names:
             few, many = (loopback.counted(programs.paths[name], programs.folder, n, tool, told) for n in (count, 2 * count))
-            found[name] = (many - few) / count
-        table.row(f'run, one connection, one destination: {what}', found, ',.1f')
+            found[name] = (many[0] - few[0]) / count
+            settled[name] = (many[1] - few[1]) / count if tool == 'callgrind' else None
+        if tool == 'callgrind':
+            table.row(f'run, one connection, one destination: {what}', settled, ',.1f')
+        table.row(f'run, one connection, one destination: {what}{", with the end" if tool == "callgrind" else ""}', found, ',.1f')
 
 
 # How long it takes
@@ -453,7 +456,7 @@ class Worked(threading.Thread):
     def run(self):
         try:
             while self.process.returncode is None:
-                self.seconds = max(self.seconds, loopback.processor_seconds(self.process))
+                self.seconds = max(self.seconds, loopback.seconds_of(self.process))
                 time.sleep(0.02)
         except (OSError, IndexError):
             return  # it has ended
@@ -485,20 +488,23 @@ def largest_rate(programs, messages):
 
 
 def measure_rates(programs, table, messages, times):
-    """The rates of `run` and of its twin, in turn."""
-    runs = {name: [] for name in ('engine', 'threaded')}
+    """The rates of `run` and of its twin, and of `run` by the largest plan, in turn."""
+    runs, largest = {name: [] for name in ('engine', 'threaded')}, []
     for _ in range(times):
         for name, of in runs.items():
             of.append(rates(programs, name, messages))
+        if not programs.checked:
+            largest.append(largest_rate(programs, messages))
     rows = (('acknowledged a second', max, ',.0f'), ('delivered a second', max, ',.0f'), ('processor microseconds a message', min, ',.1f'))
     for place, (title, pick, form) in enumerate(rows):
         turns = {name: [figures[place] for figures in of] for name, of in runs.items()}
         best = {name: pick(of) for name, of in turns.items()}
         table.row(f'run, {CONNECTIONS} connections: {title}, best of {times}', best, form, turns=turns)
-    if programs.checked:
-        return
-    largest = max(largest_rate(programs, max(messages // 20, CONNECTIONS)) for _ in range(times))
-    table.row(f'run, {LARGEST[0]}: acknowledged a second, best of {times}', {'engine': largest}, small=max(figures[0] for figures in runs['engine']))
+    if largest:
+        small = [figures[0] for figures in runs['engine']]
+        table.row(f'run, {LARGEST[0]}: acknowledged a second, best of {times}', {'engine': max(largest)}, small=max(small))
+        over = statistics.median(one / other for one, other in zip(largest, small))
+        print(f'the largest plan over the small one, the median of {times} turns: {over:.2f}', flush=True)
 
 
 def measure(programs, quick, times):

@@ -20,7 +20,7 @@ import threading
 import time
 
 from engine import checks_accesses, one_channel, plan
-from mllp import SILENCE, Destination, Sender, field, free_ports, message
+from mllp import SILENCE, Destination, Sender, block, field, free_ports, message
 
 PROGRAM = os.path.join(os.path.dirname(os.path.abspath(__file__)), '..', 'crates', 'hl7_service', 'out', 'hl7_service')
 LIMIT = 30
@@ -93,6 +93,25 @@ class Closing(Destination):
     def _answer(self, connection, text, told):
         super()._answer(connection, text, told)
         return False
+
+
+class Chatting(Destination):
+    """A destination that sends blocks all the time, asked or not. It counts its connections."""
+
+    talks = 0
+
+    def _talk(self, connection):
+        self.talks += 1
+        threading.Thread(target=self._chat, args=(connection,), daemon=True).start()
+        super()._talk(connection)
+
+    def _chat(self, connection):
+        try:
+            while not self.closed:
+                connection.sendall(block(b'MSH|^~\\&|LAB') * 50)
+                time.sleep(0.0002)
+        except OSError:
+            return
 
 
 def came(destination, number, limit=LIMIT):
@@ -304,6 +323,21 @@ def unasked(program, folder):
     whole = came(lab, 300, 5)
     lab.close()
     return [] if (whole, status, lab.came) == (True, 0, texts) else [f'unasked: status {status}, {len(lab.came)} of 300 came']
+
+
+def chatting(program, folder):
+    """A destination whose answers are not awaited sends all the time: its one connection is kept, and all messages come."""
+    lab, port = Chatting(lambda text, before: SILENCE), free_ports(1)[0]
+    texts = [message(b'A%d' % n) for n in range(300)]
+    with Service(program, one_channel(port, [('LAB', lab.port, ['await = "none"'])]), folder) as service:
+        exchange(port, texts)
+        service.ask('stop')
+        status, _ = service.ended()
+    whole = came(lab, 300, 5)
+    lab.close()
+    if (whole, status, lab.came, lab.talks) != (True, 0, texts, 1):
+        return [f'chatting: status {status}, {len(lab.came)} of 300 came, {lab.talks} connections']
+    return []
 
 
 def forgets(program, folder):
@@ -533,9 +567,9 @@ def words(program, folder):
 
 SCENES = [('places take connections again', taken_again), ('commands', commands), ('questions', questions),
           ('a destination moves', moved), ('a destination closes', closing), ('a destination comes back', comes_back),
-          ('unasked answers', unasked), ('the book forgets', forgets), ('reading pauses', pauses), ('a crowd', crowd),
-          ('killed receivers', killed), ('nobody reads', unread), ('stop now', stopped_now), ('few descriptors', few_descriptors),
-          ('tools', tools), ('words', words)]
+          ('unasked answers', unasked), ('a destination that sends all the time', chatting), ('the book forgets', forgets),
+          ('reading pauses', pauses), ('a crowd', crowd), ('killed receivers', killed), ('nobody reads', unread),
+          ('stop now', stopped_now), ('few descriptors', few_descriptors), ('tools', tools), ('words', words)]
 
 
 def main():

@@ -1,7 +1,7 @@
 -- What follows of what an arrival adds.
-use Rattle.std.proofs.Common.{◌≡◌, ℕ, ◌<◌, List, [], Option, None, Some, refl, sym, ◌∙◌, ap, subst}
+use Rattle.std.proofs.Common.{◌≡◌, ℕ, ◌<◌, List, [], Option, Some, refl, sym, ◌∙◌, ap, subst}
 use Rattle.std.specs.Prelude.{All}
-use Rattle.std.specs.Option.{option_map, option_map_or}
+use Rattle.std.specs.Option.{option_map_or}
 use Rattle.hl7_head.specs.Header.{Msh}
 use Rattle.plan_text.specs.Entries.{PlanEntry}
 use Rattle.judge_core.specs.declared.judged.Verdict.{Verdict}
@@ -80,11 +80,5 @@ gain-next (told.Repeat place) id v gain.Key next rows is numbered below = tt
 gain-next (told.Repeat place) id v gain.Nothing next rows is numbered below = tt
 
 -- the control id of a text that has a header
-pub id_known : (o : Option Msh) (id : List ℕ) → Some id ≡ option_map (λ h. h.control_id) o → id ≡ option_map_or (λ h. h.control_id) o []
-id_known None id e = absurd cc
-id_known (Some h) id e = let same : id ≡ h.control_id = cc in same
-
--- a text with no control id has no header
-pub id_missing : (o : Option Msh) → None ≡ option_map (λ h. h.control_id) o → None ≡ o
-id_missing None e = refl
-id_missing (Some h) e = absurd cc
+pub id_known : (o : Option Msh) (h : Msh) → Some h ≡ o → h.control_id ≡ option_map_or (λ h. h.control_id) o []
+id_known o h e = ap (λ (o : Option Msh). option_map_or (λ h. h.control_id) o []) e

@@ -125,7 +125,7 @@ rows-unchanged h conn channel raw reply old new messages states agree same = rw 
 pub rows-arrived : (h : History) (conn channel : ℕ) (raw : List ℕ) (reply : Told) (g : Addition) → IsSound h → ArrivalStep h conn channel raw reply → (old new : List (Row (Queued Outbound))) → RowsAgree h old
     → IsAddition reply (control_id_of raw) (decided (plan_in_force h) channel raw) g → AddsGain channel raw g old new → RowsAgree (followed_by h (Arrival conn channel raw reply)) new
 rows-arrived h conn channel raw (told.Accepted number) (gain.Message n c ds) sound step old new agree is adds =
-    rows-accepted h conn channel number raw sound step n c.now ds.now old new is.0 is.1 is.2 agree adds
+    rows-accepted h conn channel number raw sound step n c.now.control_id ds.now old new is.0 is.1 is.2 agree adds
 rows-arrived h conn channel raw (told.Accepted number) gain.Key sound step old new agree is adds = absurd is
 rows-arrived h conn channel raw (told.Accepted number) gain.Nothing sound step old new agree is adds = absurd is
 rows-arrived h conn channel raw told.Filtered (gain.Message n c ds) sound step old new agree is adds = absurd is

@@ -18,8 +18,8 @@ use crate::letter::{BookRows, Outbound};
 use dest_queue::{Queued, Slots};
 use dup_index::{Key, Keys};
 use event_log::{Log, Told, committed_by_new, told_first};
-use hl7_head::Cause;
-use judge_core::{Deliveries, Delivery, Judged, Text, TextPiece, Verdict};
+use hl7_head::{Cause, Header};
+use judge_core::{Deliveries, Delivery, Judged, Text, Verdict};
 use std::alloc::{AllocError, Global};
 
 /// The answer to a message: its key is looked up before its verdict is used.
@@ -42,7 +42,7 @@ pub enum Addition<'a> {
     /// The row and the key of a message that is accepted.
     Message {
         number: u32,
-        control_id: &'a TextPiece,
+        header: &'a Header,
         deliveries: &'a Deliveries,
     },
     /// The key of a message that is filtered.
@@ -52,16 +52,16 @@ pub enum Addition<'a> {
 }
 
 /// What an arrival with this answer adds.
-#[tactic(auto, using(crate::proofs::Gains::id_known, crate::proofs::Gains::id_missing))]
+#[tactic(auto, using(crate::proofs::Gains::id_known))]
 pub(crate) fn gain_of(told: Told, judged: &Judged) -> Addition<'_>
     requires { IsAccepting told (verdict judged.now.plan judged.now.channel judged.now.raw) }
     ensures { IsAddition told (control_id_of judged.now.raw) (verdict judged.now.plan judged.now.channel judged.now.raw) result }
 {
-    match (told, judged.verdict(), judged.control_id()) {
-        (Told::Accepted(number), Verdict::Accept(deliveries), Some(control_id)) => {
+    match (told, judged.verdict(), judged.header()) {
+        (Told::Accepted(number), Verdict::Accept(deliveries), Some(header)) => {
             Addition::Message {
                 number,
-                control_id,
+                header,
                 deliveries,
             }
         }
@@ -121,14 +121,14 @@ fn first_item(
     place: usize,
     channel: u32,
     raw: &Text,
-    control_id: &TextPiece,
+    header: &Header,
     deliveries: &Deliveries,
 ) -> Result<Queued<Outbound>, AllocError>
     ensures content { IfOk result (λ item. item.content
-        ≡ record { place = place; channel = channel; raw = raw.now; control_id = control_id.now; deliveries = deliveries.now }) }
+        ≡ record { place = place; channel = channel; raw = raw.now; control_id = header.now.control_id; deliveries = deliveries.now }) }
     ensures slots { IfOk result (λ item. item.slots ≡ slots_by (λ _. SlotState.Waiting 0 0) (destinations_of deliveries.now)) }
 {
-    let content = Outbound::share(place, channel, raw, control_id, deliveries)?;
+    let content = Outbound::share(place, channel, raw, header, deliveries)?;
     let slots = first_slots(alloc, deliveries.as_slice())?;
     Ok(Queued { content, slots })
 }
@@ -141,15 +141,15 @@ fn add_row<S: BookRows>(
     place: usize,
     channel: u32,
     raw: &Text,
-    control_id: &TextPiece,
+    header: &Header,
     deliveries: &Deliveries,
 ) -> Result<(), AllocError>
     requires { All (λ row. row.number < number) (S.rows rows.old) }
-    ensures ok { OnOk result (AddsRow number channel raw.now control_id.now deliveries.now (S.rows rows.old) (S.rows rows.new)) }
+    ensures ok { OnOk result (AddsRow number channel raw.now header.now.control_id deliveries.now (S.rows rows.old) (S.rows rows.new)) }
     ensures err { OnErr result (S.rows rows.new ≡ S.rows rows.old) }
 {
     let mask = mask_of(deliveries.as_slice());
-    let item = first_item(alloc, place, channel, raw, control_id, deliveries)?;
+    let item = first_item(alloc, place, channel, raw, header, deliveries)?;
     match rows.push(number, item, mask) {
         Ok(()) => Ok(()),
         Err(_) => Err(AllocError),
@@ -192,13 +192,11 @@ pub(crate) fn add_gain<S: BookRows>(
     match gain {
         Addition::Message {
             number,
-            control_id,
+            header,
             deliveries,
         } => {
             let key = key_to_add(alloc, keys, key)?;
-            add_row(
-                alloc, rows, number, place, channel, raw, control_id, deliveries,
-            )?;
+            add_row(alloc, rows, number, place, channel, raw, header, deliveries)?;
             keys.add(key, place);
         }
         Addition::Key => {

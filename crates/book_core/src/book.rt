@@ -276,7 +276,7 @@ impl<S: BookRows> Book<S> {
         ensures { result ≡ has_control_id self.now id.now number }
     {
         match self.message(number) {
-            Some(letter) => letter.control_id.as_slice() == id,
+            Some(letter) => letter.control_id() == id,
             None => false,
         }
     }
@@ -546,7 +546,7 @@ impl<S: BookRows> Book<S> {
         let Some(text) = payload(message.content.deliveries.as_slice(), d) else {
             unreachable!()
         };
-        Ok((message.content.control_id.share()?, text.share()?))
+        Ok((message.content.control_id_piece()?, text.share()?))
     }
 
     /// Settles an attempt with its outcome, and returns the state of the slot afterwards. It requests no memory, and is

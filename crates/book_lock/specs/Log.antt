@@ -81,6 +81,14 @@ pub record Calls (opening : History) (e : Event) (old new : SeatView)
   pub does : Does e (book_at opening old others) (after_log opening new.seen) result
   pub memory : MemoryIsLast e (book_at opening old others) result
 
+-- A look at the book: the seat has then also seen what others did since, and made no call of its own.
+pub record Looks (opening : History) (old new : SeatView) : Type 0 where
+  pub number : new.number ≡ old.number
+  pub others : Log
+  pub none_own : entries_of old.number others ≡ []
+  pub seen : new.seen ≡ old.seen ++ others
+  pub legal : IsLegalLog opening new.seen
+
 -- An arrival. Its receipt has the next index of the book at that moment. It is refused as PlanChanged just where the
 -- message was judged by another plan than the one then in force, and as Full only under that plan.
 pub record Arrives (opening : History) (conn : ℕ) (judged : Judged) (old new : SeatView)

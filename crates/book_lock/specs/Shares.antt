@@ -7,9 +7,11 @@ pub record Made : Type 0 where
   pub takes : ℕ
   pub settlements : ℕ
 
--- a desk: how many arrivals were booked at it, and its seat
+-- a desk: how many arrivals were booked at it, how many plans had been deployed, in all, when it was last given the plan to
+-- judge by, and its seat
 pub record DeskView : Type 0 where
   pub made : ℕ
+  pub deployed : ℕ
   pub seat : SeatView
 
 -- a station: how many takes and settlements were made at it, and its seat

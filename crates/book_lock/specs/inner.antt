@@ -1,9 +1,11 @@
 -- What proofs alone use: no claim rests on these pages.
+pub mod Arriving
 pub mod Auditing
 pub mod Closing
 pub mod Coding
 pub mod Counts
 pub mod Log
+pub mod Planning
 pub mod Rises
 pub mod Shares
 pub mod Showing

@@ -20,10 +20,12 @@ use std::marker::{Brand, Model};
 pub type Settled = (Outcome, Ticket, Moment, SlotState);
 
 /// A worker's share of the arrivals, and its seat: contracts see how many arrivals were booked at it since the book was
-/// shared, and what the seat has seen of the log. Those arrivals are the ones that its seat added to the log.
+/// shared, how many plans had been deployed when it was last given the plan to judge by, and what the seat has seen of the
+/// log. Those arrivals are the ones that its seat added to the log.
 #[derive(Drop)]
 pub struct Desk<A: Sharing> {
     made: u64,
+    deployed: u32,
     seat: Seat<A, LogEntry>,
 }
 
@@ -37,8 +39,11 @@ impl<A: Sharing> Model for Desk<A> {
 
     ghost coded = { desk_code };
 
-    ghost view = { λ d.
-        record { made = d.made; seat = record { number = d.seat.0; seen = d.seat.1 } } };
+    ghost view = { λ d. record {
+      made = d.made;
+      deployed = d.deployed;
+      seat = record { number = d.seat.0; seen = d.seat.1 };
+    } };
 
     ghost invariant = { λ d.
         (d.seat.0 < A.desks) × (d.made ≡ count_of is_arrival d.seat.0 d.seat.1) };
@@ -83,10 +88,25 @@ impl<A: Sharing> Desk<A> {
         self.made
     }
 
+    /// How many plans had been deployed, in all, when the desk was last given the plan to judge by.
+    pub fn deployed(&self) -> u32
+        ensures { result ≡ self.now.deployed }
+    {
+        self.deployed
+    }
+
+    /// Remembers how many plans had been deployed, in all, when the desk is given the plan to judge by.
+    pub(crate) fn remember(&mut self, deployed: u32)
+        ensures { self.new ≡ record self.old { deployed = deployed } }
+    {
+        self.deployed = deployed;
+    }
+
     /// Compares the desk with the log, which has at least the arrivals that this desk made.
     pub fn audit(&mut self, log: &mut GhostLog<A, LogEntry>)
         ensures same { (self.new ≡ self.old) × (log.new ≡ log.old) }
         ensures bound { self.old.made ≤ count_in is_arrival log.old.0 }
+        ensures agreed { Agrees self.old.seat.number self.old.seat.seen log.old.0 }
     {
         log.audit(&mut self.seat);
     }
@@ -107,6 +127,7 @@ impl<A: Sharing> Desk<A> {
     pub fn observe(&mut self, log: &mut GhostLog<A, LogEntry>)
         ensures log { log.new ≡ log.old }
         ensures made { self.new.made ≡ self.old.made }
+        ensures deployed { self.new.deployed ≡ self.old.deployed }
         ensures seat { self.new.seat ≡ record self.old.seat { seen = log.old.0 } }
         ensures number { self.old.seat.number < A.desks }
         ensures agreed { Agrees self.old.seat.number self.old.seat.seen log.old.0 }
@@ -218,6 +239,7 @@ pub fn open_desks<A: Sharing>(
     for _ in 0..count {
         desks.push_reserved(Desk {
             made: 0,
+            deployed: 0,
             seat: log.issue(),
         });
     }
@@ -266,12 +288,20 @@ pub fn compare_desks<A: Sharing>(roll: &mut Roll<A, LogEntry>, desks: &mut Vec<D
         roll.compare();
         return;
     };
-    let Desk { made, seat } = desk;
+    let Desk {
+        made,
+        deployed,
+        seat,
+    } = desk;
     let number = seat.number();
     roll.hold(seat);
     compare_desks(roll, desks);
     let seat = roll.release(number);
-    desks.push_reserved(Desk { made, seat });
+    desks.push_reserved(Desk {
+        made,
+        deployed,
+        seat,
+    });
 }
 
 /// Compares the seats of all stations with the log, as [`compare_desks`] does with those of desks.

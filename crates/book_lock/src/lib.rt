@@ -2,6 +2,7 @@
 //! receipts.
 #![tactic(auto)]
 
+mod arrival;
 mod desks;
 mod locked;
 mod log_entry;

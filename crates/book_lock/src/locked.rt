@@ -1,25 +1,26 @@
 //! The value behind the lock.
 
-ghost use Rattle.std.specs.Prelude.{◌≡◌, ◌≢◌, ◌+◌, ◌-◌, ◌^◌, ◌<◌, ◌≤◌, ◌⊎◌, ◌↔◌, ℕ, [], Ok, Err, IfOk, IfErr, IfSome, OnOk, OnErr, OnSome, IsErrOf, IsNone, IsTrue, None, Some, false, if◌then◌else◌, nat_lt, length, slice_get};
+ghost use Rattle.std.specs.Prelude.{◌≡◌, ◌+◌, ◌-◌, ◌^◌, ◌<◌, ◌≤◌, ◌⊎◌, ◌↔◌, ℕ, [], Ok, IfOk, IfErr, IfSome, OnOk, OnErr, OnSome, IsNone, IsTrue, None, Some, false, if◌then◌else◌, nat_lt, length, slice_get};
 ghost use Rattle.std.specs.Arc.{arc_value};
-ghost use Rattle.judge_core.specs.Judging.{is_bookable};
 ghost use Rattle.stat_count.specs.Sums.{arrivals};
 ghost use Rattle.event_log.specs.History.{control_id, message_count, next_place, payload, plan_in_force};
-ghost use Rattle.event_log.specs.Event.{MemoryIsLast, Does, arrive, cancel, deploy, result_map, settle, take};
+ghost use Rattle.event_log.specs.Event.{MemoryIsLast, Does, cancel, deploy, result_map, settle, take};
 ghost use Rattle.event_log.specs.Folding.{is_live_message, prune_answer, pruned};
 ghost use Rattle.event_log.specs.Counting.{counted};
 ghost use Rattle.book_core.specs.Headline.{KeepsItsPromise};
 ghost use Rattle.book_core.specs.inner.Questions.{first_live, front_at, settled_before};
-ghost use Rattle.book_core.specs.Receiving.{IsReceipt, arrival_reply};
 ghost use Rattle.book_core.specs.Sending.{awaits_ack};
 ghost use Rattle.book_lock.specs.Rises.{AddsUp, arrivals_rise, settlements_rise, takes_rise};
 ghost use Rattle.book_lock.specs.inner.Rises.{with_book};
-ghost use Rattle.book_lock.specs.Log.{Arrives, Calls, Linearizes, Takes, IsCalled, IsPruneRefused, IsPruned, IsTidiedInLog};
+ghost use Rattle.book_lock.specs.Log.{Calls, Linearizes, Looks, Takes, IsCalled, IsPruneRefused, IsPruned};
 ghost use Rattle.book_lock.specs.Callers.{IsClosedBy};
+ghost use Rattle.book_lock.specs.inner.Planning.{WasInForce};
 ghost use Rattle.book_lock.specs.inner.Shares.{with_settlement, with_take};
 ghost use Rattle.book_lock.specs.Shares.{seats_of};
 ghost use Rattle.book_lock.specs.inner.Showing.{IsGauge, IsStatus};
-ghost use Rattle.book_lock.specs.inner.Tidies.{IsSettledRefusal, IsTidying, left_by};
+ghost use Rattle.book_lock.specs.inner.Tidies.{IsSettledRefusal};
+
+mod arrivals;
 
 use crate::desks::{
     Desk, Station, compare_desks, compare_stations, hand_in_desks, hand_in_stations, made_by,
@@ -28,18 +29,17 @@ use crate::desks::{
 use crate::log_entry::LogEntry;
 use crate::status::{Gauge, Status};
 use crate::sums::{arrivals, settlements, takes};
-use crate::tidying::{Tidied, Tidying};
 use book_core::{
-    Book, BookRows, CancelRefusal, DeployRefusal, Entry, Front, Job, NotBooked, PruneRefusal,
-    Receipt, TakeRefusal, Ticket, three_sums,
+    Book, BookRows, CancelRefusal, DeployRefusal, Front, Job, PruneRefusal, TakeRefusal, Ticket,
+    three_sums,
 };
 use dest_queue::{Outcome, SettleRefusal, SlotState};
 use ghost_log::{GhostLog, Naming, Roll, Seat};
 use hl7_head::Moment;
-use judge_core::Judged;
 use plan_text::Plan;
 use row_store::QUEUES;
 use stat_count::Counts;
+use std::alloc::AllocError;
 use std::marker::{Brand, Model};
 use std::sync::Arc;
 
@@ -233,6 +233,25 @@ impl<A: Sharing, S: BookRows> Locked<A, S> {
         self.book.plan()
     }
 
+    /// The plan in force, by which messages are judged at the desk from now on.
+    ///
+    /// # Errors
+    ///
+    /// Where the plan has more owners than can be counted.
+    pub fn plan_at(&mut self, desk: &mut Desk<A>) -> Result<Arc<Plan>, AllocError>
+        ensures plan { IfOk result (λ plan. arc_value plan ≡ plan_in_force self.old.book) }
+        ensures channels { IfOk result (λ plan. length (arc_value plan).channels ≡ A.channels) }
+        ensures looks { Looks A.opening desk.old.seat desk.new.seat }
+        ensures in_force { IfOk result (λ plan. WasInForce A.opening
+            desk.new.seat.seen desk.new.deployed (arc_value plan)) }
+        ensures made { desk.new.made ≡ desk.old.made }
+        ensures same { self.new ≡ self.old }
+    {
+        desk.observe(&mut self.log);
+        desk.remember(self.book.deployments());
+        Ok(Arc::try_clone(self.book.plan())?)
+    }
+
     /// The statistics. They show at least as many arrivals as the desk made since the book was shared.
     pub fn counts(&mut self, desk: &mut Desk<A>) -> Counts
         ensures counts { result ≡ counted self.old.book }
@@ -241,45 +260,6 @@ impl<A: Sharing, S: BookRows> Locked<A, S> {
     {
         desk.audit(&mut self.log);
         *self.book.counts()
-    }
-
-    /// Books an arrival as the book does, and counts it for the desk.
-    ///
-    /// # Errors
-    ///
-    /// The book's, in its order. A refusal leaves the book and the desk as they were.
-    pub fn arrive(
-        &mut self,
-        desk: &mut Desk<A>,
-        conn: u32,
-        judged: &Judged,
-    ) -> Result<Receipt, NotBooked>
-        requires { IsTrue (is_bookable judged.now.raw) }
-        ensures does { Does (arrive conn judged.now.channel judged.now.raw)
-            self.old.book self.new.book (arrival_reply result) }
-        ensures memory { MemoryIsLast (arrive conn judged.now.channel judged.now.raw)
-            self.old.book (arrival_reply result) }
-        ensures book { self.new ≡ with_book self.old self.new.book }
-        ensures receipt { IfOk result
-            (IsReceipt (next_place self.old.book) conn judged.now.channel judged.now.raw) }
-        ensures plan { IsErrOf result NotBooked.PlanChanged
-            ↔ judged.now.plan ≢ plan_in_force self.old.book }
-        ensures same_plan { IsErrOf result NotBooked.Full
-            → judged.now.plan ≡ plan_in_force self.old.book }
-        ensures call { Arrives A.opening conn judged.now desk.old.seat desk.new.seat result }
-        ensures counted { OnOk result (desk.new.made ≡ desk.old.made + 1) }
-        ensures err { OnErr result (desk.new.made ≡ desk.old.made) }
-    {
-        three_sums();
-        self.book.rules();
-        let _channel = judged.channel();
-        desk.observe(&mut self.log);
-        let receipt = match self.book.arrive(conn, judged) {
-            Ok(receipt) => receipt,
-            Err(refusal) => return Err(refusal),
-        };
-        desk.add_arrival(&mut self.log, &receipt);
-        Ok(receipt)
     }
 
     /// Takes the front of queue `d` as the book does, and counts it for the station.
@@ -306,9 +286,12 @@ impl<A: Sharing, S: BookRows> Locked<A, S> {
         three_sums();
         self.book.rules();
         station.observe(&mut self.log);
-        let job = self.book.take(d, now)?;
+        let taken = self.book.take(d, now);
+        let Ok(job) = &taken else {
+            return taken;
+        };
         station.add_take(&mut self.log, &job.ticket, now);
-        Ok(job)
+        taken
     }
 
     /// Settles an attempt as the book does, and counts it for the station.
@@ -333,10 +316,13 @@ impl<A: Sharing, S: BookRows> Locked<A, S> {
         three_sums();
         self.book.rules();
         station.observe(&mut self.log);
-        let state = self.book.settle(ticket, outcome, now)?;
-        let made = (outcome, *ticket, now, state);
+        let settled = self.book.settle(ticket, outcome, now);
+        let Ok(state) = &settled else {
+            return settled;
+        };
+        let made = (outcome, *ticket, now, *state);
         station.add_settlement(&mut self.log, &made);
-        Ok(state)
+        settled
     }
 
     /// Cancels a message wherever it waits, as the book does: no share rises.
@@ -433,61 +419,6 @@ impl<A: Sharing, S: BookRows> Locked<A, S> {
         let before = self.settled_before(keep);
         self.prune(before)?;
         Ok(before)
-    }
-
-    /// Prunes a tight book as `prune_settled` does, and once more with `keep` 0 where memory was refused for that.
-    fn tidy(&mut self, keep: u32) -> Tidying
-        ensures tidying { IsTidying keep self.old result }
-        ensures left { self.new ≡ left_by self.old result }
-        ensures in_log { IsTidiedInLog A.opening result }
-    {
-        if !self.book.is_tight() {
-            return Tidying::NotTight;
-        }
-        match self.prune_settled(keep) {
-            Ok(before) => Tidying::Pruned { before },
-            Err(PruneRefusal::NoMemory) => Tidying::of(self.prune_settled(0)),
-            Err(refusal) => Tidying::Refused(refusal),
-        }
-    }
-
-    /// Books an arrival as `arrive` does, and counts it for the desk. A book that is tight is pruned before that as
-    /// `prune_settled` does, and once more with `keep` 0 where memory was refused for it; what was done is returned
-    /// beside the answer, which is that of `arrive` on the book that this left.
-    ///
-    /// # Errors
-    ///
-    /// The book's, in its order. A refusal leaves the desk as it was, and the book as the pruning left it.
-    pub fn arrive_tidy(
-        &mut self,
-        desk: &mut Desk<A>,
-        conn: u32,
-        judged: &Judged,
-        keep: u32,
-    ) -> Tidied
-        requires { IsTrue (is_bookable judged.now.raw) }
-        ensures tidying { IsTidying keep self.old result.tidying }
-        ensures in_log { IsTidiedInLog A.opening result.tidying }
-        ensures does { Does (arrive conn judged.now.channel judged.now.raw)
-            (left_by self.old result.tidying).book self.new.book (arrival_reply result.receipt) }
-        ensures memory { MemoryIsLast (arrive conn judged.now.channel judged.now.raw)
-            (left_by self.old result.tidying).book (arrival_reply result.receipt) }
-        ensures book { self.new ≡ with_book (left_by self.old result.tidying) self.new.book }
-        ensures receipt { IfOk result.receipt
-            (IsReceipt (next_place (left_by self.old result.tidying).book)
-            conn judged.now.channel judged.now.raw) }
-        ensures plan { IsErrOf result.receipt NotBooked.PlanChanged
-            ↔ judged.now.plan ≢ plan_in_force (left_by self.old result.tidying).book }
-        ensures same_plan { IsErrOf result.receipt NotBooked.Full
-            → judged.now.plan ≡ plan_in_force (left_by self.old result.tidying).book }
-        ensures call { Arrives A.opening conn judged.now
-            desk.old.seat desk.new.seat result.receipt }
-        ensures counted { OnOk result.receipt (desk.new.made ≡ desk.old.made + 1) }
-        ensures err { OnErr result.receipt (desk.new.made ≡ desk.old.made) }
-    {
-        let tidying = self.tidy(keep);
-        let receipt = self.arrive(desk, conn, judged);
-        Tidied { receipt, tidying }
     }
 
     /// The number of the next connection, counted from 0. The numbers rise, so none comes twice.

@@ -9,9 +9,11 @@ ghost use Rattle.event_log.specs.Counting.{counted};
 ghost use Rattle.event_log.specs.Event.{cancel, deploy, settle};
 ghost use Rattle.book_lock.specs.inner.Closing.{HandsBack};
 ghost use Rattle.book_lock.specs.Rises.{AddsUp};
-ghost use Rattle.book_lock.specs.Log.{Arrives, Calls, Linearizes, Takes, IsCalled, IsPruneRefused, IsPruned, IsTidiedInLog};
+ghost use Rattle.book_lock.specs.Log.{Arrives, Calls, Linearizes, Looks, Takes, IsCalled, IsPruneRefused, IsPruned, IsTidiedInLog};
 ghost use Rattle.book_lock.specs.Callers.{IsClosedBy};
+ghost use Rattle.book_lock.specs.inner.Arriving.{ArrivesAtDesk};
 ghost use Rattle.book_lock.specs.inner.Log.{new_seats};
+ghost use Rattle.book_lock.specs.inner.Planning.{WasInForce};
 ghost use Rattle.book_lock.specs.inner.Shares.{no_calls, with_settlement, with_take};
 ghost use Rattle.book_lock.specs.Shares.{seats_of};
 
@@ -34,7 +36,7 @@ use row_store::QUEUES;
 use stat_count::Counts;
 use std::alloc::{AllocError, Global};
 use std::sync::atomic::{AtomicBool, Ordering};
-use std::sync::{Arc, Condvar, Mutex, Wait};
+use std::sync::{Arc, Condvar, Mutex, MutexGuard, Wait};
 use std::time::{Clock, Duration};
 
 /// How long a worker that hears nothing sleeps at most, in milliseconds: an idle worker wakes four times a second.
@@ -194,6 +196,21 @@ impl<A: Sharing, S: BookRows> Shared<A, S> {
         Ok(Arc::try_clone(locked.plan())?)
     }
 
+    /// The plan in force, by which messages are judged at the desk from now on.
+    ///
+    /// # Errors
+    ///
+    /// Where the plan has more owners than can be counted.
+    pub fn plan_at<H: Wait>(&self, rt: &H, desk: &mut Desk<A>) -> Result<Arc<Plan>, AllocError>
+        ensures channels { IfOk result (λ plan. length (arc_value plan).channels ≡ A.channels) }
+        ensures looks { Looks A.opening desk.old.seat desk.new.seat }
+        ensures in_force { IfOk result (λ plan. WasInForce A.opening
+            desk.new.seat.seen desk.new.deployed (arc_value plan)) }
+        ensures made { desk.new.made ≡ desk.old.made }
+    {
+        self.locked.lock(rt).plan_at(desk)
+    }
+
     /// Books an arrival, and counts it for the desk. The workers of its destinations are woken.
     ///
     /// # Errors
@@ -215,11 +232,39 @@ impl<A: Sharing, S: BookRows> Shared<A, S> {
         ensures refused { OnErr result (desk.new.made ≡ desk.old.made) }
     {
         let mut locked = self.locked.lock(rt);
-        let receipt = locked.arrive(desk, conn, judged)?;
-        let changed = locked.mark_changed(waits_at(receipt.told, judged.verdict()));
-        drop(locked);
-        self.wake(changed);
-        Ok(receipt)
+        let booked = locked.arrive(desk, conn, judged);
+        let Ok(receipt) = &booked else {
+            return booked;
+        };
+        self.ring(locked, waits_at(receipt.told, judged.verdict()));
+        booked
+    }
+
+    /// Books an arrival that was judged by the plan that the desk was given, and counts it for the desk. That plan is
+    /// compared with the one in force only where another plan was deployed since. The workers of its destinations are woken.
+    ///
+    /// # Errors
+    ///
+    /// The book's. A refusal leaves the desk's count as it was, and its seat has seen the moment of it.
+    pub fn arrive_judged<H: Wait>(
+        &self,
+        rt: &H,
+        desk: &mut Desk<A>,
+        conn: u32,
+        judged: &Judged,
+    ) -> Result<Receipt, NotBooked>
+        requires bookable { IsTrue (is_bookable judged.now.raw) }
+        requires by_plan { WasInForce A.opening
+            desk.old.seat.seen desk.old.deployed judged.now.plan }
+        ensures { ArrivesAtDesk A.opening conn judged.now desk.old desk.new result }
+    {
+        let mut locked = self.locked.lock(rt);
+        let booked = locked.arrive_judged(desk, conn, judged);
+        let Ok(receipt) = &booked else {
+            return booked;
+        };
+        self.ring(locked, waits_at(receipt.told, judged.verdict()));
+        booked
     }
 
     /// Takes the front of queue `d` to be sent, and counts it for the station.
@@ -275,9 +320,7 @@ impl<A: Sharing, S: BookRows> Shared<A, S> {
     {
         let mut locked = self.locked.lock(rt);
         let mask = locked.cancel(number)?;
-        let changed = locked.mark_changed(mask);
-        drop(locked);
-        self.wake(changed);
+        self.ring(locked, mask);
         Ok(mask)
     }
 
@@ -348,9 +391,33 @@ impl<A: Sharing, S: BookRows> Shared<A, S> {
     {
         let mut locked = self.locked.lock(rt);
         let tidied = locked.arrive_tidy(desk, conn, judged, keep);
-        let changed = locked.mark_changed(waits_where(&tidied, judged.verdict()));
-        drop(locked);
-        self.wake(changed);
+        self.ring(locked, waits_where(&tidied, judged.verdict()));
+        tidied
+    }
+
+    /// Books an arrival that was judged by the plan that the desk was given, as `arrive_judged` does, after a pruning of
+    /// a tight book under the same lock, as `arrive_tidy` makes it. The workers of its destinations are woken.
+    ///
+    /// # Errors
+    ///
+    /// The receipt's are the book's. A refusal leaves the desk's count as it was, and its seat has seen the moment of it.
+    pub fn arrive_tidy_judged<H: Wait>(
+        &self,
+        rt: &H,
+        desk: &mut Desk<A>,
+        conn: u32,
+        judged: &Judged,
+        keep: u32,
+    ) -> Tidied
+        requires bookable { IsTrue (is_bookable judged.now.raw) }
+        requires by_plan { WasInForce A.opening
+            desk.old.seat.seen desk.old.deployed judged.now.plan }
+        ensures tidying { IsTidiedInLog A.opening result.tidying }
+        ensures at_desk { ArrivesAtDesk A.opening conn judged.now desk.old desk.new result.receipt }
+    {
+        let mut locked = self.locked.lock(rt);
+        let tidied = locked.arrive_tidy_judged(desk, conn, judged, keep);
+        self.ring(locked, waits_where(&tidied, judged.verdict()));
         tidied
     }
 
@@ -483,6 +550,14 @@ impl<A: Sharing, S: BookRows> Shared<A, S> {
     /// Whether it was noted that no arrival will follow.
     pub fn is_finished(&self) -> bool {
         self.finished.load(Ordering::SeqCst)
+    }
+
+    /// Notes a change at the destinations of a mask, unlocks the book, and wakes the workers of those destinations at which
+    /// none was noted before.
+    fn ring(&self, mut locked: MutexGuard<Locked<A, S>>, mask: u32) {
+        let changed = locked.mark_changed(mask);
+        drop(locked);
+        self.wake(changed);
     }
 
     /// Wakes the workers that wait at the destinations of a mask.

@@ -1,6 +1,6 @@
 //! Plans that are deployed in a shared book.
 
-use crate::stage::{Done, M1, Rows, Task, comes_out, plan, plan_of, waiting};
+use crate::stage::{Done, M1, Rows, SLOWER, Task, comes_out, plan, plan_of, waiting};
 use book_core::{Book, BookRows, DeployRefusal, EVENTS_MAX};
 use book_lock::{Desk, Shared, Sharing, Station};
 use log::Log;
@@ -8,10 +8,6 @@ use plan_text::Plan;
 use std::alloc::Global;
 use std::sync::{Arc, Wait};
 use std::test::Fail;
-
-/// The built-in plan, with twenty seconds between two attempts.
-const SLOWER: &str =
-    "[[destination]]\nname = \"LAB\"\naddress = \"127.0.0.1:6661\"\ninterval = 20\n[[channel]]\nname = \"ADT\"\nlisten = \"127.0.0.1:6660\"\ntypes = [\"ADT\"]\nprocessing = [\"P\", \"T\"]\nversions = [\"2.5.1\"]\n[[channel.route]]\nto = \"LAB\"\n";
 
 /// The results of two deployments: why the first was refused, whether the second was, and which plan is in force.
 #[derive(Drop)]

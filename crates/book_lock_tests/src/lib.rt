@@ -15,6 +15,8 @@ mod devices;
 #[cfg(test)]
 mod handed_back;
 #[cfg(test)]
+mod judging;
+#[cfg(test)]
 mod prunings;
 #[cfg(test)]
 mod refusals;

@@ -41,7 +41,7 @@ struct Answers {
     bare: Option<NotBooked>,
     answered: Option<NotBooked>,
     whole: bool,
-    bytes: Vec<u8>,
+    replies: Replies,
     /// The arrivals that the desk counted.
     made: u64,
     /// The statistics before and after.
@@ -93,7 +93,7 @@ fn bring_twice<A: Sharing, S: BookRows, H: Wait + Log>(
         bare,
         answered: booked.outcome.err(),
         whole: booked.whole,
-        bytes: replies.bytes,
+        replies,
         made: desk.made(),
         before,
         after: shared.counts(rt, desk),
@@ -130,7 +130,7 @@ impl Task for Case {
         answers.bare == Some(self.refusal)
             && answers.answered == Some(self.refusal)
             && answers.whole
-            && answers.bytes.as_slice() == self.reply.as_bytes()
+            && answers.replies.as_slice() == self.reply.as_bytes()
             && answers.made == 0
             && answers.before == answers.after
             && answers.before == *book.counts()

@@ -1,6 +1,7 @@
 //! Books in which messages wait, and what is done with them once they are shared.
 
 ghost use Rattle.std.specs.Prelude.{◌≡◌, ◌+◌, IfSome, IsTrue, length};
+ghost use Rattle.std.specs.Arc.{arc_value};
 ghost use Rattle.judge_core.specs.Judging.{is_bookable};
 ghost use Rattle.event_log.specs.History.{next_place, plan_in_force};
 ghost use Rattle.event_log.specs.Counting.{counted};
@@ -34,6 +35,10 @@ pub const M2: &str =
 pub const UPDATE: &str =
     "MSH|^~\\&|REG|HOSP|ENG|HUB|20231114221300||ADT^A08^ADT_A01|M15|P|2.5.1|||AL|NE\rPID|1||77\rPV1|1|O\r";
 
+/// The built-in plan, with twenty seconds between two attempts.
+pub const SLOWER: &str =
+    "[[destination]]\nname = \"LAB\"\naddress = \"127.0.0.1:6661\"\ninterval = 20\n[[channel]]\nname = \"ADT\"\nlisten = \"127.0.0.1:6660\"\ntypes = [\"ADT\"]\nprocessing = [\"P\", \"T\"]\nversions = [\"2.5.1\"]\n[[channel.route]]\nto = \"LAB\"\n";
+
 /// A plan of four destinations: inpatients go to A, outpatients to B, patients with an identifier to C, updates to D.
 const FOUR: &str =
     "[[destination]]\nname = \"A\"\naddress = \"127.0.0.1:6671\"\n[[destination]]\nname = \"B\"\naddress = \"127.0.0.1:6672\"\n[[destination]]\nname = \"C\"\naddress = \"127.0.0.1:6673\"\n[[destination]]\nname = \"D\"\naddress = \"127.0.0.1:6674\"\n[[channel]]\nname = \"ADT\"\nlisten = \"127.0.0.1:6670\"\ntypes = [\"ADT\"]\nprocessing = [\"P\"]\nversions = [\"2.5.1\"]\n[[channel.route]]\nto = \"A\"\nfilter = { equals = [\"PV1-2\", \"I\"] }\n[[channel.route]]\nto = \"B\"\nfilter = { equals = [\"PV1-2\", \"O\"] }\n[[channel.route]]\nto = \"C\"\nfilter = { exists = \"PID-3.1\" }\n[[channel.route]]\nto = \"D\"\nfilter = { equals = [\"MSH-9.2\", \"A08\"] }\n";
@@ -54,7 +59,8 @@ pub(crate) fn plan(alloc: Global, four: bool) -> Option<Arc<Plan>> {
 
 /// A message on the first channel of a plan, judged by it. None where it is not bookable, or memory is refused.
 pub(crate) fn judged(alloc: Global, plan: &Arc<Plan>, text: &str) -> Option<Judged>
-    ensures { IfSome result (λ judged. IsTrue (is_bookable judged.raw)) }
+    ensures bookable { IfSome result (λ judged. IsTrue (is_bookable judged.raw)) }
+    ensures by_plan { IfSome result (λ judged. judged.plan ≡ arc_value plan.now) }
 {
     let raw = Vec::from_slice(alloc, text.as_bytes()).ok()?;
     if plan.channels() == 0 || !fits_block(&raw) {

@@ -15,7 +15,11 @@ use Rattle.event_log.specs.History.{History, plan_in_force}
 use Rattle.event_log.specs.Room.{is_full}
 use Rattle.event_log.proofs.Events.{arrival-full, arrival-room, arrival-told}
 use Rattle.judge_core.specs.Judging.{Judgement}
+use Rattle.plan_text.specs.Entries.{PlanEntry}
+use Rattle.conn_core.specs.declared.block_outcome.BlockOutcome.{BlockOutcome}
+use Rattle.conn_core.specs.declared.block_outcome.BlockOutcome.TheVariants.{Unreadable, Stray, Message}
 use Rattle.conn_core.specs.Booking.{OutcomeAtBook}
+use Rattle.conn_core.specs.inner.Outcomes.{MayBecome, MayHave}
 use Rattle.conn_core.specs.inner.Booking.{receipts_of}
 use Rattle.conn_core.specs.inner.Replies.{told_by}
 
@@ -96,3 +100,12 @@ booked_in P (Err refusal) booked none = none
 pub told_either : (P : Result Told NotBooked → Type 0) (o : Result Receipt NotBooked) → IfOk o (λ r. P (Ok r.told)) → IfErr o (λ refusal. P (Err refusal)) → P (told_by o)
 told_either P (Ok r) told refused = told
 told_either P (Err refusal) told refused = refused
+
+-- what may become of a message that was judged so, may become of it as it was received
+pub may_become : (judges : PlanEntry → Type 0) (outcomes after : Judgement → Result Told NotBooked → Type 0) {channel : ℕ} {raw : List ℕ} (judged : Judgement) (o : BlockOutcome)
+    → judges judged.plan → judged.channel ≡ channel → judged.raw ≡ raw → ((r : Result Told NotBooked) → after judged r → outcomes judged r) → MayHave (after judged) o
+    → MayBecome judges outcomes channel raw o
+may_become judges outcomes after judged Unreadable by_plan for_channel of_text same may = tt
+may_become judges outcomes after judged Stray by_plan for_channel of_text same may = tt
+may_become judges outcomes after judged (Message booked) by_plan for_channel of_text same may =
+    record { judged = judged; by_plan = by_plan; for_channel = for_channel; of_text = of_text; may = same (told_by booked.outcome) may }

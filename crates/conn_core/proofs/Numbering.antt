@@ -1,5 +1,5 @@
 -- The replies to one list after another.
-use Rattle.std.proofs.Common.{◌≡◌, ℕ, ◌+◌, suc, List, [], ◌∷◌, ◌++◌, length, map, take, get_or, ◌<◌, Option, None, Result, Ok, Err, OnOk, OnErr, refl, sym, ap, ◌∙◌, append_assoc, append-nil, length-append, arith}
+use Rattle.std.proofs.Common.{◌≡◌, ℕ, ◌+◌, suc, List, [], ◌∷◌, ◌++◌, length, map, take, get_or, Option, None, Result, Ok, Err, OnOk, OnErr, refl, sym, ap, ◌∙◌, append_assoc, append-nil, length-append, arith}
 use Rattle.std.specs.List.{flat_map}
 use Rattle.std.specs.Option.{option_to_list}
 use Rattle.std.proofs.lemmas.List.{map-append}
@@ -10,8 +10,8 @@ use Rattle.book_core.specs.declared.receipt.NotBooked.{NotBooked}
 use Rattle.event_log.specs.declared.entry.Told.{Told}
 use Rattle.hl7_head.specs.declared.ack.AckPart.{AckPart}
 use Rattle.hl7_head.specs.Header.{Msh}
-use Rattle.conn_core.specs.declared.replies.Replies.{Replies}
 use Rattle.conn_core.specs.inner.Outcomes.{AppendsInPart}
+use Rattle.conn_core.specs.inner.Replies.{RepliesView}
 use Rattle.conn_core.specs.Replies.{Due, reply, numbered, dues_by, told_of}
 
 pub numbered-append : (conn first : ℕ) (xs ys : List Due) → numbered conn first (xs ++ ys) ≡ numbered conn first xs ++ numbered conn (first + length xs) ys
@@ -67,10 +67,10 @@ take_all [] ys = refl
 take_all (x ∷ xs) ys = ap (λ l. x ∷ l) (take_all xs ys)
 
 -- memory was refused for the second part: the first is appended
-pub second_missing : {E : Type 0} (r : Result (Unit {0}) E) (conn : ℕ) (old mid new : Replies) (f : AckPart → Due) (p q : Option AckPart) (ds : List Due)
-    → mid.bytes.items ≡ old.bytes.items ++ numbered conn (old.made + 1) (map f (option_to_list p)) → mid.made ≡ old.made + length (option_to_list p)
+pub second_missing : {E : Type 0} (r : Result (Unit {0}) E) (conn : ℕ) (old mid new : RepliesView) (f : AckPart → Due) (p q : Option AckPart) (ds : List Due)
+    → mid.bytes ≡ old.bytes ++ numbered conn (old.made + 1) (map f (option_to_list p)) → mid.made ≡ old.made + length (option_to_list p)
     → ds ≡ map f (option_to_list p) ++ map f (option_to_list q)
-    → OnErr r (new.bytes.items ≡ mid.bytes.items) → OnErr r (new.made ≡ mid.made) → OnErr r (length (option_to_list q) ≡ 1) → OnErr r (AppendsInPart conn ds old new)
+    → OnErr r (new.bytes ≡ mid.bytes) → OnErr r (new.made ≡ mid.made) → OnErr r (length (option_to_list q) ≡ 1) → OnErr r (AppendsInPart conn ds old new)
 second_missing (Ok x) conn old mid new f p q ds bytes made is same counted one = tt
 second_missing (Err e) conn old mid new f p q ds bytes made is same counted one =
     let size : length ds ≡ length (map f (option_to_list p)) + length (map f (option_to_list q)) = ap length is ∙ length-append (map f (option_to_list p)) (map f (option_to_list q)) in
@@ -80,14 +80,14 @@ second_missing (Err e) conn old mid new f p q ds bytes made is same counted one 
       made = omega (arith, counted, made, length_map f (option_to_list p));
       bytes =
           same ∙ bytes
-          ∙ ap (λ l. old.bytes.items ++ numbered conn (old.made + 1) l)
+          ∙ ap (λ l. old.bytes ++ numbered conn (old.made + 1) l)
           (sym (ap (take (length (map f (option_to_list p)))) is ∙ take_all (map f (option_to_list p)) (map f (option_to_list q))));
     }
 
 -- memory was refused for the first part: none is appended
-pub first_missing : {T E : Type 0} (r : Result T E) (conn : ℕ) (old new : Replies) (f : AckPart → Due) (p q : Option AckPart) (ds : List Due)
+pub first_missing : {T E : Type 0} (r : Result T E) (conn : ℕ) (old new : RepliesView) (f : AckPart → Due) (p q : Option AckPart) (ds : List Due)
     → ds ≡ map f (option_to_list p) ++ map f (option_to_list q)
-    → new.bytes.items ≡ old.bytes.items → new.made ≡ old.made → length (option_to_list p) ≡ 1 → OnErr r (AppendsInPart conn ds old new)
+    → new.bytes ≡ old.bytes → new.made ≡ old.made → length (option_to_list p) ≡ 1 → OnErr r (AppendsInPart conn ds old new)
 first_missing (Ok x) conn old new f p q ds is same counted one = tt
 first_missing (Err e) conn old new f p q ds is same counted one =
     let size : length ds ≡ length (map f (option_to_list p)) + length (map f (option_to_list q)) = ap length is ∙ length-append (map f (option_to_list p)) (map f (option_to_list q)) in
@@ -95,7 +95,7 @@ first_missing (Err e) conn old new f p q ds is same counted one =
       count = 0;
       fewer = omega (arith, size, one, length_map f (option_to_list p));
       made = omega (arith, counted);
-      bytes = same ∙ sym (append-nil old.bytes.items);
+      bytes = same ∙ sym (append-nil old.bytes);
     }
 
 pub counted_two : {E : Type 0} (r : Result (Unit {0}) E) (made mid new : ℕ) (f : AckPart → Due) (p q : Option AckPart) (ds : List Due) → mid ≡ made + length (option_to_list p)

@@ -1,5 +1,5 @@
 -- What a book is given, one receipt after the other.
-use Rattle.std.specs.Prelude.{◌≡◌, ◌+◌, List, ◌++◌, length, map, Result, IsTrue, IsErrOf, ◌≢◌, ◌↔◌, Some}
+use Rattle.std.specs.Prelude.{◌≡◌, List, ◌++◌, length, map, Result, IsTrue, IsErrOf, ◌≢◌, ◌↔◌, Some}
 use Rattle.std.specs.List.{range_with_len}
 use Rattle.std.specs.Result.{IfOk}
 use Rattle.book_core.specs.declared.receipt.NotBooked.{NotBooked}

@@ -1,6 +1,6 @@
 //! The acknowledgments of a connection.
 
-ghost use Rattle.std.specs.Prelude.{◌≡◌, ◌+◌, ◌<◌, ◌≤◌, [], ◌++◌, map, length, take, OnOk, OnErr};
+ghost use Rattle.std.specs.Prelude.{◌≡◌, ◌+◌, ◌<◌, ◌≤◌, [], ◌∷◌, ◌++◌, map, length, take, OnOk, OnErr};
 ghost use Rattle.std.specs.Option.{option_to_list};
 ghost use Rattle.hl7_head.specs.Ack.{ack};
 ghost use Rattle.mllp_frame.specs.Framing.{block_bytes};
@@ -13,16 +13,25 @@ use event_log::Told;
 use hl7_head::{AckPart, Cause, Header, Moment, StampedMoment, append_stamped_ack};
 use mllp_frame::{CARRIAGE_RETURN, END_BLOCK, START_BLOCK};
 use std::alloc::{AllocError, Global};
+use std::marker::Model;
 
 /// The acknowledgments of a connection.
 #[derive(Drop)]
 pub struct Replies {
     /// How many were made.
-    pub made: u32,
+    made: u32,
     /// The blocks of those that are not written yet.
-    pub bytes: Vec<u8>,
+    bytes: Vec<u8>,
     /// The moment of the last one with its stamp, which those of one second share (MSH-7).
     stamped: StampedMoment,
+}
+
+impl Model for Replies {
+    ghost use Rattle.conn_core.specs.inner.Replies.{RepliesView};
+
+    ghost Value = { RepliesView };
+
+    ghost view = { λ r. record { made = r.made; bytes = r.bytes.items } };
 }
 
 /// What is acknowledged of an outcome.
@@ -61,7 +70,7 @@ impl Replies {
     /// Replies of which none is made yet.
     pub fn new(alloc: Global) -> Self
         ensures made { result.made ≡ 0 }
-        ensures bytes { result.bytes.items ≡ [] }
+        ensures bytes { result.bytes ≡ [] }
     {
         Replies {
             made: 0,
@@ -70,30 +79,47 @@ impl Replies {
         }
     }
 
-    /// Appends an acknowledgment, if there is one, with the next number.
-    fn append_part(
+    /// How many were made.
+    pub fn made(&self) -> u32
+        ensures { result ≡ self.now.made }
+    {
+        self.made
+    }
+
+    /// The blocks of those that are not written yet.
+    pub fn as_slice(&self) -> &[u8]
+        ensures { result.now ≡ self.now.bytes }
+    {
+        &self.bytes
+    }
+
+    /// Forgets the blocks, where they are written. The numbers go on.
+    pub fn clear(&mut self)
+        ensures { self.new ≡ record self.old { bytes = [] } }
+    {
+        self.bytes.clear();
+    }
+
+    /// Appends an acknowledgment with the next number.
+    fn append_one(
         &mut self,
         conn: u32,
         header: &Header,
-        part: Option<AckPart>,
+        part: &AckPart,
         now: Moment,
     ) -> Result<(), AllocError>
         requires { self.old.made < u32.MAX }
-        ensures ok { OnOk result (self.new.bytes.items ≡ self.old.bytes.items
-            ++ numbered conn (self.old.made + 1) (map (λ p. record { header = header.now; part = p; moment = now }) (option_to_list part))) }
-        ensures counted { OnOk result (self.new.made ≡ self.old.made + length (option_to_list part)) }
+        ensures ok { OnOk result (self.new.bytes ≡ self.old.bytes
+            ++ numbered conn (self.old.made + 1) (record { header = header.now; part = part.now; moment = now } ∷ [])) }
+        ensures counted { OnOk result (self.new.made ≡ self.old.made + 1) }
         ensures few { self.new.made ≤ self.old.made + 1 }
-        ensures err { OnErr result (self.new.bytes.items ≡ self.old.bytes.items) }
+        ensures err { OnErr result (self.new.bytes ≡ self.old.bytes) }
         ensures not_counted { OnErr result (self.new.made ≡ self.old.made) }
-        ensures one { OnErr result (length (option_to_list part) ≡ 1) }
     {
-        let Some(part) = part else {
-            return Ok(());
-        };
         let before = self.bytes.len();
         let number = self.made + 1;
         self.stamped.set(now);
-        let appended = append_block(&mut self.bytes, header, &part, &self.stamped, conn, number);
+        let appended = append_block(&mut self.bytes, header, part, &self.stamped, conn, number);
         if appended.is_err() {
             self.bytes.truncate(before);
         } else {
@@ -102,11 +128,37 @@ impl Replies {
         appended
     }
 
+    /// Appends an acknowledgment, if there is one, with the next number. It is inlined, for speed: most messages are due one
+    /// alone, and where there is none no call is made.
+    #[inline(always)]
+    fn append_part(
+        &mut self,
+        conn: u32,
+        header: &Header,
+        part: Option<AckPart>,
+        now: Moment,
+    ) -> Result<(), AllocError>
+        requires { self.old.made < u32.MAX }
+        ensures ok { OnOk result (self.new.bytes ≡ self.old.bytes
+            ++ numbered conn (self.old.made + 1) (map (λ p. record { header = header.now; part = p; moment = now }) (option_to_list part))) }
+        ensures counted { OnOk result (self.new.made ≡ self.old.made + length (option_to_list part)) }
+        ensures few { self.new.made ≤ self.old.made + 1 }
+        ensures err { OnErr result (self.new.bytes ≡ self.old.bytes) }
+        ensures not_counted { OnErr result (self.new.made ≡ self.old.made) }
+        ensures one { OnErr result (length (option_to_list part) ≡ 1) }
+    {
+        match part {
+            Some(part) => self.append_one(conn, header, &part, now),
+            None => Ok(()),
+        }
+    }
+
     /// Appends the acknowledgments that a message with this header is due, two at most (HL7 v2.5.1, 2.9.2 and 2.9.3).
     ///
     /// # Errors
     ///
     /// Where memory is refused for one of them. It is not appended; the one before it may be, as a whole block.
+    #[inline(always)] // for speed: what it decides by is at hand where it is called
     pub fn append(
         &mut self,
         conn: u32,
@@ -115,7 +167,7 @@ impl Replies {
         now: Moment,
     ) -> Result<(), AllocError>
         requires { self.old.made + 2 ≤ u32.MAX }
-        ensures ok { OnOk result (self.new.bytes.items ≡ self.old.bytes.items
+        ensures ok { OnOk result (self.new.bytes ≡ self.old.bytes
             ++ numbered conn (self.old.made + 1) (dues_by header.now outcome now)) }
         ensures counted { OnOk result (self.new.made ≡ self.old.made + length (dues_by header.now outcome now)) }
         ensures few { self.new.made ≤ self.old.made + 2 }

@@ -66,7 +66,7 @@ module _ {B K : Type 0} (books : B → B → List Receipt → Type 0) {has : K �
   pub ends_amid : {conn channel : ℕ} {to_read left held holds : Option (List ℕ)} {z : Session K} (left' holds' : Option (List ℕ)) (t' : Progress K) (end : ServeEnd) (piece written unwritten : List ℕ)
       → SoFar (books first) has conn channel to_read left held holds b z
       → Consumes left left' piece → HandlesFront books has conn channel (blocks (z.framer.open_end ++ piece)) b b' z.dialogue t'
-      → t'.replies.bytes.items ≡ written ++ unwritten → Appends holds holds' written → end ≢ End
+      → t'.replies.bytes ≡ written ++ unwritten → Appends holds holds' written → end ≢ End
       → ServesAndBooks (books first b') has conn channel to_read left' held holds' (record t'.report { end = end })
   ends_amid {conn} {channel} {to_read} {left} {held} {holds} {z} left' holds' t' end piece written unwritten s reads front bytes_are wrote other =
       let a = front first (blocks s.read) s.written s.stands in
@@ -102,8 +102,8 @@ module _ {B K : Type 0} (books : B → B → List Receipt → Type 0) {has : K �
   pub goes_on : {conn channel : ℕ} {to_read left held holds : Option (List ℕ)} {z : Session K} (left' holds' : Option (List ℕ)) (t' : Progress K) (z'' : Session K) (piece : List ℕ)
       → SoFar (books first) has conn channel to_read left held holds b z
       → Consumes left left' piece → HandlesAll books has conn channel (blocks (z.framer.open_end ++ piece)) b b' z.dialogue t'
-      → Appends holds holds' t'.replies.bytes.items → z''.framer.to_come ≡ [] → z''.framer.open_end ≡ open_end (z.framer.open_end ++ piece)
-      → z''.dialogue.report ≡ t'.report → z''.dialogue.replies.made ≡ t'.replies.made → z''.dialogue.replies.bytes.items ≡ []
+      → Appends holds holds' t'.replies.bytes → z''.framer.to_come ≡ [] → z''.framer.open_end ≡ open_end (z.framer.open_end ++ piece)
+      → z''.dialogue.report ≡ t'.report → z''.dialogue.replies.made ≡ t'.replies.made → z''.dialogue.replies.bytes ≡ []
       → SoFar (books first) has conn channel to_read left' held holds' b' z''
   goes_on {conn} {channel} {to_read} {left} {held} {holds} {z} left' holds' t' z'' piece s reads all wrote none_left end_is report_is made_is cleared =
       let a = all first (blocks s.read) s.written s.stands in
@@ -113,15 +113,15 @@ module _ {B K : Type 0} (books : B → B → List Receipt → Type 0) {has : K �
         reads = Consumes-trans to_read left left' s.read piece s.reads reads;
         none_left = none_left;
         left_open = end_is ∙ ap (λ l. open_end (l ++ piece)) s.left_open ∙ sym (laws.end_is s.read piece);
-        written = s.written ++ t'.replies.bytes.items;
-        wrote = Appends-trans held holds holds' s.written t'.replies.bytes.items s.wrote wrote;
+        written = s.written ++ t'.replies.bytes;
+        wrote = Appends-trans held holds holds' s.written t'.replies.bytes s.wrote wrote;
         stands = record {
           receipts = a.receipts;
           booked = a.booked;
           kept = rw report_is a.kept;
           answers = a.answers;
           tells = rw (events, report_is) a.tells;
-          replies = a.replies ∙ sym (append-nil (s.written ++ t'.replies.bytes.items)) ∙ ap (λ l. (s.written ++ t'.replies.bytes.items) ++ l) (sym cleared);
+          replies = a.replies ∙ sym (append-nil (s.written ++ t'.replies.bytes)) ∙ ap (λ l. (s.written ++ t'.replies.bytes) ++ l) (sym cleared);
           made = made_is ∙ a.made;
         };
         all_written = cleared;

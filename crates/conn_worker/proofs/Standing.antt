@@ -41,7 +41,7 @@ pub record Changes {K : Type 0} (old new : Progress K) (unreadable_ones stray_on
   pub strays : new.report.strays ≡ old.report.strays + stray_ones
   pub breaks : new.report.breaks ≡ old.report.breaks + broken_ones
   pub made : new.replies.made ≡ old.replies.made
-  pub bytes : new.replies.bytes.items ≡ old.replies.bytes.items
+  pub bytes : new.replies.bytes ≡ old.replies.bytes
 
 module _ {B K : Type 0} {books : B → List Receipt → Type 0} {has : K → List Receipt → Type 0} {conn channel : ℕ} {before : List FramingEvent} {text : List ℕ} {b b' : B} where
   -- a dialogue that shows the same stands where the other one did
@@ -179,7 +179,7 @@ module _ {B K : Type 0} {books : B → List Receipt → Type 0} {has : K → Lis
     (a : Answer) (old new : Progress K) (s : Stands books has conn channel before text b old) (adds : Adds books has added b b' old.report.receipts new.report.receipts)
     (more : TellsOf conn channel a added old.report new.report) where
   -- a message that was answered
-  pub answered : new.replies.made ≡ old.replies.made + length (dues_of a) → new.replies.bytes.items ≡ old.replies.bytes.items ++ numbered conn (old.replies.made + 1) (dues_of a)
+  pub answered : new.replies.made ≡ old.replies.made + length (dues_of a) → new.replies.bytes ≡ old.replies.bytes ++ numbered conn (old.replies.made + 1) (dues_of a)
       → Stands books has conn channel (before ++ block a.raw ∷ []) text b' new
   answered made grows =
       record {
@@ -189,7 +189,7 @@ module _ {B K : Type 0} {books : B → List Receipt → Type 0} {has : K → Lis
         answers = s.answers ++ a ∷ [];
         tells = tells_more a old.report new.report s.tells more;
         replies =
-            replies_more conn old.replies.made s.answers a text old.replies.bytes.items (numbered conn (old.replies.made + 1) (dues_of a)) [] s.replies s.made (sym (append-nil _))
+            replies_more conn old.replies.made s.answers a text old.replies.bytes (numbered conn (old.replies.made + 1) (dues_of a)) [] s.replies s.made (sym (append-nil _))
             ∙ ap (λ l. text ++ l) (append-nil _ ∙ sym grows);
         made = omega (arith, made, s.made, ap length (dues_one s.answers a), length_both (dues s.answers) (dues_of a));
       }
@@ -211,7 +211,7 @@ module _ {B K : Type 0} {books : B → List Receipt → Type 0} {has : K → Lis
         tells = tells_more a old.report new.report s.tells more;
         missing = numbered conn ((old.replies.made + 1) + length (take part.count (dues_of a))) (drop part.count (dues_of a));
         replies =
-            replies_more conn old.replies.made s.answers a text old.replies.bytes.items _ _ s.replies s.made whole
+            replies_more conn old.replies.made s.answers a text old.replies.bytes _ _ s.replies s.made whole
             ∙ ap (λ l. text ++ (l ++ numbered conn ((old.replies.made + 1) + length (take part.count (dues_of a))) (drop part.count (dues_of a)))) (sym part.bytes);
       }
 
@@ -240,7 +240,7 @@ module _ {B K : Type 0} {books : B → List Receipt → Type 0} {has : K → Lis
     (raw : List ℕ) (moment : ℕ) (old new : Progress K) (s : Stands books has conn channel before text b old) where
   -- a block that was answered
   pub block_answered : (o : BlockOutcome) → IsOutcome conn channel raw o → Adds books has (receipts_in o) b b' old.report.receipts new.report.receipts → Counts o old.report new.report
-      → new.replies.made ≡ old.replies.made + length (dues_in raw moment o) → new.replies.bytes.items ≡ old.replies.bytes.items ++ numbered conn (old.replies.made + 1) (dues_in raw moment o)
+      → new.replies.made ≡ old.replies.made + length (dues_in raw moment o) → new.replies.bytes ≡ old.replies.bytes ++ numbered conn (old.replies.made + 1) (dues_in raw moment o)
       → Stands books has conn channel (before ++ block raw ∷ []) text b' new
   block_answered Unreadable is adds counts made bytes =
       passed_unreadable raw old new s adds (unreadable_text raw is) (record {
@@ -299,7 +299,7 @@ none_handled {B} {K} {books} {has} {conn} {channel} {before} {events} {text} {b}
       answers = s.answers;
       tells = rw append-nil s.tells;
       missing = [];
-      replies = s.replies ∙ ap (λ l. text ++ l) (sym (append-nil t.replies.bytes.items));
+      replies = s.replies ∙ ap (λ l. text ++ l) (sym (append-nil t.replies.bytes));
     }
 
 -- a test as a number

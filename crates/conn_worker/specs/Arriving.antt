@@ -8,7 +8,7 @@ use Rattle.book_core.specs.declared.receipt.Receipt.{Receipt}
 use Rattle.ghost_log.specs.Seats.{entries_of}
 use Rattle.book_lock.specs.declared.log_entry.LogEntry.{LogEntry}
 use Rattle.book_lock.specs.declared.log_entry.LogEntry.TheVariants as log_entry
-use Rattle.book_lock.specs.Log.{Arrives, IsLegalLog, SeatView}
+use Rattle.book_lock.specs.Log.{Arrives, IsLegalLog, Looks, SeatView}
 use Rattle.conn_core.specs.Booking.{arrival_by}
 
 -- the log's entry of the arrival that a receipt is of
@@ -16,7 +16,7 @@ abbrev pub arrival_entry : Receipt → LogEntry
 arrival_entry receipt = log_entry.Booked (arrival_by receipt)
 
 -- Arrivals at a seat, one after another, from its first view to its last, with the receipts of those that were booked, in
--- their order. A refused arrival has no receipt.
+-- their order. A refused arrival has no receipt. Between them the seat may look at the book, which books nothing.
 pub data ArrivesInTurn (opening : History) : SeatView → SeatView → List Receipt → Type 0 where
   no_arrival : (seat : SeatView) → ArrivesInTurn opening seat seat []
   booked_first : (old between new : SeatView) (conn : ℕ) (judged : Judgement)
@@ -27,6 +27,10 @@ pub data ArrivesInTurn (opening : History) : SeatView → SeatView → List Rece
   refused_first : (old between new : SeatView) (conn : ℕ) (judged : Judgement)
       (refusal : NotBooked) (receipts : List Receipt)
       → Arrives opening conn judged old between (Err refusal)
+      → ArrivesInTurn opening between new receipts
+      → ArrivesInTurn opening old new receipts
+  looked_first : (old between new : SeatView) (receipts : List Receipt)
+      → Looks opening old between
       → ArrivesInTurn opening between new receipts
       → ArrivesInTurn opening old new receipts
 

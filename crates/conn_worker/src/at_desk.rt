@@ -34,8 +34,22 @@ pub struct AtDesk<'a, A: Sharing, S: BookRows, H> {
     pub desk: &'a mut Desk<A>,
 }
 
+impl<'a, A: Sharing, S: BookRows, H: Wait + Log> AtDesk<'a, A, S, H> {
+    /// Logs what became of an arrival, and from time to time how full the book is.
+    fn log_outcome(&self, conn: u32, judged: &Judged, outcome: &Result<Receipt, NotBooked>) {
+        log_arrival(self.rt, self.alloc, conn, judged, outcome);
+        if outcome
+            .as_ref()
+            .is_ok_and(|receipt| receipt.entry % FILL_STEP == 0)
+        {
+            log_fill(self.rt, self.shared.gauge(self.rt));
+        }
+    }
+}
+
 impl<'a, A: Sharing, S: BookRows, H: Wait + Log> Booking for AtDesk<'a, A, S, H> {
     ghost use Rattle.std.specs.Prelude.{refl, ⊤};
+    ghost use Rattle.book_lock.specs.inner.Planning.{WasInForce};
     ghost use Rattle.conn_worker.specs.inner.Arriving.{BooksAtDesk, desk_after, desk_nothing};
 
     /// The arrivals of these receipts were booked at the desk, in this order, and nothing else was. It is the same desk.
@@ -47,21 +61,25 @@ impl<'a, A: Sharing, S: BookRows, H: Wait + Log> Booking for AtDesk<'a, A, S, H>
 
     ghost judges = { λ _ _. ⊤ };
 
+    /// The plan was in force at a moment that the seat has seen, when as many plans had been deployed as the desk remembers.
+    ghost judged_by = { λ x plan.
+        WasInForce A.opening x.desk.now.seat.seen x.desk.now.deployed plan };
+
     ghost outcomes = { λ _ _ _. ⊤ };
 
-    fn plan(&self) -> Result<Arc<Plan>, AllocError> {
-        self.shared.plan(self.rt)
+    fn plan(&mut self) -> Result<Arc<Plan>, AllocError> {
+        self.shared.plan_at(self.rt, self.desk)
     }
 
     fn arrive(&mut self, conn: u32, judged: &Judged) -> Result<Receipt, NotBooked> {
         let outcome = self.shared.arrive(self.rt, self.desk, conn, judged);
-        log_arrival(self.rt, self.alloc, conn, judged, &outcome);
-        if outcome
-            .as_ref()
-            .is_ok_and(|receipt| receipt.entry % FILL_STEP == 0)
-        {
-            log_fill(self.rt, self.shared.gauge(self.rt));
-        }
+        self.log_outcome(conn, judged, &outcome);
+        outcome
+    }
+
+    fn arrive_judged(&mut self, conn: u32, judged: &Judged) -> Result<Receipt, NotBooked> {
+        let outcome = self.shared.arrive_judged(self.rt, self.desk, conn, judged);
+        self.log_outcome(conn, judged, &outcome);
         outcome
     }
 
@@ -82,6 +100,8 @@ impl<'a, A: Sharing, S: BookRows, H: Wait + Log> Booking for AtDesk<'a, A, S, H>
         x.desk.ghost_name y.desk.ghost_name z.desk.ghost_name };
 
     ghost same_channels = { λ _ _ _ _. refl };
+
+    ghost same_outcomes = { λ _ _ _ _ _ may. may };
 }
 
 /// Serves a connection to its reader's end, or to a fault, or for [`TURNS_MAX`] reads or events, as connection `conn` of a

@@ -35,7 +35,7 @@ impl<K: ReceiptSink> Progress<K> {
         ensures unbooked { result.report.unbooked ≡ 0 }
         ensures events { result.events ≡ 0 }
         ensures made { result.replies.made ≡ 0 }
-        ensures bytes { result.replies.bytes.items ≡ [] }
+        ensures bytes { result.replies.bytes ≡ [] }
     {
         Progress {
             report: ServeReport::new(alloc),

@@ -93,11 +93,11 @@ impl<K: ReceiptSink> Session<K> {
         let answered = self
             .dialogue
             .answer_events(line, book, &mut self.framer, clock, self.events_max);
-        match write_out(writer, &self.dialogue.replies.bytes, &mut self.turns) {
+        match write_out(writer, self.dialogue.replies.as_slice(), &mut self.turns) {
             Ok(()) => {}
             Err(end) => return Err(end),
         }
-        self.dialogue.replies.bytes.clear();
+        self.dialogue.replies.clear();
         answered
     }
 

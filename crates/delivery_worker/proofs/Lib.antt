@@ -1,7 +1,6 @@
 pub mod Afresh
 pub mod Calls
 pub mod Delivered
-pub mod Framable
 pub mod InLog
 pub mod Listed
 pub mod Reading

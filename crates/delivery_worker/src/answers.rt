@@ -1,7 +1,8 @@
-ghost use Rattle.std.specs.Prelude.{◌≡◌, false, find};
+ghost use Rattle.std.specs.Prelude.{◌≡◌, find};
 ghost use Rattle.std.specs.List.{flat_map};
-ghost use Rattle.std.specs.Option.{option_copied, option_map, option_map_or, option_to_list};
+ghost use Rattle.std.specs.Option.{option_copied, option_map, option_to_list};
 ghost use Rattle.delivery_worker.specs.Answers.{answers_to, code_outcome, outcome_of};
+ghost use Rattle.delivery_worker.specs.inner.Answers.{code_for};
 
 use crate::answer::Answer;
 use dest_queue::Outcome;
@@ -72,13 +73,6 @@ fn known_code(code: &[u8]) -> Option<AckCode> {
     }
 }
 
-/// Whether an answer decides what becomes of the message with this control id.
-pub(crate) fn decides(control_id: &[u8], answer: &Answer) -> bool
-    ensures { result ≡ option_map_or (answers_to control_id.now) answer.now false }
-{
-    answer.code_for(control_id).is_some()
-}
-
 /// MSA-1 of the first acknowledgment of the message with this control id.
 fn first_code<'a>(control_id: &[u8], answers: &'a [Answer]) -> Option<&'a [u8]>
     ensures { option_copied result ≡ option_map (λ msa. msa.code)
@@ -92,24 +86,59 @@ fn first_code<'a>(control_id: &[u8], answers: &'a [Answer]) -> Option<&'a [u8]>
     None
 }
 
-/// What [`outcome_of`] says of the answers as they were received.
-pub(crate) fn outcome_by(control_id: &[u8], answers: &[Answer]) -> Outcome
-    ensures { result ≡ outcome_of control_id.now answers.now }
-{
-    let read = &answers[..MAX_ANSWERS.min(answers.len())];
-    match first_code(control_id, read) {
-        Some(code) => code_outcome(code),
-        None => Outcome::Again,
+/// What answers say of a message that none of them acknowledges.
+fn reply_of_none(answers: &[Answer]) -> Reply {
+    if answers.is_empty() {
+        Reply::Nothing
+    } else if answers.iter().any(|answer| answer.is_acknowledgment()) {
+        Reply::OfOthers
+    } else {
+        Reply::NoAcknowledgment
     }
 }
 
-/// What the answers that [`outcome_by`] looks at say of the message with this raw control id.
-pub(crate) fn reply_to(control_id: &[u8], answers: &[Answer]) -> Reply {
+/// What the answers after a send decide of a message, and what they say of it.
+#[derive(Clone, Copy)]
+pub(crate) struct Decision {
+    /// What becomes of the message.
+    pub(crate) outcome: Outcome,
+    /// What the log says of it.
+    pub(crate) reply: Reply,
+}
+
+impl Decision {
+    /// What the code of an acknowledgment, MSA-1, decides of its message.
+    fn by_code(code: &[u8]) -> Decision
+        ensures { result.outcome ≡ code_outcome code.now }
+    {
+        Decision {
+            outcome: code_outcome(code),
+            reply: Reply::Code(known_code(code)),
+        }
+    }
+}
+
+/// What one answer decides of the message with this raw control id, MSH-10; nothing where it is no acknowledgment of it.
+pub(crate) fn decision_of(control_id: &[u8], answer: &Answer) -> Option<Decision>
+    ensures { option_map (λ d. d.outcome) result
+        ≡ option_map code_outcome (code_for control_id.now answer.now) }
+{
+    match answer.code_for(control_id) {
+        Some(code) => Some(Decision::by_code(code)),
+        None => None,
+    }
+}
+
+/// What the answers that were received decide of the message with this raw control id, MSH-10, as [`outcome_of`] says.
+pub(crate) fn decision_by(control_id: &[u8], answers: &[Answer]) -> Decision
+    ensures { result.outcome ≡ outcome_of control_id.now answers.now }
+{
     let read = &answers[..MAX_ANSWERS.min(answers.len())];
     match first_code(control_id, read) {
-        Some(code) => Reply::Code(known_code(code)),
-        None if read.iter().any(|answer| answer.is_acknowledgment()) => Reply::OfOthers,
-        None if read.is_empty() => Reply::Nothing,
-        None => Reply::NoAcknowledgment,
+        Some(code) => Decision::by_code(code),
+        None => Decision {
+            outcome: Outcome::Again,
+            reply: reply_of_none(read),
+        },
     }
 }

@@ -1,24 +1,26 @@
 //! One attempt after another over a link's connection.
 
-ghost use Rattle.std.specs.Prelude.{◌≡◌, ◌↔◌, ◌⊎◌, ℕ, List, [], false, true, None, Some, is_some, IfOk, IfErr, IsFalse, IsTrue, OnOk, OnErr, ◌≤◌};
+ghost use Rattle.std.specs.Prelude.{◌≡◌, ◌⊎◌, ℕ, List, [], true, None, Some, is_some, IfOk, IfErr, IfSome, OnOk, OnErr, ◌≤◌};
 ghost use Rattle.std.specs.Io.KnownBytes.{Appends, Keeps};
 ghost use Rattle.dest_queue.specs.declared.Outcome.TheVariants.{Again};
 ghost use Rattle.fixed_numbers.specs.declared.serving.TheConstants.{RECEIVES_MAX};
-ghost use Rattle.mllp_frame.specs.Framing.{IsData, block_bytes};
+ghost use Rattle.mllp_frame.specs.Framing.{block_bytes};
 ghost use Rattle.mllp_frame.specs.inner.Framed.{blank, fed};
+ghost use Rattle.delivery_worker.specs.Answers.{outcome_of};
+ghost use Rattle.delivery_worker.specs.declared.answers.Decision.{Decision};
 ghost use Rattle.delivery_worker.specs.inner.Calls.{CallsMore, CallsUpTo};
 ghost use Rattle.delivery_worker.specs.inner.Stream.{ReadsFront, ReadsOn, Receives};
 ghost use Rattle.delivery_worker.specs.Delivering.{IsSendingOf};
 ghost use Rattle.delivery_worker.specs.inner.Delivering.{Sends, Spends, Tries};
 
 use crate::answer::Answer;
-use crate::answers::{Reply, decides, outcome_by, reply_to};
+use crate::answers::{Decision, Reply, decision_by, decision_of};
+use crate::data::is_data;
 use crate::link::{Link, LinkFault};
 use book_core::Job;
 use dest_queue::Outcome;
 use fixed_numbers::{MAX_ANSWERS, RECEIVES_MAX};
-use memchr::memchr2;
-use mllp_frame::{END_BLOCK, Framer, START_BLOCK, longer_streams, write_block};
+use mllp_frame::{Framer, longer_streams, write_block};
 use std::alloc::{AllocError, Global};
 
 /// The most bytes that one receive requests.
@@ -64,45 +66,51 @@ pub struct Connection {
     answers: Vec<Answer>,
 }
 
-/// Whether a text can be framed: it holds neither of the two framing bytes.
-fn is_data(text: &[u8]) -> bool
-    ensures { IsTrue result ↔ IsData text.now }
-{
-    match memchr2(START_BLOCK, END_BLOCK, text) {
-        Some(_) => false,
-        None => true,
-    }
+/// How far the answers to a message were read.
+#[derive(Clone, Copy)]
+enum Taken {
+    /// Up to the last that was received; none of them decides.
+    All,
+    /// Up to one that decides, or up to the ninth.
+    Enough,
+    /// Up to the first of all, which decides. What it decides is kept, for speed: to look for its MSA again takes some 150
+    /// instructions, by an estimate.
+    First(Decision),
 }
 
-/// Reads the answers received so far, up to the one that decides and up to the ninth, and returns whether that was reached.
+/// Reads the answers received so far, up to the one that decides and up to the ninth.
 fn take_answers(
     alloc: Global,
     framer: &mut Framer,
     control_id: &[u8],
     answers: &mut Vec<Answer>,
-) -> Result<bool, AllocError>
+) -> Result<Taken, AllocError>
     ensures read { OnOk result (ReadsOn framer.old framer.new answers.old.items answers.new.items) }
-    ensures more { IfOk result (λ enough. IsFalse enough → framer.new.to_come ≡ []) }
+    ensures more { IfOk result (λ taken. taken ≡ Taken.All → framer.new.to_come ≡ []) }
+    ensures first { IfOk result (λ taken. (decision : Decision) → taken ≡ Taken.First decision
+        → decision.outcome ≡ outcome_of control_id.now answers.new.items) }
     ensures front { OnErr result (ReadsFront framer.old answers.old.items answers.new.items) }
 {
     'answers: for _ in answers.len()..MAX_ANSWERS {
         let Some(event) = framer.next() else {
-            return Ok(false);
+            return Ok(Taken::All);
         };
         let answer = match Answer::read(alloc, event) {
             Ok(answer) => answer,
             Err(fault) => return Err(fault),
         };
-        let is_last = decides(control_id, &answer);
+        let decision = decision_of(control_id, &answer);
         match answers.push(answer) {
             Ok(()) => {}
             Err(_) => return Err(AllocError),
         }
-        if is_last {
-            return Ok(true);
+        match decision {
+            Some(decision) if answers.len() == 1 => return Ok(Taken::First(decision)),
+            Some(_) => return Ok(Taken::Enough),
+            None => {}
         }
     }
-    Ok(true)
+    Ok(Taken::Enough)
 }
 
 /// Receives the next bytes.
@@ -127,7 +135,8 @@ fn receive_piece<L: Link>(link: &mut L, framer: &mut Framer, buffer: &mut [u8]) 
     }
 }
 
-/// Receives until the answers decide, or nine blocks were received, in `limit` receives at most.
+/// Receives until the answers decide, or nine blocks were received, in `limit` receives at most. Where the first answer
+/// decides, what it decides is returned.
 fn receive_answers<L: Link>(
     alloc: Global,
     link: &mut L,
@@ -135,8 +144,10 @@ fn receive_answers<L: Link>(
     control_id: &[u8],
     answers: &mut Vec<Answer>,
     limit: u32,
-) -> Result<(), Lost>
+) -> Result<Option<Decision>, Lost>
     ensures ok { OnOk result (Receives framer.old (Some framer.new) (L.received link.old) (L.received link.new) answers.old.items answers.new.items) }
+    ensures first { IfOk result (λ first. IfSome first (λ decision.
+        decision.outcome ≡ outcome_of control_id.now answers.new.items)) }
     ensures failed { IfErr result (λ lost.
         lost ≡ Lost.Failed → Receives framer.old None (L.received link.old) (L.received link.new) answers.old.items answers.new.items) }
     ensures unanswered { IfErr result (λ lost. lost ≡ Lost.Unanswered
@@ -148,8 +159,9 @@ fn receive_answers<L: Link>(
     let mut buffer = [0; PIECE];
     'receives: for n in 0..limit {
         match take_answers(alloc, framer, control_id, answers) {
-            Ok(true) => return Ok(()),
-            Ok(false) => {}
+            Ok(Taken::First(decision)) => return Ok(Some(decision)),
+            Ok(Taken::Enough) => return Ok(None),
+            Ok(Taken::All) => {}
             Err(_) => return Err(Lost::Failed),
         }
         match receive_piece(link, framer, &mut buffer) {
@@ -159,8 +171,23 @@ fn receive_answers<L: Link>(
         }
     }
     match take_answers(alloc, framer, control_id, answers) {
-        Ok(true) => Ok(()),
-        _ => Err(Lost::Failed),
+        Ok(Taken::First(decision)) => Ok(Some(decision)),
+        Ok(Taken::Enough) => Ok(None),
+        Ok(Taken::All) => Err(Lost::Failed),
+        Err(_) => Err(Lost::Failed),
+    }
+}
+
+/// What the answers decide of a message: what the first of them decides, where that is known, and else what is found among
+/// them.
+fn decided(first: Option<Decision>, control_id: &[u8], answers: &[Answer]) -> Decision
+    requires { IfSome first (λ decision.
+        decision.outcome ≡ outcome_of control_id.now answers.now) }
+    ensures { result.outcome ≡ outcome_of control_id.now answers.now }
+{
+    match first {
+        Some(decision) => decision,
+        None => decision_by(control_id, answers),
     }
 }
 
@@ -266,7 +293,7 @@ impl Connection {
         }
         let control_id = job.control_id.as_slice();
         self.answers.clear();
-        match receive_answers(
+        let first = match receive_answers(
             self.alloc,
             link,
             &mut framer,
@@ -274,12 +301,16 @@ impl Connection {
             &mut self.answers,
             limit,
         ) {
-            Ok(()) => self.framer = Some(framer),
-            Err(Lost::Failed) => {}
+            Ok(first) => {
+                self.framer = Some(framer);
+                first
+            }
+            Err(Lost::Failed) => None,
             Err(Lost::Unanswered) => return Err(Unanswered { receives: 1 }),
-        }
-        self.reply = reply_to(control_id, &self.answers);
-        Ok(outcome_by(control_id, &self.answers))
+        };
+        let decision = decided(first, control_id, &self.answers);
+        self.reply = decision.reply;
+        Ok(decision.outcome)
     }
 
     /// Sends a message over the connection that is open, and is still so by a look at it.

@@ -4,6 +4,7 @@
 mod answer;
 mod answers;
 mod connection;
+mod data;
 mod laws;
 mod link;
 mod report;

@@ -28,6 +28,9 @@ const INTERRUPTIONS_MAX: u32 = 1_000;
 /// How many timeouts an attempt may last.
 const TIMEOUTS_MAX: u32 = 10;
 
+/// How many waits of an attempt may last a whole timeout each: one timeout less than an attempt may last.
+const FREE_WAITS: u32 = 9;
+
 /// The most seconds that the end of a connection may last.
 const END_SECONDS_MAX: u64 = 10;
 
@@ -96,6 +99,8 @@ pub struct TcpLink<'a, R, W> {
     ended: bool,
     /// When the attempt at hand ends, or the connect between attempts, by the monotonic clock, where that can be read.
     deadline: Option<Duration>,
+    /// How many waits of the attempt at hand may still last a whole timeout each, whatever the clock says.
+    free_waits: u32,
     /// The limit on each read that the stream has.
     read_limit: Duration,
     /// The limit on each write that the stream has.
@@ -141,6 +146,7 @@ impl<'a, R: Net<Stream = TcpStream> + Log + Clock, W: Way> TcpLink<'a, R, W> {
             receives: 0,
             ended: false,
             deadline: None,
+            free_waits: 0,
             read_limit: Duration::ZERO,
             write_limit: Duration::ZERO,
             told: Told::Nothing,
@@ -231,6 +237,18 @@ impl<'a, R: Net<Stream = TcpStream> + Log + Clock, W: Way> TcpLink<'a, R, W> {
         Ok(timeout.min(left))
     }
 
+    /// How long the next wait of an attempt may last. It exists for speed: the first nine waits over a connection that was
+    /// open may last a timeout each, since an attempt may last ten, so the clock isn't read for them.
+    fn next_limit(&mut self) -> io::Result<Duration>
+        ensures { self.new ≡ self.old }
+    {
+        if self.free_waits == 0 || self.way.is_halted() {
+            return self.limit();
+        }
+        self.free_waits -= 1;
+        Ok(self.timeout())
+    }
+
     /// Closes the stream, and holds a descriptor back for the next one.
     fn close(&mut self)
         ensures { self.new ≡ self.old }
@@ -318,7 +336,7 @@ impl<'a, R: Net<Stream = TcpStream> + Log + Clock, W: Way> TcpLink<'a, R, W> {
         ensures { self.new ≡ self.old }
     {
         let mut rest = bytes;
-        let mut limit = self.limit()?;
+        let mut limit = self.next_limit()?;
         'writes: for _ in 0..WRITES_MAX {
             if rest.is_empty() {
                 return Ok(());
@@ -335,7 +353,9 @@ impl<'a, R: Net<Stream = TcpStream> + Log + Clock, W: Way> TcpLink<'a, R, W> {
                 Ok(0) => return Err(io::Error::from(ErrorKind::WriteZero)),
                 Ok(len) => {
                     rest = &rest[len..];
-                    limit = self.limit()?;
+                    if !rest.is_empty() {
+                        limit = self.next_limit()?;
+                    }
                 }
                 Err(error) => match error.kind() {
                     ErrorKind::Interrupted => {}
@@ -384,14 +404,15 @@ impl<'a, R: Net<Stream = TcpStream> + Log + Clock, W: Way> TcpLink<'a, R, W> {
         let (Some(stream), Some(deadline)) = (&self.stream, self.after(limit)) else {
             return Ok(());
         };
+        let mut left = limit;
         for _ in 0..SLICES_MAX {
-            let left = deadline.saturating_sub(self.rt.monotonic()?);
             if left < Duration::from_millis(1) || self.way.is_halted() {
                 return Err(io::Error::from(ErrorKind::TimedOut));
             }
             if wait_for(stream, false, self.slice(left)).is_readable() {
                 return Ok(());
             }
+            left = deadline.saturating_sub(self.rt.monotonic()?);
         }
         Err(io::Error::from(ErrorKind::TimedOut))
     }
@@ -401,7 +422,7 @@ impl<'a, R: Net<Stream = TcpStream> + Log + Clock, W: Way> TcpLink<'a, R, W> {
         ensures same { self.new ≡ self.old }
         ensures bound { IfOk result (λ len. len ≤ length buffer.new) }
     {
-        let limit = self.limit()?;
+        let limit = self.next_limit()?;
         if self.way.can_halt() {
             self.wait_to_read(limit)?;
         }
@@ -539,6 +560,8 @@ impl<'a, R: Net<Stream = TcpStream> + Log + Clock, W: Way> TcpLink<'a, R, W> {
         self.close();
         self.ended = false;
         self.cause = None;
+        // To connect may take longer than its limit, where a name is looked up.
+        self.free_waits = 0;
         let stream = self.open()?;
         self.read_limit = self.timeout();
         self.write_limit = self.timeout();
@@ -575,13 +598,18 @@ impl<'a, R: Net<Stream = TcpStream> + Log + Clock, W: Way> TcpLink<'a, R, W> {
         }
     }
 
-    /// Drops what has arrived on the connection. Whether it is open, and nothing is left to be read.
+    /// Drops what has arrived on the connection. Whether it is open, and nothing is left that could be taken for an answer to
+    /// what is sent next. Where answers are not awaited, nothing is taken for one: what arrives meanwhile is left to the next
+    /// call, since a stream that is closed with bytes unread is reset, and a reset takes from the destination what it has not
+    /// read yet.
     fn is_emptied(&mut self) -> bool
         ensures { self.new ≡ self.old }
     {
+        let drops = self.drops_answers();
         match &mut self.stream {
             Some(stream) => {
-                drop_input(stream) && !wait_for(stream, false, Duration::ZERO).is_readable()
+                drop_input(stream)
+                    && (drops || !wait_for(stream, false, Duration::ZERO).is_readable())
             }
             None => false,
         }
@@ -611,6 +639,7 @@ impl<R: Net<Stream = TcpStream> + Log + Clock, W: Way> Link for TcpLink<'_, R, W
 
     fn begin(&mut self) {
         self.deadline = self.after(self.timeout().saturating_mul(TIMEOUTS_MAX));
+        self.free_waits = FREE_WAITS;
         self.cause = None;
         self.receives = 0;
     }

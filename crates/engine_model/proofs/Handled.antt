@@ -31,7 +31,7 @@ pub handles-none : (conn channel now : ℕ) (e : FramingEvent) (h : History) (w 
 handles-none conn channel now e h w none handled from c stream same amid = amid-passed conn now handled from h c (said channel stream false w) amid e none
 
 -- nothing more was handled
-pub handles-stop : (conn channel now : ℕ) (events : List FramingEvent) (h : History) (w w' : Transcript) → w'.answers.items ≡ w.answers.items → w'.replies.bytes.items ≡ w.replies.bytes.items → HandlesFront conn channel now events h h w w'
+pub handles-stop : (conn channel now : ℕ) (events : List FramingEvent) (h : History) (w w' : Transcript) → w'.answers.items ≡ w.answers.items → w'.replies.bytes ≡ w.replies.bytes → HandlesFront conn channel now events h h w w'
 handles-stop conn channel now events h w w' answers output handled later from c bytes same amid are =
     subst (λ l. EndsWithin conn l now from h c (said channel (c.stream ++ bytes) true w')) (append-nil bytes)
     (amid-ends conn now handled from h c (said channel (c.stream ++ bytes) false w) amid bytes [] (events ++ later) (said channel (c.stream ++ bytes) true w')
@@ -50,23 +50,23 @@ module _ (conn channel now : ℕ) (raw : List ℕ) (outcome : Result Told NotBoo
   a = answer_with raw outcome now
 
   -- a message that was answered
-  pub handles-message : w'.replies.bytes.items ≡ w.replies.bytes.items ++ numbered conn (w.replies.made + 1) (dues_of a) → Handles conn channel now (block raw ∷ []) h h' w w'
+  pub handles-message : w'.replies.bytes ≡ w.replies.bytes ++ numbered conn (w.replies.made + 1) (dues_of a) → Handles conn channel now (block raw ∷ []) h h' w w'
   handles-message output handled from c stream same amid =
       let may : IsAnswered conn c.channel h raw outcome = subst (λ n. IsAnswered conn n h raw outcome) (sym same) books.may in
       let is : history_with conn c.channel h raw outcome ≡ h' = ap (λ n. history_with conn n h raw outcome) same ∙ sym books.booked in
       subst (λ g. Amid conn now (handled ++ block raw ∷ []) from g c (said channel stream false w')) is
       (amid-answered conn now handled from h c (said channel stream false w) amid (block raw) raw outcome (brings raw bookable) may (said channel stream false w')
-      refl books.kept (output ∙ ap (λ n. w.replies.bytes.items ++ numbered conn n (dues_of a)) (next_made w counted)) refl)
+      refl books.kept (output ∙ ap (λ n. w.replies.bytes ++ numbered conn n (dues_of a)) (next_made w counted)) refl)
 
   -- or with the first of its acknowledgments, as the connection has to end
-  pub handles-cut : (count : ℕ) → w'.replies.bytes.items ≡ w.replies.bytes.items ++ numbered conn (w.replies.made + 1) (take count (dues_of a)) → HandlesFront conn channel now (block raw ∷ []) h h' w w'
+  pub handles-cut : (count : ℕ) → w'.replies.bytes ≡ w.replies.bytes ++ numbered conn (w.replies.made + 1) (take count (dues_of a)) → HandlesFront conn channel now (block raw ∷ []) h h' w w'
   handles-cut count output handled later from c bytes same amid are =
       let may : IsAnswered conn c.channel h raw outcome = subst (λ n. IsAnswered conn n h raw outcome) (sym same) books.may in
       let is : history_with conn c.channel h raw outcome ≡ h' = ap (λ n. history_with conn n h raw outcome) same ∙ sym books.booked in
       subst (λ g. EndsWithin conn bytes now from g c (said channel (c.stream ++ bytes) true w')) is
       (amid-cut conn now handled from h c (said channel (c.stream ++ bytes) false w) amid (block raw) raw outcome (brings raw bookable) may bytes later
       (take count (dues_of a)) (drop count (dues_of a)) (said channel (c.stream ++ bytes) true w') refl refl books.kept (sym (take-append-drop count (dues_of a)))
-      (output ∙ ap (λ n. w.replies.bytes.items ++ numbered conn n (take count (dues_of a))) (next_made w counted)) refl are)
+      (output ∙ ap (λ n. w.replies.bytes ++ numbered conn n (take count (dues_of a))) (next_made w counted)) refl are)
 
 -- ---- for the two ways in which a call returns
 
@@ -82,7 +82,7 @@ pub on_err_one : {T E : Type 0} {P S : Type 0} (r : Result T E) → (P → S) �
 on_err_one (Ok x) f p = tt
 on_err_one (Err e) f p = f p
 
-pub handles-left : (conn channel now : ℕ) (events : List FramingEvent) (h h' : History) (w w' : Transcript) → h' ≡ h → w'.answers.items ≡ w.answers.items → w'.replies.bytes.items ≡ w.replies.bytes.items → HandlesFront conn channel now events h h' w w'
+pub handles-left : (conn channel now : ℕ) (events : List FramingEvent) (h h' : History) (w w' : Transcript) → h' ≡ h → w'.answers.items ≡ w.answers.items → w'.replies.bytes ≡ w.replies.bytes → HandlesFront conn channel now events h h' w w'
 handles-left conn channel now events h h' w w' same answers output handled later from c bytes on amid are =
     subst (λ g. EndsWithin conn bytes now from g c (said channel (c.stream ++ bytes) true w')) (sym same) (handles-stop conn channel now events h w w' answers output handled later from c bytes on amid are)
 

@@ -84,7 +84,7 @@ impl<S: BookRows> World<S> {
         ensures { result.now ≡ output_of self.now conn }
     {
         match self.connections.get(conn as usize) {
-            Some(connection) => &connection.words.replies.bytes,
+            Some(connection) => connection.words.replies.as_slice(),
             None => &[],
         }
     }

@@ -1,6 +1,6 @@
 //! A text with what was decided of it.
 
-ghost use Rattle.std.specs.Prelude.{◌≡◌, ◌+◌, ◌<◌, ◌≤◌, ◌∷◌, ◌++◌, IfOk, IfSome, IsTrue, None, Some, All, length, option_copied, option_map, take};
+ghost use Rattle.std.specs.Prelude.{◌≡◌, ◌+◌, ◌<◌, ◌≤◌, ◌∷◌, ◌++◌, IfOk, IfSome, IsTrue, None, Some, All, length, option_copied, take};
 ghost use Rattle.mllp_frame.specs.Framing.{IsBlockData};
 ghost use Rattle.hl7_transform.specs.Step.{after_steps};
 ghost use Rattle.plan_text.specs.Entries.{AllStand};
@@ -12,7 +12,7 @@ ghost use Rattle.judge_core.specs.inner.Delivering.{AreDeliveries};
 ghost use Rattle.judge_core.specs.Judging.{header_fault, key_by, deliveries_by, routed, stepped, verdict_of};
 
 use crate::delivery::{Deliveries, by_routes, passes, transformed};
-use crate::text::{Text, TextPiece};
+use crate::text::Text;
 use dup_index::Key;
 use er7_tree::{Message, Refusal, is_vacant};
 use fixed_numbers::CONTROL_ID_MAX;
@@ -58,13 +58,12 @@ pub struct Judged {
     channel: u32,
     raw: Text,
     header: Option<Header>,
-    control_id: Option<TextPiece>,
     key: Key,
     verdict: Verdict,
 }
 
 impl Model for Judged {
-    ghost use Rattle.std.specs.Prelude.{◌≡◌, ◌<◌, length, option_map};
+    ghost use Rattle.std.specs.Prelude.{◌≡◌, ◌<◌, length};
     ghost use Rattle.std.specs.Arc.{arc_value};
     ghost use Rattle.hl7_head.specs.Header.{header_of};
     ghost use Rattle.mllp_frame.specs.Framing.{IsBlockData};
@@ -82,7 +81,6 @@ impl Model for Judged {
       known : j.channel < length (arc_value j.plan).channels;
       fits : IsBlockData j.raw;
       header_is : j.header ≡ header_of j.raw;
-      control_id_is : j.control_id ≡ option_map (λ h. h.control_id) (header_of j.raw);
       key_is : j.key ≡ key_of j.channel j.raw;
       verdict_is : j.verdict ≡ decided (arc_value j.plan) j.channel j.raw;
     } };
@@ -122,14 +120,6 @@ fn payload_of(alloc: Global, message: &Message, raw: &Text) -> Result<Text, Allo
     } else {
         Text::new(alloc, printed)
     }
-}
-
-/// The control id of a message, as a span of the message's text.
-fn control_id_of(header: &Header) -> Result<TextPiece, AllocError>
-    ensures { IfOk result (λ control_id. control_id ≡ header.now.control_id) }
-{
-    let (text, place) = header.shared_control_id();
-    TextPiece::of(text, place)
 }
 
 /// The most bytes of a key that is put together in a run.
@@ -302,7 +292,6 @@ fn unreadable(plan: Arc<Plan>, channel: u32, raw: Text) -> Judged
         channel,
         raw,
         header: None,
-        control_id: None,
         key: Key::new(),
         verdict: Verdict::Unreadable,
     }
@@ -323,7 +312,6 @@ fn judge_message(
 {
     plan.rules();
     let header = Header::read(message)?;
-    let control_id = control_id_of(&header)?;
     let key = key_bytes(alloc, channel as u8, &header)?;
     let rules = plan.channel(channel).unwrap();
     let verdict = decide(alloc, rules, message, &header, &raw)?;
@@ -332,7 +320,6 @@ fn judge_message(
         channel,
         raw,
         header: Some(header),
-        control_id: Some(control_id),
         key,
         verdict,
     })
@@ -397,13 +384,6 @@ impl Judged {
         ensures { option_copied result ≡ header_of self.now.raw }
     {
         self.header.as_ref()
-    }
-
-    /// The control id, MSH-10, if the text is a message. It shares the bytes of the text, and its owner may share it again.
-    pub fn control_id(&self) -> Option<&TextPiece>
-        ensures { option_copied result ≡ option_map (λ h. h.control_id) (header_of self.now.raw) }
-    {
-        self.control_id.as_ref()
     }
 
     /// The key: the channel as one byte, MSH-3, 0x0D, MSH-4, 0x0D and MSH-10; empty where the text is no message.

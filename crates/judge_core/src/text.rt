@@ -67,6 +67,18 @@ impl Text {
     {
         self.shared.as_slice()
     }
+
+    /// The piece that a span covers, as one more owner of the bytes.
+    ///
+    /// # Errors
+    ///
+    /// Where the span ends at 4 GiB or behind it, or the bytes have more owners than can be counted.
+    pub fn piece(&self, span: Span) -> Result<TextPiece, AllocError>
+        requires { IsBetween 0 (length self.now) span }
+        ensures { IfOk result (λ piece. piece ≡ covered self.now span) }
+    {
+        TextPiece::of(&self.shared, span)
+    }
 }
 
 /// A piece of a text, as a span of the bytes that its owners share: so it takes no memory of its own where it is kept.

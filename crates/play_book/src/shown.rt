@@ -67,7 +67,7 @@ pub(crate) fn letter_shown(
     letter: &Outbound,
     conn: Option<u32>,
 ) -> Result<String, AllocError> {
-    let id = shown(alloc, letter.control_id.as_slice())?;
+    let id = shown(alloc, letter.control_id())?;
     let text = shown(alloc, letter.raw.as_slice())?;
     format!(in alloc;
         "entry {}, connection {conn:?}, channel {}, control id {id}, {text}",

@@ -22,14 +22,13 @@ pub struct RecordList<T: Drop> {
 }
 
 impl<T: Drop> Model for RecordList<T> {
-    ghost use Rattle.std.specs.Prelude.{ℕ, List};
-    ghost use Rattle.row_store.specs.declared.Row.{Row};
     ghost use Rattle.record_list.specs.inner.Chain.{rows_of};
+    ghost use Rattle.record_list.specs.inner.LinkedRows.{LinkedRows};
     ghost use Rattle.record_list.specs.inner.Stands.{IsKept};
 
-    ghost Value = { List (Row T) × ℕ };
+    ghost Value = { LinkedRows T };
 
-    ghost view = { λ s. (rows_of s.links.nodes.held, s.links.visits) };
+    ghost view = { λ s. record { rows = rows_of s.links.nodes.held; visits = s.links.visits } };
 
     ghost invariant = { λ s. IsKept s.links s.directory };
 }
@@ -37,20 +36,20 @@ impl<T: Drop> Model for RecordList<T> {
 impl<T: Drop> RecordList<T> {
     /// How many nodes the calls `front`, `unlink`, `push` and `remove` have read. It stays at its greatest value.
     pub fn visits(&self) -> u64
-        ensures { result ≡ self.now.1 }
+        ensures { result ≡ self.now.visits }
     {
         self.links.visits
     }
 }
 
 impl<T: Drop> RowStore<T> for RecordList<T> {
-    ghost rows = { λ s. s.0 };
+    ghost rows = { λ s. s.rows };
 
     ghost room = { λ _. 0 };
 
     fn make(alloc: Global) -> Self
-        ensures rows { result.0 ≡ [] }
-        ensures visits { result.1 ≡ 0 }
+        ensures rows { result.rows ≡ [] }
+        ensures visits { result.visits ≡ 0 }
     {
         RecordList {
             links: Links::new(),
@@ -64,14 +63,15 @@ impl<T: Drop> RowStore<T> for RecordList<T> {
     }
 
     fn push(&mut self, number: u32, item: T, mask: u32) -> Result<(), AllocFailed<T>>
-        requires { All (λ row. row.number < number) self.old.0 }
-        ensures ok { OnOk result (self.new.0 ≡ self.old.0 ++ record { number = number; item = item; mask = mask } ∷ []) }
-        ensures err { OnErr result (self.new.0 ≡ self.old.0) }
+        requires { All (λ row. row.number < number) self.old.rows }
+        ensures ok { OnOk result (self.new.rows
+            ≡ self.old.rows ++ record { number = number; item = item; mask = mask } ∷ []) }
+        ensures err { OnErr result (self.new.rows ≡ self.old.rows) }
         ensures missing { OnErr result (◌≡◌ {A = ℕ} 0 0) }
         ensures item_returned { IfErr result (λ failed. failed.value ≡ item) }
-        ensures visits { self.new.1 ≤ self.old.1 + 32 }
-        ensures rises { self.old.1 ≤ self.new.1 }
-        ensures unread { OnErr result (self.new.1 ≡ self.old.1) }
+        ensures visits { self.new.visits ≤ self.old.visits + 32 }
+        ensures rises { self.old.visits ≤ self.new.visits }
+        ensures unread { OnErr result (self.new.visits ≡ self.old.visits) }
     {
         let Ok(links) = self.links.last_links(self.alloc, mask) else {
             return Err(AllocFailed { value: item });
@@ -99,10 +99,10 @@ impl<T: Drop> RowStore<T> for RecordList<T> {
     }
 
     fn front(&mut self, d: u32) -> Option<u32>
-        ensures first { result ≡ front_of d self.old.0 }
-        ensures unchanged { self.new.0 ≡ self.old.0 }
-        ensures visits { self.new.1
-            ≡ (if is_some result then min (self.old.1 + 1) (2 ^ 64 - 1) else self.old.1) }
+        ensures first { result ≡ front_of d self.old.rows }
+        ensures unchanged { self.new.rows ≡ self.old.rows }
+        ensures visits { self.new.visits
+            ≡ (if is_some result then min (self.old.visits + 1) (2 ^ 64 - 1) else self.old.visits) }
     {
         let links = &mut self.links;
         if d >= QUEUES {
@@ -127,10 +127,10 @@ impl<T: Drop> RowStore<T> for RecordList<T> {
     }
 
     fn unlink(&mut self, number: u32, d: u32) -> bool
-        ensures stood { result ≡ is_linked number d self.old.0 }
-        ensures unlinked { self.new.0 ≡ unlinked number d self.old.0 }
-        ensures visits { self.new.1 ≤ self.old.1 + 3 }
-        ensures rises { self.old.1 ≤ self.new.1 }
+        ensures stood { result ≡ is_linked number d self.old.rows }
+        ensures unlinked { self.new.rows ≡ unlinked number d self.old.rows }
+        ensures visits { self.new.visits ≤ self.old.visits + 3 }
+        ensures rises { self.old.visits ≤ self.new.visits }
     {
         let Some(at) = self.directory.look_up(number) else {
             return false;
@@ -142,10 +142,10 @@ impl<T: Drop> RowStore<T> for RecordList<T> {
     }
 
     fn remove(&mut self, number: u32) -> Option<T>
-        ensures item { result ≡ item_at number self.old.0 }
-        ensures removed { self.new.0 ≡ removed number self.old.0 }
-        ensures visits { self.new.1 ≤ self.old.1 + 65 }
-        ensures rises { self.old.1 ≤ self.new.1 }
+        ensures item { result ≡ item_at number self.old.rows }
+        ensures removed { self.new.rows ≡ removed number self.old.rows }
+        ensures visits { self.new.visits ≤ self.old.visits + 65 }
+        ensures rises { self.old.visits ≤ self.new.visits }
     {
         let at = self.directory.find(number)?;
         let node = self.links.take_out(at, self.alloc);

@@ -69,8 +69,8 @@ fn push_through<'a>(
     number: u32,
     drops: &'a AtomicU64,
 )
-    requires { All (λ row. row.number < number) rows.old.0 }
-    ensures { All (λ row. row.number < number + 1) rows.new.0 }
+    requires { All (λ row. row.number < number) rows.old.rows }
+    ensures { All (λ row. row.number < number + 1) rows.new.rows }
 {
     let mask = MASKS[number as usize % 8];
     if let Err(refused) = rows.push(number, Item { number, drops }, mask) {

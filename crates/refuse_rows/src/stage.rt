@@ -23,14 +23,14 @@ pub struct Stage {
     alloc: Global,
     rows: RecordList<u64>,
     next: u32,
-    ghost below: { All (λ row. row.number < next) rows.0 },
+    ghost below: { All (λ row. row.number < next) rows.rows },
 }
 
 /// Adds a row whose number is above those of all others.
 fn push_row(rows: &mut RecordList<u64>, number: u32) -> Result<(), AllocError>
-    requires { All (λ row. row.number < number) rows.old.0 }
-    ensures ok { OnOk result (All (λ row. row.number < number + 1) rows.new.0) }
-    ensures err { OnErr result (rows.new.0 ≡ rows.old.0) }
+    requires { All (λ row. row.number < number) rows.old.rows }
+    ensures ok { OnOk result (All (λ row. row.number < number + 1) rows.new.rows) }
+    ensures err { OnErr result (rows.new.rows ≡ rows.old.rows) }
 {
     let mask = MASKS[number as usize % 8];
     Ok(rows.push(number, u64::from(number), mask)?)

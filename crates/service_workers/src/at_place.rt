@@ -1,5 +1,7 @@
 //! A desk of a shared book that prunes itself, at which the messages of a channel are booked.
 
+ghost use Rattle.std.specs.Prelude.{◌≡◌};
+
 use crate::pauses::paused_by;
 use crate::site::{Crew, Site};
 use book_core::{NotBooked, Receipt};
@@ -42,31 +44,12 @@ fn pause_early<A: Sharing, H: Crew>(site: &Site<'_, A, H>) {
     }
 }
 
-impl<'a, 'x, A: Sharing, H: Crew> Booking for AtPlace<'a, 'x, A, H> {
-    ghost use Rattle.std.specs.Prelude.{refl, ⊤};
-    ghost use Rattle.conn_worker.specs.inner.Arriving.{BooksAtDesk, desk_after, desk_nothing};
-
-    /// The arrivals of these receipts were booked at the desk, in this order, and nothing else was. It is the same desk.
-    ghost books = { λ old new receipts.
-        BooksAtDesk A.opening old.desk.now new.desk.now receipts
-        old.desk.ghost_name new.desk.ghost_name };
-
-    ghost channels = { λ _. A.channels };
-
-    ghost judges = { λ _ _. ⊤ };
-
-    ghost outcomes = { λ _ _ _. ⊤ };
-
-    fn plan(&self) -> Result<Arc<Plan>, AllocError> {
-        self.site.shared.plan(self.site.rt)
-    }
-
-    fn arrive(&mut self, conn: u32, judged: &Judged) -> Result<Receipt, NotBooked> {
-        self.site.note_received(judged.channel());
-        let Tidied { receipt, tidying } = self
-            .site
-            .shared
-            .arrive_tidy(self.site.rt, self.desk, conn, judged, self.site.keep);
+impl<'a, 'x, A: Sharing, H: Crew> AtPlace<'a, 'x, A, H> {
+    /// Logs what became of an arrival, counts one that was not booked, and looks from time to time how full the book is.
+    fn note_arrival(&self, conn: u32, judged: &Judged, tidied: Tidied) -> Result<Receipt, NotBooked>
+        ensures { result ≡ tidied.receipt }
+    {
+        let Tidied { receipt, tidying } = tidied;
         log_tidying(self.site.rt, tidying);
         log_arrival(self.site.rt, self.site.alloc, conn, judged, &receipt);
         match &receipt {
@@ -78,6 +61,49 @@ impl<'a, 'x, A: Sharing, H: Crew> Booking for AtPlace<'a, 'x, A, H> {
             Err(cause) => self.site.count_unbooked(*cause),
         }
         receipt
+    }
+}
+
+impl<'a, 'x, A: Sharing, H: Crew> Booking for AtPlace<'a, 'x, A, H> {
+    ghost use Rattle.std.specs.Prelude.{refl, ⊤};
+    ghost use Rattle.book_lock.specs.inner.Planning.{WasInForce};
+    ghost use Rattle.conn_worker.specs.inner.Arriving.{BooksAtDesk, desk_after, desk_nothing};
+
+    /// The arrivals of these receipts were booked at the desk, in this order, and nothing else was. It is the same desk.
+    ghost books = { λ old new receipts.
+        BooksAtDesk A.opening old.desk.now new.desk.now receipts
+        old.desk.ghost_name new.desk.ghost_name };
+
+    ghost channels = { λ _. A.channels };
+
+    ghost judges = { λ _ _. ⊤ };
+
+    /// The plan was in force at a moment that the seat has seen, when as many plans had been deployed as the desk remembers.
+    ghost judged_by = { λ x plan.
+        WasInForce A.opening x.desk.now.seat.seen x.desk.now.deployed plan };
+
+    ghost outcomes = { λ _ _ _. ⊤ };
+
+    fn plan(&mut self) -> Result<Arc<Plan>, AllocError> {
+        self.site.shared.plan_at(self.site.rt, self.desk)
+    }
+
+    fn arrive(&mut self, conn: u32, judged: &Judged) -> Result<Receipt, NotBooked> {
+        self.site.note_received(judged.channel());
+        let tidied = self
+            .site
+            .shared
+            .arrive_tidy(self.site.rt, self.desk, conn, judged, self.site.keep);
+        self.note_arrival(conn, judged, tidied)
+    }
+
+    fn arrive_judged(&mut self, conn: u32, judged: &Judged) -> Result<Receipt, NotBooked> {
+        self.site.note_received(judged.channel());
+        let tidied = self
+            .site
+            .shared
+            .arrive_tidy_judged(self.site.rt, self.desk, conn, judged, self.site.keep);
+        self.note_arrival(conn, judged, tidied)
     }
 
     fn pass_over(&mut self, conn: u32, judged: &Judged) {
@@ -97,4 +123,6 @@ impl<'a, 'x, A: Sharing, H: Crew> Booking for AtPlace<'a, 'x, A, H> {
         x.desk.ghost_name y.desk.ghost_name z.desk.ghost_name };
 
     ghost same_channels = { λ _ _ _ _. refl };
+
+    ghost same_outcomes = { λ _ _ _ _ _ may. may };
 }

@@ -46,8 +46,8 @@ pub record AddsRow (number channel : ℕ) (raw control_id : List ℕ) (deliverie
 
 -- what is added by an arrival with this answer, of a message with this control id and this verdict
 abbrev pub IsAddition : Told → List ℕ → Verdict → Addition → Type 0
-IsAddition (told.Accepted number) control_id v (gain.Message own_number own_id deliveries) =
-    (own_number ≡ number) × (own_id.now ≡ control_id) × (deliveries.now ≡ deliveries_of v)
+IsAddition (told.Accepted number) control_id v (gain.Message own_number header deliveries) =
+    (own_number ≡ number) × (header.now.control_id ≡ control_id) × (deliveries.now ≡ deliveries_of v)
 IsAddition told.Filtered control_id v gain.Key = Unit {0}
 IsAddition (told.Refused cause) control_id v gain.Nothing = Unit {0}
 IsAddition (told.Repeat place) control_id v gain.Nothing = Unit {0}
@@ -55,25 +55,25 @@ IsAddition told control_id v gain = ⊥
 
 -- where a message goes that is added
 abbrev pub goes_to : Addition → List Delivery
-goes_to (gain.Message number control_id deliveries) = deliveries.now
+goes_to (gain.Message number header deliveries) = deliveries.now
 goes_to gain.Key = []
 goes_to gain.Nothing = []
 
 -- whether a key is added
 abbrev pub has_key : Addition → Bool
-has_key (gain.Message number control_id deliveries) = true
+has_key (gain.Message number header deliveries) = true
 has_key gain.Key = true
 has_key gain.Nothing = false
 
 -- the rows gained that of an arrival on a channel with these bytes
 abbrev pub AddsGain : ℕ → List ℕ → Addition → List (Row (Queued Outbound)) → List (Row (Queued Outbound)) → Type 0
-AddsGain channel raw (gain.Message number control_id deliveries) old new = AddsRow number channel raw control_id.now deliveries.now old new
+AddsGain channel raw (gain.Message number header deliveries) old new = AddsRow number channel raw header.now.control_id deliveries.now old new
 AddsGain channel raw gain.Key old new = new ≡ old
 AddsGain channel raw gain.Nothing old new = new ≡ old
 
 -- the rows have room for the number that is added
 abbrev pub HasRoomFor : Addition → List (Row (Queued Outbound)) → Type 0
-HasRoomFor (gain.Message number control_id deliveries) rows = All (λ row. row.number < number) rows
+HasRoomFor (gain.Message number header deliveries) rows = All (λ row. row.number < number) rows
 HasRoomFor gain.Key rows = Unit {0}
 HasRoomFor gain.Nothing rows = Unit {0}
 

@@ -23,9 +23,12 @@ seat_code =
     code_by (ℕ × Log) (coded× coded_ℕ (coded_list (coded× coded_ℕ log_entry.the_row.coded)))
     (λ s. (s.number, s.seen)) (λ p. record { number = p.0; seen = p.1 }) (λ _. refl)
 
--- a desk as its arrivals and its seat
+-- a desk as its arrivals, the number of deployments that it remembers, and its seat
 abbrev pub desk_code : Coded DeskView
-desk_code = code_by (ℕ × SeatView) (coded× coded_ℕ seat_code) (λ d. (d.made, d.seat)) (λ p. record { made = p.0; seat = p.1 }) (λ _. refl)
+desk_code =
+    code_by (ℕ × (ℕ × SeatView)) (coded× coded_ℕ (coded× coded_ℕ seat_code))
+    (λ d. (d.made, (d.deployed, d.seat)))
+    (λ p. record { made = p.0; deployed = p.1.0; seat = p.1.1 }) (λ _. refl)
 
 -- a station as its takes, its settlements and its seat
 abbrev pub station_code : Coded StationView

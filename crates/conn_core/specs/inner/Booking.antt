@@ -1,15 +1,17 @@
 -- What proofs use beside the page Booking.
 use Rattle.std.specs.Prelude.{◌≡◌, ℕ, ◌+◌, zero, suc, List, [], ◌∷◌, ◌++◌, length, map, Result, Ok, Err, refl}
 use Rattle.std.specs.List.{filter_map, range_with_len}
-use Rattle.std.proofs.Common.{sym, ap, ◌∙◌, append_assoc, append-nil, length-append, arith}
+use Rattle.std.proofs.Common.{sym, ap, ◌∙◌, subst, append_assoc, append-nil, length-append, arith}
 use Rattle.std.proofs.lemmas.List.{map-append}
 use Rattle.book_core.specs.declared.receipt.NotBooked.{NotBooked}
 use Rattle.book_core.specs.declared.receipt.Receipt.{Receipt}
 use Rattle.event_log.specs.History.{History, deployed_by, next_place, plan_in_force}
 use Rattle.event_log.specs.declared.entry.Entry.{Entry}
+use Rattle.event_log.specs.declared.entry.Told.{Told}
 use Rattle.event_log.proofs.Following.{plan-kept_all}
+use Rattle.judge_core.specs.Judging.{Judgement}
 use Rattle.plan_text.specs.Entries.{PlanEntry}
-use Rattle.conn_core.specs.Booking.{arrival_by, Books}
+use Rattle.conn_core.specs.Booking.{arrival_by, Books, OutcomeAtBook}
 
 -- the receipt that an outcome brings, if it brings one
 abbrev pub receipts_of : Result Receipt NotBooked → List Receipt
@@ -65,3 +67,9 @@ pub books_same_channels : (old new : History) (rs : List Receipt) → Books old 
 books_same_channels old new rs more =
     ap (λ (h : History). length (plan_in_force h).channels) more.history
     ∙ ap (λ (p : PlanEntry). length p.channels) (plan-kept_all old.opening.plan old.entries (map arrival_by rs) (books_deploy_none rs))
+
+-- where nothing was booked the same may become of a message
+pub books_same_outcomes : (old new : History) (judged : Judgement) (outcome : Result Told NotBooked) → Books old new [] → OutcomeAtBook new judged outcome → OutcomeAtBook old judged outcome
+books_same_outcomes old new judged outcome none at =
+    let same : new ≡ old = none.history ∙ ap (with_entries old) (append-nil old.entries) in
+    subst (λ (h : History). OutcomeAtBook h judged outcome) same at

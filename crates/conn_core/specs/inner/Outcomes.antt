@@ -1,6 +1,5 @@
 -- What becomes of a block.
-use Rattle.std.specs.Prelude.{◌≡◌, ℕ, ◌+◌, ◌<◌, Bool, true, List, [], ◌++◌, Some, Result, IsTrue, ⊤, length, take}
-use Rattle.std.specs.Result.{IfOk}
+use Rattle.std.specs.Prelude.{◌≡◌, ℕ, ◌+◌, ◌<◌, Bool, true, List, [], ◌∷◌, ◌++◌, Some, Result, Ok, Err, IfOk, IfErr, OnErr, IsTrue, IsFalse, ⊤, length, take}
 use Rattle.book_core.specs.declared.receipt.NotBooked.{NotBooked}
 use Rattle.book_core.specs.declared.receipt.Receipt.{Receipt}
 use Rattle.event_log.specs.declared.entry.Told.{Told}
@@ -8,12 +7,12 @@ use Rattle.hl7_head.specs.Header.{Msh, header_of}
 use Rattle.judge_core.specs.Judging.{Judgement, is_bookable, is_unreadable, is_stray}
 use Rattle.mllp_frame.specs.Framing.{IsData}
 use Rattle.conn_core.specs.declared.block_outcome.BlockOutcome.{BlockOutcome}
+use Rattle.conn_core.specs.declared.block_outcome.Booked.{Booked}
 use Rattle.conn_core.specs.declared.block_outcome.BlockOutcome.TheVariants.{Unreadable, Stray, Message}
 use Rattle.conn_core.specs.inner.Booking.{receipts_of}
 use Rattle.plan_text.specs.Entries.{PlanEntry}
-use Rattle.conn_core.specs.declared.replies.Replies.{Replies}
 use Rattle.conn_core.specs.Replies.{Due, dues_of, numbered}
-use Rattle.conn_core.specs.inner.Replies.{answer_to, told_by}
+use Rattle.conn_core.specs.inner.Replies.{RepliesView, answer_to, told_by}
 
 -- This is the header of a message that was received in a block, so that its acknowledgments can be framed.
 pub record CameInBlock (h : Msh) : Type 0 where
@@ -22,11 +21,32 @@ pub record CameInBlock (h : Msh) : Type 0 where
   pub plain : IsData raw
 
 -- Memory was refused for an acknowledgment: those before it were appended, each a whole block with its number, and no more.
-pub record AppendsInPart (conn : ℕ) (dues : List Due) (old new : Replies) : Type 0 where
+pub record AppendsInPart (conn : ℕ) (dues : List Due) (old new : RepliesView) : Type 0 where
   pub count : ℕ
   pub fewer : count < length dues
   pub made : new.made ≡ old.made + count
-  pub bytes : new.bytes.items ≡ old.bytes.items ++ numbered conn (old.made + 1) (take count dues)
+  pub bytes : new.bytes ≡ old.bytes ++ numbered conn (old.made + 1) (take count dues)
+
+-- The acknowledgments that are due were appended, each a whole block with its number: all where `whole` says so, or else
+-- those before the one that memory was refused for.
+pub record AppendsReplies (conn : ℕ) (dues : List Due) (whole : Bool) (old new : RepliesView) : Type 0 where
+  pub bytes : IsTrue whole → new.bytes ≡ old.bytes ++ numbered conn (old.made + 1) dues
+  pub made : IsTrue whole → new.made ≡ old.made + length dues
+  pub in_part : IsFalse whole → AppendsInPart conn dues old new
+
+-- A message was answered. It was booked, and its receipt has the connection, the channel and the bytes; or nothing was
+-- booked. The answer is one that it may get. The replies that it is due were appended.
+pub record BooksAndReplies {B : Type 0} (books : B → B → List Receipt → Type 0)
+    (outcomes : B → Judgement → Result Told NotBooked → Type 0) (conn : ℕ) (judged : Judgement) (moment : ℕ)
+    (old new : B) (old_replies new_replies : RepliesView) (o : Booked) : Type 0 where
+  pub receipt : IfOk o.outcome (λ r.
+      (r.conn ≡ conn) × (r.channel ≡ judged.channel) × (r.raw ≡ judged.raw))
+  pub booked : IfOk o.outcome (λ r. books old new (r ∷ []))
+  pub unbooked : OnErr o.outcome (books old new [])
+  pub told : IfOk o.outcome (λ r. outcomes old judged (Ok r.told))
+  pub refused : IfErr o.outcome (λ refusal. outcomes old judged (Err refusal))
+  pub replies : AppendsReplies conn (dues_of (answer_to judged.raw o.outcome moment)) o.whole
+      old_replies new_replies
 
 -- The outcome says what the block is. The receipt of a booked message has the connection, the channel and the bytes.
 abbrev pub IsOutcome : ℕ → ℕ → List ℕ → BlockOutcome → Type 0
@@ -48,6 +68,11 @@ pub record IsJudgedSo (judges : PlanEntry → Type 0) (outcomes : Judgement → 
 abbrev pub MayBecome : (PlanEntry → Type 0) → (Judgement → Result Told NotBooked → Type 0) → ℕ → List ℕ → BlockOutcome → Type 0
 MayBecome judges outcomes channel raw (Message booked) = IsJudgedSo judges outcomes channel raw (told_by booked.outcome)
 MayBecome judges outcomes channel raw _ = ⊤
+
+-- Of a message that was judged so, the outcome is one that it may have; another block has none.
+abbrev pub MayHave : (Result Told NotBooked → Type 0) → BlockOutcome → Type 0
+MayHave may (Message booked) = may (told_by booked.outcome)
+MayHave may _ = ⊤
 
 -- whether all replies to the block were made
 abbrev pub is_whole : BlockOutcome → Bool

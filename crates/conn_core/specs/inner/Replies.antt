@@ -10,6 +10,11 @@ abbrev pub told_by : Result Receipt NotBooked → Result Told NotBooked
 told_by (Ok r) = Ok r.told
 told_by (Err refusal) = Err refusal
 
+-- the acknowledgments of a connection: how many were made, and the blocks of those that are not written yet
+pub record RepliesView : Type 0 where
+  pub made : ℕ
+  pub bytes : List ℕ
+
 -- the answer to a message with this outcome
 abbrev pub answer_to : List ℕ → Result Receipt NotBooked → ℕ → Answer
 answer_to raw outcome moment = record { raw = raw; outcome = told_by outcome; moment = moment }

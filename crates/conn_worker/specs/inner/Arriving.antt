@@ -5,7 +5,6 @@ use mathlib.Core.List.{IsPrefix}
 use Rattle.judge_core.specs.Judging.{Judgement}
 use Rattle.event_log.specs.History.{History, next_place}
 use Rattle.event_log.specs.Event.{Event, Refusal, Reply, arrive, entry_of}
-use Rattle.event_log.specs.declared.entry.Entry.{Entry}
 use Rattle.event_log.specs.declared.entry.Entry.TheVariants as entry
 use Rattle.book_core.specs.Receiving.{IsReceipt}
 use Rattle.book_core.specs.Refusing.{arrive_refusal}
@@ -15,10 +14,9 @@ use Rattle.ghost_log.specs.Seats.{entries_of}
 use Rattle.ghost_log.proofs.Seats.{entries-append, entries_more}
 use Rattle.book_lock.specs.declared.log_entry.LogEntry.{LogEntry}
 use Rattle.book_lock.specs.declared.log_entry.LogEntry.TheVariants as log_entry
-use Rattle.book_lock.specs.Log.{Arrives, Calls, IsLegalLog, Log, SeatView, book_at, own_entry}
+use Rattle.book_lock.specs.Log.{Arrives, Calls, Log, Looks, SeatView, book_at, own_entry}
 use Rattle.book_lock.specs.Shares.{DeskView}
-use Rattle.conn_core.specs.Booking.{arrival_by}
-use Rattle.conn_worker.specs.Arriving.{ArrivesInTurn, BooksInLog, arrival_entry, no_arrival, booked_first, refused_first}
+use Rattle.conn_worker.specs.Arriving.{ArrivesInTurn, BooksInLog, arrival_entry, no_arrival, booked_first, refused_first, looked_first}
 
 in_turn_after : (h : History) (x y z : SeatView) (rs ss : List Receipt) → ArrivesInTurn h x y rs → ArrivesInTurn h y z ss → ArrivesInTurn h x z (rs ++ ss)
 in_turn_after h x y z rs ss (no_arrival seat) k = k
@@ -26,6 +24,8 @@ in_turn_after h x y z rs ss (booked_first old between new conn judged receipt re
     booked_first old between z conn judged receipt (receipts ++ ss) call (in_turn_after h between y z receipts ss more k)
 in_turn_after h x y z rs ss (refused_first old between new conn judged refusal receipts call more) k =
     refused_first old between z conn judged refusal (receipts ++ ss) call (in_turn_after h between y z receipts ss more k)
+in_turn_after h x y z rs ss (looked_first old between new receipts look more) k =
+    looked_first old between z (receipts ++ ss) look (in_turn_after h between y z receipts ss more k)
 
 prefix_after : (xs ys zs : Log) → IsPrefix xs ys → IsPrefix ys zs → IsPrefix xs zs
 prefix_after xs ys zs p q = (p.0 ++ q.0, sym (append_assoc xs p.0 q.0) ∙ ap (λ (w : Log). w ++ q.0) p.1 ∙ q.1)
@@ -104,6 +104,19 @@ one_refused h conn judged old new refusal arrives =
       in_turn = refused_first old new new conn judged refusal [] arrives (no_arrival new);
     }
 
+-- the seat looked at the book
+looked : (h : History) (old new : SeatView) → Looks h old new → BooksInLog h old new []
+looked h old new look = record {
+  number = look.number;
+  own =
+      ap (entries_of old.number) look.seen
+      ∙ entries-append old.number old.seen look.others
+      ∙ ap (λ w. entries_of old.number old.seen ++ w) look.none_own;
+  seen = (look.others, sym look.seen);
+  legal = λ _. look.legal;
+  in_turn = looked_first old new new [] look (no_arrival new);
+}
+
 -- What was booked at a desk since an earlier view of it, and counted there. The name is of the very desk.
 pub record BooksAtDesk (opening : History) (old new : DeskView) (receipts : List Receipt) (name name' : ℕ) : Type 0 where
   pub log : BooksInLog opening old.seat new.seat receipts
@@ -131,3 +144,6 @@ pub desk_refused : (h : History) (conn : ℕ) (judged : Judgement) (old new : De
     → OnErr result (BooksAtDesk h old new [] name name')
 desk_refused h conn judged old new name name' (Ok receipt) arrives made same = tt
 desk_refused h conn judged old new name name' (Err refusal) arrives made same = record { log = one_refused h conn judged old.seat new.seat refusal arrives; made = made ∙ omega arith; same = same }
+
+pub desk_looked : (h : History) (old new : DeskView) (name name' : ℕ) → Looks h old.seat new.seat → new.made ≡ old.made → name' ≡ name → BooksAtDesk h old new [] name name'
+desk_looked h old new name name' looks made same = record { log = looked h old.seat new.seat looks; made = made ∙ omega arith; same = same }

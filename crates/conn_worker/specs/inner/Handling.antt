@@ -17,7 +17,7 @@ pub record Stands {B K : Type 0} (books : B → List Receipt → Type 0) (has : 
   pub kept : has d.report.receipts receipts
   pub answers : List Answer
   pub tells : ReportsServing conn channel events answers receipts d.report
-  pub replies : replies conn answers ≡ text ++ d.replies.bytes.items
+  pub replies : replies conn answers ≡ text ++ d.replies.bytes
   pub made : d.replies.made ≡ length (dues answers)
 
 -- Each counter is within the number of events, and each event brings two acknowledgments at most.
@@ -48,7 +48,7 @@ pub record StandsAmid {B K : Type 0} (books : B → List Receipt → Type 0) (ha
   pub answers : List Answer
   pub tells : ReportsServing conn channel (before ++ handled) answers receipts d.report
   pub missing : List ℕ
-  pub replies : replies conn answers ≡ text ++ (d.replies.bytes.items ++ missing)
+  pub replies : replies conn answers ≡ text ++ (d.replies.bytes ++ missing)
 
 -- From one dialogue to another, and from one book to another, the first of these events were handled.
 abbrev pub HandlesFront : {B K : Type 0} → (B → B → List Receipt → Type 0) → (K → List Receipt → Type 0) → ℕ → ℕ → List FramingEvent

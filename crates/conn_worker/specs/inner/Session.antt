@@ -25,7 +25,7 @@ pub record IsNew {K : Type 0} (has : K → List Receipt → Type 0) (d : Progres
   pub stray_ones : d.report.strays ≡ 0
   pub broken_ones : d.report.breaks ≡ 0
   pub made : d.replies.made ≡ 0
-  pub bytes : d.replies.bytes.items ≡ []
+  pub bytes : d.replies.bytes ≡ []
 
 -- Nothing was read yet.
 pub record IsFresh {K : Type 0} (has : K → List Receipt → Type 0) (s : Session K) : Type 0 where
@@ -42,4 +42,4 @@ pub record SoFar {B K : Type 0} (books : B → List Receipt → Type 0) (has : K
   pub written : List ℕ
   pub wrote : Appends held holds written
   pub stands : Stands books has conn channel (blocks read) written book s.dialogue
-  pub all_written : s.dialogue.replies.bytes.items ≡ []
+  pub all_written : s.dialogue.replies.bytes ≡ []

@@ -35,7 +35,7 @@ said channel stream ended w = record {
   channel = channel;
   stream = stream;
   answers = map answer_of w.answers.items;
-  output = w.replies.bytes.items;
+  output = w.replies.bytes;
   ended = ended;
 }
 

@@ -7,5 +7,5 @@ use Rattle.book_core.proofs.arrival.gain_of.Goals as goal
 
 pub returns-in-Accepted-Accept-Some : goal.returns-in-Accepted-Accept-Some
 returns-in-Accepted-Accept-Some c =
-    let id : c.in-Accepted-Accept-Some.control_id.now ≡ control_id_of c.args.judged.now.raw = id_known (header_of c.args.judged.now.raw) _ (sym (ap option_copied c.in-Accepted-Accept-Some.is-2) ∙ c.control_id.ensures) in
+    let id : c.in-Accepted-Accept-Some.header.now.control_id ≡ control_id_of c.args.judged.now.raw = id_known (header_of c.args.judged.now.raw) _ (sym (ap option_copied c.in-Accepted-Accept-Some.is-2) ∙ c.header.ensures) in
     search (rules, id)

@@ -21,30 +21,30 @@ returns-clause-ok g c =
     handles-message c.args.line.now.conn c.args.judged.now.channel c.args.now c.args.judged.now.raw (told_by outcome) c.args.book.now c.book_and_reply-booked.new.book c.args.words.now
     (record { answers = c.push_reserved.new.self; replies = c.book_and_reply-booked.new.replies }) c.requires.bookable
     (is_booked c.args.line.now.conn c.args.now c.args.judged.now c.args.book.now c.book_and_reply-booked.new.book c.args.words.now.answers.items c.push_reserved.new.self.items c.requires.same_plan
-    (subst IsBlockData c.raw.ensures.value c.raw.ensures.fits) outcome c.book_and_reply-booked.ensures.receipt c.book_and_reply-booked.ensures.booked c.book_and_reply-booked.ensures.unbooked
-    c.book_and_reply-booked.ensures.told c.book_and_reply-booked.ensures.refused
+    (subst IsBlockData c.raw.ensures.value c.raw.ensures.fits) outcome c.book_and_reply-booked.ensures.does.receipt c.book_and_reply-booked.ensures.does.booked c.book_and_reply-booked.ensures.does.unbooked
+    c.book_and_reply-booked.ensures.does.told c.book_and_reply-booked.ensures.does.refused
     (kept-on c.args.words.now.answers.items c.reserve.new.self.items c.push_reserved.new.self.items (record { raw = c.in_ok-raw.raw; outcome = c.told_by.result; moment = c.args.now }) c.args.judged.now.raw (told_by outcome) c.args.now
     c.reserve.ensures.items c.push_reserved.ensures.items (c.in_ok-raw.ensures ∙ c.raw.ensures.value) c.told_by.ensures refl))
-    c.requires.counted (c.book_and_reply-booked.ensures.replies whole)
+    c.requires.counted (c.book_and_reply-booked.ensures.does.replies.bytes whole)
 
 pub returns-then-not-booked-clause-err : goal.returns-then-not-booked-clause-err
 returns-then-not-booked-clause-err g c =
     let outcome = c.book_and_reply-booked.result.outcome in
     let part : c.book_and_reply-booked.result.whole ≡ false = c.if-not-booked.true in
-    let some = c.book_and_reply-booked.ensures.in_part part in
+    let some = c.book_and_reply-booked.ensures.does.replies.in_part part in
     handles-cut c.args.line.now.conn c.args.judged.now.channel c.args.now c.args.judged.now.raw (told_by outcome) c.args.book.now c.book_and_reply-booked.new.book c.args.words.now
     (record { answers = c.push_reserved.new.self; replies = c.book_and_reply-booked.new.replies }) c.requires.bookable
     (is_booked c.args.line.now.conn c.args.now c.args.judged.now c.args.book.now c.book_and_reply-booked.new.book c.args.words.now.answers.items c.push_reserved.new.self.items c.requires.same_plan
-    (subst IsBlockData c.raw.ensures.value c.raw.ensures.fits) outcome c.book_and_reply-booked.ensures.receipt c.book_and_reply-booked.ensures.booked c.book_and_reply-booked.ensures.unbooked
-    c.book_and_reply-booked.ensures.told c.book_and_reply-booked.ensures.refused
+    (subst IsBlockData c.raw.ensures.value c.raw.ensures.fits) outcome c.book_and_reply-booked.ensures.does.receipt c.book_and_reply-booked.ensures.does.booked c.book_and_reply-booked.ensures.does.unbooked
+    c.book_and_reply-booked.ensures.does.told c.book_and_reply-booked.ensures.does.refused
     (kept-on c.args.words.now.answers.items c.reserve.new.self.items c.push_reserved.new.self.items (record { raw = c.in_ok-raw.raw; outcome = c.told_by.result; moment = c.args.now }) c.args.judged.now.raw (told_by outcome) c.args.now
     c.reserve.ensures.items c.push_reserved.ensures.items (c.in_ok-raw.ensures ∙ c.raw.ensures.value) c.told_by.ensures refl))
     c.requires.counted some.count some.bytes
 
 pub returns-then-not-booked-clause-plan : goal.returns-then-not-booked-clause-plan
 returns-then-not-booked-clause-plan g c =
-    plan-kept c.args.book.now c.book_and_reply-booked.new.book c.book_and_reply-booked.result.outcome c.book_and_reply-booked.ensures.booked c.book_and_reply-booked.ensures.unbooked
+    plan-kept c.args.book.now c.book_and_reply-booked.new.book c.book_and_reply-booked.result.outcome c.book_and_reply-booked.ensures.does.booked c.book_and_reply-booked.ensures.does.unbooked
 
 pub returns-clause-plan : goal.returns-clause-plan
 returns-clause-plan g c =
-    plan-kept c.args.book.now c.book_and_reply-booked.new.book c.book_and_reply-booked.result.outcome c.book_and_reply-booked.ensures.booked c.book_and_reply-booked.ensures.unbooked
+    plan-kept c.args.book.now c.book_and_reply-booked.new.book c.book_and_reply-booked.result.outcome c.book_and_reply-booked.ensures.does.booked c.book_and_reply-booked.ensures.does.unbooked

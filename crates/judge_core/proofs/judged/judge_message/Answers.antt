@@ -1,7 +1,7 @@
 use Rattle.std.proofs.Common.{◌≡◌, ◌<◌, ◌≤◌, ◌∙◌, Some, length, sym, ap, arith, rules}
-use Rattle.std.specs.Prelude.{slice_get, option_copied, option_map}
+use Rattle.std.specs.Prelude.{slice_get, option_copied}
 use Rattle.std.specs.Arc.{arc_value}
-use Rattle.hl7_head.specs.Header.{Msh, header}
+use Rattle.hl7_head.specs.Header.{header}
 use Rattle.judge_core.specs.Judging.{verdict_of}
 use Rattle.plan_text.specs.Entries.{IsPlan}
 use Rattle.judge_core.proofs.Judgements.{says}
@@ -49,8 +49,6 @@ invariant_of-result c =
       known = c.requires.known;
       fits = c.requires.fits;
       header_is = ap Some c.in_ok-header.ensures ∙ message.header_is;
-      control_id_is = ap Some (c.in_ok-control_id.ensures ∙ ap (λ (h : Msh). h.control_id) c.in_ok-header.ensures)
-          ∙ ap (option_map (λ (h : Msh). h.control_id)) message.header_is;
       key_is = rw c.in_ok-header.ensures at c.in_ok-key.ensures ∙ message.key_is;
       verdict_is = c.in_ok-verdict.ensures
           ∙ (ap (λ h. verdict_of (Some c.unwrap-rules.result.now) h c.args.message.now) c.in_ok-header.ensures

@@ -1,7 +1,5 @@
-use Rattle.std.proofs.Common.{◌∙◌, sym, ap}
-use Rattle.std.specs.Prelude.{option_map}
+use Rattle.std.proofs.Common.{◌∙◌, sym}
 use Rattle.std.specs.Arc.{arc_value}
-use Rattle.hl7_head.specs.Header.{Msh}
 use Rattle.judge_core.proofs.Judgements.{says-nothing}
 use Rattle.judge_core.proofs.judged.unreadable.Goals as goal
 
@@ -12,7 +10,6 @@ invariant_of-result c =
       known = c.requires.known;
       fits = c.requires.fits;
       header_is = nothing.header_is;
-      control_id_is = ap (option_map (λ (h : Msh). h.control_id)) nothing.header_is;
       key_is = c.new.ensures ∙ nothing.key_is;
       verdict_is = nothing.verdict_is;
     }

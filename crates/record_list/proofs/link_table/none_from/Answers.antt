@@ -1,4 +1,3 @@
-use Rattle.std.proofs.Common.{arith}
 use Rattle.std.proofs.lemmas.Bool.{eqb-true}
 use Rattle.record_list.proofs.LastLinks.{none_above}
 use Rattle.record_list.proofs.link_table.none_from.Goals as goal

@@ -1,5 +1,5 @@
 use Rattle.std.proofs.Common.{◌≡◌, true, false, [], refl, sym, ap, ◌∙◌, arith}
-use Rattle.conn_core.specs.declared.replies.Replies.{Replies}
+use Rattle.conn_core.specs.inner.Replies.{RepliesView}
 use Rattle.conn_core.specs.inner.Outcomes.{is_whole}
 use Rattle.conn_worker.specs.declared.dialogue.Progress.{Progress}
 use Rattle.conn_worker.proofs.Growing.{keeps_none}
@@ -36,8 +36,8 @@ returns-in_err-outcome-clause-err g c =
       unreadable = omega arith;
       strays = omega arith;
       breaks = omega arith;
-      made = ap (λ (r : Replies). r.made) c.in_err-outcome.ensures.unchanged;
-      bytes = ap (λ (r : Replies). r.bytes.items) c.in_err-outcome.ensures.unchanged;
+      made = ap (λ (r : RepliesView). r.made) c.in_err-outcome.ensures.unchanged;
+      bytes = ap (λ (r : RepliesView). r.bytes) c.in_err-outcome.ensures.unchanged;
     })))
 
 pub returns-then-whole-clause-ok : goal.returns-then-whole-clause-ok
@@ -54,7 +54,7 @@ returns-then-whole-clause-ok g c first before text s =
       strays = c.count.ensures.stray_ones;
       breaks = c.count.ensures.broken_ones;
     })
-    (c.in_ok-outcome.ensures.counted whole) (c.in_ok-outcome.ensures.replies whole)
+    (c.in_ok-outcome.ensures.replies.made whole) (c.in_ok-outcome.ensures.replies.bytes whole)
 
 pub returns-else-whole-clause-err : goal.returns-else-whole-clause-err
 returns-else-whole-clause-err g c first before text s =
@@ -70,4 +70,4 @@ returns-else-whole-clause-err g c first before text s =
       strays = c.count.ensures.stray_ones;
       breaks = c.count.ensures.broken_ones;
     })
-    part (c.in_ok-outcome.ensures.in_part part)
+    part (c.in_ok-outcome.ensures.replies.in_part part)

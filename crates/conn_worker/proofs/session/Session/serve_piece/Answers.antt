@@ -2,6 +2,7 @@ use Rattle.std.proofs.Common.{ℕ, List, [], append-nil, refl, sym, ap, subst, t
 use Rattle.std.proofs.lemmas.List.{with_items_is}
 use Rattle.std.specs.Io.KnownBytes.{Appends, Consumes}
 use Rattle.std.proofs.KnownBytes.{Appends-nil}
+use Rattle.conn_core.specs.inner.Replies.{RepliesView}
 use Rattle.mllp_frame.specs.Event.{FramingEvent}
 use Rattle.mllp_frame.specs.inner.Framed.{Framed}
 use Rattle.conn_worker.specs.inner.Handling.{HandlesAll, HandlesFront}
@@ -27,7 +28,7 @@ returns-in-Err-write_out-clause-err g c first to_read held s =
     let w = c.in-Err-write_out.ensures.front in
     ends_amid g.B.Booking.books laws _ _ c.answer_events-answered.new.self _ _ w.written w.unwritten s reads
     (subst (λ (es : List FramingEvent). HandlesFront g.B.Booking.books g.K.ReceiptSink.has c.args.line.now.conn c.args.line.now.channel es c.args.book.now c.answer_events-answered.new.book c.args.self.now.dialogue c.answer_events-answered.new.self) fed front)
-    (sym c.deref-2.ensures.value ∙ w.whole) w.wrote (writing_other _ _ _ c.in-Err-write_out.ensures.stop)
+    (sym c.as_slice.ensures ∙ w.whole) w.wrote (writing_other _ _ _ c.in-Err-write_out.ensures.stop)
 
 pub returns-clause-ok : goal.returns-clause-ok
 returns-clause-ok g c =
@@ -38,10 +39,10 @@ returns-clause-ok g c =
     (λ all left first to_read held s.
     goes_on g.B.Booking.books laws _ _ c.answer_events-answered.new.self _ _ s reads
     (subst (λ (es : List FramingEvent). HandlesAll g.B.Booking.books g.K.ReceiptSink.has c.args.line.now.conn c.args.line.now.channel es c.args.book.now c.answer_events-answered.new.book c.args.self.now.dialogue c.answer_events-answered.new.self) fed all)
-    (subst (λ (l : List ℕ). Appends (g.W.Write.contents c.args.writer.now.inner) (g.W.Write.contents c.write_out.new.writer.inner) l) c.deref-2.ensures.value c.in-Ok-write_out.ensures.ok)
+    (subst (λ (l : List ℕ). Appends (g.W.Write.contents c.args.writer.now.inner) (g.W.Write.contents c.write_out.new.writer.inner) l) c.as_slice.ensures c.in-Ok-write_out.ensures.ok)
     (ap (λ (f : Framed). f.to_come) left)
     (ap (λ (f : Framed). f.open_end) left ∙ ap (λ (f : Framed). f.open_end) c.in-Ok-feed.ensures.ok)
-    refl refl c.clear.ensures.items)
+    refl (ap (λ (r : RepliesView). r.made) c.clear.ensures) (ap (λ (r : RepliesView). r.bytes) c.clear.ensures))
     c.answer_events-answered.ensures.ok c.answer_events-answered.ensures.left
 
 pub returns-clause-err : goal.returns-clause-err
@@ -51,7 +52,7 @@ returns-clause-err g c =
     let fed = fed_events c.args.self.now.framer c.feed.new.self _ c.in-Ok-feed.ensures.ok c.requires.ready.none_left in
     if_err_two c.answer_events-answered.result
     (λ end front stop first to_read held s.
-    ends_amid g.B.Booking.books laws _ _ c.answer_events-answered.new.self end _ c.answer_events-answered.new.self.replies.bytes.items [] s reads
+    ends_amid g.B.Booking.books laws _ _ c.answer_events-answered.new.self end _ c.answer_events-answered.new.self.replies.bytes [] s reads
     (subst (λ (es : List FramingEvent). HandlesFront g.B.Booking.books g.K.ReceiptSink.has c.args.line.now.conn c.args.line.now.channel es c.args.book.now c.answer_events-answered.new.book c.args.self.now.dialogue c.answer_events-answered.new.self) fed front)
-    (sym (append-nil _)) (subst (λ (l : List ℕ). Appends (g.W.Write.contents c.args.writer.now.inner) (g.W.Write.contents c.write_out.new.writer.inner) l) c.deref-2.ensures.value c.in-Ok-write_out.ensures.ok) (handling_other end stop))
+    (sym (append-nil _)) (subst (λ (l : List ℕ). Appends (g.W.Write.contents c.args.writer.now.inner) (g.W.Write.contents c.write_out.new.writer.inner) l) c.as_slice.ensures c.in-Ok-write_out.ensures.ok) (handling_other end stop))
     c.answer_events-answered.ensures.err c.answer_events-answered.ensures.stop

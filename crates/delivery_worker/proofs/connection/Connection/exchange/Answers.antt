@@ -22,7 +22,7 @@ returns-in-Err-Unanswered-receive_answers-clause-err g c =
 
 pub returns-clause-ok : goal.returns-clause-ok
 returns-clause-ok g c =
-    let decides = c.outcome_by.ensures ∙ ap (λ (id : List ℕ). outcome_of id c.deref-2.result.now) c.as_slice-control_id.ensures ∙ ap (outcome_of c.args.job.now.control_id) c.deref-2.ensures.value in
+    let decides = c.decided-decision.ensures ∙ ap (λ (id : List ℕ). outcome_of id c.deref.result.now) c.as_slice-control_id.ensures ∙ ap (outcome_of c.args.job.now.control_id) c.deref.ensures.value in
     elim c.match-receive_answers.branch [
       | in-Ok-receive_answers w ↦ tried_reading _ _ _ _ _ _ _ _ _ _ _ _ _ _ _ _ c.in-Ok.ensures.sent c.as_slice.ensures c.receive_answers.ensures.kept c.send_block.ensures.received
           w.in-Ok-receive_answers.ensures.ok c.clear.ensures.items (ap (λ (s : Connection). s.framer) w.self-is)

@@ -1,6 +1,5 @@
 use Rattle.std.specs.Arc.{arc_value}
 use Rattle.event_log.specs.Event as event
-use Rattle.engine_model.specs.Turn as turn
 use Rattle.engine_model.proofs.Worlds.{world-on}
 use Rattle.engine_model.proofs.world.World.deploy.Goals as goal
 

@@ -8,12 +8,12 @@ use Rattle.record_list.proofs.record_list.RecordListRowStore.front.Goals as goal
 
 pub returns-then-d-ge-QUEUES-clause-first : goal.returns-then-d-ge-QUEUES-clause-first
 returns-then-d-ge-QUEUES-clause-first g c =
-    let shown = ap (λ s. s.0) c.self.view_is in
+    let shown = ap (λ s. s.rows) c.self.view_is in
     rw (← shown) (sym (front_beyond c.args.d c.self.inside.links.nodes.held (omega arith) c.self.invariant.whole.marked))
 
 pub returns-in_err-at-clause-first : goal.returns-in_err-at-clause-first
 returns-in_err-at-clause-first g c =
-    let shown = ap (λ s. s.0) c.self.view_is in
+    let shown = ap (λ s. s.rows) c.self.view_is in
     c.from_residual.ensures ∙ rw (← shown) (sym (front_none c.args.d c.self.inside.links.nodes.held (omega arith) c.self.invariant.whole.marked (sym c.in_err-at.was ∙ (c.self.invariant.whole.linked c.args.d (omega arith)).1)))
 
 pub number-number-requires : goal.number-number-requires
@@ -30,7 +30,7 @@ remember-requires g c =
 
 pub returns-clause-first : goal.returns-clause-first
 returns-clause-first g c =
-    let shown = ap (λ s. s.0) c.self.view_is in
+    let shown = ap (λ s. s.rows) c.self.view_is in
     let on = front_some c.args.d c.in_ok-at.at c.self.inside.links.nodes.held (omega arith) c.self.invariant.whole.marked c.self.invariant.whole.apart (sym c.in_ok-at.was ∙ (c.self.invariant.whole.linked c.args.d (omega arith)).1) in
     let number : c.number-number.result ≡ on.0.row.number = subst (λ o. MatchOption o (c.number-number.result ≡ 0) (λ n. c.number-number.result ≡ n.row.number)) on.1.0 c.number-number.ensures.number in
     ap Some number ∙ sym on.1.1 ∙ ap (front_of c.args.d) shown

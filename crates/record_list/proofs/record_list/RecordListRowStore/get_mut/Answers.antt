@@ -11,7 +11,7 @@ use Rattle.record_list.proofs.record_list.RecordListRowStore.get_mut.Goals as go
 
 pub returns-in_err-at : goal.returns-in_err-at
 returns-in_err-at g c =
-    let shown = ap (λ s. s.0) c.self.view_is in
+    let shown = ap (λ s. s.rows) c.self.view_is in
     let absent = (absent_of c.args.number c.self.inside.links c.self.inside.directory c.self.invariant c.in_err-at.ensures.place) in
     let none = absent.row_is in
     rw c.from_residual.ensures ((refl, (λ w. tt), shown), record { writes_back = tt; item = rw (← shown, none) refl })
@@ -31,7 +31,7 @@ invariant_of-self-lent g c = λ w.
 
 pub returns : goal.returns
 returns g c =
-    let shown = ap (λ s. s.0) c.self.view_is in
+    let shown = ap (λ s. s.rows) c.self.view_is in
     let on = (node_of c.args.number c.in_ok-at.at c.self.inside.links c.self.inside.directory c.self.invariant c.in_ok-at.ensures.place) in
     let x = c.get_mut-node.result.now in
     let is : Some on.node ≡ Some x = sym on.found ∙ c.get_mut-node.ensures.value in

@@ -10,7 +10,7 @@ use Rattle.record_list.proofs.record_list.RecordListRowStore.push.Goals as goal
 
 pub add-requires : goal.add-requires
 add-requires g c =
-    let shown = ap (λ s. s.0) c.self.view_is in
+    let shown = ap (λ s. s.rows) c.self.view_is in
     subst (λ l. All (λ e. e.0 < c.args.number) l) (sym c.self.invariant.listed_is) (listed_below c.args.number c.self.inside.links.nodes.held (subst (λ rs. All (λ row. row.number < c.args.number) rs) (sym shown) c.requires))
 
 pub enter_all-requires-clause-apart : goal.enter_all-requires-clause-apart
@@ -24,7 +24,7 @@ enter_all-requires-clause-linked g c = linked_pushed c.self.inside.links c.place
 
 pub invariant_of-self : goal.invariant_of-self
 invariant_of-self g c =
-    let shown = ap (λ s. s.0) c.self.view_is in
+    let shown = ap (λ s. s.rows) c.self.view_is in
     let more = on_ok c.add.result (sym c.is_ok.ensures.value ∙ c.if-is_ok.true) c.add.ensures.ok in
     kept_pushed c.self.inside.links c.place.new.self c.self.invariant.whole c.in-Ok-place.at.ptr (record { row = record { number = c.args.number; item = c.args.item; mask = c.args.mask }; links = c.in-Ok.links }) c.in-Ok-place.ensures.placed.0 c.in-Ok-place.ensures.placed.1 c.place.ensures.rest.0 c.place.ensures.rest.1 c.in-Ok.ensures c.enter_all.new.self c.self.inside.directory c.add.new.self c.self.invariant c.ranges.mask.fits (subst (λ rs. All (λ row. row.number < c.args.number) rs) (sym shown) c.requires) more c.enter_all.ensures.items c.enter_all.ensures.linked
 
@@ -39,13 +39,13 @@ invariant_of-self-else-is_ok g c =
 
 pub returns-then-is_ok-clause-ok : goal.returns-then-is_ok-clause-ok
 returns-then-is_ok-clause-ok g c =
-    let shown = ap (λ s. s.0) c.self.view_is in
+    let shown = ap (λ s. s.rows) c.self.view_is in
     rows_like (c.self.inside.links.nodes.held ++ held_at c.in-Ok-place.at.ptr (record { row = record { number = c.args.number; item = c.args.item; mask = c.args.mask }; links = c.in-Ok.links }) ∷ []) c.enter_all.new.self.nodes.held (c.enter_all.ensures.items ∙ ap items_at c.in-Ok-place.ensures.placed.1)
     ∙ rows_longer c.self.inside.links c.place.new.self c.self.invariant.whole c.in-Ok-place.at.ptr (record { row = record { number = c.args.number; item = c.args.item; mask = c.args.mask }; links = c.in-Ok.links }) c.in-Ok-place.ensures.placed.0 c.in-Ok-place.ensures.placed.1 c.place.ensures.rest.0 c.place.ensures.rest.1 c.in-Ok.ensures ∙ ap (λ rs. rs ++ record { number = c.args.number; item = c.args.item; mask = c.args.mask } ∷ []) shown
 
 pub returns-else-is_ok-clause-err : goal.returns-else-is_ok-clause-err
 returns-else-is_ok-clause-err g c =
-    let shown = ap (λ s. s.0) c.self.view_is in
+    let shown = ap (λ s. s.rows) c.self.view_is in
     ap rows_of (c.withdraw-node.ensures.nodes ∙ ap (drop_node c.in-Ok-place.at.ptr) c.in-Ok-place.ensures.placed.1 ∙ drop_last c.in-Ok-place.at.ptr (record { row = record { number = c.args.number; item = c.args.item; mask = c.args.mask }; links = c.in-Ok.links }) c.self.inside.links.nodes.held c.in-Ok-place.ensures.placed.0) ∙ shown
 
 pub returns-else-is_ok-clause-item_returned : goal.returns-else-is_ok-clause-item_returned

@@ -8,13 +8,13 @@ use Rattle.record_list.proofs.record_list.RecordListRowStore.remove.Goals as goa
 
 pub returns-in_err-at-clause-item : goal.returns-in_err-at-clause-item
 returns-in_err-at-clause-item g c =
-    let shown = ap (λ s. s.0) c.self.view_is in
+    let shown = ap (λ s. s.rows) c.self.view_is in
     let absent = (absent_of c.args.number c.self.inside.links c.self.inside.directory c.self.invariant c.in_err-at.ensures) in
     rw (← shown, absent.row_is) (search rules)
 
 pub returns-in_err-at-clause-removed : goal.returns-in_err-at-clause-removed
 returns-in_err-at-clause-removed g c =
-    let shown = ap (λ s. s.0) c.self.view_is in
+    let shown = ap (λ s. s.rows) c.self.view_is in
     let absent = (absent_of c.args.number c.self.inside.links c.self.inside.directory c.self.invariant c.in_err-at.ensures) in
     rw (← shown) (sym absent.removed_is)
 
@@ -28,7 +28,7 @@ invariant_of-self g c =
 
 pub returns-clause-item : goal.returns-clause-item
 returns-clause-item g c =
-    let shown = ap (λ s. s.0) c.self.view_is in
+    let shown = ap (λ s. s.rows) c.self.view_is in
     let on = (node_of c.args.number c.in_ok-at.at c.self.inside.links c.self.inside.directory c.self.invariant c.in_ok-at.ensures) in
     let is : Some on.node ≡ Some c.take_out-node.result = sym on.found ∙ c.take_out-node.ensures.value in
     let node : on.node ≡ c.take_out-node.result = cc in
@@ -36,6 +36,6 @@ returns-clause-item g c =
 
 pub returns-clause-removed : goal.returns-clause-removed
 returns-clause-removed g c =
-    let shown = ap (λ s. s.0) c.self.view_is in
+    let shown = ap (λ s. s.rows) c.self.view_is in
     let on = (node_of c.args.number c.in_ok-at.at c.self.inside.links c.self.inside.directory c.self.invariant c.in_ok-at.ensures) in
     rows_like (drop_node c.in_ok-at.at.ptr c.self.inside.links.nodes.held) c.take_out-node.new.self.nodes.held c.take_out-node.ensures.items ∙ on.removed_is ∙ ap (removed c.args.number) shown

@@ -10,24 +10,24 @@ use Rattle.record_list.proofs.record_list.RecordListRowStore.unlink.Goals as goa
 
 pub returns-in_default-clause-stood : goal.returns-in_default-clause-stood
 returns-in_default-clause-stood g c =
-    let shown = ap (λ s. s.0) c.self.view_is in
+    let shown = ap (λ s. s.rows) c.self.view_is in
     let absent = (absent_of c.args.number c.self.inside.links c.self.inside.directory c.self.invariant (rw c.in_default.is at c.look_up.ensures.place)) in
     rw (← shown) (sym (absent.linked_is c.args.d))
 
 pub returns-in_default-clause-unlinked : goal.returns-in_default-clause-unlinked
 returns-in_default-clause-unlinked g c =
-    let shown = ap (λ s. s.0) c.self.view_is in
+    let shown = ap (λ s. s.rows) c.self.view_is in
     let absent = (absent_of c.args.number c.self.inside.links c.self.inside.directory c.self.invariant (rw c.in_default.is at c.look_up.ensures.place)) in
     rw (← shown) (sym (absent.changed_is (λ row. record row { mask = without c.args.d row.mask })))
 
 pub returns-then-d-ge-QUEUES-clause-stood : goal.returns-then-d-ge-QUEUES-clause-stood
 returns-then-d-ge-QUEUES-clause-stood g c =
-    let shown = ap (λ s. s.0) c.self.view_is in
+    let shown = ap (λ s. s.rows) c.self.view_is in
     rw (← shown) (sym (linked_beyond c.args.number c.args.d c.self.inside.links.nodes.held (omega arith) c.self.invariant.whole.marked))
 
 pub returns-then-d-ge-QUEUES-clause-unlinked : goal.returns-then-d-ge-QUEUES-clause-unlinked
 returns-then-d-ge-QUEUES-clause-unlinked g c =
-    let shown = ap (λ s. s.0) c.self.view_is in
+    let shown = ap (λ s. s.rows) c.self.view_is in
     rw (← shown) (sym (unlinked_beyond c.args.number c.args.d c.self.inside.links.nodes.held (omega arith) c.self.invariant.whole.marked))
 
 pub leave-requires-clause-held : goal.leave-requires-clause-held
@@ -43,7 +43,7 @@ invariant_of-self-2 g c =
 
 pub returns-clause-stood : goal.returns-clause-stood
 returns-clause-stood g c =
-    let shown = ap (λ s. s.0) c.self.view_is in
+    let shown = ap (λ s. s.rows) c.self.view_is in
     let lt : c.args.d < 32 = omega arith in
     let on = (node_of c.args.number c.in-Some.at c.self.inside.links c.self.inside.directory c.self.invariant c.in-Some.ensures.place) in
     let stood : c.leave.result ≡ is_some (link_at c.args.d on.node) = subst (λ o. MatchOption o ⊥ (λ n. c.leave.result ≡ is_some (link_at c.args.d n))) on.found c.leave.ensures.stood in
@@ -51,7 +51,7 @@ returns-clause-stood g c =
 
 pub returns-clause-unlinked : goal.returns-clause-unlinked
 returns-clause-unlinked g c =
-    let shown = ap (λ s. s.0) c.self.view_is in
+    let shown = ap (λ s. s.rows) c.self.view_is in
     let lt : c.args.d < 32 = omega arith in
     let on = (node_of c.args.number c.in-Some.at c.self.inside.links c.self.inside.directory c.self.invariant c.in-Some.ensures.place) in
     let stood : c.leave.result ≡ is_some (link_at c.args.d on.node) = subst (λ o. MatchOption o ⊥ (λ n. c.leave.result ≡ is_some (link_at c.args.d n))) on.found c.leave.ensures.stood in
