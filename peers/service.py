@@ -341,31 +341,31 @@ def chatting(program, folder):
 
 
 def forgets(program, folder):
-    """A book of few entries prunes itself a hundred times, and each message is delivered once, in order."""
+    """A book of few entries prunes itself a hundred times. While it is full a message is refused (CE), is not delivered and is
+    sent again later, behind those that were accepted meanwhile. Each message is delivered once, in the order of the accept
+    acknowledgments."""
     lab, port = Destination(lambda text, before: b'AA'), free_ports(1)[0]
-    texts = [message(b'A%d' % n) for n in range(2_500)]
+    left, accepted, deadline = [message(b'A%d' % n) for n in range(2_500)], [], time.monotonic() + 2 * LIMIT
     words = ('--events', '64', '--keep', '4')
     with Service(program, one_channel(port, [('LAB', lab.port, ['attempts = 1'])]), folder, *words) as service:
-        begun, replies = 0, []
         # Of a slow program the book would be full before the first of a large piece is delivered.
         size = 5 if checks_accesses(program) else 50
-        while begun < len(texts):
-            piece = exchange(port, texts[begun:begun + size])
-            codes = [field(reply, b'MSA', 1) for reply in piece]
-            booked = codes.index(b'CE') if b'CE' in codes else len(codes)
-            replies += piece[:booked]
-            begun += booked
-            if not piece:
+        while left and time.monotonic() < deadline:
+            piece = left[:size]
+            codes = [field(reply, b'MSA', 1) for reply in exchange(port, piece)]
+            if len(codes) != len(piece) or not {b'CA', b'CE'}.issuperset(codes):
                 break
-        whole = came(lab, len(texts))
+            accepted += [text for text, code in zip(piece, codes) if code == b'CA']
+            left[:size] = [text for text, code in zip(piece, codes) if code == b'CE']
+        whole = came(lab, len(accepted))
         prunings = number(service, 'prunings ', 'prunings')
         remembered = number(service, 'book ', 'remembered')
         service.ask('stop')
         status, _ = service.ended()
     lab.close()
-    once = sorted(set(lab.came), key=lab.came.index)
-    if not whole or status != 0 or once != texts or prunings < 100 or not 0 <= remembered <= 68:
-        return [f'forgets: status {status}, {len(lab.came)} came, {prunings} prunings, {remembered} remembered']
+    if left or not whole or status != 0 or lab.came != accepted or prunings < 100 or not 0 <= remembered <= 68:
+        return [f'forgets: status {status}, {len(left)} left, {len(accepted)} accepted, {len(lab.came)} came, '
+                f'{prunings} prunings, {remembered} remembered']
     return []
 
 
