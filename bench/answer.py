@@ -3,19 +3,19 @@
 
 Usage: bench/answer.py [PROGRAM] [--against FORMER]
 
-PROGRAM is the built program, crates/hl7_engine/out/hl7_engine where left out ('rt run' in
-crates/hl7_engine builds it). All figures come from this one run, and every figure that has a
-bound is printed with it. Where python3-hl7 is installed, the same blocks are parsed and
-acknowledged with that library too, in this process, and the ratio is printed: neither side counts the
-start of its process. Large messages (about 1 GB of them, in the folder for temporary files) show that
-a message's bytes are held once: each further byte that comes is to cost about one byte of memory.
-Where valgrind is installed, the instructions and the requests for memory of a message are counted: other
+PROGRAM is the built program, by default crates/hl7_engine/out/hl7_engine ('rt run' in
+crates/hl7_engine builds it). All figures are measured in this one run, and every figure that has a
+bound is printed with it. If python3-hl7 is installed, the same blocks are also parsed and
+acknowledged with that library, in this process, and the ratio is printed, without the time that either
+process takes to start. Large messages (about 1 GB of them, in the directory for temporary files) show that
+a message's bytes are kept in memory once: each further byte received should cost about one byte of memory.
+If valgrind is installed, the instructions and the memory requests of a message are counted: other
 work on the machine doesn't change these.
 
-With --against the program and another build of it answer the same messages in turn: what they write
-has to be the same, and the time no longer, but for what two runs of one program differ by.
+With --against, the program and another build of it answer the same messages in turn. Their output
+has to be the same, and the program may take no longer than the other build, within a tolerance.
 
-The exit status is 0 where every bound is met, else 1.
+The exit status is 0 if every bound is met, else 1.
 """
 import argparse
 import os
@@ -29,11 +29,11 @@ import time
 HERE = os.path.dirname(os.path.abspath(__file__))
 PROGRAM = os.path.join(HERE, '..', 'crates', 'hl7_engine', 'out', 'hl7_engine')
 FEW, MANY, ROUTED = 2_000, 200_000, 5_000
-COUNTED = (1_000, 3_000)  # messages of the two runs under valgrind, whose difference is told
+COUNTED = (1_000, 3_000)  # messages of the two runs under valgrind, whose difference is printed
 TOOLS = [('callgrind', r'Collected : ([0-9]+)', 'instructions', 10_500),
          ('memcheck', r'total heap usage: ([0-9,]+) allocs', 'requests for memory', 8)]  # each with its bound for a message
-BESIDE = 300  # bytes that a message may take at the peak, beside those that came
-ROW = 200  # bytes that a message takes beside its text: 56 of its row for the links, its slots, its key and its entry
+BESIDE = 300  # bytes that a message may take at the peak, in addition to those received
+ROW = 200  # bytes that a message takes in addition to its text: 56 bytes of its row for links, and its slots, key and entry
 LARGE, LARGE_SEGMENTS = (2_000, 20_000), 660
 HELD_ONCE = 1.5
 NO_SLOWER = 1.05
@@ -60,7 +60,7 @@ def admission(n):
 
 
 def shorter(n):
-    """The same in 676 bytes, without its diagnosis and the end of its visit."""
+    """The same admission in 676 bytes, without the diagnosis and the last fields of PV1."""
     *fields, visit, allergy, _, end = admission(n).split(b'\r')
     text = b'\r'.join([*fields, visit.removesuffix(b'|IP|V100245^^^MCM^VN|SELF'), allergy, end])
     assert len(text) == 676, len(text)
@@ -71,8 +71,8 @@ def framed(text):
     return b'\x0b' + text + b'\x1c\r'
 
 
-# The built-in plan with one attempt: a message then takes or keeps 4 of the book's 1,000,000 entries. With the three
-# attempts of the built-in plan it is 8, and MANY messages would not fit.
+# The built-in plan with one attempt: a message then takes or reserves 4 of the book's 1,000,000 entries. With the three
+# attempts of the built-in plan it would be 8, and MANY messages would not fit.
 ONE_ATTEMPT = '''
 [[destination]]
 name = "LAB"
@@ -92,8 +92,8 @@ to = "LAB"
 FOUR_ROUTES = ''.join(f'''
 [[destination]]
 name = "{name}"
-address = "127.0.0.1:{6671 + place}"
-''' for place, name in enumerate('ABCD')) + '''
+address = "127.0.0.1:{6671 + index}"
+''' for index, name in enumerate('ABCD')) + '''
 [[channel]]
 name = "ADT"
 listen = "127.0.0.1:6670"
@@ -123,7 +123,7 @@ def large_plan():
 
 
 def run_once(program, source, sink, *words):
-    """Runs the program on a file; prints seconds, peak memory in bytes, and the status."""
+    """Runs the program on a file, and prints the seconds, the peak memory in bytes, and the exit status."""
     with open(source, 'rb') as fed, open(sink, 'wb') as got:
         began = time.perf_counter()
         child = os.posix_spawn(program, [program, *words], {}, file_actions=[
@@ -133,11 +133,11 @@ def run_once(program, source, sink, *words):
     print(took, usage.ru_maxrss * 1024, os.waitstatus_to_exitcode(status))
 
 
-def run(program, source, sink, *words):
-    """The same from a small process: a child's peak memory counts what its parent held when it was made."""
-    told = subprocess.run([sys.executable, os.path.abspath(__file__), RUN_ONCE, program, source, sink, *words],
-                          check=True, capture_output=True, text=True).stdout.split()
-    return float(told[0]), int(told[1]), int(told[2])
+def run(program, source, sink, *arguments):
+    """Calls `run_once` in a small process, since a child's peak memory includes what its parent had when it was created."""
+    words = subprocess.run([sys.executable, os.path.abspath(__file__), RUN_ONCE, program, source, sink, *arguments],
+                           check=True, capture_output=True, text=True).stdout.split()
+    return float(words[0]), int(words[1]), int(words[2])
 
 
 def best(program, source, sink, times, *words):
@@ -147,7 +147,7 @@ def best(program, source, sink, times, *words):
 
 
 def library_seconds(texts, times):
-    """Seconds a message of parsing and acknowledging with python-hl7, None where it isn't installed."""
+    """The seconds that python-hl7 takes to parse and acknowledge a message; None if it isn't installed."""
     try:
         import hl7
     except ImportError:
@@ -163,13 +163,13 @@ def library_seconds(texts, times):
 
 
 def observations(count):
-    """So many OBX segments."""
+    """`count` OBX segments."""
     return b''.join(b'OBX|%d|NM|2345-7^GLUCOSE^LN||97|mg/dL|70-105|N|||F|||20231114220000|||||||\r' % n
                     for n in range(count))
 
 
 class Bench:
-    """The files of a run, and the bounds that were missed."""
+    """The files of a run, and the bounds that it missed."""
 
     def __init__(self, program, folder):
         self.program = program
@@ -177,24 +177,24 @@ class Bench:
         self.plan = os.path.join(folder, 'plan.toml')
         self.missed = []
 
-    def tell(self, line, holds=None):
+    def report(self, line, holds=None):
         print(line + ('' if holds is None else '  ok' if holds else '  MISSED'), flush=True)
         if holds is False:
             self.missed.append(line)
 
-    def give_plan(self, text):
+    def write_plan(self, text):
         with open(self.plan, 'w') as f:
             f.write(text)
 
-    def give_messages(self, count, extra=b'', made=admission):
-        """Writes so many admissions with further segments; gives how many bytes these are."""
+    def write_messages(self, count, extra=b'', made=admission):
+        """Writes `count` admissions with further segments, and returns their size in bytes."""
         with open(self.source, 'wb') as f:
             for n in range(count):
                 f.write(framed(made(n) + extra))
         return os.path.getsize(self.source)
 
     def answered(self, times, program=None):
-        """Seconds and peak memory of answering what was written, by the plan, at one moment."""
+        """The seconds and the peak memory that a program takes to answer the messages written, by the plan and at a fixed time."""
         return best(program or self.program, self.source, self.sink, times, 'answer', self.plan, '--now', '1700000000')
 
     def all_accepted(self, count):
@@ -204,120 +204,120 @@ class Bench:
 
 
 def measure_messages(bench):
-    """Messages of the usual size, few and many; gives seconds a message of the few, and bytes a second of the many."""
+    """Measures few and many messages of the usual size, and returns the seconds per message of the few and bytes per second of the many."""
     seconds = {}
     for count, times in ((FEW, 15), (MANY, 3)):
-        size = bench.give_messages(count)
+        size = bench.write_messages(count)
         took, peak = bench.answered(times)
         bench.all_accepted(count)
         seconds[count] = took / count
-        bench.tell(f'{count:>7} messages of {size // count} bytes: {count / took:,.0f} messages a second, '
-                   f'{1e6 * took / count:.2f} microseconds a message, {size / took / MIB:,.0f} MiB/s, '
-                   f'peak memory {peak / MIB:.0f} MiB')
+        bench.report(f'{count:>7} messages of {size // count} bytes: {count / took:,.0f} messages a second, '
+                     f'{1e6 * took / count:.2f} microseconds a message, {size / took / MIB:,.0f} MiB/s, '
+                     f'peak memory {peak / MIB:.0f} MiB')
         bound = 2 * size + ROW * count + 50_000_000
-        bench.tell(f'        peak memory at most twice the input, {ROW} bytes a message and 50 MB ({bound / MIB:.0f} MiB)',
-                   peak <= bound)
+        bench.report(f'        peak memory at most twice the input, {ROW} bytes a message and 50 MB ({bound / MIB:.0f} MiB)',
+                     peak <= bound)
     ratio = seconds[MANY] / seconds[FEW]
-    bench.tell(f'time a message at {MANY} over that at {FEW}: {ratio:.2f} (at most 1.3)', ratio <= 1.3)
+    bench.report(f'time a message at {MANY} over that at {FEW}: {ratio:.2f} (at most 1.3)', ratio <= 1.3)
     return seconds[FEW], size / took
 
 
 def measure_held_once(bench):
-    """Whether a message's bytes are held once: the peak memory of few and of many large messages."""
+    """Measures whether a message's bytes are kept once, by the peak memory for few and for many large messages."""
     peaks, sizes = {}, {}
     for count in LARGE:
-        sizes[count] = bench.give_messages(count, observations(LARGE_SEGMENTS))
+        sizes[count] = bench.write_messages(count, observations(LARGE_SEGMENTS))
         took, peaks[count] = bench.answered(1)
         bench.all_accepted(count)
-        bench.tell(f'{count:>7} messages of {sizes[count] // count} bytes: {sizes[count] / took / MIB:,.0f} MiB/s, '
-                   f'peak memory {peaks[count] / MIB:,.0f} MiB, {peaks[count] / sizes[count]:.3f} bytes for each byte, '
-                   f'{peaks[count] / count:,.0f} bytes a message')
+        bench.report(f'{count:>7} messages of {sizes[count] // count} bytes: {sizes[count] / took / MIB:,.0f} MiB/s, '
+                     f'peak memory {peaks[count] / MIB:,.0f} MiB, {peaks[count] / sizes[count]:.3f} bytes for each byte, '
+                     f'{peaks[count] / count:,.0f} bytes a message')
     few, many = LARGE
     more, grown = peaks[many] - peaks[few], sizes[many] - sizes[few]
-    bench.tell(f'        each further message takes {more / (many - few):,.0f} bytes, {(more - grown) / (many - few):+,.0f} to '
-               f'those that came')
-    bench.tell(f'        memory for each further byte: {more / grown:.3f} bytes (held once: at most {HELD_ONCE})',
-               more <= HELD_ONCE * grown)
+    bench.report(f'        each further message takes {more / (many - few):,.0f} bytes, {(more - grown) / (many - few):+,.0f} to '
+                 f'those that came')
+    bench.report(f'        memory for each further byte: {more / grown:.3f} bytes (held once: at most {HELD_ONCE})',
+                 more <= HELD_ONCE * grown)
 
 
 def measure_endless(bench, good):
-    """A block that never ends."""
+    """Measures a block that never ends."""
     with open(bench.source, 'wb') as f:
         f.write(b'\x0b' + b'A' * ENDLESS)
     took, peak = best(bench.program, bench.source, bench.sink, 3)
-    bench.tell(f'a block of {ENDLESS // MIB} MiB that never ends: {ENDLESS / took / MIB:,.0f} MiB/s '
-               f'(at least a tenth of {good / MIB:,.0f})', ENDLESS / took >= good / 10)
-    bench.tell(f'        peak memory {peak / MIB:.1f} MiB (bounded: at most 16)', peak <= 16 * MIB)
+    bench.report(f'a block of {ENDLESS // MIB} MiB that never ends: {ENDLESS / took / MIB:,.0f} MiB/s '
+                 f'(at least a tenth of {good / MIB:,.0f})', ENDLESS / took >= good / 10)
+    bench.report(f'        peak memory {peak / MIB:.1f} MiB (bounded: at most 16)', peak <= 16 * MIB)
 
 
 def measure_routes(bench):
-    """Messages that go by four routes with filters and steps, shorter and longer ones."""
-    bench.give_plan(FOUR_ROUTES)
+    """Measures shorter and longer messages that go through four routes with filters and steps."""
+    bench.write_plan(FOUR_ROUTES)
     cost = {}
     for copies in (1, 8):
-        size = bench.give_messages(ROUTED, observations(10 * copies))
+        size = bench.write_messages(ROUTED, observations(10 * copies))
         took, _ = bench.answered(5)
         cost[copies] = took / size
-        bench.tell(f'{ROUTED:>7} messages of {size // ROUTED} bytes by four routes, each with a filter and three steps: '
-                   f'{1e6 * took / ROUTED:.2f} microseconds a message, {1e9 * took / size:.2f} nanoseconds a byte')
-    bench.tell(f'        a byte of the longer over one of the shorter: {cost[8] / cost[1]:.2f} (at most 1.3)',
-               cost[8] <= 1.3 * cost[1])
+        bench.report(f'{ROUTED:>7} messages of {size // ROUTED} bytes by four routes, each with a filter and three steps: '
+                     f'{1e6 * took / ROUTED:.2f} microseconds a message, {1e9 * took / size:.2f} nanoseconds a byte')
+    bench.report(f'        a byte of the longer over one of the shorter: {cost[8] / cost[1]:.2f} (at most 1.3)',
+                 cost[8] <= 1.3 * cost[1])
 
 
 def measure_plan(bench):
-    """Reading the largest plan."""
-    bench.give_plan(large_plan())
+    """Measures how long it takes to read the largest plan."""
+    bench.write_plan(large_plan())
     took, _ = best(bench.program, os.devnull, bench.sink, 3, 'check', bench.plan)
-    bench.tell(f'reading a plan of 64 channels and 32 destinations with 256 steps each '
-               f'({os.path.getsize(bench.plan) // 1024} KiB): {took:.2f} s (under 1)', took < 1)
+    bench.report(f'reading a plan of 64 channels and 32 destinations with 256 steps each '
+                 f'({os.path.getsize(bench.plan) // 1024} KiB): {took:.2f} s (under 1)', took < 1)
 
 
-def under_valgrind(bench, tool, told):
-    """The number that a tool of valgrind tells of one run; None where there is no valgrind."""
+def under_valgrind(bench, tool, pattern):
+    """The number that a valgrind tool prints for one run, found by a pattern; None if valgrind isn't installed."""
     if shutil.which('valgrind') is None:
         return None
     with open(bench.source, 'rb') as fed:
         run = subprocess.run(['valgrind', f'--tool={tool}', *(['--callgrind-out-file=/dev/null'] if tool == 'callgrind' else []),
                               bench.program, 'answer', bench.plan, '--now', '1700000000'],
                              stdin=fed, stdout=subprocess.DEVNULL, stderr=subprocess.PIPE, text=True, check=True)
-    return int(re.search(told, run.stderr).group(1).replace(',', ''))
+    return int(re.search(pattern, run.stderr).group(1).replace(',', ''))
 
 
 def measure_work(bench):
-    """Instructions and requests for memory of a message of 676 bytes, as valgrind counts them, and what many such take."""
-    for tool, told, what, most in TOOLS:
+    """Measures the instructions and memory requests of a message of 676 bytes, by valgrind, and the memory of many such messages."""
+    for tool, pattern, what, most in TOOLS:
         counted = []
         for count in COUNTED:
-            bench.give_messages(count, made=shorter)
-            counted.append(under_valgrind(bench, tool, told))
+            bench.write_messages(count, made=shorter)
+            counted.append(under_valgrind(bench, tool, pattern))
         if None in counted:
-            bench.tell(f'valgrind is not installed: no {what} a message')
+            bench.report(f'valgrind is not installed: no {what} a message')
             continue
         cost = (counted[1] - counted[0]) / (COUNTED[1] - COUNTED[0])
-        bench.tell(f'{cost:,.1f} {what} a message of 676 bytes (at most {most:,})', cost <= most)
-    size = bench.give_messages(MANY, made=shorter)
+        bench.report(f'{cost:,.1f} {what} a message of 676 bytes (at most {most:,})', cost <= most)
+    size = bench.write_messages(MANY, made=shorter)
     _, peak = bench.answered(1)
     bench.all_accepted(MANY)
-    bench.tell(f'{MANY:>7} messages of 676 bytes: peak memory {peak / MIB:.0f} MiB, {(peak - size) / MANY:.0f} bytes a message '
-               f'beside those that came (at most {BESIDE})', peak <= size + BESIDE * MANY)
+    bench.report(f'{MANY:>7} messages of 676 bytes: peak memory {peak / MIB:.0f} MiB, {(peak - size) / MANY:.0f} bytes a message '
+                 f'beside those that came (at most {BESIDE})', peak <= size + BESIDE * MANY)
 
 
 def compare_library(bench, seconds):
-    """The same messages by python-hl7; neither side counts the start of its process."""
+    """Compares the time with that of python-hl7 for the same messages, without the time that either process takes to start."""
     library = library_seconds([admission(n) for n in range(FEW)], 3)
     if library is None:
-        bench.tell('python3-hl7 is not installed: no ratio to it')
+        bench.report('python3-hl7 is not installed: no ratio to it')
         return
     ratio = library / seconds
-    bench.tell(f'python-hl7, parsing and acknowledging the same {FEW}: {1e6 * library:.0f} microseconds a message, '
-               f'{ratio:.0f} times the program without its start (at least 200)', ratio >= 200)
+    bench.report(f'python-hl7, parsing and acknowledging the same {FEW}: {1e6 * library:.0f} microseconds a message, '
+                 f'{ratio:.0f} times the program without its start (at least 200)', ratio >= 200)
 
 
 def compare_builds(bench, former):
-    """The same messages by another build of the program, the two in turn: the bytes written and the time."""
-    bench.give_plan(ONE_ATTEMPT)
+    """Compares the output and the time with those of another build for the same messages. The two builds run in turn."""
+    bench.write_plan(ONE_ATTEMPT)
     for count, times in ((FEW, 15), (MANY, 5)):
-        bench.give_messages(count)
+        bench.write_messages(count)
         took, wrote = {}, {}
         for _ in range(times):
             for program in (former, bench.program):
@@ -325,16 +325,16 @@ def compare_builds(bench, former):
                 took[program] = min(once, took.get(program, once))
                 with open(bench.sink, 'rb') as f:
                     wrote[program] = f.read()
-        bench.tell(f'{count:>7} messages by both builds: the same bytes were written', wrote[former] == wrote[bench.program])
+        bench.report(f'{count:>7} messages by both builds: the same bytes were written', wrote[former] == wrote[bench.program])
         ratio = took[bench.program] / took[former]
-        bench.tell(f'        {took[bench.program]:.4f} s against {took[former]:.4f} s, {ratio:.2f} times the former '
-                   f'(at most {NO_SLOWER})', ratio <= NO_SLOWER)
+        bench.report(f'        {took[bench.program]:.4f} s against {took[former]:.4f} s, {ratio:.2f} times the former '
+                     f'(at most {NO_SLOWER})', ratio <= NO_SLOWER)
 
 
 def measure(bench):
-    bench.give_plan(ONE_ATTEMPT)
+    bench.write_plan(ONE_ATTEMPT)
     start, _ = best(bench.program, os.devnull, bench.sink, 15, 'answer', bench.plan, '--now', '1700000000')
-    bench.tell(f'start of the program, with nothing to answer: {1e3 * start:.2f} milliseconds')
+    bench.report(f'start of the program, with nothing to answer: {1e3 * start:.2f} milliseconds')
     seconds, good = measure_messages(bench)
     measure_work(bench)
     measure_held_once(bench)

@@ -3,13 +3,13 @@
 
 Usage: bench/audit.py [PROGRAM]
 
-PROGRAM is the built crate bench_parts, crates/bench_parts/out/bench_parts where left out ('rt run' in crates/bench_parts
+PROGRAM is the built crate bench_parts, by default crates/bench_parts/out/bench_parts ('rt run' in crates/bench_parts
 builds it). It books 1,000,000 messages at a shared book, closes it, and audits their receipts in the order of the arrivals
-and in the other one: each audit has to take less than SECONDS. Then it tells how long 500 arrivals took at a shared book
-that nobody else calls, behind 1,000 entries and behind 990,000: that is taking the lock, booking, and leaving it, so no less
-than the lock is held. It may cost at most BOUND times as much in the longer. These are runs of their own, short and long in
-turn: behind a large audit an arrival would find memory that the audited book gave back. The least of each measure counts.
-The exit status is 0 where the bounds are met, else 1.
+and in the reverse order: each audit has to take less than SECONDS. Then it measures 500 arrivals at a shared book that no
+other thread uses, after 1,000 entries and after 990,000: taking the lock, booking, and releasing the lock, so at least the
+time for which the lock is held. After the longer history an arrival may cost at most BOUND times as much. Arrivals have runs
+of their own, short and long histories in turn, since after a large audit an arrival would reuse memory that the audited book
+released. The lowest value of each measurement counts. The exit status is 0 if the bounds are met, else 1.
 """
 import os
 import subprocess
@@ -26,31 +26,31 @@ BOUND = 1.5
 
 
 def lines(program, *words):
-    """What a run tells."""
+    """The lines that a run prints."""
     return subprocess.run([program, *map(str, words), '--time'], check=True, capture_output=True, text=True).stdout.splitlines()
 
 
 def audits_of(program, receipts):
-    """Nanoseconds of the audit of so many receipts, in both orders."""
-    told = lines(program, 'audit', receipts)
-    assert told[0] == f'{receipts} receipts audited', told
-    return int(told[1].split()[1]), int(told[1].split()[3])
+    """The nanoseconds that an audit of this number of receipts takes, in both orders."""
+    printed = lines(program, 'audit', receipts)
+    assert printed[0] == f'{receipts} receipts audited', printed
+    return int(printed[1].split()[1]), int(printed[1].split()[3])
 
 
-def arrival_behind(program, entries):
-    """Nanoseconds of an arrival behind so many entries."""
-    told = lines(program, 'arrivals', entries)
-    assert told[0] == f'{CALLS} arrivals behind {entries} entries', told
-    return int(told[1].split()[1]) / CALLS
+def arrival_after(program, entries):
+    """The nanoseconds that an arrival takes after this number of entries."""
+    printed = lines(program, 'arrivals', entries)
+    assert printed[0] == f'{CALLS} arrivals behind {entries} entries', printed
+    return int(printed[1].split()[1]) / CALLS
 
 
 def main():
     program = os.path.abspath(sys.argv[1] if len(sys.argv) > 1 else PROGRAM)
     audits = [audits_of(program, RECEIPTS) for _ in range(AUDITS)]
-    pairs = [(arrival_behind(program, FEW), arrival_behind(program, MANY)) for _ in range(ARRIVALS)]
+    pairs = [(arrival_after(program, FEW), arrival_after(program, MANY)) for _ in range(ARRIVALS)]
     missed = False
-    for place, order in enumerate(['in the order of the arrivals', 'in the other order']):
-        took = min(run[place] for run in audits)
+    for index, order in enumerate(['in the order of the arrivals', 'in the other order']):
+        took = min(run[index] for run in audits)
         ok = took < SECONDS * 1e9
         missed = missed or not ok
         print(f'audit of {RECEIPTS:,} receipts {order}: {took / 1e9:.3f} seconds, {took / RECEIPTS:.0f} nanoseconds a receipt '
@@ -59,7 +59,8 @@ def main():
     for entries, cost in ((FEW, short), (MANY, long)):
         print(f'arrival at a shared book behind {entries:>7,} entries: {cost:,.0f} nanoseconds, the lock taken and left')
     ratio = long / max(short, 1)
-    print(f'arrival behind {MANY:,} entries over that behind {FEW:,}: {ratio:.2f} (at most {BOUND})  {"ok" if ratio <= BOUND else "MISSED"}')
+    print(f'arrival behind {MANY:,} entries over that behind {FEW:,}: {ratio:.2f} (at most {BOUND})  '
+          f'{"ok" if ratio <= BOUND else "MISSED"}')
     print(f'cores: {os.cpu_count()}')
     return 1 if missed or ratio > BOUND else 0
 

@@ -3,13 +3,14 @@
 
 Usage: bench/book.py [PROGRAM]
 
-PROGRAM is the built crate bench_parts, crates/bench_parts/out/bench_parts where left out ('rt run' in
-crates/bench_parts builds it). It books messages and cancels them, and then tells how long 1,000 arrivals
-took, and 500 takes, settlements and cancellations: first in a history of about 1,000 entries, and then in
-one of about a million. Half of the takes find their message at the front of all rows, and half behind the
-rows of all others. A call may cost at most BOUND times as much in the longer, whose memory no
-processor's cache holds: a cost that grows with the history would be near a thousand times. The runs in the two histories take turns, and the least cost of each counts. The
-exit status is 0 where the bounds are met, else 1.
+PROGRAM is the built crate bench_parts, by default crates/bench_parts/out/bench_parts ('rt run' in
+crates/bench_parts builds it). It books messages and cancels them, and then measures 1,000 arrivals, and
+500 takes, settlements and cancellations: first in a history of about 1,000 entries, and then in one of
+about a million. Half of the takes find their message in the first row, and half of them in a row after
+those of all other messages. In the longer history, whose memory fits into no processor's cache, a call may
+cost at most BOUND times as much: a cost that grows with the history would be near a thousand times. The
+runs in the two histories take turns, and the lowest cost of each counts. The exit status is 0 if the
+bounds are met, else 1.
 """
 import os
 import subprocess
@@ -25,15 +26,15 @@ KINDS = {'arrive': 'arrive', 'take': 'take', 'settle': 'settle', 'behind': 'take
 
 
 def entries(messages):
-    """How many entries there are before the measured calls: 10 messages that wait, and two for each that is cancelled."""
+    """The number of entries before the measured calls: 10 for waiting messages, and two for each cancelled message."""
     return 10 + 2 * messages
 
 
 def nanoseconds(program, messages):
-    """Nanoseconds a call, by its kind."""
+    """The nanoseconds per call for each kind of call."""
     lines = subprocess.run([program, 'calls', str(messages), '--time'], check=True, capture_output=True, text=True).stdout.splitlines()
-    told = f'{entries(messages)} entries before'
-    assert lines[0] == told, f'{lines[0]!r}, not {told!r}'
+    expected = f'{entries(messages)} entries before'
+    assert lines[0] == expected, f'{lines[0]!r}, not {expected!r}'
     words = (lines[2] + ' ' + lines[3]).split()
     totals = {kind: int(total) for kind, total in zip(words[::2], words[1::2])}
     totals['arrive'] /= 2

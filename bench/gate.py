@@ -1,11 +1,12 @@
 #!/usr/bin/env python3
-"""Where the time of the gate goes: runs a command, by default `rt ci`, and prints what it took, crate by crate.
+"""Shows where the time of the gate goes: runs a command, by default `rt ci`, and prints the time of each crate.
 
-Processor time is read from /proc every second, so up to a second of each check is missed; checks of another session of
-the system (setsid) aren't counted, so two gates may be measured side by side. Of each check that is no edit it further
-tells the functions whose proof took longest, by when the prover wrote each checked part: seconds on the clock, not of a
-processor, and only roughly right where a check has several processes. The same is told of each file of a crate, the longest
-first, and of all that is derived or dropped. An interruption (SIGINT, SIGTERM) ends the command, and what was seen until then is told.
+Processor time is read from /proc every second, so up to a second of each check is missed. Checks in another session of the
+system (setsid) aren't counted, so two gates can be measured side by side. For the checks that are no edits it also prints the
+functions whose proofs took longest, by the times at which the prover wrote each checked part: these are seconds on the clock,
+not of a processor, and only approximate if a check has several processes. The same is printed for the files of each crate, the
+slowest first, and for everything that is derived or dropped. An interruption (SIGINT, SIGTERM) ends the command, and the times
+seen until then are printed.
 
 Usage: bench/gate.py [COMMAND WORD..]
 """
@@ -18,17 +19,17 @@ import subprocess
 import sys
 import time
 
-ROUND = 1.0  # seconds between two looks
-SLOWEST = 40  # how many functions are told
-FILES = 6  # how many files of a crate are told
+ROUND = 1.0  # seconds between two readings
+SLOWEST = 40  # the number of functions printed
+FILES = 6  # the number of files printed for a crate
 TICKS = os.sysconf('SC_CLK_TCK')
 KINDS = ('proof', 'tests', 'edits')
 DERIVED = re.compile(r'(Debug|Display|PartialEq|Clone|Destruct)(?=\.|$)')  # what is derived or dropped, in a function's path
-PARTS = re.compile(r'rattle-logic-built-locked-(\d+)-')  # the folder in which a check keeps its parts while it runs
+PARTS = re.compile(r'rattle-logic-built-locked-(\d+)-')  # the directory in which a check keeps its parts while it runs
 
 
 def check_of(pid):
-    """The crate and the kind of a check, where a process is one, and the processor seconds that it took so far."""
+    """The identity of a process that is a check, its crate and kind, and its processor seconds so far; None for other processes."""
     try:
         with open(f'/proc/{pid}/cmdline', 'rb') as it:
             words = it.read().decode(errors='replace').split('\0')
@@ -47,7 +48,7 @@ def check_of(pid):
 
 
 def look(taken, checks, parts):
-    """Notes what each check took by now, and which parts it wrote."""
+    """Records the processor seconds of each check so far, and the parts that it has written."""
     for pid in filter(str.isdigit, os.listdir('/proc')):
         found = check_of(pid)
         if found:
@@ -60,17 +61,17 @@ def look(taken, checks, parts):
 
 
 def note_parts(folder, times):
-    """Notes when each part in a folder was written."""
+    """Records when each part in a directory was written."""
     try:
         for it in os.scandir(folder):
             if '.oantt' in it.name and it.name not in times:
                 times[it.name] = it.stat().st_mtime
     except OSError:
-        pass  # the check ended meanwhile
+        pass  # the check has ended
 
 
 def functions(parts):
-    """The seconds that each function's parts took."""
+    """The seconds that the parts of each function took."""
     found = collections.Counter()
     for (_, crate), times in parts.items():
         order = sorted((at, name) for name, at in times.items())
@@ -80,8 +81,8 @@ def functions(parts):
     return found
 
 
-def tell(taken, parts, minutes):
-    """Prints what each crate took, its files and the slowest functions."""
+def report(taken, parts, minutes):
+    """Prints the times of each crate and its files, and those of the slowest functions."""
     crates = collections.defaultdict(collections.Counter)
     for (crate, kind), seconds in taken.values():
         crates[crate][kind] += seconds
@@ -94,15 +95,15 @@ def tell(taken, parts, minutes):
     for (crate, function), seconds in slowest.items():
         files[crate][function.split('.')[0]] += seconds
     for crate, by_file in sorted(files.items(), key=lambda it: -it[1].total()):
-        told = ', '.join(f'{file or "(crate)"} {seconds:.0f}' for file, seconds in by_file.most_common(FILES))
-        print(f'{by_file.total():7.1f} s {crate}: {told}')
+        listed = ', '.join(f'{file or "(crate)"} {seconds:.0f}' for file, seconds in by_file.most_common(FILES))
+        print(f'{by_file.total():7.1f} s {crate}: {listed}')
     derived = collections.Counter()
     for (_, function), seconds in slowest.items():
         found = DERIVED.search(function)
         if found:
             derived[found[1]] += seconds
-    told = ', '.join(f'{what} {seconds:.0f}' for what, seconds in derived.most_common())
-    print(f'{sum(slowest.values()):7.1f} s all, of them what is derived or dropped: {told}')
+    listed = ', '.join(f'{what} {seconds:.0f}' for what, seconds in derived.most_common())
+    print(f'{sum(slowest.values()):7.1f} s all, of them what is derived or dropped: {listed}')
     for (crate, function), seconds in slowest.most_common(SLOWEST):
         print(f'{seconds:7.1f} s {crate} {function}')
 
@@ -117,7 +118,7 @@ def main():
     while command.poll() is None:
         look(taken, checks, parts)
         time.sleep(ROUND)
-    tell(taken, parts, (time.monotonic() - begun) / 60)
+    report(taken, parts, (time.monotonic() - begun) / 60)
     return command.returncode
 
 

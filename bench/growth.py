@@ -1,22 +1,21 @@
 #!/usr/bin/env python3
-"""Measures what a message costs behind 10, 1,000, 100,000 and 900,000 entries of history, in microseconds and in instructions, and
+"""Measures the cost of a message after 10, 1,000, 100,000 and 900,000 entries of history, in microseconds and in instructions, and
 draws both: bench/growth.svg.
 
 Usage: bench/growth.py [PROGRAM] [--quick] [--plot PATH]
 
-PROGRAM is the built program, crates/hl7_engine/out/hl7_engine where left out ('rt run' in crates/hl7_engine builds it). It answers a
-history first: one in 40 of its messages is accepted, the others are filtered, which take an entry and owe none, so that the book has
-room; each has a control id of its own, which the book remembers. Once all are acknowledged, batches of 100 messages of 676 bytes are
-written at once, and the program's processor time is read before and behind each (/proc/PID/schedstat, nanoseconds, the system's share
-included; the clock where there is no such file). The runs of all lengths take turns. The figure is the median of all batches of all
-runs, with the quartiles.
+PROGRAM is the built program, by default crates/hl7_engine/out/hl7_engine ('rt run' in crates/hl7_engine builds it). It answers a
+history first. One in 40 of its messages is accepted; the others are filtered, and take one entry without reserving further ones, so
+that the book has room. Each has a control id of its own, which the book remembers. Once all are acknowledged, batches of 100 messages
+of 676 bytes are written at once, and the program's processor time is read before and after each batch (/proc/PID/schedstat, in
+nanoseconds, the system's share included; the clock if there is no such file). The runs of all lengths take turns. The figure is the
+median of all batches of all runs, with the quartiles.
 
-Where valgrind is installed, the instructions of messages behind all but the longest history are counted by callgrind: those of the
-history with the messages, less those of the history alone, each up to its last acknowledgment. Other work on the machine doesn't
-change these.
+If valgrind is installed, callgrind counts the instructions of messages after all histories but the longest: those of the history with
+the messages, minus those of the history alone, each up to its last acknowledgment. Other work on the machine doesn't change these.
 
-With --quick there are fewer runs, no history of 900,000 entries, and no drawing unless --plot says where. Plain Python 3, no packages.
-The exit status is 0 where each bound is met, else 1.
+With --quick there are fewer runs, no history of 900,000 entries, and no drawing unless --plot gives its path. Plain Python 3, no
+packages. The exit status is 0 if each bound is met, else 1.
 """
 import argparse
 import fcntl
@@ -44,7 +43,7 @@ NO_MORE = 1.1  # instructions at 100,000 entries over those at 1,000
 
 
 class Length(NamedTuple):
-    """A length of history, and what is measured behind it."""
+    """A length of history, and what is measured after it."""
     entries: int
     runs: int  # in each turn
     batches: int  # in each run
@@ -58,7 +57,7 @@ QUICK = [Length(10, 3, 1, 100), Length(1_000, 3, 1, 100), Length(20_000, 1, 5, 0
 
 
 def history(entries):
-    """The blocks of short messages that make this number of entries, some MB at a time."""
+    """Yields the blocks of short messages that add this number of entries, some MB at a time."""
     for first in range(0, entries, 10_000):
         yield b''.join(framed(b'MSH|^~\\&|R|H|E|H|20231114221300||ADT^A01|H%07d|P|2.5.1|||AL|NE\rPV1|1%b\r'
                               % (n, b'' if n % ACCEPTED else b'|I')) for n in range(first, min(first + 10_000, entries)))
@@ -70,7 +69,7 @@ def batch(number):
 
 
 class Answering:
-    """The program that answers a pipe, to which pieces are written."""
+    """The program, which answers a pipe to which pieces are written."""
 
     def __init__(self, bench):
         reads, self._pipe = os.pipe2(os.O_CLOEXEC)
@@ -89,7 +88,7 @@ class Answering:
         os.close(self._pipe)
 
     def write(self, pieces):
-        """Writes pieces to the pipe that the program reads."""
+        """Writes pieces to the pipe from which the program reads."""
         for piece in pieces:
             write_all(self._pipe, piece)
 
@@ -107,7 +106,7 @@ class Answering:
                 count -= piece.count(b'\x1c')
 
     def worked(self):
-        """Its processor time in nanoseconds once it waits for more, the system's share included; None where the system doesn't say."""
+        """Its processor time in nanoseconds once it waits for more, the system's share included; None if the system doesn't show it."""
         path = f'/proc/{self.process.pid}'
         if not os.path.exists(f'{path}/schedstat'):
             return None
@@ -120,8 +119,8 @@ class Answering:
             return int(file.read().split()[0])
 
 
-def batches_behind(bench, length):
-    """Microseconds a message of each batch behind a history: of processor time, and on the clock."""
+def batches_after(bench, length):
+    """The microseconds per message of each batch after a history: of processor time, and on the clock."""
     with Answering(bench) as program:
         feeder = threading.Thread(target=program.write, args=(history(length.entries),), daemon=True)
         feeder.start()
@@ -139,18 +138,18 @@ def batches_behind(bench, length):
     return found
 
 
-def instructions_behind(bench, length):
-    """Instructions a message behind a history, by callgrind."""
+def instructions_after(bench, length):
+    """The instructions per message after a history, by callgrind."""
     tool, pattern, *_ = TOOLS[0]
     command = [*under_valgrind(tool), bench.program, 'answer', bench.plan, '--now', '1700000000']
     before = b''.join(history(length.entries))
     more = b''.join(framed(shorter(n)) for n in range(length.counted))
-    alone, behind = (count_to_acknowledgment(command, stream, tool, pattern) for stream in (before, before + more))
-    return (behind - alone) / length.counted
+    alone, together = (count_to_acknowledgment(command, stream, tool, pattern) for stream in (before, before + more))
+    return (together - alone) / length.counted
 
 
 class Figure(NamedTuple):
-    """What a message costs behind a number of entries: the median and the quartiles of the microseconds, and instructions or None."""
+    """The cost of a message after a number of entries: the median and quartiles of the microseconds, and the instructions or None."""
     entries: int
     median: float
     low: float
@@ -159,45 +158,45 @@ class Figure(NamedTuple):
 
 
 def figure(bench, length, found, turns):
-    """Prints a line for one length of history, from what its batches took."""
+    """Prints a line for one length of history, from the times of its batches, and returns the figure."""
     works, clocks = zip(*found)
     low, median, high = statistics.quantiles(works, n=4, method='inclusive')
     counts = COUNTS and length.counted > 0
-    made = Figure(length.entries, median, low, high, instructions_behind(bench, length) if counts else None)
+    made = Figure(length.entries, median, low, high, instructions_after(bench, length) if counts else None)
     counted = f'; {made.instructions:,.0f} instructions (the mean of {length.counted:,})' if counts else ''
-    bench.tell(f'a message behind {made.entries:>7,} entries: {made.median:.2f} microseconds of processor time (half of {len(works)} '
-               f'batches in {length.runs * turns} runs {made.low:.2f} to {made.high:.2f}), {statistics.median(clocks):.2f} on the '
-               f'clock{counted}')
+    bench.report(f'a message behind {made.entries:>7,} entries: {made.median:.2f} microseconds of processor time (half of {len(works)} '
+                 f'batches in {length.runs * turns} runs {made.low:.2f} to {made.high:.2f}), {statistics.median(clocks):.2f} on the '
+                 f'clock{counted}')
     return made
 
 
 def measured(bench, lengths, turns):
-    """The figures of all lengths of history, whose runs take turns: what else the machine does falls on all of them."""
+    """The figures of all lengths of history, whose runs take turns, so that other work on the machine affects all of them."""
     found = {length: [] for length in lengths}
     for _ in range(turns):
         for length, batches in found.items():
             for _ in range(length.runs):
-                batches += batches_behind(bench, length)
+                batches += batches_after(bench, length)
     return [figure(bench, length, batches, turns) for length, batches in found.items()]
 
 
-# The drawing: two panels side by side, over the entries in a logarithmic scale.
+# The drawing: two panels side by side, with the entries on a logarithmic scale.
 WIDTH, HEIGHT, LEFT, TOP, WIDE, HIGH = 760, 280, 62, 40, 280, 180
 APART = 390
 
 
 def across(entries):
-    """The place of a number of entries on the axis, 1 to 1,000,000, in pixels."""
+    """The position of a number of entries, 1 to 1,000,000, on the axis, in pixels."""
     return math.log10(entries) / 6 * WIDE
 
 
 def text(x, y, words, anchor='middle', size=12, more=''):
-    """Words of the drawing."""
+    """A text in the drawing."""
     return f'<text x="{x:.0f}" y="{y:.0f}" text-anchor="{anchor}" font-size="{size}"{more}>{words}</text>'
 
 
 def axes(left, title, top):
-    """The frame of a panel, its title, and the words and marks of both axes; the vertical one goes from 0 to `top`."""
+    """The frame of a panel, its title, and the labels and ticks of both axes; the vertical one ranges from 0 to `top`."""
     parts = [text(left + WIDE / 2, TOP - 16, title, size=13, more=' font-weight="bold"'),
              text(left + WIDE / 2, TOP + HIGH + 42, 'entries of history before (log scale)'),
              f'<path d="M{left} {TOP}V{TOP + HIGH}H{left + WIDE}" fill="none" stroke="#333"/>']
@@ -213,7 +212,7 @@ def axes(left, title, top):
 
 
 def panel(left, title, points, form):
-    """A panel of points as (entries, value, low, high), with a line through the values and a bar from low to high."""
+    """A panel for points given as (entries, value, low, high), with a line through the values and a bar from low to high."""
     top = nice(1.25 * max(most for *_, most in points))
     parts, line = axes(left, title, top), []
     for entries, value, least, most in points:
@@ -226,7 +225,7 @@ def panel(left, title, points, form):
 
 
 def nice(most):
-    """The next number of one digit, or of one and a half, that is at least this."""
+    """The next round number that is at least this."""
     power = 1.0
     while power < most:
         power *= 10
@@ -247,29 +246,30 @@ def drawn(figures):
 
 
 def bounds(bench, figures):
-    """Prints the longest history over that of 1,000 entries, in microseconds and in instructions."""
+    """Prints the cost after the longest history over that after 1,000 entries, in microseconds and in instructions."""
     short, last = next(one for one in figures if one.entries == 1_000), figures[-1]
     ratio = last.median / short.median
-    bench.tell(f'microseconds behind {last.entries:,} entries over those behind 1,000: {ratio:.2f} (at most {NO_SLOWER})', ratio <= NO_SLOWER)
+    bench.report(f'microseconds behind {last.entries:,} entries over those behind 1,000: {ratio:.2f} (at most {NO_SLOWER})',
+                 ratio <= NO_SLOWER)
     counts = [one for one in figures if one.instructions is not None]
     if counts:
         ratio = counts[-1].instructions / short.instructions
-        bench.tell(f'instructions behind {counts[-1].entries:,} entries over those behind 1,000: {ratio:.3f} (at most {NO_MORE})',
-                   ratio <= NO_MORE)
+        bench.report(f'instructions behind {counts[-1].entries:,} entries over those behind 1,000: {ratio:.3f} (at most {NO_MORE})',
+                     ratio <= NO_MORE)
 
 
 def main():
-    words = argparse.ArgumentParser(description='Measures what a message costs behind longer and longer histories.')
-    words.add_argument('program', metavar='PROGRAM', nargs='?', default=PROGRAM, help='the built program')
-    words.add_argument('--quick', action='store_true', help='fewer runs, and no history of 900,000 entries')
-    words.add_argument('--plot', metavar='PATH', help='where to draw (bench/growth.svg, or nowhere with --quick)')
-    given = words.parse_args()
+    parser = argparse.ArgumentParser(description='Measures what a message costs behind longer and longer histories.')
+    parser.add_argument('program', metavar='PROGRAM', nargs='?', default=PROGRAM, help='the built program')
+    parser.add_argument('--quick', action='store_true', help='fewer runs, and no history of 900,000 entries')
+    parser.add_argument('--plot', metavar='PATH', help='where to draw (bench/growth.svg, or nowhere with --quick)')
+    args = parser.parse_args()
     with tempfile.TemporaryDirectory() as folder:
-        bench = Bench(os.path.abspath(given.program), folder)
-        bench.give_plan(PLAN)
-        figures = measured(bench, *(QUICK, QUICK_TURNS) if given.quick else (LENGTHS, TURNS))
+        bench = Bench(os.path.abspath(args.program), folder)
+        bench.write_plan(PLAN)
+        figures = measured(bench, *(QUICK, QUICK_TURNS) if args.quick else (LENGTHS, TURNS))
         bounds(bench, figures)
-    plot = given.plot or (None if given.quick else PLOT)
+    plot = args.plot or (None if args.quick else PLOT)
     if plot is not None:
         with open(plot, 'w', encoding='utf-8') as file:
             file.write(drawn(figures))

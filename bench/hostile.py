@@ -1,18 +1,18 @@
 #!/usr/bin/env python3
-"""Measures what hostile streams cost `hl7_engine answer`, in instructions a byte, beside the common message of 676 bytes: long runs
-of carriage returns, the shortest segments there may be, fields of a million separators, bytes outside of blocks, start bytes and
-nothing else, blocks that are too long. A byte of each may take at most ten times what a byte of the common message takes.
+"""Measures the cost of hostile streams for `hl7_engine answer`, in instructions per byte, and compares it with the common message of
+676 bytes: long runs of carriage returns, the shortest possible segments, fields of a million separators, bytes outside of blocks,
+start bytes only, blocks that are too long. A byte of each may cost at most ten times as much as a byte of the common message.
 
 Usage: bench/hostile.py [PROGRAM] [--quick]
 
-PROGRAM is the built program, crates/hl7_engine/out/hl7_engine where left out ('rt run' in crates/hl7_engine builds it). Each stream is
-answered in two sizes under valgrind's callgrind, and the difference of the instructions is divided by that of the bytes: so the
-start of the program is left aside. Where valgrind isn't installed it is the difference of the processor times, of longer streams.
-That each stream is what it says is seen by its acknowledgments. With --quick the streams are shorter.
+PROGRAM is the built program, by default crates/hl7_engine/out/hl7_engine ('rt run' in crates/hl7_engine builds it). Each stream is
+answered in two sizes under valgrind's callgrind, and the difference of the instructions is divided by that of the bytes, so that the
+start of the program doesn't count. If valgrind isn't installed, the difference of the processor times is used, with longer streams.
+The acknowledgments show whether a stream was accepted or refused as intended. With --quick the streams are shorter.
 
-A block costs something for itself, however short it is. What the shortest blocks cost a byte is printed too, without a bound.
+Each block has a cost of its own, however short it is. The cost per byte of the shortest blocks is also printed, without a bound.
 
-Plain Python 3, no packages. The exit status is 0 where each bound is met, else 1.
+Plain Python 3, no packages. The exit status is 0 if each bound is met, else 1.
 """
 import argparse
 import os
@@ -26,8 +26,8 @@ from meter import COUNTS, MIB, TIMES, UNIT
 
 DATA_MAX = MIB  # the most bytes of data that a block may hold
 SEGMENTS_MAX = 4_096
-MOST = 10  # times the common message, a byte
-LONGER = 1 if COUNTS else 20  # times as much is answered where only time is measured
+MOST = 10  # a byte of a stream over a byte of the common message
+LONGER = 1 if COUNTS else 20  # the factor by which streams are longer if only time is measured
 
 
 class Stream(NamedTuple):
@@ -39,34 +39,34 @@ class Stream(NamedTuple):
     bounded: bool = True
 
 
-def header(n, sender=b'REGADT', kind=b'ADT^A01^ADT_A01', behind=b''):
+def header(n, sender=b'REGADT', kind=b'ADT^A01^ADT_A01', after=b''):
     """A header segment that the plans accept, with a control id of its own."""
-    return b'MSH|^~\\&|%b|MCM|ENGINE|HUB|20231114221300||%b|MSG%09d|P|2.5.1|||AL|NE%b\r' % (sender, kind, n, behind)
+    return b'MSH|^~\\&|%b|MCM|ENGINE|HUB|20231114221300||%b|MSG%09d|P|2.5.1|||AL|NE%b\r' % (sender, kind, n, after)
 
 
-def filled(front, piece, back=b'', size=DATA_MAX):
-    """A block of `size` bytes of data: what is in front, a piece again and again, and what is at the back."""
-    times, left = divmod(size - len(front) - len(back), len(piece))
-    return framed(front + piece * times + piece[:left] + back)
+def filled(prefix, piece, suffix=b'', size=DATA_MAX):
+    """A block of `size` bytes of data: the prefix, the piece repeated, and the suffix."""
+    times, left = divmod(size - len(prefix) - len(suffix), len(piece))
+    return framed(prefix + piece * times + piece[:left] + suffix)
 
 
-def separators(n, byte, place):
-    """A message of 1,048,576 bytes that is one byte again and again in one place: in a header field, at the header's end, or in a
-    further segment."""
-    fronts = {
+def separators(n, byte, position):
+    """A message of 1,048,576 bytes that repeats one byte at a position: in a header field, at the end of the header, or in a further
+    segment."""
+    templates = {
         'MSH-3': header(n, sender=b'#'),
         'MSH-9': header(n, kind=b'ADT^A01^#'),
-        'MSH': header(n, behind=b'#'),
+        'MSH': header(n, after=b'#'),
         'NTE': header(n) + b'NTE|1||#\r',
         'PID-3': header(n) + b'PID|1||77^^^MCM^MR#||EVERYWOMAN^EVE\rPV1|1|I\r',
     }
-    front, back = fronts[place].split(b'#')
-    return filled(front, byte, back)
+    prefix, suffix = templates[position].split(b'#')
+    return filled(prefix, byte, suffix)
 
 
-def shortest_segments(n, count, name=b'ZZZ', back=()):
-    """A text of this number of segments, all but the first and those at the back of which are a name alone."""
-    return framed(header(n) + (name + b'\r') * (count - 1 - len(back)) + b''.join(segment + b'\r' for segment in back))
+def shortest_segments(n, count, name=b'ZZZ', last=()):
+    """A text of this number of segments: the header, segments that consist of a name only, and the last ones as given."""
+    return framed(header(n) + (name + b'\r') * (count - 1 - len(last)) + b''.join(segment + b'\r' for segment in last))
 
 
 STREAMS = [
@@ -76,7 +76,7 @@ STREAMS = [
     Stream('messages of 4,096 segments of three bytes, accepted', lambda n: shortest_segments(n, SEGMENTS_MAX), 60, 1),
     Stream('texts of 4,097 segments of three bytes, refused', lambda n: shortest_segments(n, SEGMENTS_MAX + 1), 60),
     Stream('texts of 4,096 segments of one byte, refused', lambda n: shortest_segments(n, SEGMENTS_MAX, b'Z'), 120),
-    Stream('texts of 4,096 segments, the last of one byte, refused', lambda n: shortest_segments(n, SEGMENTS_MAX, back=[b'Z']), 60),
+    Stream('texts of 4,096 segments, the last of one byte, refused', lambda n: shortest_segments(n, SEGMENTS_MAX, last=[b'Z']), 60),
     Stream('blocks of 1 MiB of segments of one byte, refused', lambda n: filled(header(n), b'Z\r'), 2),
     Stream('messages with a million field separators in a segment', lambda n: separators(n, b'|', 'NTE'), 2, 1),
     Stream('messages with a million repetition separators in a field', lambda n: separators(n, b'~', 'NTE'), 2, 1),
@@ -92,17 +92,17 @@ STREAMS = [
     Stream('blocks that end badly, of 3 bytes', lambda n: b'\x0b\x1cA', 20_000, bounded=False),
     Stream('refused messages of a header of 9 bytes', lambda n: framed(b'MSH|^~\\&|'), 2_000, bounded=False),
 ]
-# By a plan with four routes, each of which has a filter and three steps on PID and PV1.
+# For a plan with four routes, each of which has a filter and three steps on PID and PV1.
 ROUTED = [
     Stream('messages of 4,096 segments, those that steps change at the end',
-           lambda n: shortest_segments(n, SEGMENTS_MAX, back=[b'PID|1||77^^^MCM', b'PV1|1|I']), 20, 1),
+           lambda n: shortest_segments(n, SEGMENTS_MAX, last=[b'PID|1||77^^^MCM', b'PV1|1|I']), 20, 1),
     Stream('messages with a million repetition separators in PID-3', lambda n: separators(n, b'~', 'PID-3'), 1, 1),
     Stream('messages with a million escape characters in PID-3', lambda n: separators(n, b'\\', 'PID-3'), 1, 1),
 ]
 
 
 def answered(bench, stream, units):
-    """What `answer` takes for the first units of a stream, and how many bytes these are."""
+    """The cost of `answer` for the first units of a stream, and their size in bytes."""
     with open(bench.source, 'wb') as file:
         for n in range(units):
             file.write(stream.made(n))
@@ -116,35 +116,35 @@ def answered(bench, stream, units):
 
 
 def a_byte(bench, stream, quick):
-    """What a byte of a stream takes: instructions, or nanoseconds of processor time where valgrind isn't installed."""
+    """The cost of a byte of a stream: instructions, or nanoseconds of processor time if valgrind isn't installed."""
     few = max(stream.few * LONGER // (8 if quick else 1), 1)
     (fewer, short), (more, long) = answered(bench, stream, few), answered(bench, stream, 2 * few)
     return more.more_than(fewer, long - short).work
 
 
 def measure(bench, plan, by, streams, quick):
-    """Prints what a byte of the common message takes by a plan, and what a byte of each stream takes beside it."""
-    bench.give_plan(plan)
+    """Prints the cost of a byte of the common message with a plan, and the cost of a byte of each stream in comparison."""
+    bench.write_plan(plan)
     common = a_byte(bench, Stream('common', lambda n: framed(shorter(n)), 1_000, 1), quick)
-    bench.tell(f'{by}: the common message of 676 bytes takes {common:.2f} {UNIT} a byte')
+    bench.report(f'{by}: the common message of 676 bytes takes {common:.2f} {UNIT} a byte')
     for stream in streams:
         cost = a_byte(bench, stream, quick)
         line = f'{stream.title}: {cost:.2f} a byte, {cost / common:.2f} times the common message'
         if stream.bounded:
-            bench.tell(f'{line} (at most {MOST})', cost <= MOST * common)
+            bench.report(f'{line} (at most {MOST})', cost <= MOST * common)
         else:
-            bench.tell(f'{line}; {cost * len(stream.made(0)):,.0f} a block')
+            bench.report(f'{line}; {cost * len(stream.made(0)):,.0f} a block')
 
 
 def main():
-    words = argparse.ArgumentParser(description='Measures what hostile streams cost, a byte.')
-    words.add_argument('program', metavar='PROGRAM', nargs='?', default=PROGRAM, help='the built program')
-    words.add_argument('--quick', action='store_true', help='shorter streams')
-    given = words.parse_args()
+    parser = argparse.ArgumentParser(description='Measures what hostile streams cost, a byte.')
+    parser.add_argument('program', metavar='PROGRAM', nargs='?', default=PROGRAM, help='the built program')
+    parser.add_argument('--quick', action='store_true', help='shorter streams')
+    args = parser.parse_args()
     with tempfile.TemporaryDirectory() as folder:
-        bench = Bench(os.path.abspath(given.program), folder)
-        measure(bench, ONE_ATTEMPT, 'one route', STREAMS, given.quick)
-        measure(bench, FOUR_ROUTES, 'four routes with filters and steps', ROUTED, given.quick)
+        bench = Bench(os.path.abspath(args.program), folder)
+        measure(bench, ONE_ATTEMPT, 'one route', STREAMS, args.quick)
+        measure(bench, FOUR_ROUTES, 'four routes with filters and steps', ROUTED, args.quick)
     print(f'cores: {os.cpu_count()}')
     return 1 if bench.missed else 0
 

@@ -4,14 +4,14 @@
 
 Usage: bench/lock.py [PROGRAM] [--quick]
 
-PROGRAM is the built program, crates/hl7_engine/out/hl7_engine where left out ('rt run' in crates/hl7_engine builds it). The senders of
-bench/run.py push, 16 messages unanswered on each connection, and one destination acknowledges all. Meanwhile it is read again and
-again from /proc/PID/task/TID/syscall in which call each serving thread is: the threads that wait in a read of their connection before
-anything is sent. A thread that waits for a lock or a bell is in the call futex, at the address of it. The book's lock is the address
-at which the most threads of the program were seen, serving or delivering; a bell has one thread that waits.
+PROGRAM is the built program, by default crates/hl7_engine/out/hl7_engine ('rt run' in crates/hl7_engine builds it). The senders of
+bench/run.py send with 16 unacknowledged messages on each connection, and one destination acknowledges all. Meanwhile the system call
+of each serving thread is sampled repeatedly from /proc/PID/task/TID/syscall. The serving threads are those that wait in a read of
+their connection before anything is sent. A thread that waits for a lock or a bell is in the call futex, with its address. The book's
+lock is the address at which the most threads of the program were seen, serving or delivering; only one thread waits at a bell.
 
-A share is that of all samples of serving threads. A thread that spins before it sleeps, and one that is to go on and has no processor
-yet, is seen as running; so where other work has the processors, shares say less. With --quick there are fewer messages.
+A share is that of all samples of serving threads. A thread that spins before it sleeps, and one that is ready but has no processor
+yet, are seen as running; so shares mean less if other work uses the processors. With --quick there are fewer messages.
 
 Plain Python 3, no packages; Linux on x86-64. There is no bound: the exit status is 0.
 """
@@ -27,7 +27,7 @@ import time
 
 from run import IN_FLIGHT, PROGRAM, Engine, Server, free_ports, one_channel, send
 
-LIMIT = 120  # the longest that one crowd of senders is sampled, in seconds
+LIMIT = 120  # the longest time for which one crowd of senders is sampled, in seconds
 CONNECTIONS = (1, 8, 64)
 MESSAGES, RUNS = 240_000, 5  # of each run; a book holds 250,000
 MOST_SAMPLES = 200_000  # of one run
@@ -35,14 +35,14 @@ READS, WRITES, FUTEX = {'0', '45', '47'}, {'1', '44', '46'}, '202'  # read, recv
 
 
 class Watch:
-    """The calls that the threads of a program are in, read from /proc/PID/task/TID/syscall, which is kept open for each."""
+    """The system calls of a program's threads, read from /proc/PID/task/TID/syscall, which is kept open for each thread."""
 
     def __init__(self, process):
         self.first = str(process.pid)
         folder = f'/proc/{process.pid}/task'
         self._files = {}
         for thread in os.listdir(folder):
-            with contextlib.suppress(FileNotFoundError):  # it has ended
+            with contextlib.suppress(FileNotFoundError):  # the thread has ended
                 self._files[thread] = os.open(f'{folder}/{thread}/syscall', os.O_RDONLY | os.O_CLOEXEC)
 
     def __enter__(self):
@@ -53,7 +53,7 @@ class Watch:
             os.close(file)
 
     def calls(self):
-        """For each thread the number of the call that it is in, and that call's first argument; ('running', '') where it is in none.
+        """Yields for each thread the number of its system call and the call's first argument, or ('running', '') if it is in none.
         Threads that have ended are left out."""
         for thread, file in self._files.items():
             try:
@@ -64,7 +64,7 @@ class Watch:
 
 
 def watched(engine, connections):
-    """A watch over the program's threads, and those that wait in a read: one for each connection, before anything is sent."""
+    """A watch over the program's threads, and the threads that wait in a read, one for each connection, before anything is sent."""
     until = time.monotonic() + 30
     while time.monotonic() < until:
         watch = Watch(engine.process)
@@ -77,7 +77,7 @@ def watched(engine, connections):
 
 
 class Crowd:
-    """Senders that are connected, and send when they are let go."""
+    """Senders that are connected, and send once `go` is called."""
 
     def __init__(self, port, connections, messages):
         self._go, self._took = multiprocessing.Event(), multiprocessing.Queue()
@@ -98,11 +98,11 @@ class Crowd:
             sender.join(30)
 
     def go(self):
-        """Lets the senders go."""
+        """Starts the senders."""
         self._go.set()
 
     def at_work(self):
-        """Whether none has ended yet: from then on a share would be of a smaller crowd."""
+        """Whether no sender has ended yet. Later samples would be of a smaller crowd."""
         return not multiprocessing.connection.wait([sender.sentinel for sender in self._senders], 0)
 
     def seconds(self):
@@ -112,8 +112,8 @@ class Crowd:
 
 
 def sampled(watch, crowd):
-    """How often each thread was seen in each call, from when it is first seen elsewhere than in a read, which is when its sender has
-    begun, until the first sender has ended. The program's first thread, which waits for the others' ends, is left out."""
+    """The number of times that each thread was seen in each call, from when it is first seen outside of a read, since its sender has
+    begun then, until the first sender has ended. The program's first thread, which waits for the others to end, is left out."""
     seen, begun, until, samples = collections.Counter(), set(), time.monotonic() + LIMIT, 0
     crowd.go()
     while crowd.at_work() and time.monotonic() < until and samples < MOST_SAMPLES:
@@ -126,11 +126,11 @@ def sampled(watch, crowd):
 
 
 def one_run(program, folder, connections, messages):
-    """What was seen of one run: the serving threads, the samples, and messages acknowledged a second."""
+    """The serving threads of one run, its samples, and the messages acknowledged per second."""
     port, = free_ports(1)
     with Server('acknowledged') as sink:
         plan = one_channel(port, [('D0', sink.port, ['attempts = 1'])])
-        # The destination ends first, which has more to receive than is waited for.
+        # The destination is ended first, though it has more to receive: the deliveries aren't waited for.
         with Engine(program, plan, connections, folder) as engine, Crowd(port, connections, messages) as crowd, sink:
             watch, serving = watched(engine, connections)
             with watch:
@@ -140,15 +140,15 @@ def one_run(program, folder, connections, messages):
 
 
 def shares(serving, seen):
-    """The shares of the samples of serving threads: at the lock, at other addresses, in a read, in a write, running, elsewhere; and how
-    many samples these are."""
+    """The number of samples of serving threads at the lock, at other addresses, in a read, in a write, running, and elsewhere."""
     waiting = collections.defaultdict(set)
     for thread, call, argument in seen:
         if call == FUTEX:
             waiting[argument].add(thread)
-    lock = max(waiting, key=lambda place: (len(waiting[place]), sum(seen[thread, FUTEX, place] for thread in waiting[place])), default=None)
+    lock = max(waiting, key=lambda address: (len(waiting[address]), sum(seen[thread, FUTEX, address] for thread in waiting[address])),
+               default=None)
     if lock is not None and len(waiting[lock]) < 2:
-        lock = None  # one thread alone waits there: a bell
+        lock = None  # only one thread waits there: it is a bell
     found = collections.Counter()
     for (thread, call, argument), times in seen.items():
         if thread in serving:
@@ -158,7 +158,7 @@ def shares(serving, seen):
 
 
 def measure(program, folder, connections, messages, runs):
-    """Prints the shares of all samples of this number of connections."""
+    """Prints the shares of all samples for this number of connections."""
     found, rates, least, most = collections.Counter(), [], 1.0, 0.0
     for _ in range(runs):
         serving, seen, rate = one_run(program, folder, connections, messages)
@@ -170,21 +170,21 @@ def measure(program, folder, connections, messages, runs):
     kinds = ('lock', 'other address', 'read', 'write', 'running', 'elsewhere')
     of_all = {kind: 100 * found[kind] / max(found.total(), 1) for kind in kinds}
     busy = 100 * found['lock'] / max(found.total() - found['read'], 1)
-    print(f'connections {connections:>2}: waiting for the lock {of_all["lock"]:.2f} % of the time ({100 * least:.2f} to {100 * most:.2f} in '
-          f'{runs} runs, {found.total():,} samples), {busy:.2f} % of that in which no sender is waited for')
+    print(f'connections {connections:>2}: waiting for the lock {of_all["lock"]:.2f} % of the time ({100 * least:.2f} to {100 * most:.2f} '
+          f'in {runs} runs, {found.total():,} samples), {busy:.2f} % of that in which no sender is waited for')
     print(f'        at another address {of_all["other address"]:.2f} %, reading {of_all["read"]:.1f} %, writing {of_all["write"]:.1f} %, '
           f'running or ready to {of_all["running"]:.1f} %, elsewhere {of_all["elsewhere"]:.1f} %; {min(rates):,.0f} to {max(rates):,.0f} '
           f'messages a second acknowledged', flush=True)
 
 
 def main():
-    words = argparse.ArgumentParser(description='Measures how long connections wait for the lock of the book.')
-    words.add_argument('program', metavar='PROGRAM', nargs='?', default=PROGRAM, help='the built program')
-    words.add_argument('--quick', action='store_true', help='fewer messages')
-    given = words.parse_args()
+    parser = argparse.ArgumentParser(description='Measures how long connections wait for the lock of the book.')
+    parser.add_argument('program', metavar='PROGRAM', nargs='?', default=PROGRAM, help='the built program')
+    parser.add_argument('--quick', action='store_true', help='fewer messages')
+    args = parser.parse_args()
     with tempfile.TemporaryDirectory() as folder:
         for connections in CONNECTIONS:
-            measure(os.path.abspath(given.program), folder, connections, MESSAGES // (10 if given.quick else 1), 1 if given.quick else RUNS)
+            measure(os.path.abspath(args.program), folder, connections, MESSAGES // (10 if args.quick else 1), 1 if args.quick else RUNS)
     print(f'cores: {os.cpu_count()}, load of the last minute: {os.getloadavg()[0]:.1f}')
     return 0
 

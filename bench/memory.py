@@ -1,10 +1,10 @@
 #!/usr/bin/env python3
-"""Measures how many bytes of memory a message takes in the book of the built program, by its size and by how many destinations it
-goes to, for the table of docs/OPERATIONS.md: the peak of `answer` for 20,000 messages, less that for 2,000, a message.
+"""Measures how many bytes of memory a message takes in the book of the built program, by its size and by the number of its
+destinations, for the table in docs/OPERATIONS.md: the peak of `answer` for 20,000 messages minus that for 2,000, per message.
 
 Usage: bench/memory.py [PROGRAM]
 
-PROGRAM is the built program, crates/hl7_engine/out/hl7_engine where left out ('rt run' in crates/hl7_engine builds it).
+PROGRAM is the built program, by default crates/hl7_engine/out/hl7_engine ('rt run' in crates/hl7_engine builds it).
 Plain Python 3, no packages.
 """
 import os
@@ -19,7 +19,7 @@ SIZES, DESTINATIONS = (200, 700, 2_000, 10_000), (1, 2, 4, 8)
 
 
 def plan(destinations, steps):
-    """One channel whose messages go to this number of destinations, changed on the way to each or not."""
+    """A plan of one channel with this number of destinations, each of whose routes has a step if `steps` is true."""
     text = ''.join(f'[[destination]]\nname = "D{n}"\naddress = "127.0.0.1:1"\n' for n in range(destinations))
     text += '[[channel]]\nname = "C"\nlisten = "127.0.0.1:0"\ntypes = ["ADT"]\nprocessing = ["P"]\nversions = ["2.5.1"]\n'
     change = 'steps = [{ set = ["MSH-5", "X"] }]\n' if steps else ''

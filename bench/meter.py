@@ -1,8 +1,8 @@
-"""What one run of a program takes: its instructions and its system calls, as valgrind's callgrind counts them. Other work on the
-machine doesn't change these. Where valgrind isn't installed it is the processor time in nanoseconds, the system's share included, and
-no system calls; a measure then takes the least of several runs.
+"""The cost of one run of a program: its instructions and its system calls, as counted by valgrind's callgrind. Other work on the
+machine doesn't change these. If valgrind isn't installed, it is the processor time in nanoseconds, the system's share included, without
+system calls; a measurement then takes the lowest cost of several runs.
 
-For bench/cuts.py, bench/growth.py, bench/hostile.py, bench/run.py and bench/twins.py; it has no command line of its own.
+Used by bench/cuts.py, bench/growth.py, bench/hostile.py, bench/run.py and bench/twins.py; it has no command line of its own.
 """
 import fcntl
 import os
@@ -15,27 +15,27 @@ import threading
 import time
 from typing import NamedTuple
 
-LIMIT = 600  # the longest that one run may last, in seconds
-IDLE = 0.6  # seconds without work after which a program under valgrind has nothing left to do
+LIMIT = 600  # the longest time that one run may take, in seconds
+IDLE = 0.6  # seconds without work after which a program under valgrind is considered idle
 MIB = 1024 * 1024
 COUNTS = shutil.which('valgrind') is not None
 UNIT = 'instructions' if COUNTS else 'nanoseconds of processor time'
 UNDER = ['valgrind', '--tool=callgrind', '--callgrind-out-file=/dev/null', '--collect-systime=yes'] if COUNTS else []
-TIMES = 1 if COUNTS else 5  # runs of which a measure takes the least
+TIMES = 1 if COUNTS else 5  # runs of which a measurement takes the lowest cost
 
 
 class Taken(NamedTuple):
-    """Instructions (nanoseconds where valgrind isn't installed) and system calls."""
+    """Instructions (nanoseconds if valgrind isn't installed) and system calls."""
     work: float
     calls: float
 
     def more_than(self, other, number):
-        """What this run took more than another one, divided by a number of bytes, messages or reads."""
+        """The cost of this run minus that of another one, divided by a number of bytes, messages or reads."""
         return Taken((self.work - other.work) / number, (self.calls - other.calls) / number)
 
 
 def counted(lines, seconds):
-    """What callgrind printed in these lines; the processor seconds where there is no valgrind."""
+    """The counts that callgrind printed in these lines; without valgrind the processor seconds."""
     if not COUNTS:
         return Taken(1e9 * seconds, 0)
     found = re.search(r'Collected : ([0-9]+) ([0-9]+)', lines)
@@ -45,15 +45,15 @@ def counted(lines, seconds):
 
 
 def seconds_of(process):
-    """Processor seconds of a process that runs."""
+    """The processor seconds of a running process."""
     with open(f'/proc/{process.pid}/stat', encoding='utf-8') as file:
         words = file.read().rsplit(') ', 1)[1].split()
     return (int(words[11]) + int(words[12])) / os.sysconf('SC_CLK_TCK')
 
 
 def instructions_so_far(process, out):
-    """The instructions of a program until now, once it has nothing left to do. It runs under callgrind, with `out` as its
-    `--callgrind-out-file`. Only what is counted before the first such call is returned by it."""
+    """The instructions of a program until now, once it is idle. It runs under callgrind, with `out` as its `--callgrind-out-file`.
+    It can be called once for each program, since it reads callgrind's first dump."""
     before = -1
     while before != (now := seconds_of(process)):
         before = now
@@ -65,7 +65,7 @@ def instructions_so_far(process, out):
 
 
 def children_seconds():
-    """Processor seconds of all processes that this one has waited for."""
+    """The processor seconds of all processes that this one has waited for."""
     usage = resource.getrusage(resource.RUSAGE_CHILDREN)
     return usage.ru_utime + usage.ru_stime
 
@@ -78,8 +78,8 @@ def write_all(pipe, piece):
 
 
 def taken(command, source, sink, feed=None):
-    """What a program takes that reads `source`, an open file or pipe, and writes to the file at `sink`. `feed`, where it is given,
-    is called once the program runs. The program is killed at the limit, and has to end with status 0."""
+    """The cost of a program that reads `source`, an open file or pipe, and writes to the file at `sink`. `feed`, if it is given, is
+    called once the program runs. The program is killed at the limit, and has to end with status 0."""
     with open(sink, 'wb') as out, tempfile.TemporaryFile() as lines:
         child = subprocess.Popen([*UNDER, *command], stdin=source, stdout=out, stderr=lines)
         limit = threading.Timer(LIMIT, child.kill)
@@ -102,19 +102,19 @@ def taken(command, source, sink, feed=None):
 
 
 def from_file(command, path, sink):
-    """What a program takes to read a file to its end."""
+    """The cost of a program that reads a file to its end."""
     with open(path, 'rb') as source:
         return taken(command, source, sink)
 
 
 def from_pipe(command, pieces, sink, packets):
-    """What a program takes to read pieces from a pipe that holds 1 MiB. With `packets` each read brings exactly one piece, of at most
-    4,096 bytes; without it a read brings what is there."""
+    """The cost of a program that reads pieces from a pipe of 1 MiB. With `packets` each read returns exactly one piece, of at most
+    4,096 bytes; without it a read returns what is available."""
     reads, writes = os.pipe2(os.O_CLOEXEC | (os.O_DIRECT if packets else 0))
     fcntl.fcntl(writes, fcntl.F_SETPIPE_SZ, MIB)
 
     def feed():
-        """Writes the pieces, and ends the pipe."""
+        """Writes the pieces, and closes the pipe."""
         nonlocal writes, reads
         os.close(reads)
         reads = None

@@ -3,13 +3,13 @@
 
 Usage: bench/pruning.py [PROGRAM]
 
-PROGRAM is the built crate bench_parts, crates/bench_parts/out/bench_parts where left out ('rt run' in crates/bench_parts
-builds it). It books messages and cancels each, two entries a message, until there is no room for one more, and then prunes:
-ten times over, the longest pruning has to take less than SECONDS, and places and numbers have to go on counting. A pruning
-is to be linear in what it folds and in what remains: its nanoseconds a message may grow at most by LINEAR, from a tenth of a
-full book to a full one, where all are forgotten and where all but one in ten remain. The memory of the messages that are
-forgotten is used again: ten times over, the program may take at most AGAIN times the memory that it takes for one. The exit
-status is 0 where the bounds are met, else 1.
+PROGRAM is the built crate bench_parts, by default crates/bench_parts/out/bench_parts ('rt run' in crates/bench_parts
+builds it). It books messages and cancels each, two entries per message, until there is no room for another one, and then
+prunes. This is done ten times: the longest pruning has to take less than SECONDS, and the positions of entries and the numbers
+of messages have to continue. A pruning has to be linear in what it folds and in what remains: the nanoseconds per message of a
+full book may be at most LINEAR times those of a tenth of it, both if all messages are forgotten and if all but one in ten
+remain. The memory of forgotten messages is used again: for ten rounds the program may take at most AGAIN times the memory that
+it takes for one. The exit status is 0 if the bounds are met, else 1.
 """
 import os
 import subprocess
@@ -17,7 +17,7 @@ import sys
 
 HERE = os.path.dirname(os.path.abspath(__file__))
 PROGRAM = os.path.join(HERE, '..', 'crates', 'bench_parts', 'out', 'bench_parts')
-FULL = 499_999  # messages of two entries each, where the last still needs room for its arrival and three entries more
+FULL = 499_999  # messages of two entries each; the last one needs room for its arrival and three further entries
 TIMES = 10
 RUNS = 3
 SECONDS = 1.0
@@ -27,14 +27,15 @@ MIB = 1024 * 1024
 
 
 def folded(program, messages, times, kept):
-    """The nanoseconds of the longest of so many prunings, and the most memory that the run took, in bytes."""
+    """The nanoseconds of the longest of `times` prunings, and the peak memory of the run in bytes."""
     child = subprocess.Popen([program, 'foldings', str(messages), str(times), str(kept), '--time'], stdout=subprocess.PIPE, text=True)
     lines = child.stdout.read().splitlines()
     _, status, usage = os.wait4(child.pid, 0)
     child.returncode = os.waitstatus_to_exitcode(status)
     assert child.returncode == 0, lines
-    told = [f'{times} foldings of {messages} messages, {kept} kept', f'next place {2 * messages * times}, next message {messages * times}']
-    assert lines[:2] == told, lines
+    expected = [f'{times} foldings of {messages} messages, {kept} kept',
+                f'next place {2 * messages * times}, next message {messages * times}']
+    assert lines[:2] == expected, lines
     return int(lines[2].split()[1]), usage.ru_maxrss * 1024
 
 

@@ -1,14 +1,14 @@
 #!/usr/bin/env python3
-"""Measures the built program under `run`: messages a second from many connections into the book and out to destinations,
-beside a plain echo and a plain sender that tell the limits of the senders and destinations used, beside `answer` on the
-same messages, and beside an engine of a few lines over python3-hl7; an idle engine's processor time, and its memory with
-many connections.
+"""Measures the built program under `run`: messages per second from many connections into the book and out to destinations, compared
+with a plain echo and a plain sender, which show the limits of the senders and destinations used; with `answer` on the same
+messages; and with an engine of a few lines on top of python3-hl7. Also an idle engine's processor time, and its memory with many
+connections.
 
 Usage: bench/run.py [PROGRAM] [--messages N] [--idle N]
 
-PROGRAM is the built program, crates/hl7_engine/out/hl7_engine where left out ('rt run' in crates/hl7_engine builds it).
-Plain Python 3, no packages; python3-hl7 is measured where the system's Python has it. Senders, destinations and the echo
-are processes of their own. A line with a bound ends with ok or MISSED; the exit status is 0 where every bound is met.
+PROGRAM is the built program, by default crates/hl7_engine/out/hl7_engine ('rt run' in crates/hl7_engine builds it).
+Plain Python 3, no packages; python3-hl7 is measured if the system's Python has it. Senders, destinations and the echo
+are processes of their own. A line with a bound ends with ok or MISSED; the exit status is 0 if every bound is met.
 """
 import argparse
 import asyncio
@@ -39,7 +39,7 @@ def numbered(connection, number):
 
 
 def send(port, connection, number, in_flight, ready, go, took):
-    """Sends so many messages on one connection, so many unanswered at a time."""
+    """Sends `number` messages on one connection, `in_flight` of them at a time, and puts the start and end times into `took`."""
     batches = [b''.join(numbered(connection, n) for n in range(at, min(at + in_flight, number)))
                for at in range(0, number, in_flight)]
     with socket.create_connection(('127.0.0.1', port)) as peer:
@@ -59,7 +59,7 @@ def send(port, connection, number, in_flight, ready, go, took):
 
 
 def sent(port, connections, messages, in_flight=IN_FLIGHT):
-    """The times of the first send and of the last acknowledgment, and how many messages were sent."""
+    """The times of the first send and of the last acknowledgment, and the number of messages sent."""
     ready, go, took = multiprocessing.Semaphore(0), multiprocessing.Event(), multiprocessing.Queue()
     each = messages // connections
     crowd = [multiprocessing.Process(target=send, args=(port, number, each, in_flight, ready, go, took), daemon=True)
@@ -89,7 +89,7 @@ def acknowledged(text):
 
 
 def parsed(text):
-    """What an engine over python3-hl7 does at the least: parse, and make an acknowledgment."""
+    """The least that an engine on top of python3-hl7 does: it parses a message and creates an acknowledgment."""
     import hl7
     return block(str(hl7.parse(text.decode()).create_ack('CA')).encode())
 
@@ -98,7 +98,7 @@ SERVERS = {'echoed': echoed, 'acknowledged': acknowledged, 'parsed': parsed}
 
 
 def serve(reply_to, port):
-    """Answers each block that comes on any connection, in plain asyncio."""
+    """Answers each block received on any connection, in plain asyncio."""
     async def talk(reader, writer):
         held = b''
         while piece := await reader.read(65_536):
@@ -133,22 +133,22 @@ class Server:
 
 
 def engine_rates(program, folder, connections, destinations, messages):
-    """Messages a second that were acknowledged, and that were delivered to all destinations."""
+    """The messages per second that were acknowledged, and those that were delivered to all destinations."""
     sinks, port = [Server('acknowledged') for _ in range(destinations)], free_ports(1)[0]
-    places = [(f'D{place}', sink.port, ['attempts = 1']) for place, sink in enumerate(sinks)]
-    with Engine(program, one_channel(port, places), connections, folder) as engine:
-        began, told, number = sent(port, connections, messages)
+    peers = [(f'D{index}', sink.port, ['attempts = 1']) for index, sink in enumerate(sinks)]
+    with Engine(program, one_channel(port, peers), connections, folder) as engine:
+        began, last_acknowledged, number = sent(port, connections, messages)
         status, counts = engine.ended(300)
         ended = time.monotonic()
     for sink in sinks:
         sink.__exit__()
-    if status != 0 or any(counts['destination', name]['delivered'] != number for name, _, _ in places):
+    if status != 0 or any(counts['destination', name]['delivered'] != number for name, _, _ in peers):
         raise RuntimeError(f'{status} {counts} {engine.warnings()[-5:]}')
-    return number / (told - began), number / (ended - began)
+    return number / (last_acknowledged - began), number / (ended - began)
 
 
 def answer_rate(program, folder, messages):
-    """Messages a second that `answer` acknowledges, from standard input to standard output."""
+    """The messages per second that `answer` acknowledges, from standard input to standard output."""
     plan, stream = os.path.join(folder, 'plan.toml'), b''.join(numbered(0, n) for n in range(messages))
     with open(plan, 'w', encoding='utf-8') as file:
         file.write(one_channel(6660, [('D0', 6661, ['attempts = 1'])]))
@@ -161,7 +161,7 @@ def answer_rate(program, folder, messages):
 
 
 def idle_share(program, folder):
-    """The share of a core that an engine takes with one connection, four destinations and nothing to do."""
+    """The share of a core that an engine uses with one connection, four destinations and nothing to do."""
     port, *ports = free_ports(5)
     with Engine(program, one_channel(port, [(f'D{n}', at, []) for n, at in enumerate(ports)]), 1, folder) as engine:
         with socket.create_connection(('127.0.0.1', port)):
@@ -171,9 +171,10 @@ def idle_share(program, folder):
             return (seconds_of(engine.process) - before) / 10
 
 
-def counted(program, folder, messages, tool, told):
-    """The number that a tool of valgrind prints of an engine that has received this many messages, all for one destination;
-    and under callgrind the instructions until the last of them was settled, before the book is closed and audited."""
+def counted(program, folder, messages, tool, pattern):
+    """The number that a valgrind tool prints for an engine that has received this number of messages, all for one destination,
+    found by a pattern; and under callgrind the instructions until the last message was settled, before the book is closed and
+    audited."""
     out = os.path.join(folder, f'callgrind.{os.path.basename(program)}.{messages}')
     under = ['valgrind', f'--tool={tool}', *([f'--callgrind-out-file={out}'] if tool == 'callgrind' else [])]
     port, = free_ports(1)
@@ -189,18 +190,18 @@ def counted(program, folder, messages, tool, told):
             status, counts = engine.ended(300)
     if status != 0 or counts['destination', 'D0']['delivered'] != messages:
         raise RuntimeError(f'{status} {counts}')
-    return int(re.search(told, '\n'.join(engine.told)).group(1).replace(',', '')), settled
+    return int(re.search(pattern, '\n'.join(engine.log)).group(1).replace(',', '')), settled
 
 
 def measure_work(program, folder):
-    """What a message costs from its block to its delivery's settlement, without the system's share; and with its share of the
-    end, where the book is closed, audited and released."""
+    """Prints the cost of a message from its block to the settlement of its delivery, without the system's share; and the cost with
+    its share of the end, when the book is closed, audited and released."""
     if shutil.which('valgrind') is None:
         print('valgrind is not installed: no instructions and no requests for memory of a message')
         return
     few, many = COUNTED
-    for tool, told, what, _ in TOOLS:
-        (all_few, settled_few), (all_many, settled_many) = (counted(program, folder, n, tool, told) for n in (few, many))
+    for tool, pattern, what, _ in TOOLS:
+        (all_few, settled_few), (all_many, settled_many) = (counted(program, folder, n, tool, pattern) for n in (few, many))
         each = f'{(all_many - all_few) / (many - few):,.1f} {what} a message of 676 bytes'
         if settled_few is not None:
             each = (f'{(settled_many - settled_few) / (many - few):,.1f} {what} a message of 676 bytes until it is settled, and '
@@ -209,7 +210,7 @@ def measure_work(program, folder):
 
 
 def measure(program, folder, messages, idle):
-    """Prints a line for each figure, and gives whether each bound is met."""
+    """Prints a line for each figure, and returns whether each bound is met."""
     met, limits, rates = [], {}, {}
 
     def bound(text, is_met):
@@ -227,17 +228,17 @@ def measure(program, folder, messages, idle):
     print(f'answer: {alone:,.0f} messages a second, from a file into a file')
     for destinations in (1, 4):
         for connections in (1, 8, 64):
-            told, out = rates[connections, destinations] = engine_rates(program, folder, connections, destinations, messages)
-            print(f'run, {connections:>2} connections, {destinations} destinations: {told:>7,.0f} messages a second '
-                  f'acknowledged, {told / limits[connections]:.2f} of what the senders can; {out:>7,.0f} delivered to all', flush=True)
-    told = rates[8, 1][0]
-    bound(f'run with 8 connections over answer: {told / alone:.2f} (at least a third, or 0.7 of what the senders can)',
-          told >= alone / 3 or told >= 0.7 * limits[8])
+            into, out = rates[connections, destinations] = engine_rates(program, folder, connections, destinations, messages)
+            print(f'run, {connections:>2} connections, {destinations} destinations: {into:>7,.0f} messages a second '
+                  f'acknowledged, {into / limits[connections]:.2f} of what the senders can; {out:>7,.0f} delivered to all', flush=True)
+    eight = rates[8, 1][0]
+    bound(f'run with 8 connections over answer: {eight / alone:.2f} (at least a third, or 0.7 of what the senders can)',
+          eight >= alone / 3 or eight >= 0.7 * limits[8])
     if not subprocess.run([SYSTEM_PYTHON, '-c', 'import hl7'], capture_output=True).returncode:
         with Server('parsed', SYSTEM_PYTHON) as stock:
             other = rate(stock.port, 8, min(messages, 4_000))
-        bound(f'an asyncio engine over python3-hl7, 8 connections: {other:,.0f} messages a second; run {told / other:.1f} '
-              'times as many (at least 10, or 0.7 of what the senders can)', told >= 10 * other or told >= 0.7 * limits[8])
+        bound(f'an asyncio engine over python3-hl7, 8 connections: {other:,.0f} messages a second; run {eight / other:.1f} '
+              'times as many (at least 10, or 0.7 of what the senders can)', eight >= 10 * other or eight >= 0.7 * limits[8])
     else:
         print('python3-hl7 is not installed: left out')
     measure_work(program, folder)
@@ -250,16 +251,16 @@ def measure(program, folder, messages, idle):
 
 
 def main():
-    words = argparse.ArgumentParser()
-    words.add_argument('program', nargs='?', default=PROGRAM)
-    words.add_argument('--messages', type=int, default=20_000)
-    words.add_argument('--idle', type=int, default=9_999)
-    words.add_argument('--serve', nargs=2, help=argparse.SUPPRESS)
-    asked = words.parse_args()
-    if asked.serve:
-        return serve(SERVERS[asked.serve[0]], int(asked.serve[1]))
+    parser = argparse.ArgumentParser()
+    parser.add_argument('program', nargs='?', default=PROGRAM)
+    parser.add_argument('--messages', type=int, default=20_000)
+    parser.add_argument('--idle', type=int, default=9_999)
+    parser.add_argument('--serve', nargs=2, help=argparse.SUPPRESS)
+    args = parser.parse_args()
+    if args.serve:
+        return serve(SERVERS[args.serve[0]], int(args.serve[1]))
     with tempfile.TemporaryDirectory() as folder:
-        return 0 if measure(os.path.abspath(asked.program), folder, asked.messages, asked.idle) else 1
+        return 0 if measure(os.path.abspath(args.program), folder, args.messages, args.idle) else 1
 
 
 if __name__ == '__main__':

@@ -1,13 +1,13 @@
 #!/usr/bin/env python3
-"""Measures the built service under load, over loopback: its memory while messages go through a book of few entries, the rates in
-the first and the last tenth, the longest wait for an acknowledgment, its processor time with nothing to do, and the time of
+"""Measures the built service under load, over loopback: its memory while messages go through a book with few entries, the rates in
+the first and the last part, the longest wait for an acknowledgment, its processor time with nothing to do, and the time for
 one message beside busy connections. The service runs with MALLOC_ARENA_MAX=1, unless that is set otherwise.
 
 Usage: bench/service.py [PROGRAM] [--messages N] [--senders N] [--busy N]
 
-PROGRAM is the built service, crates/hl7_service/out/hl7_service where left out ('rt run' in crates/hl7_service builds it).
+PROGRAM is the built service, by default crates/hl7_service/out/hl7_service ('rt run' in crates/hl7_service builds it).
 Plain Python 3, no packages. Senders and the destination are processes of their own. A line with a bound ends with ok or
-MISSED; the exit status is 0 where every bound is met.
+MISSED; the exit status is 0 if every bound is met.
 """
 import argparse
 import multiprocessing
@@ -28,7 +28,7 @@ TENTHS = 10
 
 
 def send(port, name, number, waits):
-    """Sends so many messages, so many unanswered at a time, each piece again until it is acknowledged; the longest wait."""
+    """Sends `number` messages, IN_FLIGHT of them at a time, and puts the longest wait for their acknowledgments into `waits`."""
     longest = 0.0
     with socket.create_connection(('127.0.0.1', port)) as peer:
         peer.setsockopt(socket.IPPROTO_TCP, socket.TCP_NODELAY, 1)
@@ -49,7 +49,7 @@ def send(port, name, number, waits):
 
 
 def receive(port, ready):
-    """A destination that answers each message as soon as it has come."""
+    """A destination that answers each message as soon as it is received."""
     with socket.create_server(('127.0.0.1', port)) as listener:
         ready.set()
         while True:
@@ -70,20 +70,20 @@ def take(peer):
 
 
 def resident(process):
-    """Resident memory in bytes."""
+    """The resident memory of a process in bytes."""
     with open(f'/proc/{process.pid}/statm', encoding='ascii') as file:
         return int(file.read().split()[1]) * os.sysconf('SC_PAGE_SIZE')
 
 
 def processor(process):
-    """Processor seconds so far."""
+    """The processor seconds of a process so far."""
     with open(f'/proc/{process.pid}/stat', encoding='ascii') as file:
         words = file.read().rsplit(')', 1)[1].split()
     return (int(words[11]) + int(words[12])) / os.sysconf('SC_CLK_TCK')
 
 
 def delivered(service):
-    """How many messages were delivered, and how many are remembered."""
+    """The number of delivered messages, and the number of messages that the book remembers."""
     lines = service.ask('status')
     counts = next(line.split() for line in lines if line.startswith('destination '))
     book = next(line.split() for line in lines if line.startswith('book '))
@@ -91,7 +91,7 @@ def delivered(service):
 
 
 class Bounds:
-    """Prints figures, and keeps whether each bound is met."""
+    """Prints figures, and records whether every bound is met."""
 
     def __init__(self):
         self.met = True
@@ -108,7 +108,7 @@ class Bounds:
 
 
 def through(program, folder, messages, senders, bounds):
-    """Sends messages through a book of 60,000 entries, and looks at each tenth."""
+    """Sends messages through a book with 60,000 entries, and measures each tenth of them."""
     port, to = free_ports(2)
     ready, waits = multiprocessing.Event(), multiprocessing.Queue()
     peer = multiprocessing.Process(target=receive, args=(to, ready), daemon=True)
@@ -126,14 +126,16 @@ def through(program, folder, messages, senders, bounds):
             done, remembered = delivered(service)
             while len(tenths) < TENTHS and done >= (len(tenths) + 1) * messages // TENTHS:
                 tenths.append((time.monotonic() - began, resident(service.process), done, remembered))
-                print(f'tenth {len(tenths)}: {done} delivered after {tenths[-1][0]:.1f} s, {tenths[-1][1] / 1e6:.1f} MB, {remembered} remembered', flush=True)
+                print(f'tenth {len(tenths)}: {done} delivered after {tenths[-1][0]:.1f} s, {tenths[-1][1] / 1e6:.1f} MB, '
+                      f'{remembered} remembered', flush=True)
             if not any(client.is_alive() for client in clients) and not waits.qsize():
                 break
         longest = max(waits.get(timeout=60) for _ in clients)
         service.ask('stop')
         status, lines = service.ended(120)
     peer.kill()
-    print(f'{messages / tenths[-1][0]:.0f} messages a second through, status {status}, longest wait for {IN_FLIGHT} acknowledgments {longest * 1000:.0f} ms')
+    print(f'{messages / tenths[-1][0]:.0f} messages a second through, status {status}, '
+          f'longest wait for {IN_FLIGHT} acknowledgments {longest * 1000:.0f} ms')
     memory = [size for _, size, _, _ in tenths[1:]]
     bounds.at_most('resident memory, greatest over least from the second tenth on', max(memory) / min(memory), 1.1)
     first, last = tenths[1][2] / tenths[1][0], (tenths[-1][2] - tenths[-3][2]) / (tenths[-1][0] - tenths[-3][0])
@@ -142,7 +144,7 @@ def through(program, folder, messages, senders, bounds):
 
 
 def idle(program, folder, bounds):
-    """Processor time with 64 places and 32 destinations, and nothing to do."""
+    """Measures the processor time with 64 connections allowed, 32 destinations, and nothing to do."""
     ports = free_ports(33)
     names = [(f'D{n}', port, []) for n, port in enumerate(ports[1:])]
     text = plan([('ADT', ports[0], [(name, None, None) for name, _, _ in names])], names)
@@ -151,11 +153,11 @@ def idle(program, folder, bounds):
         begun = processor(service.process)
         time.sleep(20)
         used = (processor(service.process) - begun) / 20
-    bounds.at_most('of a core with 64 places, 32 destinations and nothing to do', used * 100, 1.0, ' %')
+    bounds.at_most('of a core with 64 connections allowed, 32 destinations and nothing to do', used * 100, 1.0, ' %')
 
 
 def beside(program, folder, busy):
-    """The time of one message at a time beside busy connections."""
+    """Measures the time for one message at a time beside busy connections."""
     port, to = free_ports(2)
     ready, waits, times = multiprocessing.Event(), multiprocessing.Queue(), []
     peer = multiprocessing.Process(target=receive, args=(to, ready), daemon=True)
@@ -187,18 +189,18 @@ def beside(program, folder, busy):
 
 
 def main():
-    words = argparse.ArgumentParser()
-    words.add_argument('program', nargs='?', default=PROGRAM)
-    words.add_argument('--messages', type=int, default=2_000_000)
-    words.add_argument('--senders', type=int, default=8)
-    words.add_argument('--busy', type=int, default=64)
-    asked = words.parse_args()
+    parser = argparse.ArgumentParser()
+    parser.add_argument('program', nargs='?', default=PROGRAM)
+    parser.add_argument('--messages', type=int, default=2_000_000)
+    parser.add_argument('--senders', type=int, default=8)
+    parser.add_argument('--busy', type=int, default=64)
+    args = parser.parse_args()
     os.environ.setdefault('MALLOC_ARENA_MAX', '1')  # as examples/service/hl7-service.service has it
-    program, bounds = os.path.abspath(asked.program), Bounds()
+    program, bounds = os.path.abspath(args.program), Bounds()
     with tempfile.TemporaryDirectory() as folder:
-        through(program, folder, asked.messages, asked.senders, bounds)
+        through(program, folder, args.messages, args.senders, bounds)
         idle(program, folder, bounds)
-        beside(program, folder, asked.busy)
+        beside(program, folder, args.busy)
     return 0 if bounds.met else 1
 
 

@@ -3,10 +3,10 @@
 
 Usage: bench/text.py [PROGRAM]
 
-PROGRAM is the built crate bench_parts, crates/bench_parts/out/bench_parts where left out ('rt run' in
-crates/bench_parts builds it). Each work is done so many times on messages of 10, 100 and 4,096
-segments; the time of a byte at 4,096 segments has to be at most three times that at 100, which a
-quadratic cost would pass by far. The exit status is 0 where it is, else 1.
+PROGRAM is the built crate bench_parts, by default crates/bench_parts/out/bench_parts ('rt run' in
+crates/bench_parts builds it). Each operation is repeated on messages of 10, 100 and 4,096 segments.
+The time per byte at 4,096 segments may be at most three times that at 100, which a quadratic cost would
+exceed by far. The exit status is 0 if it is, else 1.
 """
 import os
 import subprocess

@@ -1,19 +1,19 @@
 #!/usr/bin/env python3
-"""Measures the built program beside twins in Rust without proofs, on the same messages in one run: bench/twins/plain.rs and
-bench/twins/tuned.rs do what `answer` does, plainly and by hand for speed, and bench/twins/threaded.rs what `run` does. First it
-compares what they write.
+"""Compares the built program with twins in Rust without proofs, on the same messages in one run. bench/twins/plain.rs and
+bench/twins/tuned.rs do what `answer` does, written plainly and tuned by hand for speed, and bench/twins/threaded.rs does what `run`
+does. First their output is compared, then their cost is measured.
 
 Usage: bench/twins.py [--program PROGRAM] [--quick] [--times N]
 
-PROGRAM is the built program, crates/hl7_engine/out/hl7_engine where left out ('rt run' in crates/hl7_engine builds it). The twins
-are built by rustc, in a folder of their own; where there is no rustc nothing is measured ('apt-get install rustc'). Instructions
-and requests for memory are counted by valgrind, where it is installed: of N and of 2N messages, the difference divided, so that
-the start of a program is left aside. They are counted until the last acknowledgment is written, when the program is ended by a
-signal, and once more to its own end, with what it gives back of its book. Times are the best of N runs (`--times`, by default 3), in
-which the programs take turns, beside the median of the turns' ratios; `--quick` makes one run of few messages, which shows that
-everything works.
+PROGRAM is the built program, by default crates/hl7_engine/out/hl7_engine ('rt run' in crates/hl7_engine builds it). The twins are
+built by rustc, in a directory of their own; if there is no rustc, nothing is measured ('apt-get install rustc'). Instructions and
+memory requests are counted by valgrind, if it is installed: for N and for 2N messages, and the difference is divided by N, so that
+the start of a program doesn't count. They are counted until the last acknowledgment is written, when the program is ended by a
+signal, and once more to the program's own end, including the release of its book. Times are the best of N runs (`--times`, by
+default 3), in which the programs take turns, with the median of the ratios of all turns; `--quick` makes one run of few messages,
+which shows that everything works.
 
-Plain Python 3, no packages. The exit status is 0 where the programs write the same, else 1.
+Plain Python 3, no packages. The exit status is 0 if the programs write the same output, else 1.
 """
 import argparse
 import multiprocessing
@@ -41,28 +41,28 @@ from mllp import Destination, free_ports  # noqa: E402
 TWINS = ('plain', 'tuned', 'threaded')
 COLUMNS = ('engine', *TWINS)
 NOW = '1700000000'
-LIMIT = 600  # the longest wait for anything, in seconds
+LIMIT = 600  # the longest wait for any step, in seconds
 CONNECTIONS = 8
 ONCE = '--once'
-# The plan of the twins' word --filtered.
+# The plan for the twins' option --filtered.
 FILTERED = ONE_ATTEMPT.replace('[[channel.route]]', 'filter = { exists = "PV1-2" }\n[[channel.route]]')
 
 
 def with_channels(plan, steps, ports, to='LAB'):
-    """A plan with further channels at these ports, each of which has steps; none is for the messages that are sent."""
+    """The plan with further channels at these ports, each with this number of steps. No message is sent to these channels."""
     listed = ',\n'.join(f'  {{ set = ["PV1-{1 + n % 50}.{1 + n // 50}", "{n}"] }}' for n in range(steps))
     return plan + ''.join(
         f'[[channel]]\nname = "C{c}"\nlisten = "127.0.0.1:{port}"\ntypes = ["ADT"]\nprocessing = ["P"]\nversions = ["2.5.1"]\n'
         f'steps = [\n{listed}\n]\n[[channel.route]]\nto = "{to}"\n' for c, port in enumerate(ports))
 
 
-# The plan of a hospital, and the largest: the messages come on the one channel without steps.
+# The plan of a hospital, and the largest plan: the messages are received on the one channel without steps.
 HOSPITAL = '20 channels, 15 steps in 19', with_channels(ONE_ATTEMPT, 15, range(7_000, 7_019))
 LARGEST = '64 channels, 256 steps in 63', with_channels(ONE_ATTEMPT, 256, range(7_000, 7_063))
 
 
 def built(folder):
-    """The paths of the twins by their names, once rustc has built them; None where there is no rustc."""
+    """Builds the twins with rustc, and returns their paths by name; None if there is no rustc."""
     if shutil.which('rustc') is None:
         return None
     paths = {name: os.path.join(folder, name) for name in TWINS}
@@ -75,14 +75,14 @@ def built(folder):
 
 
 class Table:
-    """Rows with a figure for each program."""
+    """A table whose rows have a figure for each program."""
 
     def __init__(self):
         print(f'\n{"":<66}' + ''.join(f'{name:>12}' for name in COLUMNS) + '   the engine over', flush=True)
 
     def row(self, title, figures, form=',.0f', small=None, turns=None):
-        """A row, with the engine's figure over each twin's, or over the engine's own by the small plan. Where the figures are the
-        best of several turns, the median of the turns' ratios is in parentheses."""
+        """Prints a row, with the ratio of the engine's figure to each twin's, or to the engine's own with the small plan. If the
+        figures are the best of several turns, the median of the turns' ratios is added in parentheses."""
         cells = ''.join(f'{format(figures[name], form) if name in figures else "":>12}' for name in COLUMNS)
         others = {name: figures[name] for name in TWINS if name in figures} if small is None else {'the small plan': small}
         shown = [name for name, other in others.items() if 'engine' in figures and re.search('[1-9]', format(other, form))]
@@ -94,7 +94,7 @@ class Table:
 
 
 class Programs:
-    """The engine and its twins, and how each is called for `answer`."""
+    """The engine and its twins, and their command lines for `answer`."""
 
     def __init__(self, engine, twins, folder):
         self.paths = {'engine': engine, **twins}
@@ -108,13 +108,13 @@ class Programs:
         return path
 
     def answering(self, name, plan=ONE_ATTEMPT, *words):
-        """The command line of a program that answers by a plan; a twin has its plan, with its filter or without, in itself."""
+        """The command line of a program that answers with a plan. A twin has its plan built in, with the filter or without."""
         if name == 'engine':
             return [self.paths[name], 'answer', self.file('plan.toml', plan.encode()), '--now', NOW, *words]
         return [self.paths[name], '--now', NOW, *(['--filtered'] if plan == FILTERED else []), *words]
 
 
-# What the programs write
+# The output of the programs
 
 
 def text(control_id, kind=b'ADT^A01^ADT_A01', processing=b'P', version=b'2.5.1', modes=(b'AL', b'NE'), rest=b'PID|1||77\rPV1|1|I\r'):
@@ -124,7 +124,7 @@ def text(control_id, kind=b'ADT^A01^ADT_A01', processing=b'P', version=b'2.5.1',
 
 
 def mode_texts():
-    """Each pair of MSH-15 and MSH-16: accepted, without PV1-2, refused, repeated, and again with other bytes."""
+    """Yields texts for each pair of MSH-15 and MSH-16: accepted, without PV1-2, refused, repeated, and repeated with other bytes."""
     for n, modes in enumerate((a, b) for a in MODES for b in MODES):
         yield text(b'A%d' % n, modes=modes)
         yield text(b'F%d' % n, modes=modes, rest=b'PID|1||77\rPV1|1\r')
@@ -140,7 +140,7 @@ MODES = (b'', b'""', b'AL', b'NE', b'ER', b'SU', b'XX')
 
 
 def refused_texts():
-    """Headers of all kinds: what is refused, an acknowledgment, and headers that end early."""
+    """Yields texts with headers of all kinds: refused ones, acknowledgments, and headers that end early."""
     for n, kind in enumerate((b'', b'""', b'ADT', b'ADT^', b'ADT^""', b'ADT^A01~ORU^R01', b'^A01', b'ACK', b'ACK^A01^ACK', b'adt^A01')):
         yield text(b'K%d' % n, kind=kind)
     for n, processing in enumerate((b'', b'""', b'D', b'T', b'P^A', b'P~D', b'PP')):
@@ -157,7 +157,7 @@ def refused_texts():
 
 
 def other_texts():
-    """Segments, delimiters and ends of all kinds."""
+    """Yields texts with segments, delimiters and ends of all kinds."""
     yield from (b'', b'\r', b'\r\n\r', b'MSH', b'MSH|', b'MSH|^~\\', b'PID|1\r', b'\nMSH|^~\\&|A\r')
     for n, rest in enumerate((b'PV1||I', b'\r\r\nPV1||I\r', b'\nPV1||I\r\n', b'\n\nPV1||I\r', b'PV1\r', b'PV1||""\r', b'PV1||\r',
                               b'pv1||I\r', b'1V1||I\r', b'PV\r', b'PV1^||I\r', b'MSH|^~\\&\r', b'PV1||O\rPV1||I\r', b'PV2||I\r',
@@ -174,7 +174,7 @@ def other_texts():
 
 
 def whole_stream():
-    """Blocks of all these texts, and bytes between and within blocks that break them."""
+    """The blocks of all these texts, and bytes between and within blocks that break them."""
     blocks = [framed(one) for one in (*mode_texts(), *refused_texts(), *other_texts())]
     limit, head = 1_048_576, text(b'LONG')
     longest = [framed(head + b'NTE|' + b'x' * (limit + more - len(head) - 5) + b'\r') for more in (0, 1, 40_000)]
@@ -184,7 +184,7 @@ def whole_stream():
 
 
 def replied(command, stream, folder):
-    """What a program writes for a stream that it reads from a file."""
+    """The output of a program for a stream that it reads from a file."""
     path = os.path.join(folder, 'stream')
     with open(path, 'wb') as file:
         file.write(stream)
@@ -193,7 +193,7 @@ def replied(command, stream, folder):
 
 
 def replied_to_pieces(command, pieces):
-    """What a program writes for a stream of which each read brings one piece."""
+    """The output of a program for a stream of which each read returns one piece."""
     reads, writes = os.pipe2(os.O_DIRECT)
     with subprocess.Popen(command, stdin=reads, stdout=subprocess.PIPE) as child:
         os.close(reads)
@@ -209,7 +209,7 @@ def replied_to_pieces(command, pieces):
 
 
 def cut(stream):
-    """The stream in pieces of 1 to 200 bytes."""
+    """The stream, cut into pieces of 1 to 200 bytes."""
     chance, at, pieces = random.Random(7), 0, []
     while at < len(stream):
         pieces.append(stream[at:at + chance.randint(1, chance.choice((1, 20, 200)))])
@@ -218,7 +218,7 @@ def cut(stream):
 
 
 def compared(what, found):
-    """Prints whether the programs wrote the same, and where not."""
+    """Prints whether the programs wrote the same, and the first difference if they didn't; returns whether they did."""
     engine, same = found['engine'], True
     for name, got in found.items():
         if got != engine:
@@ -231,9 +231,9 @@ def compared(what, found):
 
 
 def compare_answers(programs):
-    """The acknowledgments of `answer` and of its twins, byte for byte, by two plans, in a small book and in pieces."""
+    """Compares the acknowledgments of `answer` and its twins, byte for byte, with two plans, with a small book, and in pieces."""
     stream, names, same = whole_stream(), ('engine', 'plain', 'tuned'), []
-    # A filtered message is acknowledged as an accepted one, but leaves more room in a small book.
+    # A filtered message is acknowledged like an accepted one, but takes less room in a small book.
     for title, plan in (('the small plan', ONE_ATTEMPT), ('one with a filter', FILTERED)):
         for events in ('1000000', '300'):
             found = {name: replied(programs.answering(name, plan, '--events', events), stream, programs.folder) for name in names}
@@ -246,17 +246,17 @@ def compare_answers(programs):
 
 
 def served(program, folder):
-    """What `run` acknowledges without the stamps, what it sends, and what it prints, for one sender and one destination."""
+    """The acknowledgments of `run` without their timestamps, its deliveries, and its counts, for one sender and one destination."""
     codes = {b'1': (b'AE', b'AA'), b'2': (b'AR',), b'3': (b'CE', b'CE'), b'4': (b'CR',), b'5': (b'AE', b'CA')}
 
-    def told(one, before):
+    def respond(one, before):
         given = codes.get(one.split(b'|')[9][-1:], (b'AA',))
         return given[min(before, len(given) - 1)]
 
     texts = [text(b'%d' % n, kind=(b'ADT^A01', b'ADT^A08', b'ORU^R01')[n % 5 % 3], modes=(MODES[n % 7], b'AL')) for n in range(150)]
     texts = [one for one in texts if b'|NE|AL' in one or b'||AL' in one or b'|AL|AL' in one or b'|XX|AL' in one or b'"|AL' in one]
     port, = free_ports(1)
-    destination = Destination(told)
+    destination = Destination(respond)
     plan = one_channel(port, [('LAB', destination.port, ['attempts = 2', 'interval = 0'])])
     try:
         with Engine(program, plan, 1, folder) as engine:
@@ -270,20 +270,20 @@ def served(program, folder):
     finally:
         destination.close()
     replies = re.sub(rb'\|\d{14}\+0000\|', b'|STAMP|', replies).split(b'\x1c\r')
-    return [*replies, *destination.came, status, *sorted(counts.items())]
+    return [*replies, *destination.received, status, *sorted(counts.items())]
 
 
 def compare_runs(programs):
-    """What `run` and its twin acknowledge, send and count, the stamps of the acknowledgments aside."""
+    """Compares the acknowledgments, deliveries and counts of `run` and its twin, without the timestamps of the acknowledgments."""
     return compared('acknowledgments, deliveries and counts of run',
                     {name: served(programs.paths[name], programs.folder) for name in ('engine', 'threaded')})
 
 
-# What a message takes
+# The cost of a message
 
 
-def count_to_acknowledgment(command, stream, tool, told):
-    """The number that a tool of valgrind prints of a program that is ended once it has acknowledged all of a stream."""
+def count_to_acknowledgment(command, stream, tool, pattern):
+    """The number that a valgrind tool prints, found by a pattern, for a program that is ended once it has acknowledged a stream."""
     with tempfile.TemporaryFile() as lines:
         child = subprocess.Popen(command, stdin=subprocess.PIPE, stdout=subprocess.PIPE, stderr=lines)
         feeder = threading.Thread(target=lambda: (child.stdin.write(stream), child.stdin.flush()), daemon=True)
@@ -305,42 +305,42 @@ def count_to_acknowledgment(command, stream, tool, told):
         printed = lines.read().decode(errors='replace')
     if left != 0:
         raise RuntimeError(f'not all messages were acknowledged: {printed}')
-    return int(re.search(told, printed).group(1).replace(',', ''))
+    return int(re.search(pattern, printed).group(1).replace(',', ''))
 
 
-def count_to_end(command, stream, folder, told):
-    """The same of a program that reads to the end of the stream."""
+def count_to_end(command, stream, folder, pattern):
+    """The same number for a program that reads to the end of the stream."""
     path = os.path.join(folder, 'stream')
     with open(path, 'wb') as file:
         file.write(stream)
     with open(path, 'rb') as fed:
         ran = subprocess.run(command, stdin=fed, stdout=subprocess.DEVNULL, stderr=subprocess.PIPE, check=True, timeout=LIMIT)
-    return int(re.search(told, ran.stderr.decode(errors='replace')).group(1).replace(',', ''))
+    return int(re.search(pattern, ran.stderr.decode(errors='replace')).group(1).replace(',', ''))
 
 
 def under_valgrind(tool):
     return ['valgrind', f'--tool={tool}', *(['--callgrind-out-file=/dev/null'] if tool == 'callgrind' else ['--leak-check=no'])]
 
 
-def a_message(command, count, tool, told, folder, to_end=False):
-    """What one message more takes, of so many and of twice as many."""
+def a_message(command, count, tool, pattern, folder, to_end=False):
+    """The cost of a message: the difference between `count` messages and twice as many, divided by `count`."""
     found = []
     for messages in (count, 2 * count):
         stream = b''.join(framed(shorter(n)) for n in range(messages))
         words = under_valgrind(tool) + command
-        found.append(count_to_end(words, stream, folder, told) if to_end else count_to_acknowledgment(words, stream, tool, told))
+        found.append(count_to_end(words, stream, folder, pattern) if to_end else count_to_acknowledgment(words, stream, tool, pattern))
     return (found[1] - found[0]) / count
 
 
 def measure_work(programs, table, count, quick):
-    """Instructions and requests for memory of a message of 676 bytes with one destination."""
+    """Measures the instructions and memory requests of a message of 676 bytes with one destination."""
     if shutil.which('valgrind') is None:
         print('valgrind is not installed: no instructions and no requests for memory')
         return
     names = [name for name in ('engine', 'plain', 'tuned') if name != 'engine' or not programs.checked]
-    for tool, told, what, _ in TOOLS:
+    for tool, pattern, what, _ in TOOLS:
         def taken(name, plan, messages=count, to_end=False):
-            return a_message(programs.answering(name, plan), messages, tool, told, programs.folder, to_end)
+            return a_message(programs.answering(name, plan), messages, tool, pattern, programs.folder, to_end)
         small = {name: taken(name, ONE_ATTEMPT) for name in names}
         table.row(f'answer, the small plan: {what}', small, ',.1f')
         if tool == 'callgrind' and not quick:
@@ -352,14 +352,14 @@ def measure_work(programs, table, count, quick):
 
 
 def measure_run_work(programs, table, count):
-    """The same for `run`, from the message's block to the settlement of its delivery."""
+    """Measures the same for `run`, from the message's block to the settlement of its delivery."""
     if shutil.which('valgrind') is None:
         return
     names = [name for name in ('engine', 'threaded') if name != 'engine' or not programs.checked]
-    for tool, told, what, _ in TOOLS:
+    for tool, pattern, what, _ in TOOLS:
         found, settled = {}, {}
         for name in names:
-            few, many = (loopback.counted(programs.paths[name], programs.folder, n, tool, told) for n in (count, 2 * count))
+            few, many = (loopback.counted(programs.paths[name], programs.folder, n, tool, pattern) for n in (count, 2 * count))
             found[name] = (many[0] - few[0]) / count
             settled[name] = (many[1] - few[1]) / count if tool == 'callgrind' else None
         if tool == 'callgrind':
@@ -367,11 +367,11 @@ def measure_run_work(programs, table, count):
         table.row(f'run, one connection, one destination: {what}{", with the end" if tool == "callgrind" else ""}', found, ',.1f')
 
 
-# How long it takes
+# Times
 
 
 def once(source, sink, *command):
-    """Runs a program on a file; prints seconds on the clock, processor seconds, and peak memory in bytes."""
+    """Runs a program on a file; prints its seconds on the clock, processor seconds and peak memory in bytes, and returns its status."""
     with open(source, 'rb') as fed, open(sink, 'wb') as got:
         began = time.perf_counter()
         child = os.posix_spawn(command[0], command, {}, file_actions=[
@@ -383,22 +383,22 @@ def once(source, sink, *command):
 
 
 def timed(programs, name, source):
-    """The three figures of one run, from a small process: a child's peak memory counts what its parent held when it was made."""
+    """The three figures of one run, measured by a small process: a child's peak memory includes what its parent had at its creation."""
     command = [sys.executable, os.path.abspath(__file__), ONCE, source, os.path.join(programs.folder, 'sink'), *programs.answering(name)]
     ran = subprocess.run(command, check=True, capture_output=True, text=True, timeout=LIMIT)
     return tuple(map(float, ran.stdout.split()))
 
 
 def measure_time(programs, table, messages, times):
-    """The time of `answer` and of its twins for the same messages, in turn."""
+    """Measures the time of `answer` and its twins for the same messages, in turn."""
     source = programs.file('messages', b''.join(framed(shorter(n)) for n in range(messages)))
     runs = {name: [] for name in ('engine', 'plain', 'tuned')}
     for _ in range(times):
         for name, of in runs.items():
             of.append(timed(programs, name, source))
     size = os.path.getsize(source)
-    for place, (title, form) in enumerate((('seconds on the clock', '.3f'), ('processor seconds', '.3f'))):
-        turns = {name: [figures[place] for figures in of] for name, of in runs.items()}
+    for index, (title, form) in enumerate((('seconds on the clock', '.3f'), ('processor seconds', '.3f'))):
+        turns = {name: [figures[index] for figures in of] for name, of in runs.items()}
         best = {name: min(of) for name, of in turns.items()}
         table.row(f'answer, {messages:,} messages: {title}, best of {times}', best, form, turns=turns)
     beside = {name: (max(figures[2] for figures in of) - size) / messages for name, of in runs.items()}
@@ -406,7 +406,7 @@ def measure_time(programs, table, messages, times):
 
 
 class Receiver:
-    """The destination of both: the twin's, a process of its own."""
+    """The destination for both programs: the twin's, as a process of its own."""
 
     def __init__(self, program):
         self.port, = free_ports(1)
@@ -427,7 +427,7 @@ class Receiver:
 
 
 def sent(port, connections, messages):
-    """The times of the first send and of the last acknowledgment, by the senders of bench/run.py."""
+    """The times of the first send and of the last acknowledgment, with the senders of bench/run.py."""
     ready, go, took = multiprocessing.Semaphore(0), multiprocessing.Event(), multiprocessing.Queue()
     words = (messages // connections, loopback.IN_FLIGHT, ready, go, took)
     crowd = [multiprocessing.Process(target=loopback.send, args=(port, number, *words), daemon=True) for number in range(connections)]
@@ -446,7 +446,7 @@ def sent(port, connections, messages):
 
 
 class Worked(threading.Thread):
-    """Looks at the processor seconds of a process until it ends."""
+    """Reads the processor seconds of a process until it ends."""
 
     def __init__(self, process):
         super().__init__(daemon=True)
@@ -463,32 +463,33 @@ class Worked(threading.Thread):
 
 
 def rates(programs, name, messages):
-    """Messages a second that were acknowledged, and that were delivered to one destination, and processor microseconds a message."""
+    """The messages acknowledged per second, those delivered per second, and the processor microseconds per message."""
     port, = free_ports(1)
     with Receiver(programs.paths['threaded']) as sink:
         plan = one_channel(port, [('D0', sink.port, ['attempts = 1'])])
         with Engine(programs.paths[name], plan, CONNECTIONS, programs.folder) as engine:
             worked = Worked(engine.process)
-            began, told = sent(port, CONNECTIONS, messages)
+            began, last_acknowledged = sent(port, CONNECTIONS, messages)
             status, counts = engine.ended(LIMIT)
             ended = time.monotonic()
     if status != 0 or counts['destination', 'D0']['delivered'] != messages:
-        raise RuntimeError(f'{name}: {status} {counts} {engine.told[-5:]}')
-    return messages / (told - began), messages / (ended - began), 1e6 * worked.seconds / messages
+        raise RuntimeError(f'{name}: {status} {counts} {engine.log[-5:]}')
+    return messages / (last_acknowledged - began), messages / (ended - began), 1e6 * worked.seconds / messages
 
 
 def largest_rate(programs, messages):
-    """Messages a second that the engine acknowledges by the largest plan; it is ended then, since no one connects to the others."""
+    """The messages per second that the engine acknowledges with the largest plan. It is killed then, since its other channels get no
+    connections."""
     port, *ports = free_ports(64)
     with Receiver(programs.paths['threaded']) as sink:
         plan = with_channels(one_channel(port, [('D0', sink.port, ['attempts = 1'])]), 256, ports, 'D0')
         with Engine(programs.paths['engine'], plan, CONNECTIONS, programs.folder):
-            began, told = sent(port, CONNECTIONS, messages)
-    return messages / (told - began)
+            began, last_acknowledged = sent(port, CONNECTIONS, messages)
+    return messages / (last_acknowledged - began)
 
 
 def measure_rates(programs, table, messages, times):
-    """The rates of `run` and of its twin, and of `run` by the largest plan, in turn."""
+    """Measures the rates of `run` and its twin, and of `run` with the largest plan, in turn."""
     runs, largest = {name: [] for name in ('engine', 'threaded')}, []
     for _ in range(times):
         for name, of in runs.items():
@@ -496,8 +497,8 @@ def measure_rates(programs, table, messages, times):
         if not programs.checked:
             largest.append(largest_rate(programs, messages))
     rows = (('acknowledged a second', max, ',.0f'), ('delivered a second', max, ',.0f'), ('processor microseconds a message', min, ',.1f'))
-    for place, (title, pick, form) in enumerate(rows):
-        turns = {name: [figures[place] for figures in of] for name, of in runs.items()}
+    for index, (title, pick, form) in enumerate(rows):
+        turns = {name: [figures[index] for figures in of] for name, of in runs.items()}
         best = {name: pick(of) for name, of in turns.items()}
         table.row(f'run, {CONNECTIONS} connections: {title}, best of {times}', best, form, turns=turns)
     if largest:
@@ -524,22 +525,22 @@ def measure(programs, quick, times):
 
 
 def main():
-    words = argparse.ArgumentParser(description='Measures the built program beside twins in Rust without proofs.')
-    words.add_argument('--program', default=PROGRAM, help='the built program')
-    words.add_argument('--quick', action='store_true', help='one run of few messages')
-    words.add_argument('--times', type=int, default=3, help='how many runs a time is the best of')
-    asked = words.parse_args()
+    parser = argparse.ArgumentParser(description='Measures the built program beside twins in Rust without proofs.')
+    parser.add_argument('--program', default=PROGRAM, help='the built program')
+    parser.add_argument('--quick', action='store_true', help='one run of few messages')
+    parser.add_argument('--times', type=int, default=3, help='how many runs a time is the best of')
+    args = parser.parse_args()
     socket.setdefaulttimeout(LIMIT)
-    if not os.path.exists(asked.program):
-        print(f'there is no program {asked.program}: ./build hl7_engine')
+    if not os.path.exists(args.program):
+        print(f'there is no program {args.program}: ./build hl7_engine')
         return 1
     with tempfile.TemporaryDirectory() as folder:
         twins = built(folder)
         if twins is None:
             print('rustc is not installed: nothing is measured (apt-get install rustc)')
             return 0
-        programs = Programs(os.path.abspath(asked.program), twins, folder)
-        return 0 if measure(programs, asked.quick, 1 if asked.quick else asked.times) else 1
+        programs = Programs(os.path.abspath(args.program), twins, folder)
+        return 0 if measure(programs, args.quick, 1 if args.quick else args.times) else 1
 
 
 if __name__ == '__main__':

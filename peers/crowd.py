@@ -1,11 +1,11 @@
-"""Many senders through three channels to four destinations, all at once, and all that comes out of it."""
+"""Many senders through three channels to four destinations at the same time: acknowledgments, deliveries, their order, and counts."""
 import re
 import time
 
 from engine import Engine, channel_counts, destination_counts, plan
 from mllp import HANG_UP, SILENCE, Destination, Sender, field, free_ports, message
 
-# A channel's routes: a destination, its condition as the plan has it, the same here, and whether MSH-5 is changed on the way.
+# The routes of each channel: the destination, its condition as in the plan, the same condition in Python, and whether a step sets MSH-5.
 ROUTES = {
     'EAST': [('UP', '{ equals = ["PV1-2", "I"] }', lambda text: field(text, b'PV1', 2) == b'I', False),
              ('SILENT', None, lambda text: True, True)],
@@ -15,9 +15,9 @@ ROUTES = {
               ('SILENT', '{ exists = "PID-3" }', lambda text: field(text, b'PID', 3) != b'', False)],
 }
 CHANGE = '{ set = ["MSH-5", "HERE"] }'
-# How often each message comes to a destination.
+# How often each destination receives each message.
 TIMES = {'UP': 1, 'AGAIN': 3, 'REJECTS': 1, 'SILENT': 1}
-# The message, counted from 0, on which UP hangs up once in place of an answer.
+# The message, counted from 0, on which UP hangs up once instead of answering.
 HUNG_UP = 150
 STAMP = re.compile(rb'\d{14}\+0000')
 
@@ -27,8 +27,8 @@ def changed(text):
 
 
 def destinations():
-    """UP is down at first, and hangs up once; AGAIN has to be asked three times; REJECTS answers a few bytes at a time."""
-    up = Destination(lambda text, before: HANG_UP if len(up.came) == HUNG_UP + 1 and not before else b'AA', up=False)
+    """UP is down at first, and hangs up once; AGAIN accepts a message at the third attempt; REJECTS answers a few bytes at a time."""
+    up = Destination(lambda text, before: HANG_UP if len(up.received) == HUNG_UP + 1 and not before else b'AA', up=False)
     return {'UP': up, 'AGAIN': Destination(lambda text, before: b'AE' if before < 2 else b'AA'),
             'REJECTS': Destination(lambda text, before: b'AR', slice_size=7),
             'SILENT': Destination(lambda text, before: SILENCE)}
@@ -44,22 +44,22 @@ def plan_of(ports, peers):
 
 
 def senders(ports, accept, messages):
-    """So many senders for each channel, by channel. The last of each send garbage, a byte at a time, or hang up in the
-    middle of a block, once by a reset."""
+    """The senders, `accept` for each channel, as pairs of channel and sender. Of each channel's last four, one sends garbage
+    first, one sends a byte at a time, and two hang up in the middle of a block, one of them by a reset."""
     crowd = []
     for number in range(3 * accept):
-        channel, place = list(ROUTES)[number % 3], accept - 1 - number // 3
+        channel, index = list(ROUTES)[number % 3], accept - 1 - number // 3
         texts = [message(b'%d-%d' % (number, n), ward=b'IOE'[n % 3:][:1], patient=b'' if n % 10 == 7 else b'77^^^H')
-                 for n in range(messages if place > 3 else min(messages, 8))]
-        odd = [{'behind': b'\x0bMSH|^~\\&|REG'}, {'behind': b'\x0bMSH|^~\\&|REG', 'resets': True}, {'slice_size': 1},
+                 for n in range(messages if index > 3 else min(messages, 8))]
+        odd = [{'after': b'\x0bMSH|^~\\&|REG'}, {'after': b'\x0bMSH|^~\\&|REG', 'resets': True}, {'slice_size': 1},
                {'before': b'GET / HTTP/1.1\r\n\r\n\x1c\r\x0bMSH|\x0b\x1cx\x0b\x1c\r\x0bHELLO\x1c\r'}]
-        how = odd[place] if place < 4 else {'in_flight': 1 + number % 16}
+        how = odd[index] if index < 4 else {'in_flight': 1 + number % 16}
         crowd.append((channel, Sender(ports[number % 3], texts, **how)))
     return crowd
 
 
 def wrong_acknowledgments(crowd, accept):
-    """Each connection's acknowledgments have to be these bytes, moments aside, in the order of its messages."""
+    """The wrong acknowledgments. Apart from timestamps, each connection's have to be these bytes, in the order of its messages."""
     lines, taken = [], set()
     for channel, sender in crowd:
         if sender.fault:
@@ -80,7 +80,7 @@ def wrong_acknowledgments(crowd, accept):
 
 
 def wanted_of(crowd):
-    """By destination, the text that has to come for each control id; by channel, its counts."""
+    """For each destination the expected text by control id; and for each channel its expected counts."""
     wanted, counts = {name: {} for name in TIMES}, {}
     for channel in ROUTES:
         texts = [text for name, sender in crowd if name == channel for text in sender.texts]
@@ -94,76 +94,77 @@ def wanted_of(crowd):
     return wanted, counts
 
 
-def wrong_deliveries(name, came, wanted):
-    """A destination has to get each message byte for byte and as often as it asks for, none between two attempts at one."""
-    ids, lines = [field(text, b'MSH', 10) for text in came], []
+def wrong_deliveries(name, received, wanted):
+    """What is wrong with a destination's messages. It has to get each one byte for byte and as often as TIMES says, with no other
+    message between two attempts at the same one."""
+    ids, lines = [field(text, b'MSH', 10) for text in received], []
     firsts = list(dict.fromkeys(ids))
-    if (others := [text for key, text in zip(ids, came) if wanted.get(key) != text]):
+    if (others := [text for key, text in zip(ids, received) if wanted.get(key) != text]):
         lines.append(f'{name} got {len(others)} texts that were not for it, the first is {others[0]}')
     if (lost := set(wanted) - set(firsts)):
         lines.append(f'{name} did not get {len(lost)} of {len(wanted)} messages, one is {min(lost)}')
     hung_up = [firsts[HUNG_UP]] if name == 'UP' and len(firsts) > HUNG_UP else []
-    due = [key for key in firsts for _ in range(TIMES[name] + (key in hung_up))]
-    if ids != due:
-        at = next((n for n, (g, w) in enumerate(zip(ids, due)) if g != w), min(len(ids), len(due)))
-        lines.append(f'{name} got {ids[at:at + 3]} as text {at} of {len(ids)}, not {due[at:at + 3]} of {len(due)}')
+    expected = [key for key in firsts for _ in range(TIMES[name] + (key in hung_up))]
+    if ids != expected:
+        at = next((n for n, (g, w) in enumerate(zip(ids, expected)) if g != w), min(len(ids), len(expected)))
+        lines.append(f'{name} got {ids[at:at + 3]} as text {at} of {len(ids)}, not {expected[at:at + 3]} of {len(expected)}')
     return lines
 
 
 def wrong_orders(peers, crowd):
-    """All destinations have to get their messages in one order of acceptance: that of each connection, and what was
-    acknowledged before another message was sent stands before that one."""
+    """What is wrong with the order of deliveries. All destinations have to get their messages in the same order. It keeps the
+    order of each connection, and a message that was acknowledged before another one was sent comes before that one."""
     sent, answered, lines = {}, {}, []
     for _, sender in crowd:
         ids = [field(text, b'MSH', 10) for text in sender.texts]
         sent.update(zip(ids, sender.sent))
         answered.update(zip(ids, sender.answered))
-    order = {name: {key: n for n, key in enumerate(dict.fromkeys(field(text, b'MSH', 10) for text in peer.came))}
+    order = {name: {key: n for n, key in enumerate(dict.fromkeys(field(text, b'MSH', 10) for text in peer.received))}
              for name, peer in peers.items()}
-    for name, places in order.items():
+    for name, positions in order.items():
         for _, sender in crowd:
-            got = [places[key] for key in (field(text, b'MSH', 10) for text in sender.texts) if key in places]
+            got = [positions[key] for key in (field(text, b'MSH', 10) for text in sender.texts) if key in positions]
             if got != sorted(got):
                 lines.append(f'{name} got messages of one connection out of order')
                 break
         earliest = float('inf')
-        for key in reversed(places):
+        for key in reversed(positions):
             if sent.get(key, 0) > earliest:
                 lines.append(f'{name} got {key} before a message that was acknowledged before it was sent')
                 break
             earliest = min(earliest, answered.get(key, earliest))
         for other, others in order.items():
-            got = [others[key] for key in places if key in others]
+            got = [others[key] for key in positions if key in others]
             if got != sorted(got):
                 lines.append(f'{name} and {other} got their common messages in two orders')
     return lines
 
 
 def wrong_counts(counts, channels, wanted):
-    lines = [f'channel {name}: {counts.get(("channel", name))}, not {due}' for name, due in channels.items()
-             if counts.get(('channel', name)) != due]
+    lines = [f'channel {name}: {counts.get(("channel", name))}, not {expected}' for name, expected in channels.items()
+             if counts.get(('channel', name)) != expected]
     for name, texts in wanted.items():
         got, all_of = counts.get(('destination', name), {}), len(texts)
-        due = destination_counts(0 if name == 'REJECTS' else all_of, failed=all_of if name == 'REJECTS' else 0,
-                                 attempts=TIMES[name] * all_of)
+        expected = destination_counts(0 if name == 'REJECTS' else all_of, failed=all_of if name == 'REJECTS' else 0,
+                                      attempts=TIMES[name] * all_of)
         if name == 'UP':
             # At least one attempt failed while it was down. Where it hung up, the message was sent again within the attempt.
-            due['attempts'] = max(got.get('attempts', 0), all_of + 1)
-        if got != due:
-            lines.append(f'destination {name}: {got}, not {due}')
+            expected['attempts'] = max(got.get('attempts', 0), all_of + 1)
+        if got != expected:
+            lines.append(f'destination {name}: {got}, not {expected}')
     return lines
 
 
 def many_senders(program, folder, number, messages):
-    """Many senders on three channels, four destinations: one is down at first and hangs up once, one has to be asked three
-    times, one rejects, and one doesn't acknowledge. Each accepted message comes to each destination that its channel names,
-    byte for byte, in one order of acceptance; acknowledgments and counts are those that are due."""
+    """Many senders on three channels, and four destinations: one is down at first and hangs up once, one accepts at the third
+    attempt, one rejects, and one doesn't acknowledge. Each accepted message is delivered to each destination that its channel
+    routes it to, byte for byte, in the same order everywhere; acknowledgments and counts are as expected."""
     peers, ports, accept = destinations(), free_ports(3), -(-number // 3) + 4
     crowd = senders(ports, accept, messages)
     with Engine(program, plan_of(ports, peers), accept, folder) as engine:
         for _, sender in crowd:
             sender.start()
-        # All of WEST goes to UP, so that it was asked for in vain a while after the first acknowledgment there.
+        # All messages of WEST go to UP, so a while after the first acknowledgment of WEST an attempt has failed.
         deadline = time.monotonic() + 60
         while not any(sender.replies for name, sender in crowd if name == 'WEST') and time.monotonic() < deadline:
             time.sleep(0.05)
@@ -175,16 +176,16 @@ def many_senders(program, folder, number, messages):
     wanted, channels = wanted_of(crowd)
     # What is written to a destination that doesn't acknowledge may still be on its way.
     deadline = time.monotonic() + 10
-    while len(peers['SILENT'].came) < len(wanted['SILENT']) and time.monotonic() < deadline:
+    while len(peers['SILENT'].received) < len(wanted['SILENT']) and time.monotonic() < deadline:
         time.sleep(0.05)
     for peer in peers.values():
         peer.close()
     lines = [] if status == 0 else [f'the status is {status}: {engine.warnings()[-5:]}']
     lines += wrong_acknowledgments(crowd, accept)
     for name, peer in peers.items():
-        lines += wrong_deliveries(name, peer.came, wanted[name])
+        lines += wrong_deliveries(name, peer.received, wanted[name])
     lines += wrong_orders(peers, crowd)
     lines += wrong_counts(counts, channels, wanted)
-    if any('77^^^H' in line or '20231114221300' in line for line in engine.told):
-        lines.append('a line on standard error has content of a message')
+    if any('77^^^H' in line or '20231114221300' in line for line in engine.log):
+        lines.append('a line on standard error contains part of a message')
     return lines

@@ -1,4 +1,4 @@
-"""The built program under `run`: its plan, its lines and its counts."""
+"""The built program, started with `run`: its plan, its log lines and its counts."""
 import os
 import re
 import subprocess
@@ -9,14 +9,14 @@ PROGRAM = os.path.join(os.path.dirname(os.path.abspath(__file__)), '..', 'crates
 
 
 def checks_accesses(program):
-    """Whether a program checks each of its memory accesses when it runs, as './build --unproved' makes it: it is slower then, and
-    takes more memory."""
+    """Whether a program checks each of its memory accesses at run time, as one built by './build --unproved' does. Such a program
+    is slower and uses more memory."""
     with open(program, 'rb') as file:
         return b'AddressSanitizer' in file.read()
 
 
 def plan(channels, destinations):
-    """A plan: channels as (name, port, [(destination, filter, steps)]), destinations as (name, port, [more lines])."""
+    """A plan's text. Channels are given as (name, port, [(destination, filter, steps)]), destinations as (name, port, [more lines])."""
     lines = []
     for name, port, more in destinations:
         lines += ['[[destination]]', f'name = "{name}"', f'address = "127.0.0.1:{port}"', *more]
@@ -30,12 +30,12 @@ def plan(channels, destinations):
 
 
 def one_channel(port, destinations):
-    """A plan of one channel, all of whose messages go to all destinations."""
+    """The text of a plan with one channel, which routes every message to every destination."""
     return plan([('ADT', port, [(name, None, None) for name, _, _ in destinations])], destinations)
 
 
 class Engine:
-    """The program under `run`, by itself or under a tool, once it listens on all channels. Leaving it ends the program."""
+    """The program started with `run`, by itself or under a tool, once it listens on all channels. Leaving the context kills it."""
 
     def __init__(self, program, text, accept, folder, events=1_000_000, under=()):
         path = os.path.join(folder, 'plan.toml')
@@ -43,13 +43,13 @@ class Engine:
             file.write(text)
         self.process = subprocess.Popen([*under, program, 'run', path, '--accept', str(accept), '--events', str(events)],
                                         stdin=subprocess.DEVNULL, stdout=subprocess.PIPE, stderr=subprocess.PIPE)
-        self.told, self._channels = [], text.count('[[channel]]')
+        self.log, self._channels = [], text.count('[[channel]]')
         self._listens, self._reader = threading.Event(), threading.Thread(target=self._read, daemon=True)
         self._reader.start()
         self._listens.wait(30)
         if self._listening() < self._channels:
             self.process.kill()
-            raise RuntimeError(f'it does not listen on {self._channels} channels: {self.told}')
+            raise RuntimeError(f'it does not listen on {self._channels} channels: {self.log}')
 
     def __enter__(self):
         return self
@@ -61,33 +61,33 @@ class Engine:
 
     def _read(self):
         for line in self.process.stderr:
-            self.told.append(line.decode(errors='replace').rstrip('\n'))
+            self.log.append(line.decode(errors='replace').rstrip('\n'))
             if self._listening() == self._channels:
                 self._listens.set()
         self._listens.set()
 
     def _listening(self):
-        return sum(line.startswith('listening on ') for line in self.told)
+        return sum(line.startswith('listening on ') for line in self.log)
 
     def warnings(self):
-        """The lines at level WARN or above that it logged."""
-        return [line for line in self.told if re.match(r'(\S+Z )?\[?(WARN|ERROR)\b', line)]
+        """The lines that it logged at level WARN or above."""
+        return [line for line in self.log if re.match(r'(\S+Z )?\[?(WARN|ERROR)\b', line)]
 
     def faults(self):
-        """Its warnings, those aside that are about a message or a text that came."""
+        """Its warnings, except those about a message or a text that it received."""
         own = ('message refused', 'message not booked', 'text unreadable', 'block broken', 'acknowledgment received', 'MSH holds')
         return [line for line in self.warnings() if not any(words in line for words in own)]
 
-    def said(self, *texts):
-        """The lines on standard error that have all these texts."""
-        return [line for line in self.told if all(text in line for text in texts)]
+    def lines_with(self, *texts):
+        """The lines on standard error that contain all these texts."""
+        return [line for line in self.log if all(text in line for text in texts)]
 
-    def heard(self, *texts, limit=20):
-        """Waits for a line with all these texts. Whether it came in time."""
+    def wait_logged(self, *texts, limit=20):
+        """Waits for a line that contains all these texts, and returns whether it was logged in time."""
         deadline = time.monotonic() + limit
-        while not self.said(*texts) and time.monotonic() < deadline:
+        while not self.lines_with(*texts) and time.monotonic() < deadline:
             time.sleep(0.02)
-        return bool(self.said(*texts))
+        return bool(self.lines_with(*texts))
 
     def resident(self):
         """Its resident memory, in bytes."""
@@ -95,7 +95,7 @@ class Engine:
             return next(int(line.split()[1]) * 1024 for line in file if line.startswith('VmRSS'))
 
     def ended(self, limit=120):
-        """Its status and what it printed, as words by channel and destination; None where it doesn't end in time."""
+        """Its exit status and the counts that it printed for each channel and destination; None and no counts if it doesn't end in time."""
         try:
             self.process.wait(limit)
         except subprocess.TimeoutExpired:

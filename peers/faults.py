@@ -1,4 +1,4 @@
-"""The faults of `run` in their order, with their lines and statuses."""
+"""The faults of `run` in their order, with their lines and exit statuses."""
 import ctypes
 import os
 import resource
@@ -14,8 +14,8 @@ from mllp import Destination, Sender, block, free_ports, message
 
 def called(program, words):
     ran = subprocess.run([program, 'run', *words], stdin=subprocess.DEVNULL, capture_output=True, timeout=30)
-    told = [line for line in ran.stderr.decode().splitlines(True) if not line.startswith(('note: ', 'warning: '))]
-    return ran.returncode, ran.stdout.decode(), ''.join(told)
+    lines = [line for line in ran.stderr.decode().splitlines(True) if not line.startswith(('note: ', 'warning: '))]
+    return ran.returncode, ran.stdout.decode(), ''.join(lines)
 
 
 def connected(port):
@@ -23,7 +23,7 @@ def connected(port):
 
 
 def speak(connection, text):
-    """Sends a text, and gives what came next: nothing at the end."""
+    """Sends a text and returns the next bytes received, empty at the end of the connection."""
     try:
         connection.sendall(block(text))
         return connection.recv(65_536)
@@ -31,15 +31,15 @@ def speak(connection, text):
         return b''
 
 
-def came(destination, number):
-    """Waits until so many messages came there, but not for ever."""
+def wait_received(destination, number):
+    """Waits until the destination has received `number` messages, for 20 seconds at most."""
     deadline = time.monotonic() + 20
-    while len(destination.came) < number and time.monotonic() < deadline:
+    while len(destination.received) < number and time.monotonic() < deadline:
         time.sleep(0.01)
 
 
 def break_listener(pid, port):
-    """Shuts a process's listener down, by a descriptor of the same socket: accepting fails from here on."""
+    """Shuts down a process's listener through a duplicate of its descriptor: accepting fails from then on."""
     process, get_descriptor = os.pidfd_open(pid), 438
     for number in map(int, os.listdir(f'/proc/{pid}/fd')):
         held = ctypes.CDLL(None, use_errno=True).syscall(get_descriptor, process, number, 0)
@@ -55,10 +55,10 @@ def break_listener(pid, port):
 
 
 def before_a_run(program, folder):
-    """What ends the program before it listens: the first fault is told, and nothing else."""
+    """Faults that end the program before it listens: the first one is reported, and nothing else."""
     path, (free, used, lab) = os.path.join(folder, 'plan.toml'), free_ports(3)
 
-    def told(text, accept=1, more=()):
+    def started(text, accept=1, more=()):
         with open(path, 'w', encoding='utf-8') as file:
             file.write(text)
         return called(program, [path, '--accept', str(accept), *more])
@@ -71,42 +71,43 @@ def before_a_run(program, folder):
     cases = [
         ('no file', called(program, [os.path.join(folder, 'none.toml'), '--accept', '9999']),
          (3, '', f'file: {folder}/none.toml\n')),
-        ('a faulty plan, with too many connections', told(taken.replace('TAKEN2', 'TAKEN'), 9_999),
+        ('a faulty plan, with too many connections', started(taken.replace('TAKEN2', 'TAKEN'), 9_999),
          (1, '', 'plan: DoubleName at channel[2].name\n')),
-        ('10,002 connections at an address in use', told(taken, 3_334), (2, '', 'limit: connections\n')),
-        ('9,999 connections at an address in use', told(taken, 3_333), (3, '', 'device: listen TAKEN\n')),
-        ('no address', told(one_channel(free, destination).replace(f'listen = "127.0.0.1:{free}"', 'listen = "nowhere"')),
+        ('10,002 connections at an address in use', started(taken, 3_334), (2, '', 'limit: connections\n')),
+        ('9,999 connections at an address in use', started(taken, 3_333), (3, '', 'device: listen TAKEN\n')),
+        ('no address', started(one_channel(free, destination).replace(f'listen = "127.0.0.1:{free}"', 'listen = "nowhere"')),
          (3, '', 'device: listen ADT\n')),
     ]
     holder.close()
-    return [f'{name}: {got}, not {due}' for name, got, due in cases if got != due]
+    return [f'{name}: {got}, not {expected}' for name, got, expected in cases if got != expected]
 
 
 def failed_accept(program, folder):
-    """A channel whose listener fails takes no more connections; those of the other go on. The counts come first, then the
-    fault."""
+    """A channel whose listener fails accepts no more connections; the other channel's connections continue. The counts are
+    printed first, then the fault."""
     lab, ports = Destination(lambda text, before: b'AA'), free_ports(2)
     text = plan([('A', ports[0], [('LAB', None, None)]), ('B', ports[1], [('LAB', None, None)])], [('LAB', lab.port, [])])
     with Engine(program, text, 3, folder) as engine, connected(ports[1]) as b0, connected(ports[1]) as b1, \
             connected(ports[1]) as b2, connected(ports[0]) as a0:
         replies = [speak(peer, message(b'M%d' % n)) for n, peer in enumerate((b0, b1, b2, a0))]
-        came(lab, 4)
+        wait_received(lab, 4)
         break_listener(engine.process.pid, ports[0])
-        engine.heard('no further one is taken', 'channel=A')
+        engine.wait_logged('no further one is taken', 'channel=A')
         replies += [speak(peer, message(b'N%d' % n)) for n, peer in enumerate((b0, b1, b2, a0))]
         for peer in (b0, b1, b2, a0):
             peer.close()
         status, counts = engine.ended(30)
     lab.close()
-    channels, due = [counts.get(('channel', name)) for name in 'AB'], [channel_counts(n, accepted=n) for n in (2, 6)]
-    if (status, engine.told[-1], channels, len(lab.came), b'' in replies) != (3, 'device: listen A', due, 8, False):
-        return [f'a failed accept: status {status}, {engine.told}, {counts}, {len(lab.came)} messages came, {replies}']
+    channels, expected = [counts.get(('channel', name)) for name in 'AB'], [channel_counts(n, accepted=n) for n in (2, 6)]
+    if (status, engine.log[-1], channels, len(lab.received), b'' in replies) != (3, 'device: listen A', expected, 8, False):
+        return [f'a failed accept: status {status}, {engine.log}, {counts}, {len(lab.received)} messages received, {replies}']
     return []
 
 
 def refused_thread(program, folder):
-    """Where the system gives no further thread, no further worker is started, which is logged; the others go on to their end.
-    Then memory is the fault. Not tried where the program checks its memory accesses, since it needs more than it is left."""
+    """If the system refuses a further thread, no further worker is started, which is logged, and the others run to their end.
+    The fault reported then is `memory`. Not tried if the program checks its memory accesses, since it needs more memory than the
+    limit leaves it."""
     if checks_accesses(program):
         print('a refused thread: not tried, this program checks its memory accesses')
         return []
@@ -114,8 +115,8 @@ def refused_thread(program, folder):
     with Engine(program, one_channel(port, [('LAB', lab.port, [])]), 3, folder) as engine:
         pid, texts = engine.process.pid, [message(b'A%d' % n) for n in range(2)]
         with connected(port) as first:
-            coming = [speak(first, texts[0])]
-            came(lab, 1)
+            replies = [speak(first, texts[0])]
+            wait_received(lab, 1)
             with open(f'/proc/{pid}/statm', encoding='utf-8') as file:
                 pages = int(file.read().split()[0])
             allowed = resource.prlimit(pid, resource.RLIMIT_AS)
@@ -123,36 +124,36 @@ def refused_thread(program, folder):
             with connected(port):
                 time.sleep(0.5)
                 resource.prlimit(pid, resource.RLIMIT_AS, allowed)
-                coming.append(speak(first, texts[1]))
+                replies.append(speak(first, texts[1]))
         status, counts = engine.ended(30)
     lab.close()
-    told = len(engine.said('WARN', 'no thread for a connection', 'channel=ADT'))
-    if (status, counts, engine.told[-1], told, len(coming), lab.came) != (3, {}, 'memory', 1, 2, texts):
-        return [f'a refused thread: status {status}, {counts}, {engine.told}, {coming}, {lab.came}']
+    warnings = len(engine.lines_with('WARN', 'no thread for a connection', 'channel=ADT'))
+    if (status, counts, engine.log[-1], warnings, len(replies), lab.received) != (3, {}, 'memory', 1, 2, texts):
+        return [f'a refused thread: status {status}, {counts}, {engine.log}, {replies}, {lab.received}']
     return []
 
 
 def reset_connection(program, folder):
-    """A connection that its peer resets is one warning, by its number, its channel and its peer."""
+    """A connection that its peer resets is logged as one warning, with its number, its channel and its peer."""
     ports = free_ports(3)
     text = plan([(name, port, [('LAB', None, None)]) for name, port in zip('AB', ports)], [('LAB', ports[2], [])])
     with Engine(program, text, 1, folder) as engine, connected(ports[0]) as other:
         peer = connected(ports[1])
         peer.setsockopt(socket.SOL_SOCKET, socket.SO_LINGER, struct.pack('ii', 1, 0))
-        place = peer.getsockname()[1]
+        port = peer.getsockname()[1]
         peer.sendall(b'\x0bMSH|')
         time.sleep(0.5)
         peer.close()
         other.close()
         status, counts = engine.ended(30)
-    told, due = engine.warnings(), ('reading from the sender failed: ', 'channel=B', 'connection=1', f'peer=127.0.0.1:{place}')
-    if status != 0 or len(told) != 1 or engine.said(*due) != told:
-        return [f'a reset connection: status {status}, {told}, {counts}']
+    warnings, expected = engine.warnings(), ('reading from the sender failed: ', 'channel=B', 'connection=1', f'peer=127.0.0.1:{port}')
+    if status != 0 or len(warnings) != 1 or engine.lines_with(*expected) != warnings:
+        return [f'a reset connection: status {status}, {warnings}, {counts}']
     return []
 
 
 def full_disk(program, folder):
-    """Counts that can't be written are a fault of the device. They are told on standard error before it."""
+    """Counts that can't be written are a device fault. They are printed on standard error before it."""
     port, = free_ports(1)
     path = os.path.join(folder, 'plan.toml')
     with open(path, 'w', encoding='utf-8') as file:
@@ -163,10 +164,10 @@ def full_disk(program, folder):
             if process.poll() is not None:
                 return [f'a full disk: it ended with {process.returncode} before it listened']
         Sender(port, []).run()
-        _, told = process.communicate(timeout=30)
-    due = [b'channel ADT received 0 filtered 0 accepted 0 refused 0 repeats 0',
-           b'destination LAB waiting 0 inflight 0 delivered 0 failed 0 attempts 0', b'device: write']
-    return [] if (process.returncode, told.splitlines()[-3:]) == (3, due) else [f'a full disk: {process.returncode}, {told}']
+        _, printed = process.communicate(timeout=30)
+    expected = [b'channel ADT received 0 filtered 0 accepted 0 refused 0 repeats 0',
+                b'destination LAB waiting 0 inflight 0 delivered 0 failed 0 attempts 0', b'device: write']
+    return [] if (process.returncode, printed.splitlines()[-3:]) == (3, expected) else [f'a full disk: {process.returncode}, {printed}']
 
 
 def all_faults(program, folder):

@@ -1,4 +1,4 @@
-"""Senders and destinations that do what none should: everybody else goes on being served."""
+"""Senders and destinations that misbehave: all others continue to be served."""
 import resource
 import socket
 import time
@@ -8,8 +8,8 @@ from mllp import NO_END, SILENCE, Destination, Sender, block, field, free_ports,
 
 
 def destinations(program, folder):
-    """Destinations that never answer, answer a byte at a time, without end, with garbage, or with others' blocks first, and
-    one that nothing listens for: an attempt ends by its timeout or bounds, and the others are served at once."""
+    """Destinations that never answer, answer a byte at a time, without end, with garbage, or with blocks meant for others first,
+    and one whose port nothing listens on. Each attempt ends by its timeout or size limit, and the others are served at once."""
     others = block(b'HELLO') + block(message(b'X')) + b'\x0bMSH|' + 6 * block(b'MSH|^~\\&|A|B|C|D|||ACK|9|P|2.5.1\rMSA|AA|9\r')
     peers = {
         'GOOD': (Destination(lambda text, before: b'AA'), (3, 0, 3)),
@@ -30,7 +30,7 @@ def destinations(program, folder):
         began = time.monotonic()
         sender = Sender(port, [message(b'H%d' % n) for n in range(3)])
         sender.run()
-        while len(good.came) < 3 and time.monotonic() < began + 20:
+        while len(good.received) < 3 and time.monotonic() < began + 20:
             time.sleep(0.01)
         waited = time.monotonic() - began
         Sender(port, []).run()
@@ -38,17 +38,17 @@ def destinations(program, folder):
     lines = [f'a destination was held up by others for {waited:.1f} seconds'] if waited > 5 else []
     for name, (peer, (delivered, failed, attempts)) in peers.items():
         peer.close()
-        got, due = counts.get(('destination', name)), destination_counts(delivered, failed, attempts)
-        if got != due:
-            lines.append(f'hostile destinations: {name} has {got}, not {due}')
+        got, expected = counts.get(('destination', name)), destination_counts(delivered, failed, attempts)
+        if got != expected:
+            lines.append(f'hostile destinations: {name} has {got}, not {expected}')
     if status != 0 or sender.fault:
         lines.append(f'hostile destinations: status {status}, {sender.fault}, {engine.warnings()[-5:]}')
     return lines
 
 
 def deaf(port):
-    """Sends messages and never reads an acknowledgment, until sending stops. An acknowledgment has the sending
-    application of its message, here a long one, so that buffers are full soon."""
+    """Sends messages without reading any acknowledgment, until sending blocks, and returns the connection. An acknowledgment
+    repeats the sending application of its message, which is long here, so that the buffers fill up soon."""
     connection = socket.socket()
     connection.setsockopt(socket.SOL_SOCKET, socket.SO_RCVBUF, 4_096)
     connection.connect(('127.0.0.1', port))
@@ -58,11 +58,11 @@ def deaf(port):
             connection.sendall(block(message(b'D%d' % n, sender=b'R' * 50_000)))
     except socket.timeout:
         return connection
-    raise RuntimeError('a sender that reads nothing was never held up')
+    raise RuntimeError('a sender that reads nothing was never blocked')
 
 
 def senders(program, folder):
-    """A sender that reads nothing, one that sends nothing, and one that sends a block without end: another is served."""
+    """A sender that reads nothing, one that sends nothing, and one that sends a block without end: a further sender is served."""
     lab, port = Destination(lambda text, before: b'AA'), free_ports(1)[0]
     with Engine(program, one_channel(port, [('LAB', lab.port, ['attempts = 1'])]), 4, folder) as engine:
         held = [deaf(port), socket.create_connection(('127.0.0.1', port)), socket.create_connection(('127.0.0.1', port))]
@@ -78,13 +78,13 @@ def senders(program, folder):
     lines = []
     if good.fault or waited > 10:
         lines.append(f'hostile senders: {good.fault}, {len(good.replies)} acknowledgments after {waited:.1f} seconds')
-    ids = [field(text, b'MSH', 10) for text in lab.came]
+    ids = [field(text, b'MSH', 10) for text in lab.received]
     unread = [name for name in ids if name.startswith(b'D')]
     if unread != [b'D%d' % n for n in range(len(unread))] or [n for n in ids if n not in unread] != [
             b'S%d' % n for n in range(100)]:
-        lines.append(f'hostile senders: {len(ids)} messages came, {ids[:3]}..')
+        lines.append(f'hostile senders: {len(ids)} messages received, {ids[:3]}..')
     if counts.get(('channel', 'ADT')) != channel_counts(len(ids), accepted=len(ids)):
-        lines.append(f'hostile senders: {counts}, and {len(ids)} messages came')
+        lines.append(f'hostile senders: {counts}, and {len(ids)} messages received')
     if status != 0:
         lines.append(f'hostile senders: status {status}, {engine.warnings()[-5:]}')
     if memory > 256 * 2 ** 20:
@@ -93,7 +93,8 @@ def senders(program, folder):
 
 
 def files_allowed(wanted):
-    """How many files this process and its children may open, raised to as many where the system allows it."""
+    """Raises the number of files that this process and its children may open to `wanted`, or as far as the system allows, and returns
+    the limit."""
     soft, hard = resource.getrlimit(resource.RLIMIT_NOFILE)
     allowed = wanted if hard == resource.RLIM_INFINITY else min(wanted, hard)
     resource.setrlimit(resource.RLIMIT_NOFILE, (max(soft, allowed), hard))
@@ -101,8 +102,9 @@ def files_allowed(wanted):
 
 
 def idle_connections(program, folder, number):
-    """Many connections that say nothing, and one that does: it is served at once, and they take at most 1 GiB in all, fewer in
-    proportion; a program that checks its memory accesses may take more. Where the system allows fewer files, as many as that."""
+    """Many connections that send nothing, and one that does. It is served at once, and the program uses at most 1 GiB for 9,999
+    connections, proportionally less for fewer; a program that checks its memory accesses may use more. If the system allows fewer
+    open files, there are fewer connections."""
     number = min(number, files_allowed(number + 100) - 100)
     lab, port = Destination(lambda text, before: b'AA'), free_ports(1)[0]
     with Engine(program, one_channel(port, [('LAB', lab.port, [])]), number, folder) as engine:

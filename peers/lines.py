@@ -1,11 +1,11 @@
-"""The lines of the log: each refusal and each failure of a run, provoked once, is found on standard error by its control id."""
+"""The log lines: each refusal and each failure of a run, provoked once, has a line on standard error with its control id."""
 import socket
 import time
 
 from engine import Engine, plan
 from mllp import SILENCE, Destination, HANG_UP, Sender, answer, block, free_ports, message
 
-# A name that stands in each message and may stand in no line.
+# A patient's name that each message contains and no log line may contain.
 PATIENT = b'SECRETNAME^PAT'
 TOO_LONG = 1_048_577
 
@@ -15,7 +15,7 @@ def admission(control_id, **more):
 
 
 def refusals():
-    """Texts by what has to be said of them: the control id, and the words of the line."""
+    """The texts to send, each with the control id and the words that its log line has to contain."""
     first = admission(b'L-FIRST')
     return [
         (first, b'', ''),
@@ -38,29 +38,30 @@ def refusals():
 
 
 def broken():
-    """Bytes that are no block, and the words of the line."""
+    """Bytes that form no valid block, each with the words of its log line."""
     return [(b'\x0bMSH|\x0b', 'block broken: a start block character in its data'),
             (b'\x1cx', 'block broken: an end block character that no carriage return follows'),
             (block(b'x' * TOO_LONG), 'block broken: more than 1048576 bytes of data')]
 
 
-def told_of(lines, control_id, words):
+def is_logged(lines, control_id, words):
+    """Whether one of the lines contains these words and the control id, if one is given."""
     key = '' if control_id is None else f'control_id={control_id.decode()}'
     return any(words in line and (key in line.split(' ') or not key) for line in lines)
 
 
 def refused_messages(program, folder):
-    """What comes by a connection: each refusal, repeat, unreadable text and broken block has its line."""
+    """Each refusal, repeat, unreadable text and broken block received on a connection has its log line."""
     ports = free_ports(2)
     lab = Destination(lambda text, before: b'AA')
     steps = '{ set = ["PV1-3", "W"] }'
     route = '{ set = ["PV1-4", "R"] }, { lookup = "PV1-2", table = [["I", "IN"], ["E", "EM"]] }'
     text = plan([('ADT', ports[0], [('LAB', None, route)])], [('LAB', lab.port, [])])
     text = text.replace('[[channel.route]]', f'steps = [{steps}]\n[[channel.route]]')
-    said = refusals()
+    cases = refusals()
     with Engine(program, text, 1, folder) as engine:
         with socket.create_connection(('127.0.0.1', ports[0]), timeout=30) as connection:
-            for data, _, _ in said:
+            for data, _, _ in cases:
                 connection.sendall(block(data))
             for data, _ in broken():
                 connection.sendall(data)
@@ -69,18 +70,18 @@ def refused_messages(program, folder):
                 pass
         status, _ = engine.ended(30)
     lab.close()
-    lines = [f'no line says {words!r} of {control_id}' for _, control_id, words in said
-             if words and not told_of(engine.told, control_id, words)]
-    lines += [f'no line says {words!r}' for _, words in broken() if not told_of(engine.told, None, words)]
+    lines = [f'no line says {words!r} of {control_id}' for _, control_id, words in cases
+             if words and not is_logged(engine.log, control_id, words)]
+    lines += [f'no line says {words!r}' for _, words in broken() if not is_logged(engine.log, None, words)]
     if status != 0:
         lines.append(f'refused messages: status {status}')
-    return lines + leaks(engine.told)
+    return lines + leaks(engine.log)
 
 
-def leaks(told):
-    """No line has a patient's data, and each has a time and a level."""
-    lines = [f'a line has a patient\'s data: {line}' for line in told if 'SECRET' in line]
-    for line in told:
+def leaks(log):
+    """The log lines that contain a patient's data, and those that have no time and level."""
+    lines = [f'a line contains a patient\'s data: {line}' for line in log if 'SECRET' in line]
+    for line in log:
         words = line.split(' ')
         plain = line.startswith(('listening on ', 'warning: ', 'note: ', 'channel ', 'destination ', 'device: '))
         if not plain and not (len(words) > 2 and words[0].endswith('Z') and words[1] in ('INFO', 'WARN')):
@@ -89,7 +90,7 @@ def leaks(told):
 
 
 def full_book(program, folder):
-    """A message that finds no room has its line, and so has a book that is nearly full."""
+    """A message for which the book has no room is logged."""
     ports = free_ports(2)
     text = plan([('ADT', ports[0], [('LAB', None, None)])], [('LAB', ports[1], ['attempts = 1', 'interval = 0', 'timeout = 1'])])
     with Engine(program, text, 1, folder, events=6) as engine:
@@ -97,8 +98,8 @@ def full_book(program, folder):
         sender.run()
         status, _ = engine.ended(60)
     lines = []
-    if not told_of(engine.told, b'F3', 'message not booked: Full') and not any('not booked: Full' in line for line in engine.told):
-        lines.append(f'no line says that the book is full: {engine.told}')
+    if not is_logged(engine.log, b'F3', 'message not booked: Full') and not any('not booked: Full' in line for line in engine.log):
+        lines.append(f'no line says that the book is full: {engine.log}')
     if status != 0:
         lines.append(f'a full book: status {status}')
-    return lines + leaks(engine.told)
+    return lines + leaks(engine.log)

@@ -1,4 +1,4 @@
-"""MLLP over loopback in plain Python 3: blocks, fields, a sender, and destinations that answer as they are told."""
+"""MLLP over loopback in plain Python 3: blocks, fields, a sender, and destinations whose answers a test chooses."""
 import random
 import socket
 import threading
@@ -6,18 +6,18 @@ import time
 
 START, END = b'\x0b', b'\x1c\r'
 
-# Told by a destination in place of an answer: it says nothing, hangs up, or goes on and on, for so many seconds.
+# What a destination may do in place of an answer: send nothing, hang up, or send without end for ENDLESS seconds.
 SILENCE, HANG_UP, NO_END = None, 'hang up', 'no end'
 ENDLESS = 4.0
 
 
 def block(text):
-    """A text as a block (MLLP Release 1)."""
+    """The text as an MLLP block (MLLP Release 1)."""
     return START + text + END
 
 
 def blocks(connection):
-    """The texts of the blocks that come on a connection, to its end."""
+    """Yields the text of each block received on a connection, until its end."""
     held = b''
     while piece := connection.recv(65_536):
         held += piece
@@ -28,18 +28,18 @@ def blocks(connection):
             held = held[end + 2:]
 
 
-def field(text, segment, place):
-    """A field of the first segment of that name, by its number: MSH-1 is the separator itself."""
+def field(text, segment, number):
+    """The field with this number of the first segment of that name, empty if there is none. MSH-1 is the separator itself."""
     for line in text.split(b'\r'):
         if line[:3] == segment:
             fields = line.split(b'|')
-            at = place - (segment == b'MSH')
-            return fields[at] if at < len(fields) else b''
+            index = number - (segment == b'MSH')
+            return fields[index] if index < len(fields) else b''
     return b''
 
 
 def message(control_id, ward=b'I', patient=b'77^^^H', more=b'AL|NE', sender=b'REG', kind=b'ADT^A01^ADT_A01', version=b'2.5.1'):
-    """A message whose MSH-15 and MSH-16 ask for an accept acknowledgment alone, unless said (HL7 v2.5.1, 2.9.3)."""
+    """A message. Unless `more` says otherwise, its MSH-15 and MSH-16 request an accept acknowledgment only (HL7 v2.5.1, 2.9.3)."""
     return (b'MSH|^~\\&|' + sender + b'|HOSP|ENG|HUB|20231114221300||' + kind + b'|' + control_id + b'|P|' + version
             + b'|||' + more + b'\rPID|1||' + patient + b'\rPV1|1|' + ward + b'\r')
 
@@ -51,13 +51,13 @@ def answer(text, code):
 
 
 class Destination:
-    """A listener that keeps each text that came, with the time, and answers it by `told`: a function of the text and of
-    how often that text came before, which gives a code, bytes to be sent as they are, or one of the three above. Unless
-    `up`, connecting is refused until `open`."""
+    """A listener that keeps each text that it receives and answers it. `respond` is a function of the text and of how often
+    that text was received before. It returns an acknowledgment code, bytes that are sent as they are, or one of the three
+    constants above. Unless `up`, connections are refused until `open` is called."""
 
-    def __init__(self, told, port=0, up=True, slice_size=0):
-        self.told, self.slice_size = told, slice_size
-        self.came, self.closed = [], False
+    def __init__(self, respond, port=0, up=True, slice_size=0):
+        self.respond, self.slice_size = respond, slice_size
+        self.received, self.closed = [], False
         self._seen, self._lock = {}, threading.Lock()
         self._listener, self._thread = socket.socket(), None
         self._listener.setsockopt(socket.SOL_SOCKET, socket.SO_REUSEADDR, 1)
@@ -87,33 +87,33 @@ class Destination:
                     with self._lock:
                         before = self._seen.get(text, 0)
                         self._seen[text] = before + 1
-                        self.came.append(text)
-                    if not self._answer(connection, text, self.told(text, before)):
+                        self.received.append(text)
+                    if not self._answer(connection, text, self.respond(text, before)):
                         return
             except OSError:
                 return
 
-    def _answer(self, connection, text, told):
-        """Whether the connection is to go on."""
-        if told is SILENCE:
+    def _answer(self, connection, text, response):
+        """Sends the response to a text, and returns whether the connection stays open."""
+        if response is SILENCE:
             return True
-        if told == HANG_UP:
+        if response == HANG_UP:
             return False
-        if told == NO_END:
+        if response == NO_END:
             connection.sendall(START)
             until = time.monotonic() + ENDLESS
             while not self.closed and time.monotonic() < until:
                 connection.sendall(b'no end in sight ')
             return False
-        reply = told if len(told) > 2 else block(answer(text, told))
+        reply = response if len(response) > 2 else block(answer(text, response))
         step = self.slice_size or len(reply)
         for at in range(0, len(reply), step):
             connection.sendall(reply[at:at + step])
         return True
 
     def close(self):
-        """Ends the wait for connections before the listener is closed: where the system resumes a wait whose descriptor is
-        closed, it waits at whatever has that number by then, which may be the next destination's listener."""
+        """Ends the wait for connections before closing the listener. If the descriptor were closed during the wait, the wait
+        could resume on whatever has that descriptor number by then, which may be the next destination's listener."""
         self.closed = True
         if self._thread:
             self._listener.shutdown(socket.SHUT_RDWR)
@@ -122,14 +122,14 @@ class Destination:
 
 
 class Sender(threading.Thread):
-    """Sends texts on one connection, with so many unanswered at a time, and keeps the acknowledgments that came, the time
-    just before each text was sent, and the time at which its acknowledgment was there. It may send other bytes before and
-    behind the blocks, a piece at a time, and end by a reset."""
+    """Sends texts on one connection, with at most `in_flight` of them unacknowledged at a time. Keeps the acknowledgments
+    received, the time just before each text was sent, and the time at which its acknowledgment was received. It can send other
+    bytes before and after the blocks, send everything in slices, and end the connection by a reset."""
 
-    def __init__(self, port, texts, in_flight=1, slice_size=0, before=b'', behind=b'', resets=False):
+    def __init__(self, port, texts, in_flight=1, slice_size=0, before=b'', after=b'', resets=False):
         super().__init__(daemon=True)
         self.port, self.texts, self.in_flight, self.slice_size = port, texts, in_flight, slice_size
-        self.before, self.behind, self.resets = before, behind, resets
+        self.before, self.after, self.resets = before, after, resets
         self.replies, self.sent, self.answered, self.fault = [], [], [], None
 
     def run(self):
@@ -152,7 +152,7 @@ class Sender(threading.Thread):
                 self._read(coming)
         while len(self.replies) < len(self.texts):
             self._read(coming)
-        connection.sendall(self.behind)
+        connection.sendall(self.after)
 
     def _read(self, coming):
         reply = next(coming, None)
@@ -168,7 +168,7 @@ class Sender(threading.Thread):
 
 
 def free_ports(count):
-    """Ports of loopback that nothing listens on, below those that the system gives to connections."""
+    """Loopback ports that nothing listens on, below the range that the system assigns to outgoing connections."""
     holders = []
     while len(holders) < count:
         holder = socket.socket()

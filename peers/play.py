@@ -1,10 +1,10 @@
 #!/usr/bin/env python3
-"""Plays senders and destinations around the built program, over loopback, and compares what came out with what went in.
+"""Plays senders and destinations around the built program, over loopback, and compares its output with its input.
 
 Usage: peers/play.py [PROGRAM] [--senders N] [--messages N] [--idle N] [--only WORD]
 
-PROGRAM is the built program, crates/hl7_engine/out/hl7_engine where left out ('rt run' in crates/hl7_engine builds it).
-Plain Python 3, no packages. The exit status is 0 where all went as it should, else 1; what didn't is told, a line each.
+PROGRAM is the built program, by default crates/hl7_engine/out/hl7_engine ('rt run' in crates/hl7_engine builds it).
+Plain Python 3, no packages. The exit status is 0 if every check passes, else 1. Each failure is printed on a line of its own.
 """
 import argparse
 import os
@@ -24,22 +24,22 @@ from receivers import all_receivers
 
 
 def main():
-    words = argparse.ArgumentParser()
-    words.add_argument('program', nargs='?', default=PROGRAM)
-    words.add_argument('--senders', type=int, default=200)
-    words.add_argument('--messages', type=int, default=100)
-    words.add_argument('--idle', type=int, default=1_000)
-    words.add_argument('--only', default='')
-    asked = words.parse_args()
-    program, lines = os.path.abspath(asked.program), []
+    parser = argparse.ArgumentParser()
+    parser.add_argument('program', nargs='?', default=PROGRAM)
+    parser.add_argument('--senders', type=int, default=200)
+    parser.add_argument('--messages', type=int, default=100)
+    parser.add_argument('--idle', type=int, default=1_000)
+    parser.add_argument('--only', default='')
+    args = parser.parse_args()
+    program, lines = os.path.abspath(args.program), []
     scenes = [('a conversation', conversation), ('an example', example), ('python3-hl7', stock_peers),
               ('faults in their order', all_faults), ('receivers', all_receivers), ('channels', channels),
               ('hostile destinations', destinations), ('hostile senders', senders),
               ('lines of the log', refused_messages), ('a full book', full_book),
-              ('idle connections', lambda program, folder: idle_connections(program, folder, asked.idle)),
-              ('many senders', lambda program, folder: many_senders(program, folder, asked.senders, asked.messages))]
+              ('idle connections', lambda program, folder: idle_connections(program, folder, args.idle)),
+              ('many senders', lambda program, folder: many_senders(program, folder, args.senders, args.messages))]
     for name, scene in scenes:
-        if asked.only not in name:
+        if args.only not in name:
             continue
         began = time.monotonic()
         with tempfile.TemporaryDirectory() as folder:

@@ -1,10 +1,10 @@
 #!/usr/bin/env python3
-"""A destination to try things with: it listens on a port of loopback, prints each message that comes, and answers it.
+"""A destination to try things with: it listens on a loopback port, prints each message that it receives, and answers it.
 
 Usage: peers/receive.py PORT [CODE] [--keep FILE]
 
-CODE is MSA-1 of the answers, AA where left out (AE: to be sent again, AR: rejected). With --keep each message is added to a
-file, a line each in hexadecimal, before it is answered, and not printed. Ctrl-C ends it.
+CODE is MSA-1 of the answers, AA by default (AE: to be sent again, AR: rejected). With --keep each message is appended to FILE
+before it is answered, as a line in hexadecimal, and not printed. Ctrl-C ends the program.
 """
 import argparse
 import sys
@@ -14,21 +14,21 @@ from mllp import Destination
 
 
 def main():
-    words = argparse.ArgumentParser()
-    words.add_argument('port', type=int)
-    words.add_argument('code', nargs='?', default='AA')
-    words.add_argument('--keep')
-    asked = words.parse_args()
+    parser = argparse.ArgumentParser()
+    parser.add_argument('port', type=int)
+    parser.add_argument('code', nargs='?', default='AA')
+    parser.add_argument('--keep')
+    args = parser.parse_args()
 
-    def told(text, _):
-        if asked.keep:
-            with open(asked.keep, 'a', encoding='ascii') as file:
+    def respond(text, _):
+        if args.keep:
+            with open(args.keep, 'a', encoding='ascii') as file:
                 file.write(text.hex() + '\n')
         else:
             print(text.decode(errors='replace').replace('\r', '\n'), flush=True)
-        return asked.code.encode()
+        return args.code.encode()
 
-    Destination(told, port=asked.port)
+    Destination(respond, port=args.port)
     try:
         threading.Event().wait()
     except KeyboardInterrupt:

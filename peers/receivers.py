@@ -1,4 +1,4 @@
-"""Receivers of every kind: what the counts call delivered has come, and each attempt that failed is told with its reason."""
+"""Receivers of every kind: what is counted as delivered was received, and each failed attempt is logged with its reason."""
 import os
 import random
 import resource
@@ -15,11 +15,11 @@ PACE = 0.01
 
 
 class Receiver:
-    """A listener that hands each connection, one after another, to `talk`: a function of the receiver and the connection,
-    which returns where the connection is to be closed. It keeps the texts that came."""
+    """A listener that passes each connection, one after another, to `talk`: a function of the receiver and the connection, at
+    whose return the connection is closed. It keeps the texts that it receives."""
 
     def __init__(self, talk):
-        self._talk, self.came, self.connections = talk, [], 0
+        self._talk, self.received, self.connections = talk, [], 0
         self._listener, self._closed = socket.socket(), False
         self._listener.bind(('127.0.0.1', free_ports(1)[0]))
         self._listener.listen(64)
@@ -43,7 +43,7 @@ class Receiver:
                     pass
 
     def texts(self, connection, wait=60.0):
-        """The texts that come on a connection, up to its end or to `wait` seconds after a text in which nothing comes."""
+        """Yields the texts received on a connection, until its end or until nothing is received for `wait` seconds after a text."""
         held = b''
         while True:
             try:
@@ -55,7 +55,7 @@ class Receiver:
             held += piece
             while (end := held.find(b'\x1c\r')) >= 0:
                 text, held = held[held.find(b'\x0b') + 1:end], held[end + 2:]
-                self.came.append(text)
+                self.received.append(text)
                 yield text
                 connection.settimeout(wait)
 
@@ -71,12 +71,12 @@ def accept(connection, text, more=b''):
 
 
 def reset(connection):
-    """Lets the connection end by a reset."""
+    """Makes the connection end by a reset when it is closed."""
     connection.setsockopt(socket.SOL_SOCKET, socket.SO_LINGER, struct.pack('ii', 1, 0))
 
 
 def answers_all(pause, more):
-    """Answers each message, so many seconds later, whether or not it is asked to."""
+    """Answers each message after `pause` seconds, whether or not its answers are awaited."""
     def talk(receiver, connection):
         for text in receiver.texts(connection):
             time.sleep(pause)
@@ -85,7 +85,7 @@ def answers_all(pause, more):
 
 
 def closes_when_idle(receiver, connection):
-    """Closes a connection on which nothing came for half of the pause between two messages."""
+    """Closes a connection on which nothing was received for half of the pause between two messages."""
     for text in receiver.texts(connection, PACE / 2):
         accept(connection, text)
 
@@ -102,7 +102,7 @@ def closes_after_each(pause, resets):
 
 
 def closes_unanswered(receiver, connection):
-    """Answers the first message of each connection, takes the second, and closes."""
+    """Answers the first message of each connection, reads the second, and closes."""
     for number, text in enumerate(receiver.texts(connection)):
         if number == 1:
             return
@@ -110,7 +110,7 @@ def closes_unanswered(receiver, connection):
 
 
 def now_and_then(receiver, connection):
-    """Takes a message, and sends a byte every half a second from then on."""
+    """Reads a message, and sends a byte every half second from then on."""
     for _ in receiver.texts(connection):
         while True:
             connection.sendall(b'.')
@@ -118,7 +118,7 @@ def now_and_then(receiver, connection):
 
 
 def breaks_at_random(chance):
-    """Breaks a connection now and then: before a message is read, or after it, in the middle of an answer, or behind it."""
+    """Breaks connections at random: before a message is answered, in the middle of the answer, or after it."""
     def talk(receiver, connection):
         for text in receiver.texts(connection):
             what = chance.randrange(80)
@@ -140,7 +140,7 @@ def breaks_at_random(chance):
 
 
 class Paced(Sender):
-    """A sender that pauses before each message."""
+    """A sender that pauses for PACE seconds before each message."""
 
     def _send(self, connection, data):
         time.sleep(PACE)
@@ -148,18 +148,19 @@ class Paced(Sender):
 
 
 def without_repeats(texts):
-    """The texts, each once where it came several times in a row."""
+    """The texts, with repeats in a row removed."""
     return [text for number, text in enumerate(texts) if number == 0 or texts[number - 1] != text]
 
 
 def wrong_receipts(name, receiver, texts, is_doubled):
-    """What is wrong about the texts that came: all have to, in their order, and each once, unless a repeat is allowed for."""
-    came = without_repeats(receiver.came) if is_doubled else list(receiver.came)
-    return [] if came == texts else [f'{name}: {len(receiver.came)} came of {len(texts)}, {len(set(receiver.came))} of them once']
+    """What is wrong with the texts received: each has to be received, in order, and once unless repeats are allowed."""
+    received = without_repeats(receiver.received) if is_doubled else list(receiver.received)
+    return [] if received == texts else [
+        f'{name}: {len(receiver.received)} received for {len(texts)} sent, {len(set(receiver.received))} of them different']
 
 
 def all_get_all(program, folder):
-    """Each kind of receiver gets each of 300 messages in the one attempt that it has, and the counts say so."""
+    """Each kind of receiver gets each of 300 messages in one attempt, since the plan allows one, and the counts show it."""
     kinds = {
         'NONE': (answers_all(0, b''), 'none', False),
         'SLOW': (answers_all(0.005, b'ZZZ|' + b'z' * 20_000 + b'\r'), 'none', False),
@@ -177,18 +178,18 @@ def all_get_all(program, folder):
         sender = Paced(port, texts)
         sender.run()
         status, counts = engine.ended(60)
-    lines = [] if (status, sender.fault) == (0, None) else [f'receivers: status {status}, {sender.fault}, {engine.told[-3:]}']
+    lines = [] if (status, sender.fault) == (0, None) else [f'receivers: status {status}, {sender.fault}, {engine.log[-3:]}']
     for name, receiver in receivers.items():
         receiver.close()
         lines += wrong_receipts(name, receiver, texts, kinds[name][2])
-        got, due = counts.get(('destination', name)), destination_counts(300)
-        if got != due:
-            lines.append(f'receivers: {name} has {got}, not {due}')
+        got, expected = counts.get(('destination', name)), destination_counts(300)
+        if got != expected:
+            lines.append(f'receivers: {name} has {got}, not {expected}')
     return lines
 
 
 def broken_links(program, folder):
-    """10,000 messages through a receiver that breaks its connections at random arrive in order, each at least once."""
+    """10,000 messages to a receiver that breaks its connections at random are received in order, each at least once."""
     receiver, port = Receiver(breaks_at_random(random.Random(7))), free_ports(1)[0]
     texts = [message(b'B%d' % n) for n in range(BREAKS)]
     with Engine(program, one_channel(port, [('LAB', receiver.port, ['attempts = 20', 'interval = 0'])]), 1, folder) as engine:
@@ -197,35 +198,35 @@ def broken_links(program, folder):
         status, counts = engine.ended(90)
     receiver.close()
     got = counts.get(('destination', 'LAB'), {})
-    print(f'{BREAKS} messages over {receiver.connections} connections: {len(receiver.came)} came, {got.get("attempts")} attempts')
+    print(f'{BREAKS} messages over {receiver.connections} connections: {len(receiver.received)} received, {got.get("attempts")} attempts')
     lines = wrong_receipts('broken links', receiver, texts, True)
     if (status, got.get('delivered'), got.get('failed'), sender.fault) != (0, BREAKS, 0, None):
         lines.append(f'broken links: status {status}, {counts}, {sender.fault}')
     return lines
 
 
-def told_of(engine, control_id, words):
-    """Whether a line names the message and says so."""
-    return any(words in line and f'control_id={control_id}' in line for line in engine.told)
+def is_logged(engine, control_id, words):
+    """Whether a log line contains the message's control id and these words."""
+    return any(words in line and f'control_id={control_id}' in line for line in engine.log)
 
 
 def reasons(program, folder):
-    """Each attempt that failed is told with its reason, and each message that failed for good; nothing of a patient is."""
+    """Each failed attempt is logged with its reason, and so is each message that failed finally; no line has a patient's data."""
     def wrong_id(text):
         return block(answer(text.replace(b'|OTHER|', b'|OTHER2|'), b'AA'))
 
     def with_text(code):
         return lambda text, before: block(answer(text, code)[:-1] + b'|SMITH^JOHN\r')
 
-    def told(how):
-        return lambda: Destination(how)
+    def responding(respond):
+        return lambda: Destination(respond)
 
     kinds = {
-        'MUTE': (told(lambda text, before: SILENCE), 'no answer within 1 s', 'no attempt is left'),
-        'CLOSES': (told(lambda text, before: HANG_UP), 'closed by the destination before an answer', 'no attempt is left'),
-        'ERROR': (told(with_text(b'AE')), 'answered AE', 'no attempt is left'),
-        'REJECT': (told(with_text(b'AR')), 'answered AR', 'rejected'),
-        'OTHER': (told(lambda text, before: wrong_id(text)), 'answer for another control id', 'no attempt is left'),
+        'MUTE': (responding(lambda text, before: SILENCE), 'no answer within 1 s', 'no attempt is left'),
+        'CLOSES': (responding(lambda text, before: HANG_UP), 'closed by the destination before an answer', 'no attempt is left'),
+        'ERROR': (responding(with_text(b'AE')), 'answered AE', 'no attempt is left'),
+        'REJECT': (responding(with_text(b'AR')), 'answered AR', 'rejected'),
+        'OTHER': (responding(lambda text, before: wrong_id(text)), 'answer for another control id', 'no attempt is left'),
         'DOWN': (lambda: Destination(lambda text, before: b'AA', up=False), "can't connect: ", 'no attempt is left'),
         'BYTES': (lambda: Receiver(now_and_then), 'attempt ended after 10 s', 'no attempt is left'),
     }
@@ -242,9 +243,9 @@ def reasons(program, folder):
         peers[name].close()
         if counts.get(('destination', name)) != destination_counts(0, failed=1):
             lines.append(f'reasons: {name} has {counts.get(("destination", name))}')
-        if not told_of(engine, name, why) or not told_of(engine, name, 'message failed: ' + end):
-            lines.append(f'reasons: not told of {name}: {why}, {end}')
-    for line in engine.told:
+        if not is_logged(engine, name, why) or not is_logged(engine, name, 'message failed: ' + end):
+            lines.append(f'reasons: not logged for {name}: {why}, {end}')
+    for line in engine.log:
         if 'SMITH' in line or 'Resource temporarily' in line:
             lines.append(f'reasons: {line}')
     return lines
@@ -255,8 +256,8 @@ def descriptors(pid):
 
 
 def no_descriptors(program, folder):
-    """Where the program may open no descriptor for two seconds, no attempt fails; and where none is left but the one that is
-    held back for the link, it is enough."""
+    """While the program can open no descriptor for two seconds, no attempt fails; and if the only descriptor left is the one that
+    is reserved for the link, that is enough."""
     lines = []
     for name, limit, is_short in (('none', lambda held: 3, True), ('no further', lambda held: max(held) + 1, False)):
         lab, port = Destination(lambda text, before: b'AA'), free_ports(1)[0]
@@ -273,26 +274,26 @@ def no_descriptors(program, folder):
                 sender.sendall(block(text))
                 sender.recv(65_536)
             time.sleep(2)
-            early = len(lab.came)
+            early = len(lab.received)
             resource.prlimit(pid, resource.RLIMIT_NOFILE, allowed)
             sender.close()
             status, counts = engine.ended(60)
         lab.close()
-        got = (status, counts.get(('destination', 'LAB')), lab.came == texts, early == (0 if is_short else 12))
+        got = (status, counts.get(('destination', 'LAB')), lab.received == texts, early == (0 if is_short else 12))
         if got != (0, destination_counts(12), True, True):
-            lines.append(f'{name} descriptors: {got}, {early} came early, {engine.told[-3:]}')
+            lines.append(f'{name} descriptors: {got}, {early} received early, {engine.log[-3:]}')
     return lines
 
 
 def timers(port):
-    """The timers of this machine's open connections to a port of loopback: 2 is that of keepalive (man 5 proc)."""
+    """The active timers of this machine's connections to a loopback port: 2 is the keepalive timer (man 5 proc)."""
     with open('/proc/net/tcp', encoding='ascii') as file:
         lines = [line.split() for line in file][1:]
     return [int(line[5].split(':')[0], 16) for line in lines if (line[2], line[3]) == (f'0100007F:{port:04X}', '01')]
 
 
 def kept_alive(program, folder):
-    """A link that is idle is probed by the system."""
+    """The system probes an idle link (TCP keepalive)."""
     lab, port = Destination(lambda text, before: b'AA'), free_ports(1)[0]
     with Engine(program, one_channel(port, [('LAB', lab.port, ['attempts = 1'])]), 2, folder) as engine:
         Sender(port, [message(b'K')]).run()

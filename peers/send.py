@@ -1,10 +1,10 @@
 #!/usr/bin/env python3
-"""A sender to try things with: it sends the message on standard input to a port of loopback, and prints what it is answered.
+"""A sender to try things with: it sends the message on standard input to a loopback port, and prints the answers.
 
 Usage: peers/send.py PORT
 
-The message is an MLLP block, or a text whose segments may be lines; those are sent with carriage returns. The exit status is 0
-where something was answered, else 1.
+The message is an MLLP block, or a text whose segments may end in line feeds, which are sent as carriage returns. The exit status is
+0 if there was an answer, else 1.
 """
 import argparse
 import socket
@@ -14,9 +14,9 @@ from mllp import START, block, blocks
 
 
 def main():
-    words = argparse.ArgumentParser()
-    words.add_argument('port', type=int)
-    port, given, answered = words.parse_args().port, sys.stdin.buffer.read(), 0
+    parser = argparse.ArgumentParser()
+    parser.add_argument('port', type=int)
+    port, given, answered = parser.parse_args().port, sys.stdin.buffer.read(), 0
     if not given.startswith(START):
         given = block(given.replace(b'\r\n', b'\r').replace(b'\n', b'\r').strip(b'\r') + b'\r')
     try:

@@ -1,11 +1,11 @@
 #!/usr/bin/env python3
-"""Plays senders, destinations and an operator around the built service, over loopback, and compares what came out with what
-went in.
+"""Plays senders, destinations and an operator around the built service, over loopback, and compares its output with its
+input.
 
 Usage: peers/service.py [PROGRAM] [--only WORD]
 
-PROGRAM is the built service, crates/hl7_service/out/hl7_service where left out ('rt run' in crates/hl7_service builds it).
-Plain Python 3, no packages. The exit status is 0 where all went as it should, else 1; what didn't is said, a line each.
+PROGRAM is the built service, by default crates/hl7_service/out/hl7_service ('rt run' in crates/hl7_service builds it).
+Plain Python 3, no packages. The exit status is 0 if every check passes, else 1. Each failure is printed on a line of its own.
 """
 import argparse
 import os
@@ -27,7 +27,7 @@ LIMIT = 30
 
 
 class Service:
-    """The program under `run`, once it listens on all channels. Leaving it ends the program."""
+    """The program started with `run`, once it listens on all channels. Leaving the context kills it."""
 
     def __init__(self, program, text, folder, *words):
         self.path = os.path.join(folder, 'plan.toml')
@@ -35,7 +35,7 @@ class Service:
             file.write(text)
         self.process = subprocess.Popen([program, 'run', self.path, *words], stdin=subprocess.PIPE,
                                         stdout=subprocess.PIPE, stderr=subprocess.PIPE)
-        self.said, self.channels = [], text.count('[[channel]]')
+        self.log, self.channels = [], text.count('[[channel]]')
         self.ready = threading.Event()
         self.reader = threading.Thread(target=self.read, daemon=True)
         self.reader.start()
@@ -51,13 +51,13 @@ class Service:
 
     def read(self):
         for line in self.process.stderr:
-            self.said.append(line.decode(errors='replace').rstrip('\n'))
-            if sum('listening on ' in said for said in self.said) == self.channels:
+            self.log.append(line.decode(errors='replace').rstrip('\n'))
+            if sum('listening on ' in logged for logged in self.log) == self.channels:
                 self.ready.set()
         self.ready.set()
 
     def ask(self, command, limit=LIMIT):
-        """Gives a command, and its answer: the lines up to the empty one; None where none comes in time."""
+        """Sends a command, and returns its answer: the lines up to the empty one, or None if there is no answer in time."""
         self.process.stdin.write(command.encode() + b'\n')
         self.process.stdin.flush()
         held, deadline = b'', time.monotonic() + limit
@@ -70,7 +70,7 @@ class Service:
         return held.decode(errors='replace').rstrip('\n').split('\n') if held.endswith(b'\n\n') else None
 
     def ended(self, limit=LIMIT):
-        """Its status and its last lines; None where it doesn't end in time."""
+        """Its exit status and its last lines of output; None and no lines if it doesn't end in time."""
         try:
             self.process.wait(limit)
         except subprocess.TimeoutExpired:
@@ -80,7 +80,7 @@ class Service:
 
 
 def exchange(port, texts):
-    """Sends texts one after another on one connection; the acknowledgments that came."""
+    """Sends texts one after another on one connection, and returns the acknowledgments received."""
     sender = Sender(port, texts)
     sender.start()
     sender.join(LIMIT)
@@ -90,13 +90,13 @@ def exchange(port, texts):
 class Closing(Destination):
     """A destination that closes its connection after each answer."""
 
-    def _answer(self, connection, text, told):
-        super()._answer(connection, text, told)
+    def _answer(self, connection, text, response):
+        super()._answer(connection, text, response)
         return False
 
 
 class Chatting(Destination):
-    """A destination that sends blocks all the time, asked or not. It counts its connections."""
+    """A destination that sends blocks all the time, without being sent anything. It counts its connections."""
 
     talks = 0
 
@@ -114,16 +114,17 @@ class Chatting(Destination):
             return
 
 
-def came(destination, number, limit=LIMIT):
-    """Waits until so many messages came there, but not for ever. Whether they did."""
+def wait_received(destination, number, limit=LIMIT):
+    """Waits until the destination has received `number` messages, for `limit` seconds at most, and returns whether it has."""
     deadline = time.monotonic() + limit
-    while len(destination.came) < number and time.monotonic() < deadline:
+    while len(destination.received) < number and time.monotonic() < deadline:
         time.sleep(0.02)
-    return len(destination.came) >= number
+    return len(destination.received) >= number
 
 
 def taken_again(program, folder):
-    """One place serves one connection after another; all MSH-10 of acknowledgments differ, and `stop` delivers all."""
+    """With one connection allowed, connections are served one after another; each acknowledgment has its own MSH-10, and `stop`
+    delivers every message."""
     lab, port = Destination(lambda text, before: b'AA'), free_ports(1)[0]
     texts = [message(b'A%d' % n) for n in range(100)]
     with Service(program, one_channel(port, [('LAB', lab.port, [])]), folder, '--connections', '1') as service:
@@ -133,17 +134,17 @@ def taken_again(program, folder):
     lab.close()
     codes = {field(reply, b'MSA', 1) for reply in replies}
     ids = {field(reply, b'MSH', 10) for reply in replies}
-    if (status, codes, len(ids), lab.came) != (0, {b'CA'}, 100, texts):
-        return [f'taken again: status {status}, {answer}, {lines}, codes {codes}, {len(ids)} ids, {len(lab.came)} came']
+    if (status, codes, len(ids), lab.received) != (0, {b'CA'}, 100, texts):
+        return [f'taken again: status {status}, {answer}, {lines}, codes {codes}, {len(ids)} ids, {len(lab.received)} received']
     return []
 
 
 def commands(program, folder):
-    """Each command is answered, an unknown one and one that is too long too, and the end of input ends nothing."""
+    """Each command is answered, even an unknown one and one that is too long, and the service survives the end of its input."""
     lab, port = Destination(lambda text, before: b'AA'), free_ports(1)[0]
     with Service(program, one_channel(port, [('LAB', lab.port, [])]), folder) as service:
         exchange(port, [message(b'A0')])
-        came(lab, 1)
+        wait_received(lab, 1)
         found = []
         for command, begins in [('status', 'channel ADT '), ('x', 'unknown: '), ('stop ' * 2_000, 'unknown: '),
                                 ('deploy /nowhere', 'refused: '), ('cancel 7', 'refused: '),
@@ -160,7 +161,7 @@ def commands(program, folder):
 
 
 def moved(program, folder):
-    """A destination whose address is moved by a deployment while messages wait gets all of them, in order."""
+    """A destination whose address is changed by a deployment while messages wait gets all of them, in order."""
     ports = free_ports(2)
     lab = Destination(lambda text, before: b'AA')
     more = ['attempts = 100', 'interval = 1', 'timeout = 5']
@@ -170,59 +171,59 @@ def moved(program, folder):
         with open(service.path, 'w', encoding='utf-8') as file:
             file.write(one_channel(ports[0], [('LAB', lab.port, more)]))
         answer = service.ask(f'deploy {service.path}')
-        whole = came(lab, 50)
+        whole = wait_received(lab, 50)
         service.ask('stop')
         status, _ = service.ended()
     lab.close()
-    if (answer, whole, status, lab.came) != (['deployed'], True, 0, texts):
-        return [f'moved: {answer}, status {status}, {len(lab.came)} of 50 came']
+    if (answer, whole, status, lab.received) != (['deployed'], True, 0, texts):
+        return [f'moved: {answer}, status {status}, {len(lab.received)} of 50 received']
     return []
 
 
 def closing(program, folder):
-    """A destination that closes after each answer gets each message, in order."""
+    """A destination that closes its connection after each answer gets every message, in order."""
     lab, port = Closing(lambda text, before: b'AA'), free_ports(1)[0]
     more = ['attempts = 100', 'interval = 0', 'timeout = 5']
     texts = [message(b'A%d' % n) for n in range(50)]
     with Service(program, one_channel(port, [('LAB', lab.port, more)]), folder) as service:
         exchange(port, texts)
-        whole = came(lab, 50)
+        whole = wait_received(lab, 50)
         service.ask('stop')
         status, _ = service.ended()
     lab.close()
-    return [] if (whole, status) == (True, 0) else [f'closing: status {status}, {len(lab.came)} of 50 came']
+    return [] if (whole, status) == (True, 0) else [f'closing: status {status}, {len(lab.received)} of 50 received']
 
 
 def stopped_now(program, folder):
-    """A silent destination doesn't hold `stop now` up, and what is left undelivered is told by the status."""
+    """A silent destination doesn't delay `stop now`, and the exit status shows that messages are left undelivered."""
     lab, port = Destination(lambda text, before: SILENCE), free_ports(1)[0]
     more = ['attempts = 5', 'interval = 1', 'timeout = 60']
     with Service(program, one_channel(port, [('LAB', lab.port, more)]), folder, '--grace', '1') as service:
         exchange(port, [message(b'A%d' % n) for n in range(5)])
-        came(lab, 1)
+        wait_received(lab, 1)
         began = time.monotonic()
         service.ask('stop now')
         status, lines = service.ended()
         passed = time.monotonic() - began
     lab.close()
     if status != 5 or passed > 10:
-        return [f'stopped now: status {status} after {passed:.1f} seconds, {lines}, {service.said[-5:]}']
+        return [f'stopped now: status {status} after {passed:.1f} seconds, {lines}, {service.log[-5:]}']
     return []
 
 
 def few_descriptors(program, folder):
-    """Descriptors that are refused for a while are waited for: the channel goes on."""
+    """A channel continues after the system has refused it descriptors for a while."""
     lab, port = Destination(lambda text, before: b'AA'), free_ports(1)[0]
     with Service(program, one_channel(port, [('LAB', lab.port, [])]), folder, '--connections', '4') as service:
         exchange(port, [message(b'A0')])
-        came(lab, 1)
+        wait_received(lab, 1)
         _, allowed = resource.prlimit(service.process.pid, resource.RLIMIT_NOFILE)
         resource.prlimit(service.process.pid, resource.RLIMIT_NOFILE, (3, allowed))
         with socket.create_connection(('127.0.0.1', port), timeout=5):
             time.sleep(0.5)
         resource.prlimit(service.process.pid, resource.RLIMIT_NOFILE, (1_024, allowed))
         replies = exchange(port, [message(b'A1')])
-        whole = came(lab, 2)
+        whole = wait_received(lab, 2)
         service.ask('stop')
         status, _ = service.ended()
     lab.close()
@@ -231,21 +232,21 @@ def few_descriptors(program, folder):
 
 
 def counts(service):
-    """What `status` says: the words of each line by its first two words, and of lines with one number by their first."""
+    """The answer to `status`: the further words of each line, by its first two words."""
     return {' '.join(line.split()[:2]): line.split()[2:] for line in service.ask('status') or []}
 
 
 def number(service, line, word):
-    """A number of a line of `status`, by the word before it."""
-    for said in service.ask('status') or []:
-        words = said.split()
-        if said.startswith(line) and word in words:
+    """The number after `word` in the line of `status` that starts with `line`, or -1 if there is none."""
+    for text in service.ask('status') or []:
+        words = text.split()
+        if text.startswith(line) and word in words:
             return int(words[words.index(word) + 1])
     return -1
 
 
 def until(holds, limit=LIMIT):
-    """Waits until something holds, but not for ever. Whether it does."""
+    """Waits until `holds()` is true, for `limit` seconds at most, and returns whether it is."""
     deadline = time.monotonic() + limit
     while time.monotonic() < deadline:
         if holds():
@@ -255,7 +256,7 @@ def until(holds, limit=LIMIT):
 
 
 def questions(program, folder):
-    """What is kept of messages is found by number, control id and queue, and the numbers are there for Prometheus."""
+    """Messages are found by number, control id and queue, and the metrics are there for Prometheus."""
     ports = free_ports(2)
     with Service(program, one_channel(ports[0], [('LAB', ports[1], ['interval = 1'])]), folder) as service:
         exchange(ports[0], [message(b'A%d' % n) for n in range(3)] + [message(b'A1', ward=b'O')])
@@ -269,12 +270,12 @@ def questions(program, folder):
         waiting = service.ask('waiting LAB')
         if len(waiting) != 3 or not waiting[0].startswith('message 0 control_id A0 waiting attempts 0 due ') or waiting[-1] != 'waiting 2':
             found.append(f'questions: waiting: {waiting}')
-        told = service.ask('message 1')
-        if told[:7] != ['channel ADT', 'connection 0', 'sending_application REG', 'sending_facility HOSP',
-                        'message_type ADT^A01', 'control_id A1', f'length {len(message(b"A1"))}']:
-            found.append(f'questions: message: {told}')
-        if not told[-1].startswith('destination LAB waiting attempts 0 due '):
-            found.append(f'questions: state: {told[-1]}')
+        details = service.ask('message 1')
+        if details[:7] != ['channel ADT', 'connection 0', 'sending_application REG', 'sending_facility HOSP',
+                           'message_type ADT^A01', 'control_id A1', f'length {len(message(b"A1"))}']:
+            found.append(f'questions: message: {details}')
+        if not details[-1].startswith('destination LAB waiting attempts 0 due '):
+            found.append(f'questions: state: {details[-1]}')
         metrics = service.ask('metrics')
         for line in ['hl7_channel_accepted_total{channel="ADT"} 3', 'hl7_destination_waiting_messages{destination="LAB"} 2',
                      'hl7_destination_failed_total{destination="LAB"} 1', '# TYPE hl7_book_held_entries gauge']:
@@ -288,14 +289,14 @@ def questions(program, folder):
             found.append(f'questions: prune: {pruned}')
         service.ask('stop now')
         status, lines = service.ended()
-        left = [line for line in service.said if line.startswith('undelivered ')]
+        left = [line for line in service.log if line.startswith('undelivered ')]
         if status != 5 or len(left) != 2 or not left[0].startswith('undelivered destination LAB message 0 control_id A0 waiting'):
             found.append(f'questions: end: status {status}, {left}')
     return found
 
 
 def comes_back(program, folder):
-    """A destination that is down costs no attempt: each message is sent once, when it has come back, though it has one."""
+    """No attempt is counted while a destination is down: each message is sent once it is up again, in the one attempt that it has."""
     port, texts = free_ports(1)[0], [message(b'A%d' % n) for n in range(20)]
     lab = Destination(lambda text, before: b'AA', up=False)
     with Service(program, one_channel(port, [('LAB', lab.port, ['attempts = 1', 'interval = 1'])]), folder) as service:
@@ -303,52 +304,52 @@ def comes_back(program, folder):
         time.sleep(2.5)
         down = counts(service)['destination LAB']
         lab.open()
-        whole = came(lab, 20)
+        whole = wait_received(lab, 20)
         service.ask('stop')
         status, lines = service.ended()
     lab.close()
-    if (whole, status, lab.came) != (True, 0, texts) or down[1] != '20' or lines[1].split()[-1] != '20':
-        return [f'comes back: status {status}, {len(lab.came)} came, down {down}, {lines}']
+    if (whole, status, lab.received) != (True, 0, texts) or down[1] != '20' or lines[1].split()[-1] != '20':
+        return [f'comes back: status {status}, {len(lab.received)} received, down {down}, {lines}']
     return []
 
 
 def unasked(program, folder):
-    """A destination whose answers are not awaited answers all the same: all come, and the end is in order."""
+    """A destination whose answers are not awaited answers all the same: it receives every message, and the service ends normally."""
     lab, port = Destination(lambda text, before: b'AA'), free_ports(1)[0]
     texts = [message(b'A%d' % n) for n in range(300)]
     with Service(program, one_channel(port, [('LAB', lab.port, ['await = "none"'])]), folder) as service:
         exchange(port, texts)
         service.ask('stop')
         status, _ = service.ended()
-    whole = came(lab, 300, 5)
+    whole = wait_received(lab, 300, 5)
     lab.close()
-    return [] if (whole, status, lab.came) == (True, 0, texts) else [f'unasked: status {status}, {len(lab.came)} of 300 came']
+    return [] if (whole, status, lab.received) == (True, 0, texts) else [f'unasked: status {status}, {len(lab.received)} of 300 received']
 
 
 def chatting(program, folder):
-    """A destination whose answers are not awaited sends all the time: its one connection is kept, and all messages come."""
+    """A destination whose answers are not awaited sends all the time: its one connection is kept, and it receives every message."""
     lab, port = Chatting(lambda text, before: SILENCE), free_ports(1)[0]
     texts = [message(b'A%d' % n) for n in range(300)]
     with Service(program, one_channel(port, [('LAB', lab.port, ['await = "none"'])]), folder) as service:
         exchange(port, texts)
         service.ask('stop')
         status, _ = service.ended()
-    whole = came(lab, 300, 5)
+    whole = wait_received(lab, 300, 5)
     lab.close()
-    if (whole, status, lab.came, lab.talks) != (True, 0, texts, 1):
-        return [f'chatting: status {status}, {len(lab.came)} of 300 came, {lab.talks} connections']
+    if (whole, status, lab.received, lab.talks) != (True, 0, texts, 1):
+        return [f'chatting: status {status}, {len(lab.received)} of 300 received, {lab.talks} connections']
     return []
 
 
 def forgets(program, folder):
-    """A book of few entries prunes itself a hundred times. While it is full a message is refused (CE), is not delivered and is
-    sent again later, behind those that were accepted meanwhile. Each message is delivered once, in the order of the accept
+    """A book with few entries is pruned a hundred times. While it is full a message is refused (CE) and not delivered; the sender
+    sends it again later, after those that were accepted meanwhile. Each message is delivered once, in the order of the accept
     acknowledgments."""
     lab, port = Destination(lambda text, before: b'AA'), free_ports(1)[0]
     left, accepted, deadline = [message(b'A%d' % n) for n in range(2_500)], [], time.monotonic() + 2 * LIMIT
     words = ('--events', '64', '--keep', '4')
     with Service(program, one_channel(port, [('LAB', lab.port, ['attempts = 1'])]), folder, *words) as service:
-        # Of a slow program the book would be full before the first of a large piece is delivered.
+        # With a slow program, the book would be full before the first message of a large piece is delivered.
         size = 5 if checks_accesses(program) else 50
         while left and time.monotonic() < deadline:
             piece = left[:size]
@@ -357,21 +358,21 @@ def forgets(program, folder):
                 break
             accepted += [text for text, code in zip(piece, codes) if code == b'CA']
             left[:size] = [text for text, code in zip(piece, codes) if code == b'CE']
-        whole = came(lab, len(accepted))
+        whole = wait_received(lab, len(accepted))
         prunings = number(service, 'prunings ', 'prunings')
         remembered = number(service, 'book ', 'remembered')
         service.ask('stop')
         status, _ = service.ended()
     lab.close()
-    if left or not whole or status != 0 or lab.came != accepted or prunings < 100 or not 0 <= remembered <= 68:
-        return [f'forgets: status {status}, {len(left)} left, {len(accepted)} accepted, {len(lab.came)} came, '
+    if left or not whole or status != 0 or lab.received != accepted or prunings < 100 or not 0 <= remembered <= 68:
+        return [f'forgets: status {status}, {len(left)} left, {len(accepted)} accepted, {len(lab.received)} received, '
                 f'{prunings} prunings, {remembered} remembered']
     return []
 
 
 def pauses(program, folder):
-    """Of two destinations one is down: its channel stops reading before the book is full, the other goes on, and it reads again
-    once the destination is back. The book has room for what comes between two looks at it, 50 milliseconds apart."""
+    """One of two destinations is down: its channel stops reading before the book is full, and reads again once the destination is
+    up. The other channel continues. The book is checked every 50 milliseconds, and has room for what is received in between."""
     ports, size = free_ports(2), 2_000 if checks_accesses(program) else 8_000
     up, down = Destination(lambda text, before: b'AA'), Destination(lambda text, before: b'AA', up=False)
     more = ['attempts = 1', 'interval = 1']
@@ -381,27 +382,27 @@ def pauses(program, folder):
     with Service(program, text, folder, '--events', str(3 * size), '--keep', '50') as service:
         sender = Sender(ports[1], held)
         sender.start()
-        paused = until(lambda: any('reading paused' in line and 'ORU' in line for line in service.said))
+        paused = until(lambda: any('reading paused' in line and 'ORU' in line for line in service.log))
         time.sleep(0.5)
         before = len(sender.replies)
         through = exchange(ports[0], [message(b'U%d' % n) for n in range(20)])
         down.open()
         sender.join(LIMIT)
-        again = until(lambda: any('reading again' in line for line in service.said))
-        whole = came(down, size) and came(up, 20)
+        again = until(lambda: any('reading again' in line for line in service.log))
+        whole = wait_received(down, size) and wait_received(up, 20)
         service.ask('stop')
         status, _ = service.ended()
     up.close()
     down.close()
     codes = {field(reply, b'MSA', 1) for reply in sender.replies + through}
     if not (paused and again and whole) or status != 0 or codes != {b'CA'} or before >= size:
-        return [f'pauses: {paused} {again} {whole}, status {status}, {codes}, {before} before, {len(down.came)} came']
+        return [f'pauses: {paused} {again} {whole}, status {status}, {codes}, {before} before, {len(down.received)} received']
     return []
 
 
 def crowd(program, folder):
-    """Senders that repeat, dribble and hang up, on few places: each message told CA comes to each destination in the order of its
-    sender, byte for byte, and no two acknowledgments have one MSH-10."""
+    """Senders that repeat messages, send slowly and hang up, with few connections allowed: each message acknowledged with CA is
+    delivered to each destination, byte for byte and in its sender's order, and each acknowledgment has its own MSH-10."""
     ports = free_ports(1)
     labs = [Destination(lambda text, before: b'AA'), Closing(lambda text, before: b'AA')]
     names = [(name, lab.port, ['attempts = 100', 'interval = 0']) for name, lab in zip(('LAB', 'ARCHIVE'), labs)]
@@ -412,12 +413,12 @@ def crowd(program, folder):
                 texts = [message(b'S%d-%d-%d' % (who, turn, n)) for n in range(40)]
                 texts.insert(5, texts[2])
                 senders.append(Sender(ports[0], texts, in_flight=1 + who % 3, slice_size=(0, 7, 64)[who % 3],
-                                      behind=b'junk', resets=who % 4 == 3))
+                                      after=b'junk', resets=who % 4 == 3))
         for sender in senders:
             sender.start()
         for sender in senders:
             sender.join(2 * LIMIT)
-        whole = all(came(lab, 24 * 40, LIMIT) for lab in labs)
+        whole = all(wait_received(lab, 24 * 40, LIMIT) for lab in labs)
         service.ask('stop')
         status, lines = service.ended()
     found = []
@@ -429,14 +430,14 @@ def crowd(program, folder):
         lab.close()
         for sender in senders:
             sent = list(dict.fromkeys(sender.texts))
-            got = [text for text in lab.came if text in set(sent)]
+            got = [text for text in lab.received if text in set(sent)]
             if list(dict.fromkeys(got)) != sent:
-                found.append(f'crowd: {len(got)} of {len(sent)} of a sender came, or not in order')
+                found.append(f'crowd: {len(got)} of {len(sent)} of a sender received, or not in order')
     return found
 
 
 def killed(program, folder):
-    """Receivers that are killed in the middle and come again: each message told CA comes, and attempts are few."""
+    """Receivers that are killed while they receive, and started again: each message acknowledged with CA is delivered."""
     port, to = free_ports(2)
     texts, keep = [message(b'A%d' % n) for n in range(400)], os.path.join(folder, 'received')
     receiver = [sys.executable, os.path.join(os.path.dirname(os.path.abspath(__file__)), 'receive.py'), str(to), '--keep', keep]
@@ -465,7 +466,7 @@ def killed(program, folder):
 
 
 def unread(program, folder):
-    """Nobody reads standard error, nor the answers: the service goes on, and says how many lines were dropped."""
+    """Nobody reads standard error or the answers: the service continues all the same."""
     lab, port = Destination(lambda text, before: b'AA'), free_ports(1)[0]
     path = os.path.join(folder, 'plan.toml')
     with open(path, 'w', encoding='utf-8') as file:
@@ -478,7 +479,7 @@ def unread(program, folder):
         process.stdin.write(b'status\n' * 200)
         process.stdin.flush()
         replies = exchange(port, [message(b'A0')])
-        whole = came(lab, 1)
+        whole = wait_received(lab, 1)
     finally:
         process.kill()
         process.wait()
@@ -488,7 +489,8 @@ def unread(program, folder):
 
 
 def tools(program, folder):
-    """Prometheus' own tool accepts the metrics and the alert rules, systemd the unit, and hl7ctl sends a command by the FIFOs; each where it is installed."""
+    """Prometheus' own tool accepts the metrics and the alert rules, systemd accepts the unit, and hl7ctl sends commands through the
+    FIFOs. Each is tried only if it is installed."""
     here, found = os.path.dirname(os.path.abspath(__file__)), []
     examples = os.path.join(here, '..', 'examples', 'service')
     control = os.path.join(examples, 'hl7ctl')
@@ -498,7 +500,8 @@ def tools(program, folder):
         done = subprocess.run(['promtool', 'check', 'metrics'], input=text.encode(), capture_output=True, timeout=LIMIT, check=False)
         if done.returncode or done.stdout or done.stderr:
             found.append(f'tools: promtool: {done}')
-        done = subprocess.run(['promtool', 'check', 'rules', os.path.join(examples, 'alerts.yml')], capture_output=True, timeout=LIMIT, check=False)
+        done = subprocess.run(['promtool', 'check', 'rules', os.path.join(examples, 'alerts.yml')], capture_output=True, timeout=LIMIT,
+                              check=False)
         if done.returncode:
             found.append(f'tools: promtool: {done}')
     else:
@@ -521,7 +524,7 @@ def tools(program, folder):
 
 
 def controlled(program, folder, control):
-    """The service as the unit starts it, with a FIFO for commands and one for answers: hl7ctl asks and ends it."""
+    """The service as the unit starts it, with a FIFO for commands and one for answers: hl7ctl queries it and ends it."""
     fifos = {name: os.path.join(folder, name) for name in ('commands', 'answers')}
     for path in fifos.values():
         os.mkfifo(path)
@@ -546,26 +549,29 @@ def controlled(program, folder, control):
 
 
 def words(program, folder):
-    """What is said of words that can't be obeyed, and the status."""
+    """The messages and exit statuses for command lines that the program can't carry out."""
     port, found = free_ports(1)[0], []
     many = plan([(f'C{n}', free_ports(1)[0], [('LAB', None, None)]) for n in range(10)], [('LAB', port, [])])
     with socket.create_server(('127.0.0.1', port)):
-        for text, given, status, said in [
-                ('', ['--version'], 0, 'hl7_service 0.2.0 (toolchain logic dac8208d650f15bf)'), ('', ['run', 'no/such.toml'], 3, 'file: no/such.toml'),
-                ('x', ['run', 'plan.toml'], 1, 'plan: NotToml'), (many, ['run', 'plan.toml', '--connections', '1000'], 2, 'limit: connections'),
+        for text, given, status, expected in [
+                ('', ['--version'], 0, 'hl7_service 0.2.0 (toolchain logic dac8208d650f15bf)'),
+                ('', ['run', 'no/such.toml'], 3, 'file: no/such.toml'),
+                ('x', ['run', 'plan.toml'], 1, 'plan: NotToml'),
+                (many, ['run', 'plan.toml', '--connections', '1000'], 2, 'limit: connections'),
                 (one_channel(port, [('LAB', port, [])]), ['run', 'plan.toml'], 3, 'device: listen ADT'),
                 ('', ['run', 'plan.toml', '--connections', '0'], 2, "For more information, try '--help'."),
-                ('', ['run', 'plan.toml', '--keep', '1000001'], 2, "For more information, try '--help'."), ('', ['run'], 2, "For more information, try '--help'.")]:
+                ('', ['run', 'plan.toml', '--keep', '1000001'], 2, "For more information, try '--help'."),
+                ('', ['run'], 2, "For more information, try '--help'.")]:
             with open(os.path.join(folder, 'plan.toml'), 'w', encoding='utf-8') as file:
                 file.write(text)
             done = subprocess.run([program, *given], cwd=folder, stdin=subprocess.DEVNULL, capture_output=True, timeout=LIMIT, check=False)
             lines = (done.stdout + done.stderr).decode().strip().splitlines()
-            if done.returncode != status or not lines or lines[-1] != said:
+            if done.returncode != status or not lines or lines[-1] != expected:
                 found.append(f'words: {given}: status {done.returncode}, {lines}')
     return found
 
 
-SCENES = [('places take connections again', taken_again), ('commands', commands), ('questions', questions),
+SCENES = [('connections are accepted again', taken_again), ('commands', commands), ('questions', questions),
           ('a destination moves', moved), ('a destination closes', closing), ('a destination comes back', comes_back),
           ('unasked answers', unasked), ('a destination that sends all the time', chatting), ('the book forgets', forgets),
           ('reading pauses', pauses), ('a crowd', crowd), ('killed receivers', killed), ('nobody reads', unread),
@@ -577,10 +583,10 @@ def main():
     parser = argparse.ArgumentParser()
     parser.add_argument('program', nargs='?', default=PROGRAM)
     parser.add_argument('--only', default='')
-    asked = parser.parse_args()
-    program, lines = os.path.abspath(asked.program), []
+    args = parser.parse_args()
+    program, lines = os.path.abspath(args.program), []
     for name, scene in SCENES:
-        if asked.only not in name:
+        if args.only not in name:
             continue
         began = time.monotonic()
         with tempfile.TemporaryDirectory() as folder:

@@ -1,12 +1,12 @@
 #!/usr/bin/env python3
-"""Plays the configurations of examples/tls around the built service: a sender and a destination by TLS, through stunnel and
-through HAProxy, with certificates of an authority that it makes. Whichever of the two, or openssl, isn't installed is left
-out, which is said.
+"""Plays the configurations of examples/tls around the built service: a sender and a destination that use TLS, through stunnel and
+through HAProxy, with certificates of an authority that the script creates. If one of the two, or openssl, isn't installed, the
+script says so and leaves it out.
 
 Usage: peers/tls.py [PROGRAM]
 
-PROGRAM is the built service, crates/hl7_service/out/hl7_service where left out ('rt run' in crates/hl7_service builds it).
-Plain Python 3, no packages, bounded in time. The exit status is 0 where all went as it should, else 1.
+PROGRAM is the built service, by default crates/hl7_service/out/hl7_service ('rt run' in crates/hl7_service builds it).
+Plain Python 3, no packages, bounded in time. The exit status is 0 if every check passes, else 1.
 """
 import os
 import shutil
@@ -20,7 +20,7 @@ import time
 
 from engine import one_channel
 from mllp import answer, block, blocks, field, free_ports, message
-from service import PROGRAM, Service, came
+from service import PROGRAM, Service, wait_received
 from mllp import Destination
 
 EXAMPLES = os.path.join(os.path.dirname(os.path.abspath(__file__)), '..', 'examples', 'tls')
@@ -32,7 +32,7 @@ def openssl(folder, *words):
 
 
 def certificates(folder):
-    """An authority, and a certificate of it for each of the engine, two senders and LAB; and one of another authority."""
+    """Creates an authority with certificates for the engine, two senders and LAB; and a certificate by another authority."""
     os.mkdir(folder)
     for authority in ('ca', 'other'):
         openssl(folder, 'req', '-x509', '-newkey', 'ec', '-pkeyopt', 'ec_paramgen_curve:P-256', '-nodes', '-days', '2', '-subj',
@@ -52,10 +52,10 @@ def certificates(folder):
 
 
 class SecureLab:
-    """A destination that speaks TLS, wants a certificate of the authority, and answers AA."""
+    """A destination that speaks TLS, requires a certificate of the authority, and answers AA."""
 
     def __init__(self, port, folder):
-        self.came, self.listener = [], socket.create_server(('127.0.0.1', port))
+        self.received, self.listener = [], socket.create_server(('127.0.0.1', port))
         self.context = ssl.SSLContext(ssl.PROTOCOL_TLS_SERVER)
         self.context.load_cert_chain(os.path.join(folder, 'lab.crt'), os.path.join(folder, 'lab.key'))
         self.context.load_verify_locations(os.path.join(folder, 'ca.crt'))
@@ -74,7 +74,7 @@ class SecureLab:
         try:
             with self.context.wrap_socket(peer, server_side=True) as secure:
                 for text in blocks(secure):
-                    self.came.append(text)
+                    self.received.append(text)
                     secure.sendall(block(answer(text, b'AA')))
         except OSError:
             pass
@@ -85,7 +85,7 @@ class SecureLab:
 
 
 def sent(port, folder, name, text):
-    """The code that a message is answered by over TLS, with the certificate of this name, if any; or why there is none."""
+    """The acknowledgment code for a message sent over TLS, with the certificate `name` if one is given; 'closed' if there is none."""
     context = ssl.SSLContext(ssl.PROTOCOL_TLS_CLIENT)
     context.load_verify_locations(os.path.join(folder, 'ca.crt'))
     if name:
@@ -101,7 +101,7 @@ def sent(port, folder, name, text):
 
 
 def sent_plain(port, text):
-    """The same by plain MLLP."""
+    """The same over plain MLLP."""
     try:
         with socket.create_connection(('127.0.0.1', port), timeout=LIMIT) as peer:
             peer.sendall(block(text))
@@ -112,12 +112,12 @@ def sent_plain(port, text):
 
 
 class Proxy:
-    """A proxy by one of the examples, at other ports, once its port for senders takes connections."""
+    """A proxy with one of the example configurations, at other ports, once its port for senders accepts connections."""
 
-    def __init__(self, tool, example, folder, places):
+    def __init__(self, tool, example, folder, port_of):
         with open(os.path.join(EXAMPLES, example), encoding='utf-8') as file:
             text = file.read()
-        for number, port in places.items():
+        for number, port in port_of.items():
             text = text.replace(f'127.0.0.1:{number}\n', f'127.0.0.1:{port}\n').replace(f'127.0.0.1:{number} ', f'127.0.0.1:{port} ')
         with open(os.path.join(folder, example), 'w', encoding='utf-8') as file:
             file.write(text)
@@ -126,7 +126,7 @@ class Proxy:
         until = time.monotonic() + LIMIT
         while time.monotonic() < until and self.process.poll() is None:
             try:
-                socket.create_connection(('127.0.0.1', places[2576]), timeout=1).close()
+                socket.create_connection(('127.0.0.1', port_of[2576]), timeout=1).close()
                 return
             except OSError:
                 time.sleep(0.05)
@@ -141,55 +141,55 @@ class Proxy:
 
 
 def ports():
-    """A free port for each number of the examples."""
+    """A free port for each port number of the examples."""
     return dict(zip((2576, 2577, 6660, 6661, 6760), free_ports(5)))
 
 
 def by_stunnel(program, folder):
-    """A sender with the right certificate, then those without, and LAB by TLS."""
-    places, tls = ports(), os.path.join(folder, 'tls')
-    lab = SecureLab(places[2577], tls)
-    with Service(program, one_channel(places[6660], [('LAB', places[6661], [])]), folder) as service, \
-            Proxy(shutil.which('stunnel'), 'stunnel.conf', folder, places):
-        codes = [sent(places[2576], tls, 'adt-sender', message(b'S1')), sent(places[2576], tls, None, message(b'S2')),
-                 sent(places[2576], tls, 'guest', message(b'S3')), sent(places[2576], tls, 'forged', message(b'S4')),
-                 sent_plain(places[2576], message(b'S5'))]
-        whole = came(lab, 1)
+    """A sender with the right certificate, then senders without it, and LAB over TLS."""
+    port_of, tls = ports(), os.path.join(folder, 'tls')
+    lab = SecureLab(port_of[2577], tls)
+    with Service(program, one_channel(port_of[6660], [('LAB', port_of[6661], [])]), folder) as service, \
+            Proxy(shutil.which('stunnel'), 'stunnel.conf', folder, port_of):
+        codes = [sent(port_of[2576], tls, 'adt-sender', message(b'S1')), sent(port_of[2576], tls, None, message(b'S2')),
+                 sent(port_of[2576], tls, 'guest', message(b'S3')), sent(port_of[2576], tls, 'forged', message(b'S4')),
+                 sent_plain(port_of[2576], message(b'S5'))]
+        whole = wait_received(lab, 1)
         service.ask('stop now')
     lab.close()
     wanted = [b'CA', 'closed', 'closed', 'closed', 'closed']
-    return [] if codes == wanted and whole and lab.came == [message(b'S1')] else [f'stunnel: {codes}, {len(lab.came)} came']
+    return [] if codes == wanted and whole and lab.received == [message(b'S1')] else [f'stunnel: {codes}, {len(lab.received)} received']
 
 
 def by_haproxy(program, folder):
-    """The same through HAProxy, whose health checks open no connection; then the first service ends, and the second takes over;
-    then that ends too."""
-    places, tls, found = ports(), os.path.join(folder, 'tls'), []
-    lab, spare = SecureLab(places[2577], tls), Destination(lambda *_: b'AA')
+    """The same through HAProxy, whose health checks open no connection to the service. Then the first service ends and the second
+    takes over, and then that ends too."""
+    port_of, tls, found = ports(), os.path.join(folder, 'tls'), []
+    lab, spare = SecureLab(port_of[2577], tls), Destination(lambda *_: b'AA')
     second = os.path.join(folder, 'second')
     os.mkdir(second)
-    with Service(program, one_channel(places[6660], [('LAB', places[6661], [])]), folder) as service, \
-            Service(program, one_channel(places[6760], [('SPARE', spare.port, [])]), second) as other, \
-            Proxy(shutil.which('haproxy'), 'haproxy.cfg', folder, places):
+    with Service(program, one_channel(port_of[6660], [('LAB', port_of[6661], [])]), folder) as service, \
+            Service(program, one_channel(port_of[6760], [('SPARE', spare.port, [])]), second) as other, \
+            Proxy(shutil.which('haproxy'), 'haproxy.cfg', folder, port_of):
         checked = subprocess.run(['haproxy', '-c', '-f', 'haproxy.cfg'], cwd=folder, capture_output=True, timeout=LIMIT, check=False)
-        codes = [sent(places[2576], tls, 'adt-sender', message(b'H1')), sent(places[2576], tls, None, message(b'H2')),
-                 sent(places[2576], tls, 'guest', message(b'H3')), sent(places[2576], tls, 'forged', message(b'H4')),
-                 sent_plain(places[2576], message(b'H5'))]
-        whole = came(lab, 1)
+        codes = [sent(port_of[2576], tls, 'adt-sender', message(b'H1')), sent(port_of[2576], tls, None, message(b'H2')),
+                 sent(port_of[2576], tls, 'guest', message(b'H3')), sent(port_of[2576], tls, 'forged', message(b'H4')),
+                 sent_plain(port_of[2576], message(b'H5'))]
+        whole = wait_received(lab, 1)
         time.sleep(3)
-        opened = sum('connection opened' in line for line in service.said)
+        opened = sum('connection opened' in line for line in service.log)
         service.ask('stop')
         until, code = time.monotonic() + LIMIT, 'closed'
         while code == 'closed' and time.monotonic() < until:
-            code = sent(places[2576], tls, 'adt-sender', message(b'H6'))
-        took_over = came(spare, 1)
+            code = sent(port_of[2576], tls, 'adt-sender', message(b'H6'))
+        took_over = wait_received(spare, 1)
         other.ask('stop now')
         other.ended(LIMIT)
-        down = sent(places[2576], tls, 'adt-sender', message(b'H7'))
+        down = sent(port_of[2576], tls, 'adt-sender', message(b'H7'))
     lab.close()
     spare.close()
-    if checked.returncode or codes != [b'CA', 'closed', 'closed', 'closed', 'closed'] or not whole or lab.came != [message(b'H1')]:
-        found.append(f'haproxy: {checked.returncode}, {codes}, {len(lab.came)} came')
+    if checked.returncode or codes != [b'CA', 'closed', 'closed', 'closed', 'closed'] or not whole or lab.received != [message(b'H1')]:
+        found.append(f'haproxy: {checked.returncode}, {codes}, {len(lab.received)} received')
     if code != b'CA' or not took_over:
         found.append(f'haproxy: the second service was not reached: {code}')
     if opened != 1:
