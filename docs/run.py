@@ -1,21 +1,21 @@
 #!/usr/bin/env python3
-"""Plays the README and the pages of docs/: writes the files that a page shows, runs its commands, and compares what they print.
+"""Plays the README and the pages of docs/: writes the files that a page shows, runs its commands, and compares their output.
 
 Usage: docs/run.py [PROGRAM]
 
-PROGRAM is the built service, crates/hl7_service/out/hl7_service where left out ('rt run' in crates/hl7_service builds it). In a
-page, a block behind a line
+PROGRAM is the built service, by default crates/hl7_service/out/hl7_service ('rt run' in crates/hl7_service builds it). In a page, a
+block after a line
 - '<!-- file NAME -->' is the file NAME;
-- '<!-- printed by COMMAND -->' is what COMMAND prints;
-- '<!-- typed -->' is what a reader types, a line each. Behind 'hl7_service run' the words that the service obeys are typed into
-  its standard input. Where a comment begins with 'prints', its other words have to be printed. Each line has to succeed.
-A block of kind 'console' has commands, each a line that begins with '$ ', and behind each what it prints, standard error first
-where it prints there too. A line '..' stands for any lines.
+- '<!-- printed by COMMAND -->' is the output of COMMAND;
+- '<!-- typed -->' is what a reader types, line by line. After 'hl7_service run' the commands of the service are typed into its
+  standard input. If a comment begins with 'prints', the rest of it has to be printed. Each line has to succeed.
+A block of kind 'console' has commands, each on a line that begins with '$ ', and after each of them its output, with standard error
+first if it prints there too. A line '..' matches any number of lines.
 
-All of a page runs in one folder, which has the repository's examples and peers, './build' that prints PROGRAM, and a folder in
-place of the machine's /usr/local, /etc, /run and /var, with a 'systemctl' that runs the unit's commands. Ports 6660 to 6699 are
-others, that are free.
-Plain Python 3, no packages, bounded in time. The exit status is 0 where all is as the pages say, else 1.
+All commands of a page run in one folder. It contains the repository's examples and peers, a './build' that prints PROGRAM, and a
+folder that replaces the machine's /usr/local, /etc, /run and /var, with a 'systemctl' that runs the unit's commands. Ports 6660 to
+6699 are replaced by free ones.
+Plain Python 3, no packages, bounded in time. The exit status is 0 if everything is as the pages say, else 1.
 """
 import os
 import random
@@ -38,7 +38,7 @@ PORT = re.compile(r'\b66[6-9]\d\b')
 OBEYED = re.compile(r'(status|metrics|message|find|waiting|deploy|prune|cancel|stop)\b')
 MACHINE = re.compile(r'(?<![\w.])/(?=(usr/local|etc|run|var)/)')
 LIMIT = 60
-# What systemd does with the commands of a unit, and nothing else of it.
+# A systemctl that runs the commands of a unit, and does nothing else.
 SYSTEMCTL = r'''#!/bin/sh
 unit=$MACHINE/etc/systemd/system/hl7-service.service
 lines() { sed -n "s,^$1=,,p" "$unit" | sed -E "s,/(usr/local|etc|run)/,$MACHINE&,g"; }
@@ -55,7 +55,7 @@ esac
 
 
 def other_ports(count):
-    """Ports of four digits, of loopback, that nothing listens on."""
+    """Loopback ports of four digits that nothing listens on."""
     found = []
     for port in random.sample(range(2_000, 6_000), 1_000):
         with socket.socket() as holder:
@@ -67,7 +67,7 @@ def other_ports(count):
 
 
 def remains(group):
-    """Whether a process of this group has not ended."""
+    """Whether a process of this group is still running."""
     try:
         os.killpg(group, 0)
         return True
@@ -76,7 +76,7 @@ def remains(group):
 
 
 class Page:
-    """A page, the folder that it is played in, and what its commands have started."""
+    """A page, the folder in which it is played, and the processes that its commands have started."""
 
     def __init__(self, name, program, folder):
         self.name, self.folder, self.played, self.wrong = name, folder, 0, []
@@ -103,17 +103,17 @@ class Page:
 
     @staticmethod
     def script(path, text):
-        """Writes a script that can be run."""
+        """Writes an executable script."""
         with open(path, 'w', encoding='utf-8') as file:
             file.write(text)
         os.chmod(path, 0o755)
 
     def with_ports(self, text):
-        """A text with the ports that are played in place of those of the page."""
+        """The text with the page's ports replaced by free ones."""
         return PORT.sub(lambda found: self.ports[found[0]], text)
 
     def shell(self, command):
-        """Runs a command. Its status, and what it has printed."""
+        """Runs a command, and returns its exit status and its output."""
         with tempfile.TemporaryFile() as out, tempfile.TemporaryFile() as err:
             done = subprocess.Popen(['sh', '-c', MACHINE.sub(self.machine + '/', command)], cwd=self.folder, env=self.around,
                                     stdin=subprocess.DEVNULL, stdout=out, stderr=err, start_new_session=True)
@@ -126,20 +126,20 @@ class Page:
             return status, self.with_ports((err.read() + out.read()).decode(errors='replace').strip('\n'))
 
     def run(self, command):
-        """Starts a service that obeys what is typed, and waits until it is ready."""
+        """Starts a service that reads commands, waits until it is ready, and returns the status and its log."""
         with open(os.path.join(self.folder, 'log'), 'w+', encoding='utf-8') as log:
             self.service = subprocess.Popen(command.split(), cwd=self.folder, env=self.around, stdin=subprocess.PIPE,
                                             stdout=subprocess.PIPE, stderr=log, start_new_session=True)
             self.started.append(self.service.pid)
-            until, said = time.monotonic() + LIMIT, ''
-            while 'the service is ready' not in said and time.monotonic() < until and self.service.poll() is None:
+            until, printed = time.monotonic() + LIMIT, ''
+            while 'the service is ready' not in printed and time.monotonic() < until and self.service.poll() is None:
                 time.sleep(0.05)
                 log.seek(0)
-                said = log.read()
-            return int('the service is ready' not in said), said
+                printed = log.read()
+            return int('the service is ready' not in printed), printed
 
     def typed(self, command):
-        """Types a command into the service. Its answer; behind 'stop' its status and all that it prints to its end."""
+        """Types a command into the service, and returns a status and the answer; for 'stop' the exit status and all further output."""
         self.service.stdin.write(command.encode() + b'\n')
         self.service.stdin.flush()
         if command.startswith('stop'):
@@ -156,26 +156,26 @@ class Page:
         return int(not held.endswith(b'\n\n')), held.decode(errors='replace')
 
     def line(self, line):
-        """Plays a line that a reader types."""
+        """Runs a line that a reader types, and checks its status and output."""
         command, _, comment = re.sub(r'\s+# ', '\0', line, count=1).partition('\0')
         if self.service and OBEYED.match(command):
             status, got = self.typed(command)
         else:
             status, got = (self.run if command.startswith('hl7_service run') else self.shell)(command)
         self.played += 1
-        due = comment.removeprefix('prints ') if comment.startswith('prints ') else ''
-        if status or due not in got:
-            self.wrong.append(f'{self.name}: {command}\n  status {status}, printed:\n{got}\n  and not: {due}')
+        expected = comment.removeprefix('prints ') if comment.startswith('prints ') else ''
+        if status or expected not in got:
+            self.wrong.append(f'{self.name}: {command}\n  status {status}, printed:\n{got}\n  and not: {expected}')
 
     def compare(self, command, wanted):
-        """Runs a command, and compares what it prints."""
+        """Runs a command, and compares its output with `wanted`."""
         got = self.shell(command)[1]
         self.played += 1
         if not re.fullmatch(r'\n(.*\n)*?'.join(map(re.escape, re.split(r'\n *\.\.\n', wanted))), got):
             self.wrong.append(f'{self.name}: {command}\n  printed:\n{got}\n  and not:\n{wanted}')
 
     def play(self):
-        """Plays the blocks of the page in their order."""
+        """Plays the blocks of the page in order."""
         with open(os.path.join(HERE, self.name), encoding='utf-8') as file:
             text = self.with_ports(file.read())
         for use, name, kind, body in BLOCK.findall(text):
@@ -193,13 +193,13 @@ class Page:
                     self.compare(command, wanted.strip('\n'))
 
     def end(self):
-        """Ends what the page's commands have started."""
+        """Kills the processes that the page's commands have started."""
         for group in filter(remains, self.started):
             os.killpg(group, signal.SIGKILL)
 
 
 def played(name, program):
-    """Plays a page, and prints how many of its commands were played. What differs, a line each."""
+    """Plays a page, prints the number of commands played, and returns the differences, one line each."""
     with tempfile.TemporaryDirectory() as folder:
         page = Page(name, program, folder)
         try:

@@ -1,10 +1,10 @@
 #!/usr/bin/env python3
-"""Calls the built program with words, and compares its status and its lines. Plain Python 3, no packages.
+"""Runs the built program with many command lines, and compares its exit status and its output. Plain Python 3, no packages.
 
 Usage: tests/command_line.py [PROGRAM]
 
-PROGRAM is the built program, crates/hl7_engine/out/hl7_engine where left out ('rt run' in crates/hl7_engine builds it).
-The exit status is 0 where every call did as it should, else 1; each one that didn't is told on a line.
+PROGRAM is the built program, by default crates/hl7_engine/out/hl7_engine ('rt run' in crates/hl7_engine builds it).
+The exit status is 0 if every run is as expected, else 1. Each one that isn't is printed on a line of its own.
 """
 import ctypes
 import errno
@@ -27,18 +27,18 @@ ADMISSION = (b'\x0bMSH|^~\\&|REG|HOSP|ENG|HUB|20231114221300||ADT^A01^ADT_A01|M1
 
 
 def accepted(moment):
-    """The acknowledgment of the admission, with this MSH-7."""
+    """The acknowledgment of the admission, with `moment` as its MSH-7."""
     return (f'\x0bMSH|^~\\&|ENG|HUB|REG|HOSP|{moment}||ACK^A01^ACK|0.1|P|2.5.1|||NE|NE\r'
             'MSA|CA|M1\r\x1c\r').encode()
 
 
-def plain(told):
-    """Standard error without the notes and the warnings on plans, which tests/plan_notes.py compares."""
-    return b''.join(line for line in told.splitlines(True) if not line.startswith((b'note: ', b'warning: ')))
+def plain(printed):
+    """Standard error without the notes and warnings about plans, which tests/plan_notes.py compares."""
+    return b''.join(line for line in printed.splitlines(True) if not line.startswith((b'note: ', b'warning: ')))
 
 
 def refuse_random_bytes():
-    """From here on, and in the program that is started next, the kernel refuses getrandom, by a filter of system calls."""
+    """Sets a filter of system calls for this process and the program that it starts next: the kernel refuses getrandom."""
     load, equal, end = 0x20, 0x15, 0x06
     instructions = [(load, 0, 0, 4), (equal, 0, 3, 0xC000003E),  # the architecture is x86-64
                     (load, 0, 0, 0), (equal, 0, 1, 318),  # the call is getrandom
@@ -53,7 +53,7 @@ def refuse_random_bytes():
 
 
 def without_random_bytes(program, plan):
-    """What is wrong, a line each, where the system gives no random bytes: the book's keys want some, checking a plan wants none."""
+    """The failures, one line each, when the system provides no random bytes: the book's keys need some, checking a plan needs none."""
     if platform.machine() != 'x86_64':
         print('no random bytes: not tried, since the filter is for x86-64')
         return []
@@ -75,7 +75,7 @@ def without_random_bytes(program, plan):
 
 
 def closing(*numbers):
-    """Closes descriptors of the program that is started next."""
+    """A function that closes these descriptors, to be called in the child process before the program starts."""
     def close():
         for number in numbers:
             os.close(number)
@@ -83,7 +83,7 @@ def closing(*numbers):
 
 
 def answers_without(program, numbers, plan):
-    """What `answer` does where these standard descriptors are closed: its status, standard output and standard error."""
+    """The exit status, standard output and standard error of `answer` when these standard descriptors are closed."""
     ran = subprocess.run([program, 'answer', plan, '--now', '951782400'], input=ADMISSION, capture_output=True, timeout=60,
                          preexec_fn=closing(*numbers))
     return ran.returncode, ran.stdout, ran.stderr
@@ -98,16 +98,16 @@ def free_ports(count):
 
 
 def runs_without(program, number, path, port):
-    """What is wrong with a run for which this standard descriptor is closed, a line each: it has to be open on the null
-    device, and a sender has to get its acknowledgment and nothing else."""
+    """The failures, one line each, of a run that starts with this standard descriptor closed: the descriptor has to be open on the
+    null device, and a sender has to get its acknowledgment and nothing else."""
     process = subprocess.Popen([program, 'run', path, '--accept', '1'], stdin=subprocess.DEVNULL, stdout=subprocess.PIPE,
                                stderr=subprocess.PIPE, preexec_fn=closing(number))
-    deadline, place, got, out, err = time.monotonic() + 20, None, b'', b'', b''
+    deadline, target, got, out, err = time.monotonic() + 20, None, b'', b'', b''
     try:
         while time.monotonic() < deadline:
             try:
                 with socket.create_connection(('127.0.0.1', port), timeout=5) as sender:
-                    place = os.readlink(f'/proc/{process.pid}/fd/{number}')
+                    target = os.readlink(f'/proc/{process.pid}/fd/{number}')
                     sender.sendall(b'\x0bHELLO\x1c\r' + ADMISSION)
                     sender.shutdown(socket.SHUT_WR)
                     while piece := sender.recv(65_536):
@@ -121,15 +121,15 @@ def runs_without(program, number, path, port):
     finally:
         process.kill()
     lines = []
-    if place != '/dev/null' or (got.count(b'\x0b'), got.count(b'MSA|CA|M1')) != (1, 1) or process.returncode != 0:
-        lines.append(f'run without descriptor {number}: it is {place}, the sender got {got}, status {process.returncode}, {err}')
+    if target != '/dev/null' or (got.count(b'\x0b'), got.count(b'MSA|CA|M1')) != (1, 1) or process.returncode != 0:
+        lines.append(f'run without descriptor {number}: it is {target}, the sender got {got}, status {process.returncode}, {err}')
     if not out.startswith(b'channel ADT received 1 ') or (err == b'') != (number == 2):
         lines.append(f'run without descriptor {number}: {out}, {err}')
     return lines
 
 
 def without_standard_descriptors(program, folder):
-    """What is wrong, a line each, where the program is started with standard descriptors closed."""
+    """The failures, one line each, when the program starts with standard descriptors closed."""
     one, path, (port, lab) = os.path.join(EXAMPLES, 'one_destination.toml'), os.path.join(folder, 'run.toml'), free_ports(2)
     answer = accepted('20000229000000+0000')
     lines = [f'answer without descriptors {numbers}: {got}, not {wanted}' for numbers, wanted in [
@@ -155,7 +155,7 @@ def called(program, words, given=b''):
 
 
 def wrong(program, folder):
-    """The calls that did otherwise than they should, a line each."""
+    """The runs that are not as expected, one line each."""
     def plan(name, text):
         path = os.path.join(folder, name)
         with open(path, 'wb') as file:
@@ -166,11 +166,11 @@ def wrong(program, folder):
         return os.path.join(EXAMPLES, name)
 
     one = example('one_destination.toml')
-    # No machine has the first channel's address, so it can't listen there.
+    # No machine has the first channel's address, so the channel can't listen on it.
     nowhere = ONE.replace('127.0.0.1:6660', '192.0.2.1:6660')
     second = nowhere[nowhere.index('[[channel]]'):].replace('"ADT"', '"SECOND"', 1)
     two = plan('two.toml', nowhere + second)
-    # Words, what comes on standard input, and what has to come of it: the status, standard output, standard error.
+    # The arguments, standard input, and the expected exit status, standard output and standard error.
     exact = [
         ([], ADMISSION, (0, accepted('20231114221320+0000'), b'')),
         (['answer', '--now', '951782400'], ADMISSION, (0, accepted('20000229000000+0000'), b'')),
@@ -212,8 +212,8 @@ def wrong(program, folder):
         status, out, err = called(program, words)
         if (status, out) != (2, b'') or not err.startswith(b'error: '):
             lines.append(f'{words}: {(status, out, err)}, not an error of status 2')
-    # Words, and what the help has to tell beside their use.
-    for words, told in [
+    # The arguments, and what the help has to contain beside the usage.
+    for words, expected in [
         (['--help'], [b'answer ', b'check ', b'run ', b'exit status', b'audit: NAME', b'Example: hl7_engine run']),
         (['-h'], [b'run ']),
         (['answer', '--help'], [b'--now <SECS>', b'Example: hl7_engine answer']),
@@ -221,9 +221,9 @@ def wrong(program, folder):
         (['run', '--help'], [b'--accept <N>', b'--events <N>', b'received A filtered B', b'waiting A inflight B', b'listening on']),
     ]:
         status, out, err = called(program, words)
-        if (status, err) != (0, b'') or any(text not in out for text in [b'Usage: hl7_engine', *told]):
+        if (status, err) != (0, b'') or any(text not in out for text in [b'Usage: hl7_engine', *expected]):
             lines.append(f'{words}: {(status, out, err)}, not the help')
-    # Devices that fail: a full disk takes no byte, and a folder can't be read.
+    # Devices that fail: a full disk accepts no byte, and a directory can't be read.
     with open('/dev/full', 'wb') as full:
         ran = subprocess.run([program], input=ADMISSION, stdout=full, stderr=subprocess.PIPE, timeout=60)
     if (ran.returncode, ran.stderr) != (3, b'device: write\n'):
@@ -242,7 +242,7 @@ def main():
         lines = wrong(os.path.abspath(program), folder)
     for line in lines:
         print(line)
-    print('all calls did as they should' if not lines else f'{len(lines)} calls did otherwise')
+    print('all runs are as expected' if not lines else f'{len(lines)} failures')
     return 1 if lines else 0
 
 

@@ -4,13 +4,13 @@ Plain Python 3.
 
 Usage: tests/definitions.py [--write]
 
-A claim is one definition or a few of crates/*/specs; what it rests on is found by the names that its text uses, and so on.
-The pages of specs/ hold these definitions and no others; the pages of specs/inner/ hold what no claim rests on: helpers of
-proofs, and words that a clause of a single call uses.
+A claim is one or several definitions of crates/*/specs. It rests on the definitions whose names its text uses, on those that
+they use in turn, and so on. The pages of specs/ contain these definitions and no others; the pages of specs/inner/ contain what no
+claim rests on: helpers of proofs, and definitions that a clause of a single call uses.
 
-Without --write the page is compared with what would be written, and the exit status is 1 where it differs, where a page of
-specs/ begins with no heading, cites a page of specs/inner/, has a definition that no claim rests on or one whose name
-another page of specs/ defines too, or where a page is missing from the reading order below.
+Without --write the page is compared with what would be written. The exit status is 1 if it differs; if a page of specs/ begins
+without a heading, cites a page of specs/inner/, has a definition that no claim rests on, or one whose name another page of specs/
+defines too; or if a page is missing from the reading order below.
 """
 import collections
 import glob
@@ -81,7 +81,7 @@ PROMISE = (
      'callers of a closed book and of connections and delivering in the one history',
      ['delivery_worker.Sent.*']),
 )
-# Claims beside it: of the program, of a model of the whole engine, of pruning and of the text of a plan.
+# Further claims: about the program, a model of the whole engine, pruning, and the text of a plan.
 BESIDE = (
     ('What a run counts, and its receipts', 'the clauses of `close` and `audit`: what adds up, which receipts are due, which fault is '
      'first',
@@ -108,7 +108,7 @@ OPERATORS = {'>>=': '◌>>=◌'}
 
 
 class Module:
-    """A file of specs/: its definitions in their order, and what it imports."""
+    """A file of specs/: its definitions in the order of the file, and its imports."""
 
     def __init__(self, path):
         self.defs = collections.OrderedDict()
@@ -150,7 +150,7 @@ class Module:
             self.modules[whole.group(2)] = whole.group(1)
 
     def words(self, name):
-        """The names that a definition uses, without the variables that an equation binds and the fields that it sets."""
+        """The names that a definition uses, except the variables that an equation binds and the fields that it sets."""
         used, bound = set(), set()
         for line in self.defs[name]:
             left, equals, right = line.partition(' = ')
@@ -180,7 +180,7 @@ def modules_of():
 
 
 def reach(modules, module, name, seen):
-    """Adds a definition and all that it stands on."""
+    """Adds a definition and everything that it rests on to `seen`."""
     here = modules.get(module)
     if here is None:
         return
@@ -199,7 +199,7 @@ def reach(modules, module, name, seen):
 
 
 def claims(modules, stated=None):
-    """All that claims rest on, as pairs of module and name; and a line of each claim. Without `stated`: all of them."""
+    """The definitions that claims rest on, as pairs of module and name, and a line for each claim. Without `stated`: for all claims."""
     seen, lines = set(), []
     for title, said, roots in stated or PROMISE + BESIDE:
         for root in roots:
@@ -214,7 +214,7 @@ def claims(modules, stated=None):
 
 
 def heading(module):
-    """The first line of a page, without its dashes; empty where it begins with no comment."""
+    """The first line of a page, without its dashes; empty if the page doesn't begin with a comment."""
     crate, _, file = module.split('.')
     with open(os.path.join(CRATES, crate, 'specs', f'{file}.antt'), encoding='utf-8') as page:
         first = page.readline().strip()
@@ -222,7 +222,7 @@ def heading(module):
 
 
 def size(modules, seen):
-    """How many lines some definitions have."""
+    """The total number of lines of these definitions."""
     return sum(len(modules[module].defs[name]) for module, name in seen)
 
 
@@ -235,7 +235,7 @@ def page_line(modules, seen, module):
 
 
 def tables(modules, seen, pages):
-    """The tables of these pages, in reading order."""
+    """Yields the lines of the tables for these pages, in reading order."""
     for title, order in ORDER:
         here = [module for module in (page.replace('.', '.specs.') for page in order.split()) if module in pages]
         if here:
@@ -245,15 +245,15 @@ def tables(modules, seen, pages):
 
 
 def cited(module):
-    """The pages of inner/ that a page of specs/ cites."""
+    """The pages of specs/inner/ that a page of specs/ cites."""
     crate, _, file = module.split('.')
     with open(os.path.join(CRATES, crate, 'specs', f'{file}.antt'), encoding='utf-8') as page:
         return sorted({line.split('.{')[0].split()[-1] for line in page if line.startswith(('use ', 'pub use ')) and '.specs.inner' in line})
 
 
 def misplaced(modules, seen):
-    """What is wrong with the pages of specs/: where a page cites inner/, has no heading, or has a definition that no claim rests
-    on, and the names that two pages define."""
+    """Yields what is wrong with the pages of specs/: pages that cite specs/inner/, that have no heading, or that have a definition
+    on which no claim rests; and names that two pages define."""
     for module, page in modules.items():
         file = module.split('.')[2]
         if file in ('Lib', 'inner'):
@@ -273,7 +273,7 @@ def misplaced(modules, seen):
 
 
 def text_of(modules, seen):
-    """The whole page."""
+    """Yields the lines of the whole page."""
     first, promised = claims(modules, PROMISE)
     beside = claims(modules, BESIDE)[1]
     pages = {module for module, _ in first}

@@ -1,11 +1,11 @@
 #!/usr/bin/env python3
-"""Each constant of crates/fixed_numbers has a clause of its own that writes its number out.
+"""Checks that each constant of crates/fixed_numbers has a clause of its own that gives its value as a number.
 
-The prover holds every clause, so a constant that has one can't be changed alone: 'ensures turns { TURNS_MAX ≡ 1000000000 }' is
-refused where TURNS_MAX is another number. What the prover can't see is a constant with no clause, or with a clause that
-names another constant in place of a number; this looks for both. Plain Python 3, no packages.
+The prover checks every clause, so the value of a constant that has one can't be changed alone: 'ensures turns { TURNS_MAX ≡
+1000000000 }' is refused if TURNS_MAX is another number. The prover can't detect a constant without a clause, or with a clause that
+names another constant instead of a number; this script looks for both. Plain Python 3, no packages.
 
-Prints a line for each constant that isn't pinned, and the number of those that are; the status is 0 where all are.
+It prints a line for each constant that isn't pinned, and the number of those that are. The exit status is 0 if all are.
 """
 
 import ast
@@ -19,20 +19,20 @@ CLAUSE = re.compile(r'^    ensures \w+ \{ (\w+) ≡ (\d+) \}$', re.M)
 
 
 def number_of(text):
-    """The number that a constant's text writes: digits, 0x.., or a byte such as b'\\r'."""
+    """The value of a constant's text: digits, 0x.., or a byte such as b'\\r'."""
     if text.startswith("b'"):
         return ast.literal_eval(text)[0]
     return int(text.replace('_', ''), 0)
 
 
 def is_pinned(line, clauses):
-    """Whether the constant of a line has one clause, which writes its number out."""
+    """Whether the constant defined in a line has exactly one clause, which gives its value as a number."""
     found = CONSTANT.match(line)
     return bool(found) and [number for name, number in clauses if name == found[1]] == [number_of(found[2])]
 
 
 def main():
-    """Compares the constants of each file with its clauses."""
+    """Compares the constants of each file with the clauses of the file."""
     constants = unpinned = 0
     for source in sorted(SOURCES.glob('*.rt')):
         text = source.read_text(encoding='utf-8')

@@ -3,9 +3,9 @@
 
 Usage: tests/layers.py
 
-A crate may name those that the list has to its right, and what these may name. The exit status is 1 where crates.txt lets a
-crate name one that it may not by the list, where the list has one that crates.txt doesn't let it name, one that others on
-its line imply, or where a crate of crates.txt is not in the list.
+A crate may name the crates that the list shows to its right, and those that these may name. The exit status is 1 if crates.txt lets
+a crate name one that the list doesn't allow; if the list shows one that crates.txt doesn't let it name, or one that others on the
+line imply; or if a crate of crates.txt is not in the list.
 """
 import os
 import re
@@ -15,7 +15,7 @@ TOP = os.path.join(os.path.dirname(os.path.abspath(__file__)), '..')
 
 
 def named():
-    """What each crate of this repository names, as crates.txt has it, the kit's crates left aside."""
+    """The crates that each crate of this repository names according to crates.txt, without the kit's crates."""
     found = {}
     with open(os.path.join(TOP, 'crates.txt'), encoding='utf-8') as lines:
         for line in lines:
@@ -26,7 +26,7 @@ def named():
 
 
 def listed():
-    """What each crate may name first, as the page has it."""
+    """The crates that the page lists to the right of each crate."""
     with open(os.path.join(TOP, 'docs', 'ARCHITECTURE.md'), encoding='utf-8') as page:
         block = page.read().partition('## Who may name whom')[2].partition('```text\n')[2].partition('```')[0]
     found = {}
@@ -40,7 +40,7 @@ def listed():
 
 
 def reach(name, below, seen):
-    """Adds all that a crate may name."""
+    """Adds all crates that a crate may name to `seen`, directly or through others, and returns it."""
     for each in below.get(name, ()):
         if each not in seen:
             seen.add(each)

@@ -4,8 +4,8 @@ their fields with the table of examples/messages/README.md. Plain Python 3, no p
 
 Usage: tests/messages.py [PROGRAM]
 
-PROGRAM is the built service, crates/hl7_service/out/hl7_service where left out ('rt run' in crates/hl7_service builds it).
-The exit status is 0 where all is as the table says, else 1.
+PROGRAM is the built service, by default crates/hl7_service/out/hl7_service ('rt run' in crates/hl7_service builds it).
+The exit status is 0 if everything is as in the table, else 1.
 """
 import os
 import subprocess
@@ -17,23 +17,23 @@ EXAMPLES = os.path.join(HERE, '..', 'examples')
 
 
 def rows():
-    """The table's rows, a list of cells each."""
+    """The rows of the table, each a list of its cells."""
     with open(os.path.join(EXAMPLES, 'messages', 'README.md'), encoding='utf-8') as file:
         return [[cell.strip() for cell in line.split('|')[1:-1]] for line in file if '.hl7 |' in line]
 
 
 def field(segments, path):
-    """A field of the first segment of that name, as MSH-5; empty where there is none."""
+    """The field with a path such as MSH-5 of the first segment of that name; empty if there is none."""
     name, _, number = path.partition('-')
     for fields in (segment.split(b'|') for segment in segments):
         if fields[0] == name.encode():
-            at = int(number or 0) - (name == 'MSH')
-            return fields[at] if at < len(fields) else b''
+            index = int(number or 0) - (name == 'MSH')
+            return fields[index] if index < len(fields) else b''
     return b''
 
 
 def payloads(printed):
-    """The verdict that 'try' printed, and the segments for each destination."""
+    """The verdict that 'try' printed, and the segments that it printed for each destination."""
     verdict, found, now = '', {}, None
     for line in printed.split(b'\n'):
         if line.startswith(b'verdict: '):
@@ -48,7 +48,7 @@ def payloads(printed):
 
 
 def wrong(program, row):
-    """What differs from a row of the table, or an empty text."""
+    """How the output differs from a row of the table, or an empty string."""
     name, _, channel, verdict, to, looks = row
     path = os.path.join(EXAMPLES, 'messages', name)
     with open(path, 'rb') as file:
@@ -60,10 +60,10 @@ def wrong(program, row):
         return f'{name}: {got}, to {list(found)}, status {done.returncode}'
     for look in filter(None, looks.split(', ')):
         destination, _, expected = look.partition(' ')
-        at, _, value = expected.partition('=')
-        if field(found[destination], at) != value.encode():
-            return f'{name}: {destination} gets {field(found[destination], at)} in {at}, and not {value}'
-    # ARCHIVE gets each message as it was received, byte for byte, which 'try' prints a segment a line.
+        field_path, _, value = expected.partition('=')
+        if field(found[destination], field_path) != value.encode():
+            return f'{name}: {destination} gets {field(found[destination], field_path)} in {field_path}, and not {value}'
+    # ARCHIVE gets each message as it was received, byte for byte; 'try' prints it with one segment a line.
     received = [segment for segment in given.replace(b'\n', b'\r').split(b'\r') if segment]
     if 'ARCHIVE' in found and found['ARCHIVE'] != received:
         return f'{name}: ARCHIVE gets {found["ARCHIVE"]}'

@@ -1,10 +1,10 @@
 #!/usr/bin/env python3
-"""Checks faulty and doubtful plans by the built program, and compares every line that it writes. Plain Python 3, no packages.
+"""Runs the built program on faulty and doubtful plans, and compares every line that it prints. Plain Python 3, no packages.
 
 Usage: tests/plan_notes.py [PROGRAM]
 
-PROGRAM is the built program, crates/hl7_engine/out/hl7_engine where left out ('rt run' in crates/hl7_engine builds it).
-The exit status is 0 where every plan got the lines that it should, else 1; each one that didn't is told on a line.
+PROGRAM is the built program, by default crates/hl7_engine/out/hl7_engine ('rt run' in crates/hl7_engine builds it).
+The exit status is 0 if the program prints the expected lines for every plan, else 1. Each failure is printed.
 """
 import os
 import re
@@ -19,7 +19,7 @@ ROOM = 'note: channel ADT: a book of 1000000 entries takes 125000 messages while
 
 
 def changed(*pairs):
-    """The built-in plan with each text replaced by another."""
+    """The built-in plan, with the first text of each pair replaced by the second."""
     text = ONE
     for old, new in pairs:
         assert old in text, old
@@ -46,7 +46,7 @@ CHANNEL_KEYS = 'note: the keys of a channel here: name, listen, types, processin
 CONDITION_KEYS = 'equals, one_of, exists, starts, contains, all, any, not'
 NAME = 'a text of 1 to 32 letters A to Z and a to z, digits, _ and -'
 
-# Plans with a fault: the text, the fault's line, and the notes before it.
+# Plans with a fault: the plan, the line that reports the fault, and the notes before it.
 FAULTS = [
     # NotToml
     ('[[destination]', 'plan: NotToml', ['note: line 1, column 15: unclosed array table, expected `]]`']),
@@ -185,7 +185,7 @@ FAULTS = [
 
 SECOND = ONE[ONE.index('[[channel]]'):].replace('"ADT"', '"SECOND"', 1)
 
-# Plans that can be read: the text, the line of their size, and the warnings before the lines of room.
+# Plans that can be read: the plan, the line with its size, and the warnings and notes, the last of which say how many messages fit.
 WARNED = [
     (ONE, 'plan ok: 1 channels, 1 destinations', [ROOM]),
     (changed(('127.0.0.1:6661', 'lab.example')), 'plan ok: 1 channels, 1 destinations',
@@ -229,7 +229,7 @@ def lines_of(texts):
 
 
 def wrong(program, folder):
-    """The plans that got other lines than they should, a line each."""
+    """The plans for which other lines than the expected ones are printed, with these lines."""
     path, lines = os.path.join(folder, 'plan.toml'), []
 
     def compare(text, words, wanted):
@@ -244,18 +244,18 @@ def wrong(program, folder):
     for text, fault, notes in FAULTS:
         for words in (['check', path], ['answer', path], ['run', path, '--accept', '1']):
             compare(text, words, (1, '', lines_of(notes + [fault])))
-    for text, size, told in WARNED:
-        compare(text, ['check', path], (0, size + '\n', lines_of(told)))
-    # A run says it of its own book, before it listens: no machine has this address.
+    for text, size, warnings in WARNED:
+        compare(text, ['check', path], (0, size + '\n', lines_of(warnings)))
+    # A run prints it for its own book, before it listens. No machine has this address.
     nowhere = changed(('127.0.0.1:6660', '192.0.2.1:6660'))
     for events, down, up in [(20, 2, 5), (8, 1, 1), (7, 0, 0), (16, 2, 3)]:
         room = f'note: channel ADT: a book of {events} entries takes {down} messages while all its destinations are down, {up} while all are up'
         with open(path, 'w', encoding='utf-8') as file:
             file.write(nowhere)
-        status, out, told = called(program, ['run', path, '--accept', '1', '--events', str(events)])
-        if (status, out) != (3, '') or not told.startswith(room + '\n') or not told.endswith('device: listen ADT\n'):
-            lines.append(f'run with {events} entries: {(status, out, told)}, not {room}')
-    # A file that isn't there.
+        status, out, err = called(program, ['run', path, '--accept', '1', '--events', str(events)])
+        if (status, out) != (3, '') or not err.startswith(room + '\n') or not err.endswith('device: listen ADT\n'):
+            lines.append(f'run with {events} entries: {(status, out, err)}, not {room}')
+    # A file that doesn't exist.
     wanted = (3, '', 'note: "no/such.toml" can\'t be read: No such file or directory (os error 2)\nfile: no/such.toml\n')
     for words in (['check', 'no/such.toml'], ['answer', 'no/such.toml'], ['run', 'no/such.toml', '--accept', '1']):
         if (got := called(program, words)) != wanted:
@@ -269,7 +269,7 @@ def main():
         lines = wrong(os.path.abspath(program), folder)
     for line in lines:
         print(line)
-    print('all plans got the lines that they should' if not lines else f'{len(lines)} plans got others')
+    print('the lines for all plans are as expected' if not lines else f'{len(lines)} failures')
     return 1 if lines else 0
 
 

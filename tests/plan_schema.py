@@ -1,9 +1,11 @@
 #!/usr/bin/env python3
-"""Calls `check` of the built program on the plans of examples/, and compares plan.schema.json with it: every plan that `check`
-accepts, among the examples and 300 made at random, the schema accepts; and each of a list of wrong plans that a schema can
-refuse, it refuses. Where Python's package jsonschema isn't installed the schema is left out, which is said.
+"""Runs `check` of the built service on the plans of examples/, and compares plan.schema.json with it. Among the examples and 300
+random plans, the schema has to accept every plan that `check` accepts; and it has to reject each of a list of wrong plans that a
+schema can reject. If Python's package jsonschema isn't installed, the script says so and leaves the schema out.
 
 Usage: tests/plan_schema.py [PROGRAM]
+
+The exit status is 0 if everything is as expected, else 1.
 """
 import json
 import os
@@ -31,7 +33,7 @@ WRONG = [
 
 
 def path(rng):
-    """A path, now and then a wrong one."""
+    """A random path, sometimes a wrong one."""
     segment = rng.choice(['PID', 'PV1', 'OBX', 'ZX1', 'MSH', 'MS', 'pid'][:rng.choice([5, 5, 5, 7])])
     text = segment + rng.choice(['', '', '[2]', '[0]'][:rng.choice([3, 3, 4])]) + f'-{rng.choice([1, 2, 3, 9, 10, 11, 999, 0, 1000][:rng.choice([7, 7, 9])])}'
     return text + rng.choice(['', '', '[1]', '.1', '.2.3', '[2].4', '.1.2.3'][:rng.choice([6, 6, 7])])
@@ -64,7 +66,7 @@ def step(rng):
 
 
 def made(rng):
-    """A plan made at random. One in five is right."""
+    """A random plan. About one in five is valid."""
     lines = []
     for n in range(rng.randrange(1, 4)):
         lines += ['[[destination]]', f'name = "D{n}"', f'address = "127.0.0.1:{6000 + n}"']
@@ -87,7 +89,7 @@ def made(rng):
 
 
 def schema():
-    """What finds the errors of a plan by the schema, or None."""
+    """A validator for the schema, or None if jsonschema isn't installed."""
     try:
         import jsonschema  # pylint: disable=import-outside-toplevel
     except ImportError:
@@ -98,7 +100,7 @@ def schema():
 
 
 def examples():
-    """The plans of examples/, each with its name."""
+    """Yields the name and the text of each plan in examples/."""
     for at, _, names in os.walk(os.path.join(HERE, 'examples')):
         for name in sorted(names):
             if name.endswith('.toml'):

@@ -1,16 +1,16 @@
 #!/usr/bin/env python3
-"""Refuses each request for memory of a call in turn, until a run meets no refusal, and compares what is before and after it.
+"""Refuses each memory request of a call in turn, until a run has no refusal, and compares the state before and after the call.
 
 Usage: tests/refused_growths.py [WORD]
 
-The scripts of the programs refuse_calls, refuse_books, refuse_rows, refuse_shared and refuse_worlds have calls behind 'try '.
-For each of them the built program makes the calls before it, and then that call under a small C library, tests/refuse.c, which
-refuses the Nth request for memory that the call makes. A call that was refused memory says so, has changed nothing that can be
-seen, and made again it answers as if it had never been refused; or it goes on without that memory, and answers as it does with
-it. A connection that is served then ends, or has its message acknowledged with NoMemory, and a delivery makes one attempt more
-at most. Then the program hl7_engine answers a stream while each of its own requests is refused in turn. With a WORD, only lines
-that have it are tried. Where there is no C compiler, it says so and tries nothing. The exit status is 0 where all was so. Plain
-Python 3, no packages.
+In the scripts of the programs refuse_calls, refuse_books, refuse_rows, refuse_shared and refuse_worlds, some calls follow 'try '.
+For each of these the built program makes the calls before it, and then that call with a small C library, tests/refuse.c, which
+refuses the Nth memory request of the call. A call that is refused memory reports it and changes nothing that can be observed, and
+when it is repeated it answers as if it had never been refused; or it continues without that memory, and answers as it does with
+it. When a connection is served, it ends or its message is acknowledged with NoMemory, and a delivery makes at most one further
+attempt. Then the program hl7_engine answers a stream while each of its own requests is refused in turn. With a WORD, only lines
+that contain it are tried. If there is no C compiler, the script says so and tries nothing. The exit status is 0 if all of this
+holds. Plain Python 3, no packages.
 """
 import os
 import re
@@ -23,18 +23,18 @@ HERE = os.path.dirname(os.path.abspath(__file__))
 CRATES = os.path.join(HERE, '..', 'crates')
 NO_MEMORY = 'out of memory'
 PROGRAMS = ('refuse_calls', 'refuse_books', 'refuse_rows', 'refuse_shared', 'refuse_worlds')
-# What a program writes behind its last answer.
+# What a program prints after its last answer.
 ENDINGS = {'refuse_shared': ['closed']}
 # More requests than any call makes.
 MOST = 5_000
 
 
 class Wrong(Exception):
-    """A run that isn't as it has to be."""
+    """A run that isn't as expected."""
 
 
 def ran(name, lines, library, variable=None, number=None):
-    """What a program wrote on a script, and whether a request was refused."""
+    """The lines that a program prints for a script, and whether a request was refused."""
     folder = os.path.join(CRATES, name)
     data = os.path.join(folder, 'data')
     env = dict(os.environ, LD_PRELOAD=library)
@@ -48,29 +48,29 @@ def ran(name, lines, library, variable=None, number=None):
 
 
 def answers(lines, calls):
-    """What each of these calls was answered, the last lines of a script."""
-    told = [line for line in lines if line not in ('begin', 'end')][-len(calls):]
-    for line, call in zip(told, calls):
+    """The answers to these calls, which are the last ones of a script."""
+    answered = [line for line in lines if line not in ('begin', 'end')][-len(calls):]
+    for line, call in zip(answered, calls):
         if not line.startswith(call + ': '):
-            raise Wrong(f'{line!r} in place of the answer to {call!r}')
-    return [line[len(call) + 2:] for line, call in zip(told, calls)]
+            raise Wrong(f'{line!r} instead of the answer to {call!r}')
+    return [line[len(call) + 2:] for line, call in zip(answered, calls)]
 
 
 def plain(call, library, name, before, ending=None):
-    """A call that changes nothing where it is refused memory. Behind the calls that are compared, those of 'ending' are made."""
-    told = ENDINGS.get(name, [])
-    asked = ending or []
-    calls = ['state', f'try {call}', 'state', call, 'state', *asked]
-    was, due, became, *_ = answers(ran(name, before + calls, library)[0], calls + told)
-    end = answers(ran(name, before + [call, *asked], library)[0], asked + told) if asked + told else []
-    if told and not end[-1].startswith('audit Ok(())'):
+    """A call that changes nothing if it is refused memory. The calls of 'ending' follow those that are compared."""
+    last_answers = ENDINGS.get(name, [])
+    further = ending or []
+    calls = ['state', f'try {call}', 'state', call, 'state', *further]
+    was, due, became, *_ = answers(ran(name, before + calls, library)[0], calls + last_answers)
+    end = answers(ran(name, before + [call, *further], library)[0], further + last_answers) if further + last_answers else []
+    if last_answers and not end[-1].startswith('audit Ok(())'):
         raise Wrong(end[-1])
 
     def look(number):
         lines, refused = ran(name, before + calls, library, 'REFUSE', number)
-        first, answer, after, again, last, *left = answers(lines, calls + told)
+        first, answer, after, again, last, *left = answers(lines, calls + last_answers)
         if first != was:
-            raise Wrong(f'it began with {first}')
+            raise Wrong(f'the state before is {first}')
         lacking = answer.startswith(NO_MEMORY)
         if lacking and refused:
             if (after, again, last, left) != (was, due, became, end):
@@ -82,12 +82,12 @@ def plain(call, library, name, before, ending=None):
 
 
 def row(call, library, name, before):
-    """A row of a store: what is in each queue, too."""
+    """A row of a store: the contents of each queue are compared too."""
     return plain(call, library, name, before, ['queues'])
 
 
 def feed(call, library, name, before):
-    """A piece of a stream that is refused memory: the stream has failed from then on, and its first events can be taken."""
+    """A piece of a stream that is refused memory: the stream has failed from then on, and its events before that are still available."""
     calls = [f'try {call}', call, 'events']
     due = answers(ran(name, before + calls[:1], library)[0], calls[:1])
     whole = answers(ran(name, before + [call, 'events'], library)[0], ['events'])[0]
@@ -97,7 +97,7 @@ def feed(call, library, name, before):
         answer, again, events = answers(lines, calls)
         if answer == NO_MEMORY and refused:
             if again != 'failed' or not whole.startswith(events):
-                raise Wrong(f'refused; then {again}, {events} in place of {whole}')
+                raise Wrong(f'refused; then {again}, {events} instead of {whole}')
         elif [answer] != due:
             raise Wrong(answer)
         return refused, answer == NO_MEMORY
@@ -105,66 +105,66 @@ def feed(call, library, name, before):
 
 
 def parts(state):
-    """What the book of a world shows, and what each connection was sent."""
+    """The state of a world's book, and what each connection was sent."""
     book, *sent = state.split('; to ')
     return book, sent
 
 
 def chunk(call, library, name, before):
-    """A message that comes on a connection: its sender is told NoMemory and nothing is booked, or it is booked; or the
-    connection has ended with the first of its replies."""
+    """A message received on a connection: it is acknowledged with NoMemory and not booked, or it is booked; or the connection has
+    ended after some of its replies, or before them."""
     calls = ['state', f'try {call}']
     was, became = (parts(state) for state in answers(ran(name, before + calls, library)[0], calls))
     conn = int(call.split()[1])
     due = became[1][conn].removesuffix(', ended false').removeprefix(was[1][conn].removesuffix(', ended false').removesuffix('<>'))
     block = due.split('<FS>')[0] + '<FS><CR>'
-    front, _, id = block.removesuffix('<CR><FS><CR>').rpartition('MSA|CA|')
-    refusal = f'{front}MSA|CE|{id}|NoMemory<CR><FS><CR>'
+    prefix, _, id = block.removesuffix('<CR><FS><CR>').rpartition('MSA|CA|')
+    refusal = f'{prefix}MSA|CE|{id}|NoMemory<CR><FS><CR>'
 
     def look(number):
         lines, refused = ran(name, before + calls, library, 'REFUSE', number)
         book, sent = parts(answers(lines, calls)[1])
         if [s for c, s in enumerate(sent) if c != conn] != [s for c, s in enumerate(was[1]) if c != conn]:
             raise Wrong('another connection was sent something')
-        told, _, ended = sent[conn].rpartition(', ended ')
-        told = told.removeprefix(was[1][conn].removesuffix(', ended false').removesuffix('<>')).replace('<>', '')
+        reply, _, ended = sent[conn].rpartition(', ended ')
+        reply = reply.removeprefix(was[1][conn].removesuffix(', ended false').removesuffix('<>')).replace('<>', '')
         booked = book == became[0]
         if not booked and book != was[0]:
             raise Wrong(book)
-        fine = {'false': (told == due and booked) or (told == refusal and not booked),
-                'true': due.startswith(told) and (booked or not told)}[ended]
-        if not fine or (not refused and told != due):
+        fine = {'false': (reply == due and booked) or (reply == refusal and not booked),
+                'true': due.startswith(reply) and (booked or not reply)}[ended]
+        if not fine or (not refused and reply != due):
             raise Wrong(f'{sent[conn]}, {"booked" if booked else "not booked"}')
-        return refused, told != due
+        return refused, reply != due
     return look
 
 
-def told_of(answer):
-    """Why a connection or a delivery ended, its numbers by name, and the bytes that were written."""
+def outcome_of(answer):
+    """The reason why a connection or a delivery ended, the numbers with their names, and the bytes that were written."""
     words, _, written = answer.partition(': ')
     end, *numbers = words.split(', ')
     return end, numbers, '' if written == '<>' else written
 
 
 def serving(call, library, name, before):
-    """A connection that is served at a desk of a shared book: its message is acknowledged with NoMemory and isn't booked, or
-    the connection has ended with the first of its replies."""
+    """A connection that is served at a desk of a shared book: its message is acknowledged with NoMemory and not booked, or the
+    connection has ended after some of its replies, or before them."""
     calls = ['state', f'try {call}', 'state']
     was, due, became, closed = answers(ran(name, before + calls, library)[0], calls + ['closed'])
-    _, numbers, written = told_of(due)
-    front, _, id = written.split('<FS><CR>')[0].rpartition('MSA|')
+    _, numbers, written = outcome_of(due)
+    prefix, _, id = written.split('<FS><CR>')[0].rpartition('MSA|')
     id = (id + '||').split('|')[1].removesuffix('<CR>')
-    unbooked = f'End, 0 booked, 1 not booked, 0 unreadable: {front}MSA|CE|{id}|NoMemory<CR><FS><CR>'
+    unbooked = f'End, 0 booked, 1 not booked, 0 unreadable: {prefix}MSA|CE|{id}|NoMemory<CR><FS><CR>'
 
     def look(number):
         lines, refused = ran(name, before + calls, library, 'REFUSE', number)
         first, answer, after, left = answers(lines, calls + ['closed'])
-        end, got, wrote = told_of(answer)
+        end, got, wrote = outcome_of(answer)
         booked = got[:1] == numbers[:1]
         cut = end == 'NoMemory' and written.startswith(wrote) and (wrote == '' or wrote.endswith('<FS><CR>')) \
             and after == (became if booked else was)
         if first != was or not left.startswith('audit Ok(())'):
-            raise Wrong(f'it began with {first}; at its end {left}')
+            raise Wrong(f'the state before is {first}; at the end {left}')
         if not refused and (answer, after, left) != (due, became, closed):
             raise Wrong(f'{answer}, {after}')
         if not ((answer, after) == (due, became) or (answer, after) == (unbooked, was) or cut):
@@ -174,15 +174,15 @@ def serving(call, library, name, before):
 
 
 def without_attempts(state):
-    """What a shared book shows, without the numbers that an attempt more makes greater."""
+    """The state of a shared book, without the numbers that a further attempt increases."""
     return re.sub(r'(takes|settlements|held:|owed:|attempts:) \d+', r'\1', state)
 
 
 def delivery(call, library, name, before):
-    """A delivery: each message is delivered, in order, with one attempt more at most, which may have sent its block."""
+    """A delivery: each message is delivered, in order, with at most one further attempt, which may have sent its block."""
     calls = ['state', f'try {call}', 'state']
     was, due, became = answers(ran(name, before + calls, library)[0], calls + ['closed'])[:3]
-    end, numbers, written = told_of(due)
+    end, numbers, written = outcome_of(due)
     blocks = [block + '<FS><CR>' for block in written.split('<FS><CR>')[:-1]]
     count = len(blocks)
     again = f'{end}, taken {count + 1}, delivered {count}, again 1, rejected 0'
@@ -193,18 +193,18 @@ def delivery(call, library, name, before):
     def look(number):
         lines, refused = ran(name, before + calls, library, 'REFUSE', number)
         first, answer, after, left = answers(lines, calls + ['closed'])
-        told, _, wrote = answer.partition(': ')
+        outcome, _, wrote = answer.partition(': ')
         if first != was or not left.startswith('audit Ok(())'):
-            raise Wrong(f'it began with {first}; at its end {left}')
+            raise Wrong(f'the state before is {first}; at the end {left}')
         if (answer, after) != (due, became) and not (
-                refused and told == again and wrote in (written, *more) and without_attempts(after) == without_attempts(became)):
+                refused and outcome == again and wrote in (written, *more) and without_attempts(after) == without_attempts(became)):
             raise Wrong(f'{answer}, {after}')
         return refused, answer != due
     return look
 
 
 def step(call, library, name, before):
-    """A step of a world, which tells what all is then: as before where it was refused memory."""
+    """A step of a world, whose answer is the state after it. If it was refused memory, that is the state before it."""
     calls = ['state', f'try {call}', call]
     was, became, _ = answers(ran(name, before + calls, library)[0], calls)
 
@@ -218,33 +218,33 @@ def step(call, library, name, before):
 
 
 def kind(name, call):
-    """How a call is looked at."""
+    """The function that checks a call."""
     if name == 'refuse_worlds':
         return {'chunk': chunk, 'steps': plain}.get(call.split()[0], step)
     return {'feed': feed, 'push': row, 'serve': serving, 'deliver': delivery}.get(call.split()[0], plain)
 
 
 def each_in_turn(look):
-    """How many requests were refused, how many of them the call reported, and at which it wasn't as it has to be."""
-    told = 0
+    """The number of refused requests, the number of them that the call reported, and the failure if there is one."""
+    reported = 0
     for number in range(1, MOST):
         try:
             refused, lacked = look(number)
         except (Wrong, OSError, subprocess.SubprocessError, ValueError, KeyError, IndexError) as fault:
-            return number, told, f'request {number}: {fault}'
+            return number, reported, f'request {number}: {fault}'
         if not refused:
-            return number - 1, told, None
-        told += lacked
-    return MOST, told, 'no run was without a refusal'
+            return number - 1, reported, None
+        reported += lacked
+    return MOST, reported, 'every run had a refusal'
 
 
 def tries(name):
-    """The calls of a program's script that are tried, each with the lines before it."""
+    """Yields each call of a program's script that is tried, with the lines before it."""
     with open(os.path.join(CRATES, name, 'stdin'), encoding='utf-8') as script:
         lines = script.read().splitlines()
-    for place, line in enumerate(lines):
+    for index, line in enumerate(lines):
         if line.startswith('try '):
-            yield line[4:], [before.removeprefix('try ') for before in lines[:place]]
+            yield line[4:], [before.removeprefix('try ') for before in lines[:index]]
 
 
 def message(number):
@@ -253,7 +253,7 @@ def message(number):
 
 
 def answering(library):
-    """The program's own service of one connection, from its start to its end."""
+    """The program hl7_engine, which serves one connection from its start to its end."""
     program = os.path.abspath(os.path.join(CRATES, 'hl7_engine', 'out', 'hl7_engine'))
     stream = b''.join(message(number) for number in range(4))
 
@@ -295,16 +295,16 @@ def main():
             if wanted not in f'{name} {call}':
                 continue
             try:
-                refused, told, fault = each_in_turn(look())
+                refused, reported, fault = each_in_turn(look())
             except (Wrong, OSError, subprocess.SubprocessError, ValueError) as broken:
-                refused, told, fault = 0, 0, f'with memory: {broken}'
+                refused, reported, fault = 0, 0, f'with memory: {broken}'
             wrong, calls = wrong + (fault is not None), calls + 1
             requests[name] = requests.get(name, 0) + refused
-            print(f'{name}: {call[:60]}: {refused} requests refused, {told} reported' + (f'; WRONG: {fault}' if fault else ''),
+            print(f'{name}: {call[:60]}: {refused} requests refused, {reported} reported' + (f'; WRONG: {fault}' if fault else ''),
                   flush=True)
     for name in (name for name, refused in requests.items() if not refused):
         wrong += 1
-        print(f'{name}: WRONG: none of its requests was met')
+        print(f'{name}: WRONG: none of its requests was refused')
     print(f'{calls} calls, {sum(requests.values())} requests refused: {"as it should be" if not wrong else f"{wrong} WRONG"}')
     return 1 if wrong else 0
 

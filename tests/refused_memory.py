@@ -1,12 +1,12 @@
 #!/usr/bin/env python3
-"""Gives the built program less and less memory, and compares what it writes with what it writes when it has enough.
+"""Runs the built program with different amounts of memory, and compares its output with that of a run with enough memory.
 
 Usage: tests/refused_memory.py [PROGRAM]
 
-PROGRAM is the built program, crates/hl7_engine/out/hl7_engine where left out. A message that finds no memory is answered
-CE with NoMemory where the reply finds some, and else the connection ends: what was written are whole blocks, each the one
-that is due or that refusal, the status is 3 and the line is 'memory'. The exit status is 0 where it was so at each limit.
-Plain Python 3, no packages.
+PROGRAM is the built program, by default crates/hl7_engine/out/hl7_engine. A message that is refused memory is
+acknowledged with CE and NoMemory if there is memory for the reply. Otherwise the connection ends: the output consists of whole
+blocks, each the expected one or that refusal, the program's exit status is 3 and its last line is 'memory'. The exit status is 0
+if that holds for each limit. Plain Python 3, no packages.
 """
 import os
 import resource
@@ -26,7 +26,7 @@ def message(number):
 
 
 def answered(program, stream, limit=None):
-    """What a run with so many bytes of address space wrote: its status, standard output and standard error."""
+    """The exit status, standard output and standard error of a run with at most `limit` bytes of address space; None if it fails."""
     def limited():
         resource.setrlimit(resource.RLIMIT_AS, (limit, limit))
     try:
@@ -37,12 +37,12 @@ def answered(program, stream, limit=None):
 
 
 def refused(reply, number):
-    """The refusal of a message for want of memory, in place of its acceptance."""
+    """The reply that refuses a message with NoMemory, made from the one that accepts it."""
     return reply.replace(b'MSA|CA|M%d\r' % number, b'MSA|CE|M%d|NoMemory\r' % number)
 
 
 def least_start(program):
-    """The least limit, in pages, at which the program starts: it answers nothing, or tells that it wants memory."""
+    """The lowest limit, in pages, at which the program starts: it ends normally without input, or reports that it is out of memory."""
     low, high = 0, 1 << 16
     while low < high:
         middle = (low + high) // 2
@@ -71,17 +71,17 @@ def main():
             break
         status, out, err = ran
         if not out and status not in (0, 3) and pages < first + SLACK:
-            # Where the stack lies differs from run to run by some pages: the program may not start after all.
+            # The position of the stack differs from run to run by some pages: the program may fail to start after all.
             pages += 1
             continue
-        told = [part + b'\x1c\r' for part in out.split(b'\x1c\r')]
-        rest = told.pop()[:-2]
-        right = all(got in (due, refused(due, number)) for number, (got, due) in enumerate(zip(told, replies)))
-        refusals += sum(b'|NoMemory\r' in got for got in told)
-        ends.add(len(told))
-        ended = (status, err) == (3, b'memory\n') or (status, err, len(told)) == (0, b'', MESSAGES)
+        blocks = [part + b'\x1c\r' for part in out.split(b'\x1c\r')]
+        rest = blocks.pop()[:-2]
+        right = all(got in (expected, refused(expected, number)) for number, (got, expected) in enumerate(zip(blocks, replies)))
+        refusals += sum(b'|NoMemory\r' in got for got in blocks)
+        ends.add(len(blocks))
+        ended = (status, err) == (3, b'memory\n') or (status, err, len(blocks)) == (0, b'', MESSAGES)
         if rest or not right or not ended:
-            lines.append(f'{pages} pages: status {status}, {err}, {len(told)} replies, {len(rest)} bytes of another')
+            lines.append(f'{pages} pages: status {status}, {err}, {len(blocks)} replies, {len(rest)} bytes of another')
         enough = enough + 1 if out == whole else 0
         pages += 1
     for line in lines:

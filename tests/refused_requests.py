@@ -1,13 +1,13 @@
 #!/usr/bin/env python3
-"""Refuses one request for memory of a test, each in turn, and tells whether the test holds whichever it is.
+"""Refuses each memory request of a test in turn, and prints whether the test passes whichever request is refused.
 
 Usage: tests/refused_requests.py [--from N] [--to N] [--jobs N] [CRATE..]
 
 It runs 'rt try --test --fail-alloc N' in the crates below, for N from 1 until no request is refused, and so needs no proof.
-A test that holds under each refusal has a twin that does the same with memory to spare: where the twin fails, the Nth
-request was one of the test's. Where a test has no twin, its requests are told here. Each N builds the tests anew, half a
-minute or more, so this is run by hand; the test command runs tests/refused_growths.py, which refuses requests of built
-programs. The exit status is 0 where all held. Plain Python 3, no packages.
+A test that has to pass under each refusal has a twin that does the same with memory to spare: if the twin fails, the Nth
+request was one of the test's. For a test without a twin, the number of its requests is listed here. Each N builds the tests again,
+which takes half a minute or more, so this is run by hand; the test command runs tests/refused_growths.py, which refuses requests
+of built programs. The exit status is 0 if all tests pass. Plain Python 3, no packages.
 """
 import argparse
 import concurrent.futures
@@ -16,10 +16,10 @@ import subprocess
 import sys
 
 CRATES = os.path.join(os.path.dirname(os.path.abspath(__file__)), '..', 'crates')
-# How many refusals in a row a twin has to stand until its test is taken to ask for no more: one that grows a buffer is met
-# by a smaller growth, and the twin doesn't see it.
+# The number of refusals in a row that a twin has to pass before its test is considered to make no more requests: if the refused
+# request grows a buffer, the buffer is grown by less, and the twin passes.
 ENOUGH = 4
-# A crate, the test that has to hold, and its twin, or how many requests it makes.
+# A crate, the test that has to pass, and its twin or the number of requests that it makes.
 TESTS = [
     ('book_lock_tests', 'refused_serving::holds_where_memory_is_refused', 'refused_serving::all_is_done_with_memory_to_spare'),
     ('delivery_worker_tests', 'refused_delivering::holds_where_memory_is_refused',
@@ -30,7 +30,7 @@ TESTS = [
 
 
 def tried(crate, number):
-    """The tests of a crate that passed with this request refused, and those that didn't."""
+    """The tests of a crate that passed with this request refused, and those that failed."""
     ran = subprocess.run(['rt', 'try', '--test', '--fail-alloc', str(number)], cwd=os.path.join(CRATES, crate),
                          stdin=subprocess.DEVNULL, capture_output=True, text=True, timeout=1_800)
     passed, failed = set(), set()
@@ -44,7 +44,7 @@ def tried(crate, number):
 
 
 def each_in_turn(crate, test, twin, numbers, jobs):
-    """How many requests were refused, and at which the test didn't hold."""
+    """The number of refused requests, those at which the test failed, and whether all requests of the test were refused."""
     refused, broken, spared = 0, [], 0
     with concurrent.futures.ThreadPoolExecutor(jobs) as pool:
         while numbers and spared < ENOUGH:
@@ -59,20 +59,20 @@ def each_in_turn(crate, test, twin, numbers, jobs):
 
 
 def main():
-    words = argparse.ArgumentParser()
-    words.add_argument('crates', nargs='*')
-    words.add_argument('--from', dest='first', type=int, default=1)
-    words.add_argument('--to', dest='last', type=int, default=2_000)
-    words.add_argument('--jobs', type=int, default=2)
-    asked = words.parse_args()
+    parser = argparse.ArgumentParser()
+    parser.add_argument('crates', nargs='*')
+    parser.add_argument('--from', dest='first', type=int, default=1)
+    parser.add_argument('--to', dest='last', type=int, default=2_000)
+    parser.add_argument('--jobs', type=int, default=2)
+    args = parser.parse_args()
     wrong = False
     for crate, test, twin in TESTS:
-        if asked.crates and crate not in asked.crates:
+        if args.crates and crate not in args.crates:
             continue
-        refused, broken, ended = each_in_turn(crate, test, twin, range(asked.first, asked.last + 1), asked.jobs)
+        refused, broken, ended = each_in_turn(crate, test, twin, range(args.first, args.last + 1), args.jobs)
         wrong = wrong or bool(broken)
-        told = 'all held' if not broken else f'DID NOT HOLD at {broken}'
-        print(f'{crate} {test}: {refused} requests refused{"" if ended else " so far"}, {told}', flush=True)
+        result = 'all passed' if not broken else f'FAILED at {broken}'
+        print(f'{crate} {test}: {refused} requests refused{"" if ended else " so far"}, {result}', flush=True)
     return 1 if wrong else 0
 
 

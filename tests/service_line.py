@@ -1,12 +1,12 @@
 #!/usr/bin/env python3
-"""Calls the built service with words, and compares what it prints: its version, which has to name the toolchain's logic as the
-README, CHANGELOG and docs/PROVED.md do, and 'rt version' where 'rt' is on the path; its help; and 'check --verbose'. Plain
-Python 3, no packages.
+"""Runs the built service with several command lines, and compares what it prints: its version, which has to name the same
+toolchain logic as the README, CHANGELOG and docs/PROVED.md do, and as 'rt version' does if 'rt' is on the path; its help; and
+'check --verbose'. Plain Python 3, no packages.
 
 Usage: tests/service_line.py [PROGRAM]
 
-PROGRAM is the built service, crates/hl7_service/out/hl7_service where left out ('rt run' in crates/hl7_service builds it).
-The exit status is 0 where every call did as it should, else 1; each one that didn't is printed on a line.
+PROGRAM is the built service, by default crates/hl7_service/out/hl7_service ('rt run' in crates/hl7_service builds it).
+The exit status is 0 if every run is as expected, else 1. Each one that isn't is printed on a line of its own.
 """
 import os
 import re
@@ -18,7 +18,7 @@ TOP = os.path.join(os.path.dirname(os.path.abspath(__file__)), '..')
 PROGRAM = os.path.join(TOP, 'crates', 'hl7_service', 'out', 'hl7_service')
 VERSION = 'hl7_service 0.2.0 (toolchain logic dac8208d650f15bf)\n'
 LOGIC = re.compile(r'logic `?([0-9a-f]{16})')
-# Words, and what the help has to say beside their use.
+# The arguments, and what the help has to contain beside the usage.
 HELP = [
     (['--help'], ['run ', 'try ', 'check ', 'The exit status:', *(f'\n  {status}  ' for status in range(6)), 'Example: hl7_service run']),
     (['run', '--help'], ['--connections <N>', '[default: 64]', '[default: 1000000]', '[default: 0]', '[default: 5]', 'a quarter of --events]',
@@ -35,7 +35,7 @@ ADMISSIONS  ARCHIVE      no      ADT
 RESULTS     RECORD       no      ORU^R01
 RESULTS     ARCHIVE      no      ORU^R01
 '''
-# Both filters, no route, no type, any type, and names that are wider than their column's head.
+# A filter of a channel and of a route, no route, no type, any type, and names that are wider than their column's heading.
 ODD = '''\
 destination = [{ name = "A", address = "127.0.0.1:6001" }, { name = "A-MUCH-LONGER-NAME", address = "127.0.0.1:6002" }]
 [[channel]]
@@ -76,15 +76,15 @@ def called(program, words, given=''):
 
 
 def versions(program):
-    """What is wrong with the version and the documents that name it, a line each."""
+    """The failures of the version and of the documents that name it, one line each."""
     logic, lines = LOGIC.search(VERSION)[1], []
     for words in (['--version'], ['-V']):
         if (got := called(program, words)) != (0, VERSION, ''):
             lines.append(f'{words}: {got}, not {VERSION}')
     if shutil.which('rt'):
-        said = called('rt', ['version'])[1]
-        if not (found := LOGIC.search(said)) or found[1] != logic:
-            lines.append(f'rt version: {said.strip()}, and the program says {logic}')
+        printed = called('rt', ['version'])[1]
+        if not (found := LOGIC.search(printed)) or found[1] != logic:
+            lines.append(f'rt version: {printed.strip()}, and the program says {logic}')
     for name in ('README.md', 'CHANGELOG.md', os.path.join('docs', 'PROVED.md')):
         with open(os.path.join(TOP, name), encoding='utf-8') as file:
             if (found := set(LOGIC.findall(file.read()))) != {logic}:
@@ -96,11 +96,11 @@ def versions(program):
 
 
 def wrong(program):
-    """The calls that did otherwise than they should, a line each."""
+    """The runs that are not as expected, one line each."""
     lines = versions(program)
-    for words, said in HELP:
+    for words, contents in HELP:
         status, out, err = called(program, words)
-        if (status, err) != (0, '') or any(text not in out for text in ['Usage: hl7_service', *said]):
+        if (status, err) != (0, '') or any(text not in out for text in ['Usage: hl7_service', *contents]):
             lines.append(f'{words}: {(status, out, err)}, not the help')
     two = os.path.join(TOP, 'examples', 'two_channels.toml')
     for words, given, expected in [
@@ -123,7 +123,7 @@ def main():
     lines = wrong(os.path.abspath(sys.argv[1] if len(sys.argv) > 1 else PROGRAM))
     for line in lines:
         print(line)
-    print('all calls did as they should' if not lines else f'{len(lines)} calls did otherwise')
+    print('all runs are as expected' if not lines else f'{len(lines)} failures')
     return 1 if lines else 0
 
 
