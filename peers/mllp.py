@@ -167,17 +167,27 @@ class Sender(threading.Thread):
             connection.sendall(data[at:at + step])
 
 
+_assigned, _assigning = set(), threading.Lock()
+
+
+def _is_assigned(port):
+    """Whether `free_ports` has returned this port already; from now on it has."""
+    with _assigning:
+        was_assigned = port in _assigned
+        _assigned.add(port)
+    return was_assigned
+
+
 def free_ports(count):
-    """Loopback ports that nothing listens on, below the range that the system assigns to outgoing connections."""
-    holders = []
-    while len(holders) < count:
-        holder = socket.socket()
-        try:
-            holder.bind(('127.0.0.1', random.randrange(10_000, 32_000)))
-            holders.append(holder)
-        except OSError:
-            holder.close()
-    ports = [holder.getsockname()[1] for holder in holders]
-    for holder in holders:
-        holder.close()
+    """Loopback ports that nothing listens on, below the range that the system assigns to outgoing connections; none of them
+    twice. A port is tried by connecting to it and not by binding it: a program that another thread starts at that moment
+    would inherit the bound socket, and hold the port until it runs."""
+    ports = []
+    while len(ports) < count:
+        port = random.randrange(10_000, 32_000)
+        if _is_assigned(port):
+            continue
+        with socket.socket() as probe:
+            if probe.connect_ex(('127.0.0.1', port)):
+                ports.append(port)
     return ports
