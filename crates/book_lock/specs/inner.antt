@@ -6,6 +6,7 @@ pub mod Coding
 pub mod Counts
 pub mod Log
 pub mod Planning
+pub mod Reading
 pub mod Rises
 pub mod Shares
 pub mod Showing

@@ -11,6 +11,7 @@ ghost use Rattle.book_core.specs.Headline.{KeepsItsPromise};
 ghost use Rattle.book_core.specs.inner.Questions.{first_live, front_at, settled_before};
 ghost use Rattle.book_core.specs.Sending.{awaits_ack};
 ghost use Rattle.book_lock.specs.Rises.{AddsUp, arrivals_rise, settlements_rise, takes_rise};
+ghost use Rattle.book_lock.specs.inner.Reading.{IsLogged};
 ghost use Rattle.book_lock.specs.inner.Rises.{with_book};
 ghost use Rattle.book_lock.specs.Log.{Calls, Linearizes, Looks, Takes, IsCalled, IsPruneRefused, IsPruned};
 ghost use Rattle.book_lock.specs.Callers.{IsClosedBy};
@@ -216,6 +217,13 @@ impl<A: Sharing, S: BookRows> Locked<A, S> {
         ensures { result.now ≡ self.now.book }
     {
         &self.book
+    }
+
+    /// The law that the book is what the log makes of the opening.
+    pub fn book_is_logged(&self)
+        ensures { IsLogged A.opening self.now.book }
+    {
+        let _log = &self.log;
     }
 
     /// The rows and the statistics of the book, which keeps its promise whenever the lock is free.

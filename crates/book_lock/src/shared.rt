@@ -1,10 +1,12 @@
 //! The book that threads share, and its end.
 
-ghost use Rattle.std.specs.Prelude.{◌≡◌, ◌+◌, ◌-◌, ◌<◌, ◌≤◌, ◌↔◌, ◌⊎◌, ℕ, Ok, Some, All, length, map, vec_len, slice_get, IfOk, IfErr, IfSome, IsOk, OnOk, OnErr, IsTrue};
+ghost use Rattle.std.specs.Prelude.{◌≡◌, ◌+◌, ◌-◌, ◌<◌, ◌≤◌, ◌↔◌, ◌⊎◌, ℕ, Ok, Some, All, if◌then◌else◌, length, map, min, nat_lt, vec_len, slice_get, IfOk, IfErr, IfSome, IsOk, OnOk, OnErr, IsTrue};
 ghost use Rattle.std.specs.Arc.{arc_value};
 ghost use Rattle.judge_core.specs.Judging.{is_bookable};
 ghost use Rattle.stat_count.specs.Sums.{arrivals};
-ghost use Rattle.event_log.specs.History.{next_place, plan_in_force, slot};
+ghost use Rattle.event_log.specs.History.{message_count, next_place, plan_in_force, slot};
+ghost use Rattle.book_core.specs.inner.Questions.{front_at};
+ghost use Rattle.book_lock.specs.declared.message.Found.TheVariants as Found;
 ghost use Rattle.event_log.specs.Counting.{counted};
 ghost use Rattle.event_log.specs.Event.{cancel, deploy, settle};
 ghost use Rattle.book_lock.specs.inner.Closing.{HandsBack};
@@ -14,6 +16,7 @@ ghost use Rattle.book_lock.specs.Callers.{IsClosedBy};
 ghost use Rattle.book_lock.specs.inner.Arriving.{ArrivesAtDesk};
 ghost use Rattle.book_lock.specs.inner.Log.{new_seats};
 ghost use Rattle.book_lock.specs.inner.Planning.{WasInForce};
+ghost use Rattle.book_lock.specs.inner.Reading.{IsFound, IsGaugeOf, IsReadOf, IsStatusOf, first_live_at, found_among, waiting_among};
 ghost use Rattle.book_lock.specs.inner.Shares.{no_calls, with_settlement, with_take};
 ghost use Rattle.book_lock.specs.Shares.{seats_of};
 
@@ -89,7 +92,9 @@ fn waits_where(tidied: &Tidied, verdict: &Verdict) -> u32 {
 }
 
 /// The answer to a question about a message that a book of `count` messages doesn't remember.
-fn not_kept(number: u32, count: u32) -> Found {
+fn not_kept(number: u32, count: u32) -> Found
+    ensures { result ≡ (if nat_lt number count then Found.Forgotten else Found.ToCome) }
+{
     if number < count {
         Found::Forgotten
     } else {
@@ -98,7 +103,9 @@ fn not_kept(number: u32, count: u32) -> Found {
 }
 
 /// The end of the `most` numbers from `from` on, or of the numbers of all messages where that is less.
-fn end_of<S: BookRows>(book: &Book<S>, from: u32, most: u32) -> u32 {
+fn end_of<S: BookRows>(book: &Book<S>, from: u32, most: u32) -> u32
+    ensures { result ≡ min (message_count book.now) (from + most) }
+{
     book.message_count().min(from.saturating_add(most))
 }
 
@@ -190,9 +197,12 @@ impl<A: Sharing, S: BookRows> Shared<A, S> {
     ///
     /// Where the plan has more owners than can be counted.
     pub fn plan<H: Wait>(&self, rt: &H) -> Result<Arc<Plan>, AllocError>
-        ensures { IfOk result (λ plan. length (arc_value plan).channels ≡ A.channels) }
+        ensures channels { IfOk result (λ plan. length (arc_value plan).channels ≡ A.channels) }
+        ensures read { IfOk result (λ plan. IsReadOf A.opening
+            (λ book. arc_value plan ≡ plan_in_force book)) }
     {
         let locked = self.locked.lock(rt);
+        locked.book_is_logged();
         Ok(Arc::try_clone(locked.plan())?)
     }
 
@@ -433,8 +443,11 @@ impl<A: Sharing, S: BookRows> Shared<A, S> {
     pub fn gauge<H: Wait>(&self, rt: &H) -> Gauge
         ensures room { result.held + result.owed ≤ result.events_max }
         ensures first { result.first ≤ result.messages }
+        ensures read { IsReadOf A.opening (λ book. IsGaugeOf book result) }
     {
-        self.locked.lock(rt).gauge()
+        let locked = self.locked.lock(rt);
+        locked.book_is_logged();
+        locked.gauge()
     }
 
     /// How full the book is, its statistics, the front of each queue, the first message that is still to be delivered and
@@ -446,20 +459,30 @@ impl<A: Sharing, S: BookRows> Shared<A, S> {
     pub fn status<H: Wait>(&self, rt: &H) -> Result<(Status, Arc<Plan>), AllocError>
         ensures room { IfOk result (λ shown. shown.0.gauge.held + shown.0.gauge.owed ≤ shown.0.gauge.events_max) }
         ensures channels { IfOk result (λ shown. length (arc_value shown.1).channels ≡ A.channels) }
+        ensures read { IfOk result (λ shown. IsReadOf A.opening
+            (λ book. IsStatusOf book shown.0 (arc_value shown.1))) }
     {
         let mut locked = self.locked.lock(rt);
+        locked.book_is_logged();
         let plan = Arc::try_clone(locked.plan())?;
         Ok((locked.status(), plan))
     }
 
     /// The message at the front of queue `d` with its state there, if there is one.
-    pub fn front<H: Wait>(&self, rt: &H, d: u32) -> Option<Front> {
-        self.locked.lock(rt).front(d)
+    pub fn front<H: Wait>(&self, rt: &H, d: u32) -> Option<Front>
+        ensures { IsReadOf A.opening (λ book. result ≡ front_at book d) }
+    {
+        let mut locked = self.locked.lock(rt);
+        locked.book_is_logged();
+        locked.front(d)
     }
 
     /// The first message that is still to be delivered to a destination, with the first such destination, if there is one.
-    pub fn first_live<H: Wait>(&self, rt: &H) -> Option<(u32, u32)> {
+    pub fn first_live<H: Wait>(&self, rt: &H) -> Option<(u32, u32)>
+        ensures { IsReadOf A.opening (λ book. result ≡ first_live_at book) }
+    {
         let mut locked = self.locked.lock(rt);
+        locked.book_is_logged();
         let number = locked.first_live()?;
         let d = locked.book().live_at(number)?;
         Some((number, d))
@@ -470,8 +493,11 @@ impl<A: Sharing, S: BookRows> Shared<A, S> {
     /// # Errors
     ///
     /// Where its bytes have more owners than can be counted.
-    pub fn message<H: Wait>(&self, rt: &H, number: u32) -> Result<Found, AllocError> {
+    pub fn message<H: Wait>(&self, rt: &H, number: u32) -> Result<Found, AllocError>
+        ensures { IfOk result (λ found. IsReadOf A.opening (λ book. IsFound book number found)) }
+    {
         let locked = self.locked.lock(rt);
+        locked.book_is_logged();
         let book = locked.book();
         let Some(letter) = book.message(number) else {
             return Ok(not_kept(number, book.message_count()));
@@ -496,8 +522,12 @@ impl<A: Sharing, S: BookRows> Shared<A, S> {
         d: u32,
         from: u32,
         most: u32,
-    ) -> Result<Vec<Front>, AllocError> {
+    ) -> Result<Vec<Front>, AllocError>
+        ensures { IfOk result (λ found. IsReadOf A.opening
+            (λ book. found.items ≡ waiting_among book d from most)) }
+    {
         let locked = self.locked.lock(rt);
+        locked.book_is_logged();
         let book = locked.book();
         book.queued_among(d, from, end_of(book, from, most))
     }
@@ -514,8 +544,12 @@ impl<A: Sharing, S: BookRows> Shared<A, S> {
         id: &[u8],
         from: u32,
         most: u32,
-    ) -> Result<Vec<u32>, AllocError> {
+    ) -> Result<Vec<u32>, AllocError>
+        ensures { IfOk result (λ found. IsReadOf A.opening
+            (λ book. found.items ≡ found_among book id.now from most)) }
+    {
         let locked = self.locked.lock(rt);
+        locked.book_is_logged();
         let book = locked.book();
         book.found_among(id, from, end_of(book, from, most))
     }
@@ -524,8 +558,11 @@ impl<A: Sharing, S: BookRows> Shared<A, S> {
     pub fn counts<H: Wait>(&self, rt: &H, desk: &mut Desk<A>) -> Counts
         ensures shown { arrivals A.counts + desk.old.made ≤ arrivals result }
         ensures same { desk.new ≡ desk.old }
+        ensures read { IsReadOf A.opening (λ book. result ≡ counted book) }
     {
-        self.locked.lock(rt).counts(desk)
+        let mut locked = self.locked.lock(rt);
+        locked.book_is_logged();
+        locked.counts(desk)
     }
 
     /// Waits for a change at destination `d`, or a short while. It returns at once where there was one since the last call.

@@ -33,7 +33,7 @@ const POSTS: u32 = 32;
 const VERSION: &str = "0.2.0";
 
 /// The stack of the thread that writes the lines of the log, in bytes.
-const STACK_BYTES: usize = 262_144;
+const WRITER_STACK_BYTES: usize = 262_144;
 
 /// How the service ended.
 #[derive(Clone, Copy, Debug, PartialEq, Eq)]
@@ -183,7 +183,7 @@ pub fn run<'f, H: Crew + Threads + Eprint + Copy + Sync>(
     let end = &mut ended;
     thread::scope(thread::scope_env(), handle, |scope| {
         let writer = Builder::new()
-            .stack_size(STACK_BYTES)
+            .stack_size(WRITER_STACK_BYTES)
             .spawn_scoped(scope, || outbox.write_all(handle));
         if writer.is_ok() {
             *end = run_by(rt, &journal, path, &plan, settings);

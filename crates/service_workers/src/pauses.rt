@@ -2,7 +2,7 @@
 
 ghost use Rattle.std.specs.Prelude.{◌≡◌, ◌≢◌, ◌<◌, ◌==◌, ℕ};
 ghost use Rattle.std.specs.Int.{bit_at};
-ghost use Rattle.service_workers.specs.inner.Pauses.{frees_enough, is_crowded, is_overfull, leads_to_crowd, pauses, pauses_at};
+ghost use Rattle.service_workers.specs.inner.Pauses.{crowded_route, frees_enough, is_crowded, is_overfull, leads_to_crowd, pause_cause, pauses, pauses_at};
 
 use book_lock::{Gauge, Status};
 use plan_text::{Channel, Plan};
@@ -63,22 +63,20 @@ fn is_crowded(plan: &Plan, status: &Status, is_paused: bool, index: u32) -> bool
 }
 
 /// The first destination that a channel has a route to and whose queue may take more than half of the book.
-fn crowded_route(plan: &Plan, status: &Status, channel: &Channel) -> Option<u32> {
-    for route in channel.routes() {
-        if is_crowded(plan, status, false, route.to()) {
-            return Some(route.to());
-        }
-    }
-    None
+fn crowded_route(plan: &Plan, status: &Status, channel: &Channel) -> Option<u32>
+    ensures { result ≡ crowded_route plan.now status.now channel.now }
+{
+    let route = channel
+        .routes()
+        .iter()
+        .find(|route| is_crowded(plan, status, false, route.to()))?;
+    Some(route.to())
 }
 
 /// Why the reading of a channel of this plan has to begin to pause, if it has to.
-pub fn pause_cause(
-    plan: &Plan,
-    status: &Status,
-    keep: u32,
-    channel: &Channel,
-) -> Option<PauseCause> {
+pub fn pause_cause(plan: &Plan, status: &Status, keep: u32, channel: &Channel) -> Option<PauseCause>
+    ensures { result ≡ pause_cause plan.now status.now keep channel.now }
+{
     if is_overfull(status.gauge, keep) {
         return Some(PauseCause::Remembered);
     }

@@ -1,5 +1,7 @@
 //! What the workers of a service count.
 
+ghost use Rattle.std.specs.Prelude.{◌≡◌, ◌+◌, ◌-◌, ◌^◌, min};
+
 use book_core::NotBooked;
 use fixed_numbers::{CHANNELS, DESTINATIONS};
 use std::array;
@@ -17,8 +19,10 @@ pub struct Unbooked {
 }
 
 impl Unbooked {
-    /// How many there were of all causes.
-    pub fn total(self) -> u64 {
+    /// How many there were of all causes, up to the greatest count.
+    pub fn total(self) -> u64
+        ensures { result ≡ min (self.full + self.plan_changed + self.no_memory) (2 ^ 64 - 1) }
+    {
         self.full
             .saturating_add(self.plan_changed)
             .saturating_add(self.no_memory)

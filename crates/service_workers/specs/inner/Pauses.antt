@@ -1,11 +1,13 @@
 -- Which channels' reading pauses.
-use Rattle.std.specs.Prelude.{ℕ, Bool, false, ◌+◌, ◌-◌, ◌*◌, ◌/◌, ◌||◌, ◌==◌, if◌then◌else◌, nat_lt, nat_le, min, slice_get, unwrap_or}
+use Rattle.std.specs.Prelude.{ℕ, Bool, Option, Some, false, find, option_map, ◌+◌, ◌-◌, ◌*◌, ◌/◌, ◌||◌, ◌==◌, if◌then◌else◌, nat_lt, nat_le, min, slice_get, unwrap_or}
 use Rattle.std.specs.Int.{bit_at}
 use Rattle.std.specs.List.{list_any}
 use Rattle.std.specs.Option.{option_map_or}
 use Rattle.book_lock.specs.declared.status.Gauge.{Gauge}
 use Rattle.book_lock.specs.declared.status.Status.{Status}
 use Rattle.plan_text.specs.Entries.{ChannelEntry, DestinationEntry, PlanEntry}
+use Rattle.service_workers.specs.declared.pauses.PauseCause.{PauseCause}
+use Rattle.service_workers.specs.declared.pauses.PauseCause.TheVariants as cause
 use Rattle.stat_count.specs.Statistics.{destination_at}
 
 -- as many messages are remembered as a pruning keeps, and one more for each entry of the bound
@@ -38,6 +40,15 @@ leads_to_crowd p s paused c = list_any (λ r. is_crowded p s paused r.to) c.rout
 -- a channel waits for all, or for a destination that it has a route to
 abbrev pub pauses : PlanEntry → Status → ℕ → Bool → ChannelEntry → Bool
 pauses p s keep paused c = is_overfull keep s.gauge || leads_to_crowd p s paused c
+
+-- the first destination to which a channel has a route and at which this is so
+abbrev pub crowded_route : PlanEntry → Status → ChannelEntry → Option ℕ
+crowded_route p s c = option_map (λ r. r.to) (find (λ r. is_crowded p s false r.to) c.routes)
+
+-- why a channel that reads has to pause, if it has to
+abbrev pub pause_cause : PlanEntry → Status → ℕ → ChannelEntry → Option PauseCause
+pause_cause p s keep c =
+    if is_overfull keep s.gauge then Some cause.Remembered else option_map (λ d. cause.Queue d) (crowded_route p s c)
 
 -- the channel at an index of the plan does, where those of a mask did before
 abbrev pub pauses_at : PlanEntry → Status → ℕ → ℕ → ℕ → Bool
