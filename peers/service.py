@@ -172,11 +172,12 @@ def moved(program, folder):
             file.write(one_channel(ports[0], [('LAB', lab.port, more)]))
         answer = service.ask(f'deploy {service.path}')
         whole = wait_received(lab, 50)
+        is_logged = until(lambda: any('plan deployed' in line for line in service.log))
         service.ask('stop')
         status, _ = service.ended()
     lab.close()
-    if (answer, whole, status, lab.received) != (['deployed'], True, 0, texts):
-        return [f'moved: {answer}, status {status}, {len(lab.received)} of 50 received']
+    if (answer, whole, is_logged, status, lab.received) != (['deployed'], True, True, 0, texts):
+        return [f'moved: {answer}, logged {is_logged}, status {status}, {len(lab.received)} of 50 received']
     return []
 
 
@@ -267,6 +268,8 @@ def questions(program, folder):
             answer = service.ask(command)
             if answer != wanted:
                 found.append(f'questions: {command}: {answer}')
+        if not until(lambda: any('message cancelled' in line and 'message=2' in line for line in service.log)):
+            found.append(f'questions: a cancellation that is not logged: {service.log[-5:]}')
         waiting = service.ask('waiting LAB')
         if len(waiting) != 3 or not waiting[0].startswith('message 0 control_id A0 waiting attempts 0 due ') or waiting[-1] != 'waiting 2':
             found.append(f'questions: waiting: {waiting}')
