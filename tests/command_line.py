@@ -18,6 +18,9 @@ import tempfile
 import time
 
 HERE = os.path.dirname(os.path.abspath(__file__))
+sys.path.insert(0, os.path.join(HERE, '..', 'peers'))
+from mllp import free_ports  # noqa: E402
+
 PROGRAM = os.path.join(HERE, '..', 'crates', 'hl7_engine', 'out', 'hl7_engine')
 EXAMPLES = os.path.join(HERE, '..', 'examples')
 ONE = open(os.path.join(EXAMPLES, 'one_destination.toml'), encoding='utf-8').read()
@@ -87,14 +90,6 @@ def answers_without(program, numbers, plan):
     ran = subprocess.run([program, 'answer', plan, '--now', '951782400'], input=ADMISSION, capture_output=True, timeout=60,
                          preexec_fn=closing(*numbers))
     return ran.returncode, ran.stdout, ran.stderr
-
-
-def free_ports(count):
-    holders = [socket.create_server(('127.0.0.1', 0)) for _ in range(count)]
-    ports = [holder.getsockname()[1] for holder in holders]
-    for holder in holders:
-        holder.close()
-    return ports
 
 
 def runs_without(program, number, path, port):
