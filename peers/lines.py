@@ -2,7 +2,7 @@
 import socket
 import time
 
-from engine import Engine, plan
+from engine import Engine, one_channel, plan
 from mllp import SILENCE, Destination, HANG_UP, Sender, answer, block, free_ports, message
 
 # A patient's name that each message contains and no log line may contain.
@@ -103,3 +103,24 @@ def full_book(program, folder):
     if status != 0:
         lines.append(f'a full book: status {status}')
     return lines + leaks(engine.log)
+
+
+def filling_book(program, folder):
+    """A book that is more than 80 or 90 percent full is logged as that. The destination doesn't answer, so the first message
+    stays in flight and owes a settlement; each of the others owes a take, a settlement and a cancellation. With the 17th entry,
+    the arrival of the 16th message, 17 are held and 46 are owed."""
+    found = []
+    for events, line in ((76, 'book above 80 % of its entries'), (69, 'book above 90 % of its entries')):
+        lab, port = Destination(lambda text, before: SILENCE), free_ports(1)[0]
+        text = one_channel(port, [('LAB', lab.port, ['attempts = 1', 'timeout = 60'])])
+        with Engine(program, text, 2, folder, events=events) as engine:
+            Sender(port, [admission(b'F0')]).run()
+            deadline = time.monotonic() + 20
+            while not lab.received and time.monotonic() < deadline:
+                time.sleep(0.01)
+            Sender(port, [admission(b'F%d' % n) for n in range(1, 16)]).run()
+            if not engine.wait_logged('WARN', line, f'events_max={events}'):
+                found.append(f'a filling book: no line "{line}": {engine.log}')
+            found += leaks(engine.log)
+        lab.close()
+    return found

@@ -18,7 +18,7 @@ from crowd import many_senders
 from engine import PROGRAM
 from faults import all_faults
 from hostile import destinations, idle_connections, senders
-from lines import full_book, refused_messages
+from lines import filling_book, full_book, refused_messages
 from plain import conversation, example, stock_peers
 from receivers import all_receivers
 
@@ -35,7 +35,7 @@ def main():
     scenes = [('a conversation', conversation), ('an example', example), ('python3-hl7', stock_peers),
               ('faults in their order', all_faults), ('receivers', all_receivers), ('channels', channels),
               ('hostile destinations', destinations), ('hostile senders', senders),
-              ('lines of the log', refused_messages), ('a full book', full_book),
+              ('lines of the log', refused_messages), ('a full book', full_book), ('a filling book', filling_book),
               ('idle connections', lambda program, folder: idle_connections(program, folder, args.idle)),
               ('many senders', lambda program, folder: many_senders(program, folder, args.senders, args.messages))]
     for name, scene in scenes:
