@@ -227,7 +227,7 @@ impl<S: BookRows> Book<S> {
         }
     }
 
-    /// The messages numbered from `from` up to, and not with, `to` that are still to be delivered to destination `d`, in
+    /// The messages numbered from `from` up to but not including `to` that are still to be delivered to destination `d`, in
     /// their order. It looks at as many messages as there are numbers.
     ///
     /// # Errors
@@ -281,7 +281,7 @@ impl<S: BookRows> Book<S> {
         }
     }
 
-    /// The numbers from `from` up to, and not with, `to` of the remembered messages whose control id (MSH-10, raw) is `id`,
+    /// The numbers from `from` up to but not including `to` of the remembered messages whose control id (MSH-10, raw) is `id`,
     /// in their order. It looks at as many messages as there are numbers.
     ///
     /// # Errors

@@ -7,7 +7,7 @@ use dest_queue::Queued;
 use er7_tree::Span;
 use event_log::Ticket;
 use hl7_head::Header;
-use judge_core::{Deliveries, Text, TextPiece};
+use judge_core::{Deliveries, Text, TextPiece, offset_32};
 use row_store::RowStore;
 use std::alloc::AllocError;
 use std::marker::Model;
@@ -55,13 +55,6 @@ pub trait BookRows: RowStore<Queued<Outbound>> {}
 
 impl<S: RowStore<Queued<Outbound>>> BookRows for S {}
 
-/// An offset in a text as 32 bits. An offset of 4 GiB or more is refused as memory is.
-fn short(offset: usize) -> Result<u32, AllocError>
-    ensures { IfOk result (λ x. x ≡ offset) }
-{
-    u32::try_from(offset).map_err(|_| AllocError)
-}
-
 /// Where the bytes have the control id of their header. A header that has it elsewhere, as one of other bytes could, is
 /// refused as memory is.
 fn control_id_span(raw: &[u8], header: &Header) -> Result<Span, AllocError>
@@ -97,8 +90,8 @@ impl Outbound {
         }) }
     {
         let span = control_id_span(raw.as_slice(), header)?;
-        let id_start = short(span.start)?;
-        let id_end = short(span.end)?;
+        let id_start = offset_32(span.start)?;
+        let id_end = offset_32(span.end)?;
         Ok(Outbound {
             place,
             channel,

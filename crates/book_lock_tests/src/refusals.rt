@@ -1,14 +1,13 @@
 //! Arrivals that are refused at a desk.
 
-ghost use Rattle.std.specs.Prelude.{◌≡◌, IfSome, IsTrue};
-ghost use Rattle.judge_core.specs.Judging.{is_bookable};
+ghost use Rattle.std.specs.Prelude.{◌≡◌};
 
 use crate::stage::{Done, M1, M2, Rows, Task, comes_out, judged, plan, waiting};
 use book_core::{Book, BookRows, NotBooked};
 use book_lock::{Desk, Shared, Sharing, Station};
 use conn_core::{Booked, ConnectionId, Replies, book_and_reply};
 use conn_worker::{AtDesk, nearest};
-use judge_core::Judged;
+use judge_core::{Judged, JudgedMessage};
 use log::Log;
 use stat_count::Counts;
 use std::alloc::Global;
@@ -55,10 +54,9 @@ fn answer<A: Sharing, S: BookRows, H: Wait + Log>(
     alloc: Global,
     shared: &Shared<A, S>,
     desk: &mut Desk<A>,
-    judged: &Judged,
+    message: &JudgedMessage<'_>,
     replies: &mut Replies,
 ) -> Booked
-    requires bookable { IsTrue (is_bookable judged.now.raw) }
     requires none { replies.old.made ≡ 0 }
 {
     let line = ConnectionId {
@@ -72,7 +70,7 @@ fn answer<A: Sharing, S: BookRows, H: Wait + Log>(
         shared,
         desk,
     };
-    book_and_reply(&line, &mut place, judged, nearest(1_700_000_000), replies)
+    book_and_reply(&line, &mut place, message, nearest(1_700_000_000), replies)
 }
 
 /// Brings a message to a desk of a shared book, twice.
@@ -81,14 +79,12 @@ fn bring_twice<A: Sharing, S: BookRows, H: Wait + Log>(
     alloc: Global,
     shared: &Shared<A, S>,
     desk: &mut Desk<A>,
-    judged: &Judged,
-) -> Answers
-    requires bookable { IsTrue (is_bookable judged.now.raw) }
-{
+    message: &JudgedMessage<'_>,
+) -> Answers {
     let before = shared.counts(rt, desk);
-    let bare = shared.arrive(rt, desk, 0, judged).err();
+    let bare = shared.arrive(rt, desk, 0, message.judged()).err();
     let mut replies = Replies::new(alloc);
-    let booked = answer(rt, alloc, shared, desk, judged, &mut replies);
+    let booked = answer(rt, alloc, shared, desk, message, &mut replies);
     Answers {
         bare,
         answered: booked.outcome.err(),
@@ -101,9 +97,7 @@ fn bring_twice<A: Sharing, S: BookRows, H: Wait + Log>(
 }
 
 /// The message M1, judged by the plan of a case.
-fn judged_in(alloc: Global, case: &Case) -> Option<Judged>
-    ensures { IfSome result (λ judged. IsTrue (is_bookable judged.raw)) }
-{
+fn judged_in(alloc: Global, case: &Case) -> Option<Judged> {
     let plan = plan(alloc, case.four)?;
     judged(alloc, &plan, M1)
 }
@@ -121,7 +115,8 @@ impl Task for Case {
     ) -> Option<Answers> {
         let desk = desks.first_mut()?;
         let judged = judged_in(alloc, self)?;
-        Some(bring_twice(rt, alloc, shared, desk, &judged))
+        let message = judged.message()?;
+        Some(bring_twice(rt, alloc, shared, desk, &message))
     }
 
     /// Whether a message was refused as is due, and nothing else was changed.

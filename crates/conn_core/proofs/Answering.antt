@@ -96,11 +96,6 @@ pub booked_in : (P : List Receipt → Type 0) (o : Result Receipt NotBooked) →
 booked_in P (Ok r) booked none = booked
 booked_in P (Err refusal) booked none = none
 
--- and of what is told of a receipt, or of a refusal, of what is told of either
-pub told_either : (P : Result Told NotBooked → Type 0) (o : Result Receipt NotBooked) → IfOk o (λ r. P (Ok r.told)) → IfErr o (λ refusal. P (Err refusal)) → P (told_by o)
-told_either P (Ok r) told refused = told
-told_either P (Err refusal) told refused = refused
-
 -- what may become of a message that was judged so, may become of it as it was received
 pub may_become : (judges : PlanEntry → Type 0) (outcomes after : Judgement → Result Told NotBooked → Type 0) {channel : ℕ} {raw : List ℕ} (judged : Judgement) (o : BlockOutcome)
     → judges judged.plan → judged.channel ≡ channel → judged.raw ≡ raw → ((r : Result Told NotBooked) → after judged r → outcomes judged r) → MayHave (after judged) o

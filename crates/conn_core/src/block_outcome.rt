@@ -1,7 +1,6 @@
 //! What becomes of a block.
 
-ghost use Rattle.std.specs.Prelude.{◌≡◌, ◌+◌, ◌<◌, ◌≤◌, [], IfOk, OnErr, IsTrue};
-ghost use Rattle.judge_core.specs.Judging.{is_bookable};
+ghost use Rattle.std.specs.Prelude.{◌≡◌, ◌+◌, ◌<◌, ◌≤◌, [], IfOk, OnErr};
 ghost use Rattle.mllp_frame.specs.Framing.{IsBlockData};
 ghost use Rattle.conn_core.specs.inner.Outcomes.{AppendsReplies, BooksAndReplies, IsOutcome, MayBecome, MayHave, dues_in, is_whole, receipts_in};
 ghost use Rattle.conn_core.specs.inner.Replies.{told_by};
@@ -12,7 +11,7 @@ use crate::replies::Replies;
 use book_core::{NotBooked, Receipt};
 use event_log::Told;
 use hl7_head::Moment;
-use judge_core::Judged;
+use judge_core::{Judged, JudgedMessage};
 use std::alloc::AllocError;
 
 /// What became of a message.
@@ -61,22 +60,20 @@ fn told_by(outcome: &Result<Receipt, NotBooked>) -> Result<Told, NotBooked>
 pub fn book_and_reply<B: Booking>(
     line: &ConnectionId,
     book: &mut B,
-    judged: &Judged,
+    message: &JudgedMessage<'_>,
     now: Moment,
     replies: &mut Replies,
 ) -> Booked
-    requires bookable { IsTrue (is_bookable judged.now.raw) }
     requires few { replies.old.made + 2 ≤ u32.MAX }
-    ensures does { BooksAndReplies B.books B.outcomes line.now.conn judged.now now
+    ensures does { BooksAndReplies B.books B.outcomes line.now.conn message.now now
         book.old book.new replies.old replies.new result }
     ensures few { replies.new.made ≤ replies.old.made + 2 }
 {
-    let Some(header) = judged.header() else {
-        unreachable!();
-    };
-    let outcome = book.arrive(line.conn, judged);
+    let outcome = book.arrive(line.conn, message.judged());
     let told = told_by(&outcome);
-    let whole = replies.append(line.conn, header, told, now).is_ok();
+    let whole = replies
+        .append(line.conn, message.header(), told, now)
+        .is_ok();
     Booked { outcome, whole }
 }
 
@@ -84,23 +81,21 @@ pub fn book_and_reply<B: Booking>(
 fn book_judged<B: Booking>(
     line: &ConnectionId,
     book: &mut B,
-    judged: &Judged,
+    message: &JudgedMessage<'_>,
     now: Moment,
     replies: &mut Replies,
 ) -> Booked
-    requires bookable { IsTrue (is_bookable judged.now.raw) }
-    requires by_plan { B.judged_by book.old judged.now.plan }
+    requires by_plan { B.judged_by book.old message.now.plan }
     requires few { replies.old.made + 2 ≤ u32.MAX }
-    ensures does { BooksAndReplies B.books B.outcomes line.now.conn judged.now now
+    ensures does { BooksAndReplies B.books B.outcomes line.now.conn message.now now
         book.old book.new replies.old replies.new result }
     ensures few { replies.new.made ≤ replies.old.made + 2 }
 {
-    let Some(header) = judged.header() else {
-        unreachable!();
-    };
-    let outcome = book.arrive_judged(line.conn, judged);
+    let outcome = book.arrive_judged(line.conn, message.judged());
     let told = told_by(&outcome);
-    let whole = replies.append(line.conn, header, told, now).is_ok();
+    let whole = replies
+        .append(line.conn, message.header(), told, now)
+        .is_ok();
     Booked { outcome, whole }
 }
 
@@ -121,15 +116,14 @@ fn answer_judged<B: Booking>(
         (is_whole result) replies.old replies.new }
     ensures few { replies.new.made ≤ replies.old.made + 2 }
 {
-    let Some(_header) = judged.header() else {
+    let Some(message) = judged.message() else {
         book.pass_over(line.conn, judged);
-        return BlockOutcome::Unreadable;
+        return match judged.header() {
+            None => BlockOutcome::Unreadable,
+            Some(_) => BlockOutcome::Stray,
+        };
     };
-    if !judged.bookable() {
-        book.pass_over(line.conn, judged);
-        return BlockOutcome::Stray;
-    }
-    BlockOutcome::Message(book_judged(line, book, judged, now, replies))
+    BlockOutcome::Message(book_judged(line, book, &message, now, replies))
 }
 
 /// Answers a block that was received over a connection: what is no message, and what is an acknowledgment, is passed

@@ -1,8 +1,7 @@
 //! A connection that hears a piece of its stream.
 
-ghost use Rattle.std.specs.Prelude.{◌≡◌, ◌+◌, ◌*◌, ◌<◌, ◌≤◌, ◌∷◌, [], true, IsTrue, OnOk, OnErr, length};
+ghost use Rattle.std.specs.Prelude.{◌≡◌, ◌+◌, ◌*◌, ◌<◌, ◌≤◌, ◌∷◌, [], true, OnOk, OnErr, length};
 ghost use Rattle.event_log.specs.History.{plan_in_force};
-ghost use Rattle.judge_core.specs.Judging.{is_bookable};
 ghost use Rattle.mllp_frame.specs.Event.{block};
 ghost use Rattle.mllp_frame.specs.inner.Event.{event_of};
 ghost use Rattle.mllp_frame.specs.Framing.{IsBlockData};
@@ -18,7 +17,7 @@ use conn_core::{ConnectionId, Replies, book_and_reply};
 use event_log::Told;
 use fixed_numbers::FRAME_EVENTS_MAX;
 use hl7_head::Moment;
-use judge_core::{Judged, Text, judge};
+use judge_core::{JudgedMessage, Text, judge};
 use mllp_frame::{FrameEvent, Framer, longer_streams};
 use std::alloc::{AllocError, Global};
 
@@ -73,24 +72,23 @@ fn told_by(outcome: &Result<Receipt, NotBooked>) -> Result<Told, NotBooked>
 fn answer_message<S: BookRows>(
     line: &ConnectionId,
     book: &mut Book<S>,
-    judged: &Judged,
+    message: &JudgedMessage<'_>,
     now: Moment,
     words: &mut Transcript,
 ) -> Result<(), AllocError>
-    requires same_plan { judged.now.plan ≡ plan_in_force book.old }
-    requires bookable { IsTrue (is_bookable judged.now.raw) }
+    requires same_plan { message.now.plan ≡ plan_in_force book.old }
     requires counted { IsCounted words.old }
     requires few { words.old.replies.made + 2 ≤ u32.MAX }
-    ensures ok { OnOk result (Handles line.now.conn judged.now.channel now (block judged.now.raw ∷ []) book.old book.new words.old words.new) }
-    ensures err { OnErr result (HandlesFront line.now.conn judged.now.channel now (block judged.now.raw ∷ [])
+    ensures ok { OnOk result (Handles line.now.conn message.now.channel now (block message.now.raw ∷ []) book.old book.new words.old words.new) }
+    ensures err { OnErr result (HandlesFront line.now.conn message.now.channel now (block message.now.raw ∷ [])
         book.old book.new words.old words.new) }
     ensures counted { OnOk result (IsCounted words.new) }
     ensures few { words.new.replies.made ≤ words.old.replies.made + 2 }
     ensures plan { plan_in_force book.new ≡ plan_in_force book.old }
 {
     words.answers.reserve(1)?;
-    let raw = judged.raw().share()?;
-    let booked = book_and_reply(line, book, judged, now, &mut words.replies);
+    let raw = message.judged().raw().share()?;
+    let booked = book_and_reply(line, book, message, now, &mut words.replies);
     words.answers.push_reserved(Answered {
         raw,
         outcome: told_by(&booked.outcome),
@@ -121,10 +119,10 @@ fn answer_text<S: BookRows>(
     ensures plan { plan_in_force book.new ≡ plan_in_force book.old }
 {
     let judged = judge(line.alloc, book.plan(), line.channel, raw)?;
-    if !judged.bookable() {
+    let Some(message) = judged.message() else {
         return Ok(());
-    }
-    answer_message(line, book, &judged, now, words)
+    };
+    answer_message(line, book, &message, now, words)
 }
 
 /// Handles an event: a broken block gets no answer.

@@ -1,6 +1,6 @@
 //! A text with what was decided of it.
 
-ghost use Rattle.std.specs.Prelude.{◌≡◌, ◌+◌, ◌<◌, ◌≤◌, ◌∷◌, ◌++◌, IfOk, IfSome, IsTrue, None, Some, All, length, option_copied, take};
+ghost use Rattle.std.specs.Prelude.{◌≡◌, ◌+◌, ◌<◌, ◌≤◌, ◌∷◌, ◌++◌, IfOk, IfSome, IsTrue, None, Some, All, is_some, length, option_copied, take};
 ghost use Rattle.mllp_frame.specs.Framing.{IsBlockData};
 ghost use Rattle.hl7_transform.specs.Step.{after_steps};
 ghost use Rattle.plan_text.specs.Entries.{AllStand};
@@ -352,8 +352,53 @@ pub fn judge(
     }
 }
 
+/// A message that is to be booked: a judged text that has a header and is no acknowledgment.
+#[derive(Drop)]
+pub struct JudgedMessage<'a> {
+    judged: &'a Judged,
+    header: &'a Header,
+}
+
+impl<'a> Model for JudgedMessage<'a> {
+    ghost use Rattle.std.specs.Prelude.{◌≡◌, IsTrue, Some};
+    ghost use Rattle.hl7_head.specs.Header.{header_of};
+    ghost use Rattle.judge_core.specs.Judging.{Judgement, is_bookable};
+
+    ghost Value = { Judgement };
+
+    ghost use Rattle.judge_core.specs.inner.Coding.{judgement_code};
+
+    ghost coded = { judgement_code };
+
+    ghost view = { λ message. message.judged.now };
+
+    ghost invariant = { λ message. record {
+      bookable : IsTrue (is_bookable message.judged.now.raw);
+      header_is : header_of message.judged.now.raw ≡ Some message.header.now;
+    } };
+}
+
+impl<'a> JudgedMessage<'a> {
+    ghost use Rattle.judge_core.specs.Judging.{is_bookable};
+
+    /// The text as it was judged.
+    pub fn judged(&self) -> &'a Judged
+        ensures value { result.now ≡ self.now }
+        ensures bookable { IsTrue (is_bookable result.now.raw) }
+    {
+        self.judged
+    }
+
+    /// The header.
+    pub fn header(&self) -> &'a Header
+        ensures { header_of self.now.raw ≡ Some result.now }
+    {
+        self.header
+    }
+}
+
 impl Judged {
-    ghost use Rattle.judge_core.specs.Judging.{verdict, key_of, is_bookable};
+    ghost use Rattle.judge_core.specs.Judging.{verdict, key_of, is_bookable, is_stray, is_unreadable};
     ghost use Rattle.judge_core.specs.inner.Judging.{is_booked};
 
     /// The plan by which it was judged.
@@ -413,5 +458,20 @@ impl Judged {
         ensures { result ≡ is_bookable self.now.raw }
     {
         self.verdict.is_booked()
+    }
+
+    /// The message, where the text is one that is to be booked.
+    pub fn message(&self) -> Option<JudgedMessage<'_>>
+        ensures value { IfSome result (λ message. message ≡ self.now) }
+        ensures booked { is_some result ≡ is_bookable self.now.raw }
+    {
+        let header = self.header.as_ref()?;
+        if !self.bookable() {
+            return None;
+        }
+        Some(JudgedMessage {
+            judged: self,
+            header,
+        })
     }
 }

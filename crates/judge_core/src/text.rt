@@ -104,8 +104,12 @@ impl Model for TextPiece {
     ghost invariant = { λ t. IsBetween 0 (length (arc_value t.shared).items) (record { start = t.start; end = t.end }) };
 }
 
-/// An offset in a text as 32 bits. An offset of 4 GiB or more is refused as memory is.
-fn place(offset: usize) -> Result<u32, AllocError>
+/// An offset in a text as 32 bits.
+///
+/// # Errors
+///
+/// Where the offset is 4 GiB or more; it is refused as memory is.
+pub fn offset_32(offset: usize) -> Result<u32, AllocError>
     ensures { IfOk result (λ p. p ≡ offset) }
 {
     u32::try_from(offset).map_err(|_| AllocError)
@@ -118,8 +122,8 @@ impl TextPiece {
         requires { IsBetween 0 (length (arc_value shared.now).items) span }
         ensures { IfOk result (λ piece. piece ≡ covered (arc_value shared.now).items span) }
     {
-        let start = place(span.start)?;
-        let end = place(span.end)?;
+        let start = offset_32(span.start)?;
+        let end = offset_32(span.end)?;
         Ok(TextPiece {
             shared: Arc::try_clone(shared)?,
             start,
