@@ -4,8 +4,8 @@ ghost use Rattle.std.specs.Prelude.{◌≡◌, List, IfOk, IfSome};
 ghost use Rattle.std.specs.List.{filter_map, flat_map};
 ghost use Rattle.delivery_worker.specs.Sent.{IsTraced, StationWork};
 
+use crate::connection_work::desks_and_reports;
 use crate::outlet::stations_and_reports;
-use crate::seat::desks_and_reports;
 use crate::workers::Finished;
 use book_core::BookRows;
 use book_lock::{Closed, Shared, Sharing};
@@ -37,15 +37,19 @@ pub fn close_book<A: Sharing, S: BookRows + Drop, D: Drop, L: Drop>(
     ensures opening { IfOk result (λ ended. IfSome ended.closed (λ closed.
         (closed.opening ≡ A.counts) × (closed.first ≡ A.first))) }
     ensures served { IfOk result (λ ended.
-        ended.served.items ≡ filter_map (λ s. s.report) worked.seats.items) }
+        ended.served.items ≡ filter_map (λ s. s.report) worked.connections.items) }
     ensures delivered { IfOk result (λ ended.
         ended.delivered.items ≡ filter_map (λ o. o.report) worked.outlets.items) }
     ensures traced { IfOk result (λ ended. IfSome ended.closed (λ closed.
         ∥ ((works : List (StationWork A.opening)) × IsTraced A.opening
         (flat_map (λ r. r.receipts.items) ended.served.items) works closed.book) ∥₁)) }
 {
-    let Finished { seats, outlets, .. } = worked;
-    let (desks, served) = desks_and_reports(alloc, seats)?;
+    let Finished {
+        connections,
+        outlets,
+        ..
+    } = worked;
+    let (desks, served) = desks_and_reports(alloc, connections)?;
     let (stations, delivered) = stations_and_reports(alloc, outlets)?;
     let closed = shared.close(desks, stations).ok();
     Ok(RunEnd {

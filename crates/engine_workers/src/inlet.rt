@@ -1,8 +1,8 @@
 //! Opening the doors of the channels, and serving the connections that come.
 
+use crate::connection_work::ConnectionWork;
 use crate::door::{Door, DoorFault, Incoming};
 use crate::loan::TakeCell;
-use crate::seat::ConnectionSlot;
 use crate::site::Context;
 use book_core::BookRows;
 use book_lock::Sharing;
@@ -45,29 +45,29 @@ fn is_ended_here(end: ServeEnd) -> bool {
     matches!(end, ServeEnd::NoMemory | ServeEnd::TurnBound)
 }
 
-/// Serves the connection of a seat, and leaves the report there. Where there is a report already, nothing is done.
+/// Serves a connection, and leaves the report with its work. Where there is a report already, nothing is done.
 #[tactic(auto, using(crate::proofs::Reported::served_once))]
-fn serve_seat<
+fn serve_connection<
     A: Sharing,
     S: BookRows,
     C: Clock + Copy,
     H: Wait + Log,
     R: Incoming + Drop,
     W: Write + Drop,
->(site: &Context<'_, A, S, C, H>, place: &TakeCell<ConnectionSlot<A>>, reader: R, writer: W) {
-    let Some(seat) = place.take(site.rt) else {
+>(site: &Context<'_, A, S, C, H>, place: &TakeCell<ConnectionWork<A>>, reader: R, writer: W) {
+    let Some(work) = place.take(site.rt) else {
         return;
     };
-    if seat.report.is_some() {
-        place.give_back(site.rt, seat);
+    if work.report.is_some() {
+        place.give_back(site.rt, work);
         return;
     }
-    let ConnectionSlot {
+    let ConnectionWork {
         connection,
         channel,
         mut desk,
         ..
-    } = seat;
+    } = work;
     let before = desk.made();
     let mut clock = site.clock;
     let (mut reader, mut writer) = (Counted::new(reader), Counted::new(writer));
@@ -88,7 +88,7 @@ fn serve_seat<
     log_end(site.rt, site.channel_name(channel), connection, &report);
     place.give_back(
         site.rt,
-        ConnectionSlot {
+        ConnectionWork {
             connection,
             channel,
             before,
@@ -98,7 +98,7 @@ fn serve_seat<
     );
 }
 
-/// Starts a thread that serves the connection of a seat. Whether it was started.
+/// Starts a thread that serves a connection. Returns whether it was started.
 fn start_serving<
     's,
     'x: 's,
@@ -113,13 +113,13 @@ fn start_serving<
     scope: &Scope<'s, E>,
     site: &'s Context<'x, A, S, C, H>,
     channel: u32,
-    place: &'s TakeCell<ConnectionSlot<A>>,
+    place: &'s TakeCell<ConnectionWork<A>>,
     reader: R,
     writer: W,
 ) -> bool {
     let started = Builder::new()
         .stack_size(SERVING_STACK)
-        .spawn_scoped(scope, move || serve_seat(site, place, reader, writer))
+        .spawn_scoped(scope, move || serve_connection(site, place, reader, writer))
         .is_ok();
     if !started {
         site.stop();
@@ -128,7 +128,7 @@ fn start_serving<
     started
 }
 
-/// Waits at a door for the next connection, and starts to serve it. Whether there may be one more.
+/// Waits at a door for the next connection, and starts to serve it. Returns whether there may be one more.
 fn admit<
     's,
     'x: 's,
@@ -145,7 +145,7 @@ fn admit<
     site: &'s Context<'x, A, S, C, H>,
     channel: u32,
     door: &mut D,
-    place: &'s TakeCell<ConnectionSlot<A>>,
+    place: &'s TakeCell<ConnectionWork<A>>,
 ) -> bool {
     if site.is_stopped() {
         return false;
@@ -172,7 +172,7 @@ fn log_taken<H: Log>(rt: &H, channel: &str, taken: usize, all: usize) {
     }
 }
 
-/// Opens a door for one connection after another, one for each seat, and starts to serve each. A door that fails is not
+/// Opens a door for one connection after another, and starts to serve each. A door that fails is not
 /// opened again. Then it is closed.
 fn admit_all<
     's,
@@ -189,10 +189,10 @@ fn admit_all<
     scope: &Scope<'s, E>,
     site: &'s Context<'x, A, S, C, H>,
     channel: u32,
-    seats: &'s [TakeCell<ConnectionSlot<A>>],
+    connections: &'s [TakeCell<ConnectionWork<A>>],
     door: &mut D,
 ) {
-    for (before, place) in seats.iter().enumerate() {
+    for (before, place) in connections.iter().enumerate() {
         if !admit(scope, site, channel, door, place) {
             break;
         }
@@ -200,7 +200,7 @@ fn admit_all<
             site.rt,
             site.channel_name(channel),
             before.saturating_add(1),
-            seats.len(),
+            connections.len(),
         );
     }
     door.close();
@@ -221,17 +221,17 @@ fn open_all<
 >(
     site: &'y Context<'x, A, S, C, H>,
     channel: u32,
-    seats: &'y [TakeCell<ConnectionSlot<A>>],
+    connections: &'y [TakeCell<ConnectionWork<A>>],
     door: &'y mut D,
 ) {
     thread::scope(
         thread::scope_env(),
         site.rt,
-        |scope| admit_all(scope, site, channel, seats, door),
+        |scope| admit_all(scope, site, channel, connections, door),
     );
 }
 
-/// Takes a channel's door, and opens it for all seats of the channel.
+/// Takes a channel's door, and opens it for all connections of the channel.
 fn work_door<
     A: Sharing + Send + Sync,
     S: BookRows + Send,
@@ -244,19 +244,19 @@ fn work_door<
     let Some(mut door) = inlet.door.take(site.rt) else {
         return;
     };
-    open_all(&*site, inlet.channel, &inlet.seats, &mut door);
+    open_all(&*site, inlet.channel, &inlet.connections, &mut door);
     inlet.door.give_back(site.rt, door);
 }
 
-/// The index of a channel in the plan, its door, and the seats of the connections that it is opened for.
+/// The work of a channel: its index in the plan, its door, and the connections that the door is opened for.
 #[derive(Drop)]
 pub struct ChannelWork<A: Sharing, D> {
     pub channel: u32,
     pub door: TakeCell<D>,
-    pub seats: Vec<TakeCell<ConnectionSlot<A>>>,
+    pub connections: Vec<TakeCell<ConnectionWork<A>>>,
 }
 
-/// Starts a thread that opens a channel's door. Whether it was started.
+/// Starts a thread that opens a channel's door. Returns whether it was started.
 fn start_opening<
     's,
     'x: 's,

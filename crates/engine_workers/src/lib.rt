@@ -10,6 +10,7 @@
 //! delivered or that `run_workers` returns, nor in which order the threads lock the book.
 #![tactic(auto)]
 
+mod connection_work;
 mod door;
 mod ending;
 mod half;
@@ -17,15 +18,14 @@ mod inlet;
 mod lacks;
 mod loan;
 mod outlet;
-mod seat;
 mod site;
 mod tcp_door;
 mod workers;
 
+pub use connection_work::{ConnectionWork, desks_and_reports};
 pub use door::{Door, DoorFault, Incoming};
 pub use ending::{RunEnd, close_book};
 pub use half::Half;
 pub use outlet::{DestinationWork, stations_and_reports};
-pub use seat::{ConnectionSlot, desks_and_reports};
 pub use tcp_door::TcpDoor;
 pub use workers::{Finished, StartError, Workers, run_workers};

@@ -37,7 +37,7 @@ pub struct DestinationWork<A: Sharing, L> {
 }
 
 impl<A: Sharing, L> DestinationWork<A, L> {
-    /// An outlet by which nothing was delivered yet, with a station that has made no call.
+    /// The work of a destination to which nothing was delivered yet, with a station that has made no call.
     pub fn new(destination: u32, link: L, station: Station<A>) -> Self
         requires { IsUnused station.seat }
         ensures destination { result.destination ≡ destination }
@@ -141,7 +141,7 @@ fn deliver_all<
     );
 }
 
-/// Starts a thread that delivers the messages of a destination. Whether it was started.
+/// Starts a thread that delivers the messages of a destination. Returns whether it was started.
 fn start_delivering<
     's,
     'x: 's,

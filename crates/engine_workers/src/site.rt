@@ -19,7 +19,7 @@ pub struct Context<'x, A: Sharing, S: BookRows, C, H> {
 }
 
 impl<'x, A: Sharing, S: BookRows, C, H> Context<'x, A, S, C, H> {
-    /// A site at which nothing was refused yet.
+    /// A context in which nothing was refused yet.
     pub fn new(
         rt: &'x H,
         alloc: Global,

@@ -4,11 +4,11 @@ ghost use Rattle.std.specs.Prelude.{◌≡◌, ◌<◌, All, OnOk};
 ghost use Rattle.std.specs.Vec.Iter.{into_iter_items};
 ghost use Rattle.delivery_worker.specs.Sent.{IsUnused};
 
+use crate::connection_work::ConnectionWork;
 use crate::door::{Door, Incoming};
 use crate::inlet::ChannelWork;
 use crate::loan::TakeCell;
 use crate::outlet::{DestinationWork, work_all};
-use crate::seat::ConnectionSlot;
 use crate::site::Context;
 use book_core::BookRows;
 use book_lock::{Desk, Shared, Sharing, Station};
@@ -53,11 +53,11 @@ pub struct Workers<A: Sharing, D, L> {
 /// The result of the work: what the workers worked with, each report with the desk or the station that it is of.
 #[derive(Drop)]
 pub struct Finished<A: Sharing, D, L> {
-    /// The seats, in the order of the numbers of the connections.
-    pub seats: Vec<ConnectionSlot<A>>,
+    /// The connections, in the order of their numbers.
+    pub connections: Vec<ConnectionWork<A>>,
     /// The doors, in the order of the plan's channels.
     pub doors: Vec<D>,
-    /// The outlets, in the order of the plan's destinations.
+    /// The work of the destinations, in the order of the plan.
     pub outlets: Vec<DestinationWork<A, L>>,
 }
 
@@ -70,30 +70,31 @@ struct Work<A: Sharing, D, L> {
     outlets: Vec<TakeCell<DestinationWork<A, L>>>,
 }
 
-/// The seats of a channel's connections, at the next desks.
+/// The work of a channel's connections, at the next desks.
 #[tactic(auto, using(delivery_worker::proofs::Unused::unused_desk))]
-fn seats_at<A: Sharing>(
+fn connections_at<A: Sharing>(
     alloc: Global,
     desks: &mut vec::IntoIter<Desk<A>>,
     channel: u32,
     accept: u32,
-) -> Result<Vec<TakeCell<ConnectionSlot<A>>>, AllocError>
+) -> Result<Vec<TakeCell<ConnectionWork<A>>>, AllocError>
     requires channel { channel < A.channels }
     requires unused { All (λ d. IsUnused d.seat) (into_iter_items desks.old) }
     ensures unused { OnOk result (All (λ d. IsUnused d.seat) (into_iter_items desks.new)) }
 {
     let first = channel.saturating_mul(accept);
-    let mut seats = Vec::new(alloc);
+    let mut connections = Vec::new(alloc);
     for k in 0..accept {
         let Some(desk) = desks.next() else {
             break;
         };
-        seats.push(TakeCell::new(ConnectionSlot::new(first.saturating_add(k), channel, desk)))?;
+        let work = ConnectionWork::new(first.saturating_add(k), channel, desk);
+        connections.push(TakeCell::new(work))?;
     }
-    Ok(seats)
+    Ok(connections)
 }
 
-/// The inlets of the channels, each with the seats of its connections.
+/// The work of the channels, each with that of its connections.
 fn inlets_of<A: Sharing, D: Drop>(
     alloc: Global,
     channels: u32,
@@ -111,17 +112,17 @@ fn inlets_of<A: Sharing, D: Drop>(
         let Some(door) = doors.next() else {
             break;
         };
-        let seats = seats_at(alloc, &mut desks, channel, accept)?;
+        let connections = connections_at(alloc, &mut desks, channel, accept)?;
         inlets.push(ChannelWork {
             channel,
             door: TakeCell::new(door),
-            seats,
+            connections,
         })?;
     }
     Ok(inlets)
 }
 
-/// The outlets of the destinations.
+/// The work of the destinations.
 fn outlets_of<A: Sharing, L: Drop>(
     alloc: Global,
     stations: Vec<Station<A>>,
@@ -144,7 +145,7 @@ fn outlets_of<A: Sharing, L: Drop>(
     Ok(outlets)
 }
 
-/// The posts of a staff.
+/// The work of all channels and destinations, made of what the workers work with.
 fn posts_of<A: Sharing, D: Drop, L: Drop>(
     alloc: Global,
     channels: u32,
@@ -164,18 +165,18 @@ fn posts_of<A: Sharing, D: Drop, L: Drop>(
     Ok(Work { inlets, outlets })
 }
 
-/// Takes in the door of a channel, and the seats of its connections.
+/// Takes in the door of a channel, and its connections.
 fn take_inlet<A: Sharing, D: Drop>(
-    seats: &mut Vec<ConnectionSlot<A>>,
+    connections: &mut Vec<ConnectionWork<A>>,
     doors: &mut Vec<D>,
     inlet: ChannelWork<A, D>,
 ) -> Result<(), AllocError> {
     if let Some(door) = inlet.door.into_inner() {
         doors.push(door)?;
     }
-    for place in inlet.seats {
-        if let Some(seat) = place.into_inner() {
-            seats.push(seat)?;
+    for place in inlet.connections {
+        if let Some(work) = place.into_inner() {
+            connections.push(work)?;
         }
     }
     Ok(())
@@ -195,25 +196,25 @@ fn outlets_back<A: Sharing, L: Drop>(
     Ok(outlets)
 }
 
-/// The result of the work at these posts.
+/// What the workers worked with, once they have ended.
 fn gather<A: Sharing, D: Drop, L: Drop>(
     alloc: Global,
     posts: Work<A, D, L>,
 ) -> Result<Finished<A, D, L>, AllocError> {
     let Work { inlets, outlets } = posts;
-    let (mut seats, mut doors) = (Vec::new(alloc), Vec::new(alloc));
+    let (mut connections, mut doors) = (Vec::new(alloc), Vec::new(alloc));
     for inlet in inlets {
-        take_inlet(&mut seats, &mut doors, inlet)?;
+        take_inlet(&mut connections, &mut doors, inlet)?;
     }
     let outlets = outlets_back(alloc, outlets)?;
     Ok(Finished {
-        seats,
+        connections,
         doors,
         outlets,
     })
 }
 
-/// Has each worker work at its post. Whether all could be started.
+/// Starts a thread for each channel and each destination, and waits until all have ended. Returns whether all could be started.
 fn work_at<
     A: Sharing + Send + Sync,
     S: BookRows + Send,
@@ -245,13 +246,14 @@ fn work_at<
 ///
 /// What the workers worked with is returned, each report in one value with the desk or the station that it is of,
 /// which has counted as many arrivals as the report has receipts, or as many takes as it has attempts. A connection
-/// that was never accepted has a seat without a report. Whether all desks and stations were returned is decided by
+/// that was never accepted has no report. Whether all desks and stations were returned is decided by
 /// closing the book.
 ///
 /// # Errors
 ///
 /// Where memory or a thread is refused, no further worker is started. Those that were started work to their end, and what
-/// all worked with is dropped.
+/// all worked with is dropped. A channel that waits for a connection goes on waiting until one comes, which is closed
+/// unserved.
 pub fn run_workers<
     A: Sharing + Send + Sync,
     S: BookRows + Send,

@@ -90,8 +90,12 @@ fn close<A: Sharing, H: Wait, D: Drop, L: Drop>(
     shared: Shared<A, Rows>,
     worked: Finished<A, D, L>,
 ) -> Option<Ended> {
-    let Finished { seats, outlets, .. } = worked;
-    let (mut desks, served) = desks_and_reports(alloc, seats).ok()?;
+    let Finished {
+        connections,
+        outlets,
+        ..
+    } = worked;
+    let (mut desks, served) = desks_and_reports(alloc, connections).ok()?;
     let (stations, delivered) = stations_and_reports(alloc, outlets).ok()?;
     let shown = shown_at(rt, &shared, &mut desks)?;
     let closed = shared.close(desks, stations).ok()?;

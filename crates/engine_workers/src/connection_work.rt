@@ -1,4 +1,4 @@
-//! The seats of connections.
+//! The work of connections.
 
 ghost use Rattle.std.specs.Prelude.{◌≡◌, ◌+◌, ◌<◌, ◌++◌, ◌∷◌, [], IfOk, OnOk, map, vec_len};
 ghost use Rattle.std.specs.List.{filter_map};
@@ -10,12 +10,12 @@ use book_lock::{Desk, Sharing};
 use conn_worker::ServeReport;
 use std::alloc::{AllocError, Global};
 
-/// The seat of a connection: its number, the index of its channel in the plan, the desk that its messages are booked
+/// The work of a connection: its number, the index of its channel in the plan, the desk that its messages are booked
 /// at, how many arrivals the desk had counted before, and the outcome of serving the connection, once it was served.
 /// The report is of this desk: the desk has counted as many arrivals since as the report has receipts, and what it added
 /// to the book's log is the arrivals of these receipts. Without a report it has added nothing.
 #[derive(Drop)]
-pub struct ConnectionSlot<A: Sharing> {
+pub struct ConnectionWork<A: Sharing> {
     pub connection: u32,
     pub channel: u32,
     pub before: u64,
@@ -26,8 +26,8 @@ pub struct ConnectionSlot<A: Sharing> {
     ghost served: { ∥ HasServed A.opening desk.seat report ∥₁ },
 }
 
-impl<A: Sharing> ConnectionSlot<A> {
-    /// The seat of a connection that was not served yet, with a desk at which nothing was booked.
+impl<A: Sharing> ConnectionWork<A> {
+    /// The work of a connection that was not served yet, with a desk at which nothing was booked.
     pub fn new(connection: u32, channel: u32, desk: Desk<A>) -> Self
         requires channel { channel < A.channels }
         requires unused { IsUnused desk.seat }
@@ -35,7 +35,7 @@ impl<A: Sharing> ConnectionSlot<A> {
         ensures channel { result.channel ≡ channel }
         ensures desk { result.desk ≡ desk }
     {
-        ConnectionSlot {
+        ConnectionWork {
             connection,
             channel,
             before: desk.made(),
@@ -45,16 +45,16 @@ impl<A: Sharing> ConnectionSlot<A> {
     }
 }
 
-/// Adds the desk of a seat to others, and its report, if it has one.
-fn add_seat<A: Sharing>(
+/// Adds the desk of a connection to others, and its report, if it was served.
+fn add_connection<A: Sharing>(
     desks: &mut Vec<Desk<A>>,
     reports: &mut Vec<ServeReport>,
-    seat: ConnectionSlot<A>,
+    work: ConnectionWork<A>,
 ) -> Result<(), AllocError>
-    ensures desks { OnOk result (desks.new.items ≡ desks.old.items ++ seat.desk ∷ []) }
-    ensures reports { OnOk result (reports.new.items ≡ reports.old.items ++ filter_map (λ s. s.report) (seat ∷ [])) }
+    ensures desks { OnOk result (desks.new.items ≡ desks.old.items ++ work.desk ∷ []) }
+    ensures reports { OnOk result (reports.new.items ≡ reports.old.items ++ filter_map (λ s. s.report) (work ∷ [])) }
 {
-    let ConnectionSlot { desk, report, .. } = seat;
+    let ConnectionWork { desk, report, .. } = work;
     desks.push(desk)?;
     if let Some(report) = report {
         reports.push(report)?;
@@ -62,7 +62,7 @@ fn add_seat<A: Sharing>(
     Ok(())
 }
 
-/// The desks of all seats, and the reports of the connections that were served, both in the order of the seats.
+/// The desks of all connections, and the reports of those that were served, both in the order of the connections.
 ///
 /// # Errors
 ///
@@ -70,14 +70,14 @@ fn add_seat<A: Sharing>(
 #[tactic(auto, using(crate::proofs::Parts::map_more, crate::proofs::Parts::filter_map_more))]
 pub fn desks_and_reports<A: Sharing>(
     alloc: Global,
-    seats: Vec<ConnectionSlot<A>>,
+    connections: Vec<ConnectionWork<A>>,
 ) -> Result<(Vec<Desk<A>>, Vec<ServeReport>), AllocError>
-    ensures desks { IfOk result (λ r. r.0.items ≡ map (λ s. s.desk) seats.items) }
-    ensures reports { IfOk result (λ r. r.1.items ≡ filter_map (λ s. s.report) seats.items) }
+    ensures desks { IfOk result (λ r. r.0.items ≡ map (λ s. s.desk) connections.items) }
+    ensures reports { IfOk result (λ r. r.1.items ≡ filter_map (λ s. s.report) connections.items) }
 {
     let (mut desks, mut reports) = (Vec::new(alloc), Vec::new(alloc));
-    for seat in seats {
-        add_seat(&mut desks, &mut reports, seat)?;
+    for work in connections {
+        add_connection(&mut desks, &mut reports, work)?;
     }
     Ok((desks, reports))
 }
