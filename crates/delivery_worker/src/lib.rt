@@ -7,6 +7,7 @@ mod connection;
 mod data;
 mod laws;
 mod link;
+mod link_log;
 mod report;
 mod socket;
 mod tcp_link;

@@ -48,7 +48,7 @@ pub trait Link {
         true
     }
 
-    /// Whether the last call met the end of the connection, by its peer. A time that was too long is no such end.
+    /// Whether the last call met the end of the connection, by its peer. A timeout is no such end.
     fn was_ended(&self) -> bool {
         false
     }

@@ -31,7 +31,7 @@ pub struct DeliverReport {
 }
 
 impl DeliverReport {
-    /// The report of no attempt yet; where nothing else ends it, the turns are spent.
+    /// A report without attempts; `end` is `TurnsSpent` until it is set.
     pub fn new() -> Self
         ensures { result ≡ no_attempts }
     {

@@ -32,8 +32,7 @@ impl Ready {
     }
 }
 
-/// Waits until something is to be read or the peer ends, or also until there is room for what is to be sent, for at most so
-/// long.
+/// Waits until `stream` can be read, its peer ended or, with `writes`, it can be written; for `limit` at most.
 pub(crate) fn wait_for(stream: &TcpStream, writes: bool, limit: Duration) -> Ready {
     let mut asked = [pollfd {
         fd: stream.as_raw_fd(),
@@ -54,7 +53,7 @@ pub(crate) fn wait_for(stream: &TcpStream, writes: bool, limit: Duration) -> Rea
     }
 }
 
-/// Reads and drops what has come. Whether the input is not at its end.
+/// Reads and drops what was received. Returns whether the input is not at its end.
 pub(crate) fn drop_input(stream: &mut TcpStream) -> bool {
     let mut buffer = [0; PIECE];
     for _ in 0..PIECES_MAX {

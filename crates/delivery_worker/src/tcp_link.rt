@@ -6,14 +6,14 @@ ghost use Rattle.conn_worker.specs.Faults.{with_fault};
 
 use crate::answers::Reply;
 use crate::link::{Link, LinkFault};
+use crate::link_log::LoggedState;
 use crate::socket::{drop_input, is_end, is_own_lack, wait_for};
 use crate::way::Way;
-use crate::words::{Cause, Failure};
+use crate::words::Cause;
 use book_core::Job;
 use dest_queue::{FailCause, Outcome, SlotState};
 use fixed_numbers::RECEIVES_MAX;
-use log::{Log, info, warn};
-use log_text::ControlId;
+use log::{Log, warn};
 use plan_text::Await;
 use socket_options::{Spare, keep_alive};
 use std::io;
@@ -37,6 +37,9 @@ const END_SECONDS_MAX: u64 = 10;
 /// The milliseconds that a link waits where the system lacks something for a connection, before it tries again.
 const LACK_WAIT: u64 = 100;
 
+/// The milliseconds that a write waits for room where the destination sends nothing more and its answers are not awaited.
+const ENDED_WAIT: u64 = 10;
+
 /// How often it waits at most: for ten times the longest timeout of a plan.
 const WAITS_MAX: u32 = 360_000;
 
@@ -46,7 +49,7 @@ const WRITES_MAX: u32 = 10_000_000;
 /// How many times something may come while a connection is ended.
 const PIECES_MAX: u32 = 10_000_000;
 
-/// The most seconds that a connect may last while no attempt is under way.
+/// The most seconds that connecting to one address may last while no attempt is under way.
 const PREPARE_SECONDS_MAX: u64 = 10;
 
 /// How long one wait may last that can be halted, in milliseconds.
@@ -65,39 +68,41 @@ enum Call {
     Receive,
 }
 
-/// What was logged last of a link's connection.
-#[derive(Clone, Copy, PartialEq, Eq)]
-enum Told {
-    Nothing,
-    Connected,
-    Lost,
-}
-
-/// A link over TCP to where a way leads: to a destination of a plan. The destination's timeout is the limit on connecting, on a write that makes
-/// no progress and on each read, and ten times the timeout is that on an attempt. Each attempt that failed is one line of the
-/// log, and so is a message that failed for good.
+/// A link over TCP to the destination that its way names. The destination's timeout is the limit on connecting to one of its
+/// addresses, on a write that makes no progress and on each read, and ten times the timeout is that on an attempt. Each attempt
+/// that failed is one line of the log, and so is a message that failed for good.
 ///
 /// Where the system lacks descriptors, ports or memory for a connection, the link waits and tries again until the attempt has
 /// to end. A descriptor is held back for the connection while there is none.
 ///
-/// What a destination sends whose answers are not awaited is dropped as it comes.
+/// What a destination sends whose answers are not awaited is dropped as it is received.
 ///
-/// Between attempts, by `prepare`, a connect lasts for the timeout at most, and no longer than ten seconds. Where it failed,
-/// that is one line of the log, and no other connect is made there before the destination's interval is over.
+/// Between attempts, by `prepare`, connecting to one address lasts for the timeout at most, and no longer than ten seconds;
+/// then the next address of the name is tried. Where all of them failed, that is one line of the log, and no other connect is
+/// made there before the destination's interval is over.
+///
+/// A proxy accepts connections also while the destination behind it is down, and closes them. So after an attempt whose
+/// connection was closed before an answer, a new connection has to stay open for a while before a message is taken for it:
+/// for the timeout or ten seconds, whichever is less. One that is closed before then counts as a connect that failed.
 #[derive(Drop)]
 pub struct TcpLink<'a, R, W> {
-    rt: &'a R,
-    way: W,
-    stream: Option<TcpStream>,
+    pub(crate) rt: &'a R,
+    pub(crate) way: W,
+    pub(crate) stream: Option<TcpStream>,
     spare: Spare,
     faults: u64,
     /// Why the last connection failed, since it was opened or the attempt at hand began.
-    cause: Option<Cause>,
+    pub(crate) cause: Option<Cause>,
     /// How many receives the attempt at hand has made.
     receives: u32,
     /// Whether the last call met the end of the connection.
     ended: bool,
-    /// When the attempt at hand ends, or the connect between attempts, by the monotonic clock, where that can be read.
+    /// How many attempts have begun over the connection, that at hand included.
+    attempts_over: u32,
+    /// Whether the connection of the last attempt was closed before an answer.
+    was_cut: bool,
+    /// When the attempt at hand ends, or the wait for what the system lacks between attempts, by the monotonic clock, where that
+    /// can be read.
     deadline: Option<Duration>,
     /// How many waits of the attempt at hand may still last a whole timeout each, whatever the clock says.
     free_waits: u32,
@@ -105,7 +110,7 @@ pub struct TcpLink<'a, R, W> {
     read_limit: Duration,
     /// The limit on each write that the stream has.
     write_limit: Duration,
-    told: Told,
+    pub(crate) logged: LoggedState,
     /// The moment, by the monotonic clock, before which no connect is made between attempts.
     retry_at: Option<Duration>,
 }
@@ -145,17 +150,19 @@ impl<'a, R: Net<Stream = TcpStream> + Log + Clock, W: Way> TcpLink<'a, R, W> {
             cause: None,
             receives: 0,
             ended: false,
+            attempts_over: 0,
+            was_cut: false,
             deadline: None,
             free_waits: 0,
             read_limit: Duration::ZERO,
             write_limit: Duration::ZERO,
-            told: Told::Nothing,
+            logged: LoggedState::Nothing,
             retry_at: None,
         }
     }
 
     /// The destination's name; empty where the plan has none.
-    fn name(&self) -> &str {
+    pub(crate) fn name(&self) -> &str {
         match self.way.destination() {
             Some(destination) => destination.name(),
             None => "",
@@ -163,7 +170,7 @@ impl<'a, R: Net<Stream = TcpStream> + Log + Clock, W: Way> TcpLink<'a, R, W> {
     }
 
     /// The destination's address; empty where the plan has none.
-    fn address(&self) -> &str {
+    pub(crate) fn address(&self) -> &str {
         match self.way.destination() {
             Some(destination) => destination.address(),
             None => "",
@@ -171,7 +178,7 @@ impl<'a, R: Net<Stream = TcpStream> + Log + Clock, W: Way> TcpLink<'a, R, W> {
     }
 
     /// How many attempts the destination allows.
-    fn attempts(&self) -> u32 {
+    pub(crate) fn attempts(&self) -> u32 {
         match self.way.destination() {
             Some(destination) => destination.attempts(),
             None => 0,
@@ -207,7 +214,7 @@ impl<'a, R: Net<Stream = TcpStream> + Log + Clock, W: Way> TcpLink<'a, R, W> {
         }
     }
 
-    /// How long one wait of so long may last until a halt is looked for.
+    /// How long one wait of at most `limit` may last before a halt is looked for.
     fn slice(&self, limit: Duration) -> Duration {
         if self.way.can_halt() {
             limit.min(Duration::from_millis(SLICE))
@@ -216,7 +223,7 @@ impl<'a, R: Net<Stream = TcpStream> + Log + Clock, W: Way> TcpLink<'a, R, W> {
         }
     }
 
-    /// The moment that comes after so long.
+    /// The moment, by the monotonic clock, that is `time` from now; none where the clock can't be read.
     fn after(&self, time: Duration) -> Option<Duration> {
         self.rt.monotonic().ok()?.checked_add(time)
     }
@@ -235,6 +242,17 @@ impl<'a, R: Net<Stream = TcpStream> + Log + Clock, W: Way> TcpLink<'a, R, W> {
             return Err(io::Error::from(ErrorKind::TimedOut));
         }
         Ok(timeout.min(left))
+    }
+
+    /// How long connecting to one address may last. Between attempts each address has the timeout, ten seconds at most, so that
+    /// one that doesn't answer takes nothing from those after it.
+    fn connect_limit(&self, call: Call) -> io::Result<Duration> {
+        match call {
+            Call::Prepare if !self.way.is_halted() => Ok(
+                self.timeout().min(Duration::from_secs(PREPARE_SECONDS_MAX)),
+            ),
+            _ => self.limit(),
+        }
     }
 
     /// How long the next wait of an attempt may last. It exists for speed: the first nine waits over a connection that was
@@ -259,13 +277,17 @@ impl<'a, R: Net<Stream = TcpStream> + Log + Clock, W: Way> TcpLink<'a, R, W> {
 
     /// Opens a stream to the first of these addresses that answers. Where none does, the error is the first that is no lack
     /// of the system's own, if there is one.
-    fn open_first<I: Iterator<Item = SocketAddr>>(&self, addresses: I) -> io::Result<TcpStream>
+    fn open_first<I: Iterator<Item = SocketAddr>>(
+        &self,
+        call: Call,
+        addresses: I,
+    ) -> io::Result<TcpStream>
         requires { I.can_next addresses × IsFinite (I.remaining addresses) }
     {
         let mut first = io::Error::from(ErrorKind::AddrNotAvailable);
         let mut is_first = true;
         for address in addresses {
-            match TcpStream::connect_timeout(self.rt, &address, self.limit()?) {
+            match TcpStream::connect_timeout(self.rt, &address, self.connect_limit(call)?) {
                 Ok(stream) => return Ok(stream),
                 Err(error) => {
                     if is_first || is_own_lack(&first) {
@@ -279,7 +301,7 @@ impl<'a, R: Net<Stream = TcpStream> + Log + Clock, W: Way> TcpLink<'a, R, W> {
     }
 
     /// Opens a stream to the destination once.
-    fn open_once(&mut self) -> io::Result<TcpStream>
+    fn open_once(&mut self, call: Call) -> io::Result<TcpStream>
         ensures { self.new ≡ self.old }
     {
         let mut addresses = self.address().to_socket_addrs(self.rt);
@@ -290,16 +312,16 @@ impl<'a, R: Net<Stream = TcpStream> + Log + Clock, W: Way> TcpLink<'a, R, W> {
         }
         let addresses = addresses?;
         self.spare.give_up();
-        self.open_first(addresses)
+        self.open_first(call, addresses)
     }
 
     /// A stream to the destination. Where the system lacks something for it, it is tried again until the attempt has to end.
-    fn open_patiently(&mut self) -> io::Result<TcpStream>
+    fn open_patiently(&mut self, call: Call) -> io::Result<TcpStream>
         ensures { self.new ≡ self.old }
     {
         let mut is_waiting = false;
         'waits: for _ in 0..WAITS_MAX {
-            let error = match self.open_once() {
+            let error = match self.open_once(call) {
                 Ok(stream) => return Ok(stream),
                 Err(error) => error,
             };
@@ -316,10 +338,10 @@ impl<'a, R: Net<Stream = TcpStream> + Log + Clock, W: Way> TcpLink<'a, R, W> {
     }
 
     /// A stream to the destination, with its options. Blocks are sent as soon as they are written.
-    fn open(&mut self) -> io::Result<TcpStream>
+    fn open(&mut self, call: Call) -> io::Result<TcpStream>
         ensures { self.new ≡ self.old }
     {
-        let stream = self.open_patiently()?;
+        let stream = self.open_patiently(call)?;
         let timeout = self.timeout();
         stream.set_read_timeout(Some(timeout))?;
         stream.set_write_timeout(Some(timeout))?;
@@ -384,8 +406,9 @@ impl<'a, R: Net<Stream = TcpStream> + Log + Clock, W: Way> TcpLink<'a, R, W> {
         Ok(left)
     }
 
-    /// Waits until there is room for what is to be sent, for a slice of the limit at most, and drops what was
-    /// received. How long that lasted.
+    /// Waits until there is room for what is to be sent, for a slice of the limit at most, and drops what was received.
+    /// Returns how long that lasted. A socket whose input is at its end is always ready to be read, so a wait for both ends at
+    /// once; it sleeps for a moment then.
     fn wait_and_drop(&mut self, limit: Duration) -> io::Result<Duration>
         ensures { self.new ≡ self.old }
     {
@@ -395,11 +418,13 @@ impl<'a, R: Net<Stream = TcpStream> + Log + Clock, W: Way> TcpLink<'a, R, W> {
             return Err(io::Error::from(ErrorKind::NotConnected));
         };
         wait_for(stream, true, slice);
-        drop_input(stream);
+        if !drop_input(stream) {
+            self.rt.sleep(slice.min(Duration::from_millis(ENDED_WAIT)));
+        }
         Ok(self.rt.monotonic()?.saturating_sub(begun))
     }
 
-    /// Waits until something is to be read, for so long at most, and no longer than until a halt.
+    /// Waits until something can be read, for `limit` at most, and ends early at a halt.
     fn wait_to_read(&self, limit: Duration) -> io::Result<()> {
         let (Some(stream), Some(deadline)) = (&self.stream, self.after(limit)) else {
             return Ok(());
@@ -471,6 +496,7 @@ impl<'a, R: Net<Stream = TcpStream> + Log + Clock, W: Way> TcpLink<'a, R, W> {
             return Cause::TimeSpent(seconds.saturating_mul(TIMEOUTS_MAX));
         }
         match call {
+            Call::Prepare if error.kind() == ErrorKind::ConnectionAborted => Cause::ClosedAtOnce,
             Call::Prepare | Call::Connect if error.kind() == ErrorKind::WouldBlock => Cause::NoPort,
             Call::Prepare | Call::Connect => Cause::NoConnection(error),
             _ if is_end(&error) => Cause::Closed,
@@ -491,70 +517,8 @@ impl<'a, R: Net<Stream = TcpStream> + Log + Clock, W: Way> TcpLink<'a, R, W> {
         LinkFault
     }
 
-    /// Logs what became of the connection.
-    fn tell(&self, words: &str) {
-        info!(self.rt; destination = self.name(), address = self.address(); "{words}");
-    }
-
-    /// Logs that a connection was opened, where none was before or the last one was lost.
-    fn tell_connected(&mut self)
-        ensures { self.new ≡ self.old }
-    {
-        match self.told {
-            Told::Nothing => self.tell("connected"),
-            Told::Lost => self.tell("connected again"),
-            Told::Connected => {}
-        }
-        self.told = Told::Connected;
-    }
-
-    /// Logs that the connection was lost, where there was one.
-    fn tell_lost(&mut self)
-        ensures { self.new ≡ self.old }
-    {
-        if self.stream.is_none() && self.told == Told::Connected {
-            self.tell("connection lost");
-            self.told = Told::Lost;
-        }
-    }
-
-    /// Logs why no connection could be opened between attempts.
-    fn tell_unconnected(&mut self)
-        ensures { self.new ≡ self.old }
-    {
-        match &self.cause {
-            None | Some(Cause::Halted) => return,
-            Some(cause) => {
-                warn!(self.rt; destination = self.name(), address = self.address(); "{cause}")
-            }
-        }
-        self.tell_lost();
-    }
-
-    /// Logs an attempt that failed, and a connection that was lost by it.
-    fn tell_attempt(&mut self, job: &Job, reply: Reply)
-        ensures { self.new ≡ self.old }
-    {
-        let failure = Failure {
-            reply,
-            cause: self.cause.as_ref(),
-        };
-        warn!(self.rt; destination = self.name(), message = job.ticket.number, control_id:% = ControlId(job.control_id.as_slice()), attempt = job.ticket.attempt, attempts = self.attempts(); "{failure}");
-        self.tell_lost();
-    }
-
-    /// Logs a message that failed for good.
-    fn tell_failure(&self, job: &Job, cause: FailCause) {
-        let words = match cause {
-            FailCause::Rejected => "message failed: rejected by the destination",
-            FailCause::Exhausted => "message failed: no attempt is left",
-            FailCause::Cancelled => "message failed: cancelled",
-        };
-        warn!(self.rt; target: "always", destination = self.name(), message = job.ticket.number, control_id:% = ControlId(job.control_id.as_slice()), attempts = job.ticket.attempt; "{words}");
-    }
-
     /// Opens a new connection, and drops what was left of an earlier one.
-    fn reopen(&mut self) -> io::Result<()>
+    fn reopen(&mut self, call: Call) -> io::Result<()>
         ensures { self.new ≡ self.old }
     {
         self.close();
@@ -562,10 +526,53 @@ impl<'a, R: Net<Stream = TcpStream> + Log + Clock, W: Way> TcpLink<'a, R, W> {
         self.cause = None;
         // To connect may take longer than its limit, where a name is looked up.
         self.free_waits = 0;
-        let stream = self.open()?;
+        let stream = self.open(call)?;
         self.read_limit = self.timeout();
         self.write_limit = self.timeout();
         self.stream = Some(stream);
+        self.attempts_over = 0;
+        Ok(())
+    }
+
+    /// Waits for a while whether a new connection stays open, where the last one was closed before an answer.
+    ///
+    /// # Errors
+    ///
+    /// `ConnectionAborted` where it is closed before then, `TimedOut` where delivering is halted.
+    fn stay_open(&self) -> io::Result<()> {
+        let (Some(stream), true) = (&self.stream, self.was_cut) else {
+            return Ok(());
+        };
+        let longest = Duration::from_secs(PREPARE_SECONDS_MAX);
+        let Some(deadline) = self.after(self.timeout().min(longest)) else {
+            return Ok(());
+        };
+        for _ in 0..SLICES_MAX {
+            if self.way.is_halted() {
+                return Err(io::Error::from(ErrorKind::TimedOut));
+            }
+            let left = deadline.saturating_sub(self.rt.monotonic()?);
+            if left < Duration::from_millis(1) {
+                return Ok(());
+            }
+            let ready = wait_for(stream, false, left.min(Duration::from_millis(SLICE)));
+            if ready.is_ended() {
+                return Err(io::Error::from(ErrorKind::ConnectionAborted));
+            }
+            if ready.is_readable() {
+                // What it sends unasked is dropped once a message is to be sent.
+                return Ok(());
+            }
+        }
+        Ok(())
+    }
+
+    /// Opens a connection between attempts, and waits whether it stays open where the last one didn't.
+    fn open_ahead(&mut self) -> io::Result<()>
+        ensures { self.new ≡ self.old }
+    {
+        self.reopen(Call::Prepare)?;
+        self.stay_open()?;
         self.tell_connected();
         Ok(())
     }
@@ -593,12 +600,13 @@ impl<'a, R: Net<Stream = TcpStream> + Log + Clock, W: Way> TcpLink<'a, R, W> {
         let drops = self.drops_answers();
         if self.way.renew() || self.drops_answers() != drops {
             self.end(drops);
-            self.told = Told::Nothing;
+            self.logged = LoggedState::Nothing;
             self.retry_at = None;
+            self.was_cut = false;
         }
     }
 
-    /// Drops what has arrived on the connection. Whether it is open, and nothing is left that could be taken for an answer to
+    /// Drops what has arrived on the connection. Returns whether it is open, and nothing is left that could be taken for an answer to
     /// what is sent next. Where answers are not awaited, nothing is taken for one: what arrives meanwhile is left to the next
     /// call, since a stream that is closed with bytes unread is reset, and a reset takes from the destination what it has not
     /// read yet.
@@ -642,6 +650,7 @@ impl<R: Net<Stream = TcpStream> + Log + Clock, W: Way> Link for TcpLink<'_, R, W
         self.free_waits = FREE_WAITS;
         self.cause = None;
         self.receives = 0;
+        self.attempts_over = self.attempts_over.saturating_add(1);
     }
 
     fn is_open(&mut self) -> bool {
@@ -657,8 +666,10 @@ impl<R: Net<Stream = TcpStream> + Log + Clock, W: Way> Link for TcpLink<'_, R, W
         is_open
     }
 
+    /// Whether the last call met the end of a connection over which an earlier attempt was made. One that is ended in the first
+    /// attempt over it was not ended for being idle, so nothing is sent once more for that.
     fn was_ended(&self) -> bool {
-        self.ended
+        self.ended && self.attempts_over > 1
     }
 
     fn has_interval(&self) -> bool {
@@ -667,11 +678,18 @@ impl<R: Net<Stream = TcpStream> + Log + Clock, W: Way> Link for TcpLink<'_, R, W
 
     fn settled(&mut self, job: &Job, reply: Reply, outcome: Outcome, state: Option<SlotState>) {
         self.way.note(outcome);
-        if outcome != Outcome::Delivered && !matches!(self.cause, Some(Cause::Halted)) {
+        self.was_cut = reply == Reply::Nothing && matches!(self.cause, Some(Cause::Closed));
+        let is_halted = matches!(self.cause, Some(Cause::Halted));
+        if outcome != Outcome::Delivered && !is_halted {
             self.tell_attempt(job, reply);
         }
-        if let Some(SlotState::Failed(cause)) = state {
-            self.tell_failure(job, cause);
+        match state {
+            Some(SlotState::Failed(FailCause::Exhausted)) if is_halted => {
+                self.way.note_cut();
+                self.tell_cut(job);
+            }
+            Some(SlotState::Failed(cause)) => self.tell_failure(job, reply, cause),
+            _ => {}
         }
     }
 
@@ -680,8 +698,12 @@ impl<R: Net<Stream = TcpStream> + Log + Clock, W: Way> Link for TcpLink<'_, R, W
     }
 
     fn connect(&mut self) -> Result<(), LinkFault> {
-        match self.reopen() {
-            Ok(()) => Ok(()),
+        match self.reopen(Call::Connect) {
+            Ok(()) => {
+                self.attempts_over = 1;
+                self.tell_connected();
+                Ok(())
+            }
             Err(error) => Err(self.fault(Call::Connect, error)),
         }
     }
@@ -700,7 +722,7 @@ impl<R: Net<Stream = TcpStream> + Log + Clock, W: Way> Link for TcpLink<'_, R, W
         }
         let longest = Duration::from_secs(PREPARE_SECONDS_MAX);
         self.deadline = self.after(self.timeout().min(longest));
-        match self.reopen() {
+        match self.open_ahead() {
             Ok(()) => Ok(()),
             Err(error) => Err(self.unconnected(error)),
         }

@@ -8,7 +8,7 @@ pub trait Way {
     /// The destination as the plan that was taken up last has it. None where that plan has none at this index any more.
     fn destination(&self) -> Option<&Destination>;
 
-    /// Takes up the plan in force. Whether the address or the timeout differs from the one before.
+    /// Takes up the plan in force. Returns whether the address or the timeout differs from the one before.
     fn renew(&mut self) -> bool {
         false
     }
@@ -25,6 +25,9 @@ pub trait Way {
 
     /// Is called with the outcome of an attempt, once it is settled.
     fn note(&mut self, _outcome: Outcome) {}
+
+    /// Is called for a message that failed since its last attempt was cut off by a halt.
+    fn note_cut(&mut self) {}
 }
 
 /// The destination of a plan that stays in force. Nothing cuts a wait short.

@@ -17,6 +17,8 @@ pub enum Cause {
     NoProgress(u32),
     /// The destination closed the connection.
     Closed,
+    /// The destination closed a new connection before a message was sent over it.
+    ClosedAtOnce,
     /// The attempt lasted as many seconds as it may.
     TimeSpent(u32),
     /// As many receives were made as an attempt may make.
@@ -35,6 +37,9 @@ impl fmt::Display for Cause {
             Cause::NoAnswer(seconds) => write!(f, "no answer within {seconds} s"),
             Cause::NoProgress(seconds) => write!(f, "nothing could be sent for {seconds} s"),
             Cause::Closed => f.write_str("closed by the destination before an answer"),
+            Cause::ClosedAtOnce => f.write_str(
+                "can't connect: closed by the destination right after it was connected",
+            ),
             Cause::TimeSpent(seconds) => write!(f, "attempt ended after {seconds} s"),
             Cause::ReceivesSpent => f.write_str("no answer in 1,000,000 receives"),
             Cause::Halted => f.write_str("delivering was halted"),

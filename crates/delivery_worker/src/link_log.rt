@@ -1,0 +1,95 @@
+//! What a link over TCP logs.
+
+ghost use Rattle.std.specs.Prelude.{◌≡◌};
+
+use crate::answers::Reply;
+use crate::tcp_link::TcpLink;
+use crate::way::Way;
+use crate::words::{Cause, Failure};
+use book_core::Job;
+use dest_queue::FailCause;
+use log::{Log, info, warn};
+use log_text::ControlId;
+use std::net::{Net, TcpStream};
+use std::time::Clock;
+
+/// What was logged last of a link's connection.
+#[derive(Clone, Copy, PartialEq, Eq)]
+pub(crate) enum LoggedState {
+    Nothing,
+    Connected,
+    Lost,
+}
+
+impl<'a, R: Net<Stream = TcpStream> + Log + Clock, W: Way> TcpLink<'a, R, W> {
+    /// Logs what became of the connection.
+    fn tell(&self, words: &str) {
+        info!(self.rt; destination = self.name(), address = self.address(); "{words}");
+    }
+
+    /// Logs that a connection was opened, where none was before or the last one was lost.
+    pub(crate) fn tell_connected(&mut self)
+        ensures { self.new ≡ self.old }
+    {
+        match self.logged {
+            LoggedState::Nothing => self.tell("connected"),
+            LoggedState::Lost => self.tell("connected again"),
+            LoggedState::Connected => {}
+        }
+        self.logged = LoggedState::Connected;
+    }
+
+    /// Logs that the connection was lost, where there was one.
+    pub(crate) fn tell_lost(&mut self)
+        ensures { self.new ≡ self.old }
+    {
+        if self.stream.is_none() && self.logged == LoggedState::Connected {
+            self.tell("connection lost");
+            self.logged = LoggedState::Lost;
+        }
+    }
+
+    /// Logs why no connection could be opened between attempts.
+    pub(crate) fn tell_unconnected(&mut self)
+        ensures { self.new ≡ self.old }
+    {
+        if matches!(self.cause, None | Some(Cause::Halted)) {
+            return;
+        }
+        self.tell_lost();
+        if let Some(cause) = &self.cause {
+            warn!(self.rt; destination = self.name(), address = self.address(); "{cause}");
+        }
+    }
+
+    /// Logs an attempt that failed, and a connection that was lost by it.
+    pub(crate) fn tell_attempt(&mut self, job: &Job, reply: Reply)
+        ensures { self.new ≡ self.old }
+    {
+        self.tell_lost();
+        let failure = Failure {
+            reply,
+            cause: self.cause.as_ref(),
+        };
+        warn!(self.rt; destination = self.name(), message = job.ticket.number, control_id:% = ControlId(job.control_id.as_slice()), attempt = job.ticket.attempt, attempts = self.attempts(); "{failure}");
+    }
+
+    /// Logs a message that failed for good, and why its last attempt failed.
+    pub(crate) fn tell_failure(&self, job: &Job, reply: Reply, cause: FailCause) {
+        let words = match cause {
+            FailCause::Rejected => "message failed: rejected by the destination",
+            FailCause::Exhausted => "message failed: no attempt is left",
+            FailCause::Cancelled => "message failed: cancelled",
+        };
+        let last = Failure {
+            reply,
+            cause: self.cause.as_ref(),
+        };
+        warn!(self.rt; target: "always", destination = self.name(), message = job.ticket.number, control_id:% = ControlId(job.control_id.as_slice()), attempts = job.ticket.attempt; "{words} ({last})");
+    }
+
+    /// Logs a message whose last attempt was cut off by a halt: it failed, and may have been delivered.
+    pub(crate) fn tell_cut(&self, job: &Job) {
+        warn!(self.rt; target: "always", destination = self.name(), message = job.ticket.number, control_id:% = ControlId(job.control_id.as_slice()), attempts = job.ticket.attempt; "message failed: its last attempt was cut off by the stop, it may have been delivered");
+    }
+}
