@@ -8,6 +8,7 @@ use book_core::{NotBooked, Receipt};
 use book_lock::{Desk, Sharing, Tidied, Tidying};
 use conn_core::Booking;
 use conn_worker::{log_arrival, log_break, log_fill, log_passed_over};
+use event_log::Told;
 use judge_core::Judged;
 use log::{Log, info, warn};
 use mllp_frame::Break;
@@ -15,11 +16,12 @@ use plan_text::Plan;
 use std::alloc::AllocError;
 use std::sync::Arc;
 
-/// How many entries lie between two looks at how full the book is, for the log and for pausing.
+/// An arrival looks at how full the book is, for the log and for pausing, where the index of its entry is a multiple of this.
 const FILL_STEP: usize = 16;
 
 /// A desk of a shared book. An arrival that finds the book tight first forgets what is settled, but for the last messages
-/// that the site keeps. Each call takes the book's lock for a moment. What is not booked is counted at once.
+/// that the site keeps. A call holds the book's lock for a moment; one that forgets messages holds it in proportion to what is
+/// remembered. What is not booked is counted at once.
 #[derive(Drop)]
 pub struct AtPlace<'a, 'x, A: Sharing, H> {
     pub site: &'a Site<'x, A, H>,
@@ -45,7 +47,18 @@ fn pause_early<A: Sharing, H: Crew>(site: &Site<'_, A, H>) {
 }
 
 impl<'a, 'x, A: Sharing, H: Crew> AtPlace<'a, 'x, A, H> {
-    /// Logs what became of an arrival, counts one that was not booked, and looks from time to time how full the book is.
+    /// Notes the time of an arrival that was accepted or filtered, and looks from time to time how full the book is.
+    fn note_receipt(&self, receipt: &Receipt) {
+        if matches!(receipt.told, Told::Accepted(_) | Told::Filtered) {
+            self.site.note_received(receipt.channel);
+        }
+        if receipt.entry % FILL_STEP == 0 {
+            log_fill(self.site.rt, self.site.shared.gauge(self.site.rt));
+            pause_early(self.site);
+        }
+    }
+
+    /// Logs what became of an arrival, and counts one that was not booked.
     fn note_arrival(&self, conn: u32, judged: &Judged, tidied: Tidied) -> Result<Receipt, NotBooked>
         ensures { result ≡ tidied.receipt }
     {
@@ -53,11 +66,7 @@ impl<'a, 'x, A: Sharing, H: Crew> AtPlace<'a, 'x, A, H> {
         log_tidying(self.site.rt, tidying);
         log_arrival(self.site.rt, self.site.alloc, conn, judged, &receipt);
         match &receipt {
-            Ok(receipt) if receipt.entry % FILL_STEP == 0 => {
-                log_fill(self.site.rt, self.site.shared.gauge(self.site.rt));
-                pause_early(self.site);
-            }
-            Ok(_) => {}
+            Ok(receipt) => self.note_receipt(receipt),
             Err(cause) => self.site.count_unbooked(*cause),
         }
         receipt
@@ -89,7 +98,6 @@ impl<'a, 'x, A: Sharing, H: Crew> Booking for AtPlace<'a, 'x, A, H> {
     }
 
     fn arrive(&mut self, conn: u32, judged: &Judged) -> Result<Receipt, NotBooked> {
-        self.site.note_received(judged.channel());
         let tidied = self
             .site
             .shared
@@ -98,7 +106,6 @@ impl<'a, 'x, A: Sharing, H: Crew> Booking for AtPlace<'a, 'x, A, H> {
     }
 
     fn arrive_judged(&mut self, conn: u32, judged: &Judged) -> Result<Receipt, NotBooked> {
-        self.site.note_received(judged.channel());
         let tidied = self
             .site
             .shared
@@ -107,10 +114,12 @@ impl<'a, 'x, A: Sharing, H: Crew> Booking for AtPlace<'a, 'x, A, H> {
     }
 
     fn pass_over(&mut self, conn: u32, judged: &Judged) {
+        self.site.count_passed_over(judged);
         log_passed_over(self.site.rt, self.site.alloc, conn, judged);
     }
 
     fn note_break(&mut self, conn: u32, channel: u32, cause: Break) {
+        self.site.count_broken();
         if let Ok(plan) = self.site.shared.plan(self.site.rt) {
             log_break(self.site.rt, &plan, conn, channel, cause);
         }

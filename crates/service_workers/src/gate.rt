@@ -28,7 +28,8 @@ impl Gate {
     ///
     /// # Errors
     ///
-    /// Where the channel can't listen there. Where memory is refused, that is the error within.
+    /// `AllocError` where memory for the name or the address is refused. The result within is an error where the channel can't
+    /// listen there.
     pub fn open<R: Net<Listener = TcpListener, Stream = TcpStream>>(
         rt: &R,
         alloc: Global,
@@ -93,17 +94,17 @@ impl Gate {
         Err(io::Error::from(io::ErrorKind::Interrupted))
     }
 
-    /// Counts a failure to accept. How many there were since the last connection.
+    /// Counts a failure to accept, and returns how many there had been before it since the last connection.
     pub fn count_failure(&self) -> u32 {
         self.failures.fetch_add(1, Ordering::SeqCst)
     }
 
-    /// Forgets the failures. How many there were since the last connection.
+    /// Sets the failures to 0, and returns how many there were.
     pub fn forget_failures(&self) -> u32 {
         self.failures.swap(0, Ordering::SeqCst)
     }
 
-    /// Ends the calls that wait in [`accept`](Self::accept), and those to come.
+    /// Ends the calls that wait in [`accept`](Self::accept), and later ones.
     pub fn shut(&self) {
         let _ = c::shutdown(self.listener.as_raw_fd(), c::SHUT_RDWR);
     }

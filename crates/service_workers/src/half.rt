@@ -20,11 +20,14 @@ const WRITE_WAITS: u32 = 12;
 /// How many milliseconds pass between two looks whether the reading of a channel goes on.
 const PAUSE_STEP: u64 = 50;
 
-/// How many milliseconds one wait for what still comes takes at most, once a connection is to be ended.
+/// How many milliseconds one wait for further bytes takes at most, once a connection is to be ended.
 const DRAIN_WAIT: u64 = 100;
 
-/// How many reads are made then, so that it ends after a second where each of them waits.
-const DRAIN_READS: u32 = 10;
+/// How many seconds are spent on such reads.
+const DRAIN_SECONDS: u64 = 1;
+
+/// How many of them are made at most.
+const DRAIN_READS: u32 = 100_000;
 
 /// Which connection it is, for the log.
 #[derive(Clone, Copy)]
@@ -45,6 +48,8 @@ pub struct Half<'a, H> {
     channel: u32,
     stream: Arc<TcpStream>,
     label: Label<'a>,
+    /// How many bytes were read.
+    received: u64,
 }
 
 /// Whether a call was interrupted, so that it is to be made again.
@@ -79,6 +84,15 @@ fn write_some(mut stream: &TcpStream, buf: &[u8]) -> io::Result<usize>
     Err(io::Error::from(ErrorKind::TimedOut))
 }
 
+/// Reads and drops what is received, in one read. Returns whether more may be received.
+fn drop_piece(mut stream: &TcpStream) -> bool {
+    let mut piece = [0; 4_096];
+    match stream.read(&mut piece) {
+        Ok(len) => len > 0,
+        Err(error) => is_timeout(&error) || is_interruption(&error),
+    }
+}
+
 impl<'a, H: Log + Clock + Wait> Half<'a, H> {
     /// A half of this stream, which is of a connection of the channel at this index.
     pub fn new(
@@ -96,7 +110,13 @@ impl<'a, H: Log + Clock + Wait> Half<'a, H> {
             channel,
             stream,
             label,
+            received: 0,
         }
+    }
+
+    /// How many bytes were read by this half.
+    pub fn received(&self) -> u64 {
+        self.received
     }
 
     /// Logs a failure, if it is one.
@@ -140,23 +160,34 @@ impl<'a, H: Log + Clock + Wait> Half<'a, H> {
         }
     }
 
-    /// Ends the connection in order: no more is sent, and what still comes is read and dropped, up to the end of the input
-    /// and for a second at most, so that what was written is not lost to a peer that is still sending.
+    /// The moment, by the monotonic clock, that is `time` from now; none where the clock can't be read.
+    fn after(&self, time: Duration) -> Option<Duration> {
+        self.rt.monotonic().ok()?.checked_add(time)
+    }
+
+    /// Whether a moment is to come, by the monotonic clock; not where the clock can't be read.
+    fn is_before(&self, deadline: Duration) -> bool {
+        match self.rt.monotonic() {
+            Ok(now) => now < deadline,
+            Err(_) => false,
+        }
+    }
+
+    /// Ends the connection in order: no more is sent, and what is still received is read and dropped, up to the end of the
+    /// input and for about a second at most, so that what was written is not lost to a peer that is still sending.
     pub fn drain(&mut self) {
-        let mut stream: &TcpStream = &self.stream;
+        let stream: &TcpStream = &self.stream;
         let _ = stream.shutdown(Shutdown::Write);
-        if stream
-            .set_read_timeout(Some(Duration::from_millis(DRAIN_WAIT)))
-            .is_err()
-        {
+        let wait = Duration::from_millis(DRAIN_WAIT);
+        if stream.set_read_timeout(Some(wait)).is_err() {
             return;
         }
-        let mut piece = [0; 4_096];
+        let Some(deadline) = self.after(Duration::from_secs(DRAIN_SECONDS)) else {
+            return;
+        };
         for _ in 0..DRAIN_READS {
-            match stream.read(&mut piece) {
-                Ok(0) => return,
-                Err(error) if !is_timeout(&error) && !is_interruption(&error) => return,
-                _ => {}
+            if !drop_piece(stream) || !self.is_before(deadline) {
+                return;
             }
         }
     }
@@ -175,6 +206,9 @@ impl<'a, H: Log + Clock + Wait> Read for Half<'a, H> {
             &answer,
             "no byte in the time allowed",
         );
+        if let Ok(len) = &answer {
+            self.received = self.received.saturating_add(*len as u64);
+        }
         answer
     }
 }

@@ -32,6 +32,6 @@ pub use post::{Post, PostWork, work_post};
 pub use site::{Crew, ServiceRows, Site};
 pub use stage::Stage;
 pub use standard_input::StandardInput;
-pub use stopping::{has_ended, stop};
-pub use tallies::{Tallies, Unbooked};
+pub use stopping::{StopMode, has_ended, stop};
+pub use tallies::{Dropped, Tallies, Unbooked};
 pub use warden::work_warden;

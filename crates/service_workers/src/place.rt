@@ -63,11 +63,14 @@ fn prepare(stream: &TcpStream, idle: u32) {
     }
 }
 
-/// The outcome of serving a connection, and how many of its messages were booked.
+/// The outcome of serving a connection.
 #[derive(Drop)]
 struct Served {
     report: ServeReport<DiscardReceipts>,
+    /// How many of its messages were booked.
     booked: u64,
+    /// How many bytes were received.
+    bytes: u64,
 }
 
 /// Serves a connection to its end, and ends it in order.
@@ -117,10 +120,36 @@ fn serve_stream<A: Sharing, H: Crew>(
     Ok(Served {
         report,
         booked: desk.made().saturating_sub(before),
+        bytes: reader.into_inner().received(),
     })
 }
 
-/// Logs that a connection ended, why, and what it brought. Whether it ended because memory was refused.
+/// Logs that bytes were received over a connection, and no whole block among them.
+fn log_unframed<H: Log>(rt: &H, label: Label<'_>, served: &Served) {
+    let Served {
+        report,
+        booked,
+        bytes,
+    } = served;
+    let blocks = [
+        *booked,
+        report.unbooked,
+        report.unreadable,
+        report.strays,
+        report.breaks,
+    ];
+    if *bytes > 0 && blocks.iter().all(|count| *count == 0) {
+        let Label {
+            channel,
+            connection,
+            peer,
+        } = label;
+        let bytes = *bytes;
+        warn!(rt; channel, connection, peer:% = peer, bytes; "no whole block was received: a block is 0x0B, the message, 0x1C and 0x0D");
+    }
+}
+
+/// Logs that a connection ended, why, and what it brought. Returns whether it ended because memory was refused.
 fn log_end<A: Sharing, H: Crew>(
     site: &Site<'_, A, H>,
     label: Label<'_>,
@@ -132,10 +161,12 @@ fn log_end<A: Sharing, H: Crew>(
         connection,
         ..
     } = label;
-    let Ok(Served { report, booked }) = served else {
+    let Ok(served) = served else {
         warn!(rt; channel, connection; "connection ended: out of memory");
         return true;
     };
+    log_unframed(rt, label, &served);
+    let Served { report, booked, .. } = served;
     let ServeReport {
         unbooked,
         unreadable,

@@ -2,10 +2,11 @@
 
 use crate::half::{Half, Label};
 use crate::stage::Stage;
-use crate::tallies::{Tallies, Unbooked};
+use crate::tallies::{Dropped, Tallies, Unbooked};
 use book_core::{NotBooked, Outbound};
 use book_lock::{Shared, Sharing};
 use dest_queue::Queued;
+use judge_core::Judged;
 use log::Log;
 use record_list::RecordList;
 use std::alloc::Global;
@@ -31,7 +32,7 @@ pub struct Site<'x, A: Sharing, H> {
     pub alloc: Global,
     /// The book.
     pub shared: &'x Shared<A, ServiceRows>,
-    /// How many settled messages a pruning keeps.
+    /// How many of the last messages a pruning keeps.
     pub keep: u32,
     /// After how many seconds without a byte a connection ends; 0: never.
     pub idle: u32,
@@ -132,6 +133,16 @@ impl<'x, A: Sharing, H: Crew> Site<'x, A, H> {
         self.tallies.refused()
     }
 
+    /// Counts a message that failed since its last attempt was cut off by the stop.
+    pub(crate) fn count_cut(&self) {
+        self.tallies.count_cut();
+    }
+
+    /// How many messages failed since their last attempt was cut off by the stop. Each was named in the log.
+    pub fn cut(&self) -> u64 {
+        self.tallies.cut()
+    }
+
     /// Counts a message that was not booked.
     pub(crate) fn count_unbooked(&self, cause: NotBooked) {
         self.tallies.count_unbooked(cause);
@@ -142,6 +153,24 @@ impl<'x, A: Sharing, H: Crew> Site<'x, A, H> {
         self.tallies.unbooked()
     }
 
+    /// Counts a block that was passed over: one that is no message, or an acknowledgment.
+    pub(crate) fn count_passed_over(&self, judged: &Judged) {
+        match judged.header() {
+            None => self.tallies.count_unreadable(),
+            Some(_) => self.tallies.count_acknowledgment(),
+        }
+    }
+
+    /// Counts a block that was broken by its framing.
+    pub(crate) fn count_broken(&self) {
+        self.tallies.count_broken();
+    }
+
+    /// How many blocks were dropped without an answer, by cause.
+    pub fn dropped(&self) -> Dropped {
+        self.tallies.dropped()
+    }
+
     /// The time by the system's clock in seconds since 1970; 0 where it can't be read.
     fn seconds(&self) -> u64 {
         match self.rt.since_1970() {
@@ -150,12 +179,12 @@ impl<'x, A: Sharing, H: Crew> Site<'x, A, H> {
         }
     }
 
-    /// Notes that a message is received on the channel at this index.
+    /// Notes that a message is accepted or filtered on the channel at this index.
     pub(crate) fn note_received(&self, channel: u32) {
         self.tallies.note_received(channel, self.seconds());
     }
 
-    /// When the last message was received on the channel at this index, in seconds since 1970; 0 where none was.
+    /// When the last message was accepted or filtered on the channel at this index, in seconds since 1970; 0 where none was.
     pub fn last_received(&self, channel: u32) -> u64 {
         self.tallies.received(channel)
     }

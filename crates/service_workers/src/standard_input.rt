@@ -29,7 +29,7 @@ impl<'s, 'x, A: Sharing, H: Crew, R: Read> StandardInput<'s, 'x, A, H, R> {
         StandardInput { site, input }
     }
 
-    /// Waits until there is input, or its end; while the service ends, no longer than the workers work. Whether there is.
+    /// Waits until there is input, or its end; while the service ends, no longer than the workers work. Returns whether there is.
     fn wait(&self) -> bool {
         for _ in self.site.rt.forever() {
             if self.site.stage() == Stage::Open {

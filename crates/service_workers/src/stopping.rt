@@ -12,7 +12,7 @@ use std::time::{Duration, Instant};
 /// How long to wait between two looks at the workers, in milliseconds.
 const LOOK_MILLIS: u64 = 10;
 
-/// Waits until all places have ended, for the grace at most. Whether all have.
+/// Waits until all places have ended, for `grace` at most. Returns whether all have.
 fn wait_for_places<A: Sharing, H: Crew>(site: &Site<'_, A, H>, grace: Duration) -> bool {
     let Ok(start) = Instant::now(site.rt) else {
         return false;
@@ -54,19 +54,28 @@ fn close<A: Sharing, H: Crew>(
     site.shared.finish(site.rt);
 }
 
-/// Ends all workers. With `drains` the posts go on until nothing waits; else no further attempt begins, and a destination that
-/// doesn't answer is not waited for.
+/// What becomes of the messages that wait for delivery when a service stops.
+#[derive(Clone, Copy, PartialEq, Eq)]
+pub enum StopMode {
+    /// They are delivered: the posts go on until nothing waits.
+    Drain,
+    /// They are left: no further attempt begins. A wait for a destination ends within 250 ms, but a connect or a name lookup
+    /// that is under way is waited for.
+    Now,
+}
+
+/// Ends all workers. Connections have at most `grace` to get the acknowledgments of what was read.
 pub fn stop<A: Sharing, H: Crew>(
     site: &Site<'_, A, H>,
     gates: &[Gate],
     places: &[Place<A>],
-    drains: bool,
+    mode: StopMode,
     grace: Duration,
 ) {
     if site.stage() == Stage::Open {
         close(site, gates, places, grace);
     }
-    if !drains {
+    if mode == StopMode::Now {
         site.go_to(Stage::Halted);
         site.shared.finish(site.rt);
     }

@@ -29,14 +29,29 @@ impl Unbooked {
     }
 }
 
+/// How many blocks were dropped without an answer, by cause.
+#[derive(Clone, Copy, Debug, PartialEq, Eq)]
+pub struct Dropped {
+    /// The block was no message: it has no header that can be read, or another segment is at fault.
+    pub unreadable: u64,
+    /// The block was an acknowledgment, which nothing waits for.
+    pub acknowledgments: u64,
+    /// The block was broken by its framing.
+    pub broken: u64,
+}
+
 /// The counters of a service since it started. Each is read and written by itself.
 #[derive(Drop)]
 pub struct Tallies {
     full: AtomicU64,
     plan_changed: AtomicU64,
     no_memory: AtomicU64,
+    unreadable: AtomicU64,
+    acknowledgments: AtomicU64,
+    broken: AtomicU64,
     refused: AtomicU64,
-    /// When the last message of each channel was received, by index, in seconds since 1970; 0 where none was.
+    cut: AtomicU64,
+    /// When the last message of each channel was accepted or filtered, by index, in seconds since 1970; 0 where none was.
     received: [AtomicU64; CHANNELS as usize],
     /// When the last message was delivered to each destination, by index, in seconds since 1970; 0 where none was.
     delivered: [AtomicU64; DESTINATIONS as usize],
@@ -64,7 +79,11 @@ impl Tallies {
             full: AtomicU64::new(0),
             plan_changed: AtomicU64::new(0),
             no_memory: AtomicU64::new(0),
+            unreadable: AtomicU64::new(0),
+            acknowledgments: AtomicU64::new(0),
+            broken: AtomicU64::new(0),
             refused: AtomicU64::new(0),
+            cut: AtomicU64::new(0),
             received: array::from_fn(|_| AtomicU64::new(0)),
             delivered: array::from_fn(|_| AtomicU64::new(0)),
         }
@@ -89,14 +108,48 @@ impl Tallies {
         }
     }
 
-    /// Counts a connection that was closed and not served.
+    /// Counts a block that was no message.
+    pub fn count_unreadable(&self) {
+        self.unreadable.fetch_add(1, Ordering::SeqCst);
+    }
+
+    /// Counts an acknowledgment that was received.
+    pub fn count_acknowledgment(&self) {
+        self.acknowledgments.fetch_add(1, Ordering::SeqCst);
+    }
+
+    /// Counts a block that was broken by its framing.
+    pub fn count_broken(&self) {
+        self.broken.fetch_add(1, Ordering::SeqCst);
+    }
+
+    /// How many blocks were dropped without an answer, by cause.
+    pub fn dropped(&self) -> Dropped {
+        Dropped {
+            unreadable: self.unreadable.load(Ordering::SeqCst),
+            acknowledgments: self.acknowledgments.load(Ordering::SeqCst),
+            broken: self.broken.load(Ordering::SeqCst),
+        }
+    }
+
+    /// Counts a connection that was closed because no number was left for it or memory was refused.
     pub fn count_refused(&self) {
         self.refused.fetch_add(1, Ordering::SeqCst);
     }
 
-    /// How many connections were closed and not served.
+    /// How many connections were closed because no number was left for them or memory was refused.
     pub fn refused(&self) -> u64 {
         self.refused.load(Ordering::SeqCst)
+    }
+
+    /// Counts a message that failed since its last attempt was cut off by the stop.
+    pub fn count_cut(&self) {
+        self.cut.fetch_add(1, Ordering::SeqCst);
+    }
+
+    /// How many messages failed since their last attempt was cut off by the stop.
+    pub fn cut(&self) -> u64 {
+        self.cut.load(Ordering::SeqCst)
     }
 
     /// Notes when a message was received on a channel.

@@ -134,7 +134,8 @@ fn log_changes<H: Log>(rt: &H, plan: &Plan, status: &Status, keep: u32, before: 
 }
 
 /// Forgets what is settled, where as many messages are remembered as may be. No arrival does it then, since no channel is
-/// read.
+/// read. No pruning is made where none is left, or where it would forget no more messages than an eighth of the bound of
+/// entries.
 fn make_room<A: Sharing, H: Crew>(site: &Site<'_, A, H>, status: &Status) {
     if !is_overfull(status.gauge, site.keep)
         || status.gauge.prunings >= PRUNINGS_MAX

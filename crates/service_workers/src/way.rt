@@ -73,4 +73,8 @@ impl<A: Sharing, H: Crew> Way for PlanWay<'_, '_, A, H> {
             self.site.note_delivered(self.index);
         }
     }
+
+    fn note_cut(&mut self) {
+        self.site.count_cut();
+    }
 }
