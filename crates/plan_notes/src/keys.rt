@@ -140,103 +140,111 @@ fn route_key(key: &str) -> Option<KeyWords> {
     }
 }
 
-/// What is said of a key of a condition.
-fn condition_key(key: &str) -> Option<KeyWords> {
-    let (purpose, wanted, example) = match key {
-        "equals" => (
-            "true where the piece is the text",
-            "a list of a path and a text",
-            "equals = [\"PV1-2\", \"I\"]",
-        ),
-        "one_of" => (
-            "true where the piece is one of the texts",
-            "a list of a path and a list of at most 256 texts",
-            "one_of = [\"PV1-2\", [\"I\", \"E\"]]",
-        ),
-        "exists" => (
-            "true where the piece is neither empty nor null",
-            "a text, the path to a piece",
-            "exists = \"PID-3.1\"",
-        ),
-        "starts" => (
-            "true where the piece begins with the text",
-            "a list of a path and a text",
-            "starts = [\"PID-3.1\", \"77\"]",
-        ),
-        "contains" => (
-            "true where the text is in the piece",
-            "a list of a path and a text",
-            "contains = [\"OBX-5\", \"positive\"]",
-        ),
-        "all" => (
-            "true where each condition is",
-            "a list of at most 256 conditions",
-            "all = [{ exists = \"PID-3.1\" }]",
-        ),
-        "any" => (
-            "true where one condition is",
-            "a list of at most 256 conditions",
-            "any = [{ exists = \"PID-3.1\" }]",
-        ),
-        "not" => (
-            "true where the condition is not",
-            "a table with one condition",
-            "not = { exists = \"PID-30\" }",
-        ),
+/// What is said of a key of a condition on one piece.
+fn piece_condition_key(key: &str) -> Option<KeyWords> {
+    let words = match key {
+        "equals" => KeyWords {
+            purpose: "true where the piece is the text",
+            wanted: "a list of a path and a text",
+            example: "equals = [\"PV1-2\", \"I\"]",
+        },
+        "one_of" => KeyWords {
+            purpose: "true where the piece is one of the texts",
+            wanted: "a list of a path and a list of at most 256 texts",
+            example: "one_of = [\"PV1-2\", [\"I\", \"E\"]]",
+        },
+        "exists" => KeyWords {
+            purpose: "true where the piece is neither empty nor null",
+            wanted: "a text, the path to a piece",
+            example: "exists = \"PID-3.1\"",
+        },
+        "starts" => KeyWords {
+            purpose: "true where the piece begins with the text",
+            wanted: "a list of a path and a text",
+            example: "starts = [\"PID-3.1\", \"77\"]",
+        },
+        "contains" => KeyWords {
+            purpose: "true where the text is in the piece",
+            wanted: "a list of a path and a text",
+            example: "contains = [\"OBX-5\", \"positive\"]",
+        },
         _ => return None,
     };
-    Some(KeyWords {
-        purpose,
-        wanted,
-        example,
-    })
+    Some(words)
 }
 
-/// What is said of a key of a step.
-fn step_key(key: &str) -> Option<KeyWords> {
-    let (purpose, wanted, example) = match key {
-        "set" => (
-            "writes a text into a piece",
-            "a list of a path and a text",
-            "set = [\"PV1-2\", \"I\"]",
-        ),
-        "copy" => (
-            "copies the piece at the first path to the second",
-            "a list of two paths",
-            "copy = [\"PID-3.1\", \"PID-2.1\"]",
-        ),
-        "clear" => (
-            "empties a piece",
-            "a text, the path to a piece",
-            "clear = \"PID-19\"",
-        ),
-        "lookup" => (
-            "replaces a piece by its partner in the table",
-            "a text, the path to a piece",
-            "lookup = \"PID-8\"",
-        ),
-        "table" => (
-            "the pairs of a lookup",
-            "a list of at most 1000 lists of two texts",
-            "table = [[\"1\", \"M\"], [\"2\", \"F\"]]",
-        ),
-        "default" => (
-            "what a lookup writes where its table has no such text",
-            "a text",
-            "default = \"U\"",
-        ),
-        "remove" => (
-            "removes all segments of a name",
-            "a text, the name of a segment",
-            "remove = \"ZPD\"",
-        ),
+/// What is said of a key of a condition that is made of conditions.
+fn joined_condition_key(key: &str) -> Option<KeyWords> {
+    let words = match key {
+        "all" => KeyWords {
+            purpose: "true where each condition is",
+            wanted: "a list of at most 256 conditions",
+            example: "all = [{ exists = \"PID-3.1\" }]",
+        },
+        "any" => KeyWords {
+            purpose: "true where one condition is",
+            wanted: "a list of at most 256 conditions",
+            example: "any = [{ exists = \"PID-3.1\" }]",
+        },
+        "not" => KeyWords {
+            purpose: "true where the condition is not",
+            wanted: "a table with one condition",
+            example: "not = { exists = \"PID-30\" }",
+        },
         _ => return None,
     };
-    Some(KeyWords {
-        purpose,
-        wanted,
-        example,
-    })
+    Some(words)
+}
+
+/// What is said of a key of a step that says what the step does.
+fn first_step_key(key: &str) -> Option<KeyWords> {
+    let words = match key {
+        "set" => KeyWords {
+            purpose: "writes a text into a piece",
+            wanted: "a list of a path and a text",
+            example: "set = [\"PV1-2\", \"I\"]",
+        },
+        "copy" => KeyWords {
+            purpose: "copies the piece at the first path to the second",
+            wanted: "a list of two paths",
+            example: "copy = [\"PID-3.1\", \"PID-2.1\"]",
+        },
+        "clear" => KeyWords {
+            purpose: "empties a piece",
+            wanted: "a text, the path to a piece",
+            example: "clear = \"PID-19\"",
+        },
+        "lookup" => KeyWords {
+            purpose: "replaces a piece by its partner in the table",
+            wanted: "a text, the path to a piece",
+            example: "lookup = \"PID-8\"",
+        },
+        "remove" => KeyWords {
+            purpose: "removes all segments of a name",
+            wanted: "a text, the name of a segment",
+            example: "remove = \"ZPD\"",
+        },
+        _ => return None,
+    };
+    Some(words)
+}
+
+/// What is said of a key that a step has beside `lookup` alone.
+fn lookup_key(key: &str) -> Option<KeyWords> {
+    let words = match key {
+        "table" => KeyWords {
+            purpose: "the pairs of a lookup",
+            wanted: "a list of at most 1000 lists of two texts",
+            example: "table = [[\"1\", \"M\"], [\"2\", \"F\"]]",
+        },
+        "default" => KeyWords {
+            purpose: "what a lookup writes where its table has no such text",
+            wanted: "a text",
+            example: "default = \"U\"",
+        },
+        _ => return None,
+    };
+    Some(words)
 }
 
 /// What is said of a key of a table; none of a key that such a table doesn't have.
@@ -246,8 +254,8 @@ pub(crate) fn key_words(kind: TableKind, key: &str) -> Option<KeyWords> {
         TableKind::Destination => destination_key(key),
         TableKind::Channel => channel_key(key),
         TableKind::Route => route_key(key),
-        TableKind::Condition => condition_key(key),
-        TableKind::Step => step_key(key),
+        TableKind::Condition => piece_condition_key(key).or(joined_condition_key(key)),
+        TableKind::Step => first_step_key(key).or(lookup_key(key)),
     }
 }
 
@@ -269,6 +277,24 @@ pub(crate) fn member_words(kind: TableKind, key: &str) -> Option<(&'static str, 
         }
         (TableKind::Condition, "all" | "any") => {
             Some(("a table with one condition", "{ exists = \"PID-3.1\" }"))
+        }
+        _ => None,
+    }
+}
+
+/// What the list of tables at a key has to be, in place of one table; none where the key holds no such list.
+pub(crate) fn list_words(kind: TableKind, key: &str) -> Option<&'static str> {
+    match (kind, key) {
+        (TableKind::Document, "destination") => {
+            Some("a list of tables, each written [[destination]]")
+        }
+        (TableKind::Document, "channel") => Some("a list of tables, each written [[channel]]"),
+        (TableKind::Channel, "route") => Some("a list of tables, each written [[channel.route]]"),
+        (TableKind::Channel | TableKind::Route, "steps") => {
+            Some("a list of steps, as [{ clear = \"PID-19\" }]")
+        }
+        (TableKind::Condition, "all" | "any") => {
+            Some("a list of conditions, as [{ exists = \"PID-3.1\" }]")
         }
         _ => None,
     }

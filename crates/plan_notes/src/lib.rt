@@ -9,6 +9,7 @@ mod found;
 mod keys;
 mod line;
 mod lines;
+mod misfit;
 mod nearest;
 mod path_notes;
 mod plan_warnings;

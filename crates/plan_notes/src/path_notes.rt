@@ -33,7 +33,7 @@ fn add_flaw(notes: &mut Lines, path: &str) -> Result<bool, AllocError> {
     let Some(flaw) = PathFlaw::of(path) else {
         return Ok(false);
     };
-    let text = format!(in notes.alloc; "the path {} is none: {flaw}", Quoted(path))?;
+    let text = format!(in notes.alloc; "{} is no path: {flaw}", Quoted(path))?;
     notes.add(&text)?;
     notes.add("a path is NAME[n]-F[r].C.S, as PID-3, PID-3[2] or PID-3.1")?;
     Ok(true)

@@ -140,19 +140,6 @@ impl<'a> Spot<'a> {
             };
             spot = next;
         }
-        if is_unknown { spot } else { spot.with_owner() }
-    }
-
-    /// The spot with its index apart, and, where it is a channel or a destination itself, with that as its owner.
-    fn with_owner(self) -> Spot<'a> {
-        let segment = self.key;
-        let spot = self.with_index();
-        match spot.value() {
-            Some(Value::Table(table)) if spot.owner.is_none() => Spot {
-                owner: Some(Owner { segment, table }),
-                ..spot
-            },
-            _ => spot,
-        }
+        if is_unknown { spot } else { spot.with_index() }
     }
 }

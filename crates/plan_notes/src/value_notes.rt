@@ -2,8 +2,9 @@
 
 use crate::explain::{list_at, text_at};
 use crate::found::{AllQuoted, Found, Listed};
-use crate::keys::{key_words, member_words};
+use crate::keys::{key_words, list_words, member_words};
 use crate::lines::Lines;
+use crate::misfit::Misfit;
 use crate::nearest::nearest;
 use crate::shown::Quoted;
 use crate::spot::Spot;
@@ -34,7 +35,7 @@ fn allowed_keys(
     Ok(keys)
 }
 
-/// Notes the nearest key to one that isn't known, and all that may be there.
+/// Notes a key that isn't known, the nearest to it where one is near, and all that may be there.
 pub(crate) fn add_unknown_key(notes: &mut Lines, spot: &Spot<'_>) -> Result<(), AllocError> {
     let (alloc, kind, words) = (notes.alloc, spot.kind, spot.kind.words());
     if is_lookup_key(kind, spot.key) {
@@ -103,22 +104,68 @@ fn wanted_at(spot: &Spot<'_>) -> Option<(&'static str, &'static str)> {
     Some((said.wanted, said.example))
 }
 
-/// Notes what was found, and what is wanted.
-pub(crate) fn add_bad_range(notes: &mut Lines, spot: &Spot<'_>) -> Result<(), AllocError> {
-    let alloc = notes.alloc;
-    let Some(value) = spot.value() else {
+/// The condition that takes what doesn't fit in the one at a key, and what it takes; none where there is no such one.
+fn other_condition(key: &str, misfit: Misfit<'_>) -> Option<(&'static str, &'static str)> {
+    let several = ("one_of", "several texts");
+    match (key, misfit) {
+        ("equals", Misfit::Second(Value::Array(_))) => Some(several),
+        ("equals", Misfit::Whole(Value::Array(texts))) if texts.len() > 2 => Some(several),
+        ("one_of", Misfit::Second(Value::String(_))) => Some(("equals", "one text")),
+        _ => None,
+    }
+}
+
+/// Notes the condition that takes what was found, where there is one.
+fn add_other_condition(notes: &mut Lines, key: &str, misfit: Misfit<'_>) -> Result<(), AllocError> {
+    let Some((name, takes)) = other_condition(key, misfit) else {
         return Ok(());
     };
-    if let (Value::Table(table), Some(kind)) = (value, spot.kind.inner(spot.key)) {
-        let (words, keys) = (kind.words(), first_keys(alloc, kind, table)?);
-        let text = format!(in alloc; "found the keys {}; {words} has one of them", Listed(&keys))?;
-        return notes.add(&text);
-    }
+    let Some(said) = key_words(TableKind::Condition, name) else {
+        return Ok(());
+    };
+    let example = said.example;
+    let text = format!(in notes.alloc; "{name} takes {takes}, as {example}")?;
+    notes.add(&text)
+}
+
+/// Notes what doesn't fit, what is wanted, and the condition that takes what was found, where there is one.
+fn add_misfit(notes: &mut Lines, spot: &Spot<'_>, misfit: Misfit<'_>) -> Result<(), AllocError> {
     let Some((wanted, example)) = wanted_at(spot) else {
         return Ok(());
     };
-    let text = format!(in alloc; "found {}; wanted: {wanted}, as {example}", Found(value))?;
+    let text = format!(in notes.alloc; "found {misfit}; wanted: {wanted}, as {example}")?;
+    notes.add(&text)?;
+    add_other_condition(notes, spot.key, misfit)
+}
+
+/// Notes that a table of this kind is where a list of them is wanted, or which of its keys exclude one another.
+fn add_bad_table(
+    notes: &mut Lines,
+    spot: &Spot<'_>,
+    kind: TableKind,
+    table: &Table,
+) -> Result<(), AllocError> {
+    let alloc = notes.alloc;
+    if spot.member.is_none()
+        && let Some(wanted) = list_words(spot.kind, spot.key)
+    {
+        let text = format!(in alloc; "found a table; wanted: {wanted}")?;
+        return notes.add(&text);
+    }
+    let (words, keys) = (kind.words(), first_keys(alloc, kind, table)?);
+    let text = format!(in alloc; "found the keys {}; {words} has one of them", Listed(&keys))?;
     notes.add(&text)
+}
+
+/// Notes what was found, and what is wanted.
+pub(crate) fn add_bad_range(notes: &mut Lines, spot: &Spot<'_>) -> Result<(), AllocError> {
+    let Some(value) = spot.value() else {
+        return Ok(());
+    };
+    match (value, spot.kind.inner(spot.key)) {
+        (Value::Table(table), Some(kind)) => add_bad_table(notes, spot, kind, table),
+        _ => add_misfit(notes, spot, Misfit::of(spot, value)),
+    }
 }
 
 /// Notes how many members there are, or that conditions are too deep.

@@ -2,7 +2,8 @@
 
 use plan_notes::{ShownFault, fault_notes, room_notes, warnings};
 use plan_text::Plan;
-use std::alloc::AllocError;
+use std::alloc::{AllocError, Global};
+use std::process::Abort;
 
 /// Plans with a fault: the text, the fault as it is shown, and the last of its notes.
 const FAULTS: [(&[u8], &str, &str); 5] = [
@@ -47,6 +48,162 @@ fn faults_are_explained(rt: HostRuntime) -> Result<(), AllocError> {
             Some(note) => assert_eq!(rt; note.as_str(), last),
             None => panic!(rt; "a fault has no note"),
         }
+    }
+    Ok(())
+}
+
+/// The notes on a plan's fault, and the fault as it is shown, a line each; no line where the plan has no fault.
+fn lines_of(alloc: Global, plan: &str) -> Result<String, AllocError> {
+    let Err(fault) = Plan::read(alloc, plan.as_bytes()) else {
+        return Ok(String::new(alloc));
+    };
+    let mut lines = String::new(alloc);
+    let notes = fault_notes(alloc, plan.as_bytes(), &fault)?;
+    for note in &notes {
+        lines.push_str(note.as_str())?;
+        lines.push('\n')?;
+    }
+    let shown = format!(in alloc; "{}\n", ShownFault(&fault))?;
+    lines.push_str(shown.as_str())?;
+    Ok(lines)
+}
+
+/// Plans in which a table is where a list of tables is wanted, with their lines.
+const TABLES: [(&str, &str); 2] = [
+    (
+        "destination = []\n[channel]\nname = \"ADT\"\n",
+        "note: found a table; wanted: a list of tables, each written [[channel]]\nBadRange at channel\n",
+    ),
+    (
+        "destination = { name = \"LAB\" }\n",
+        "note: found a table; wanted: a list of tables, each written [[destination]]\nBadRange at destination\n",
+    ),
+];
+
+#[test]
+fn a_table_is_no_list_of_tables(rt: HostRuntime) -> Result<(), AllocError> {
+    let alloc = rt.alloc();
+    for (plan, lines) in TABLES {
+        let told = lines_of(alloc, plan)?;
+        assert_eq!(rt; told.as_str(), lines);
+    }
+    Ok(())
+}
+
+/// A channel without routes.
+const CHANNEL: &str = "destination = []
+[[channel]]
+name = \"ADT\"
+listen = \"127.0.0.1:6660\"
+types = []
+processing = []
+versions = []
+";
+
+/// Tables and lists that are written in that channel, with their lines behind the one that names the channel.
+const SHAPES: [(&str, &str); 11] = [
+    (
+        "[channel.route]\nto = \"LAB\"",
+        "note: found a table; wanted: a list of tables, each written [[channel.route]]\nBadRange at channel[0].route\n",
+    ),
+    (
+        "steps = { clear = \"PID-19\" }",
+        "note: found a table; wanted: a list of steps, as [{ clear = \"PID-19\" }]\nBadRange at channel[0].steps\n",
+    ),
+    (
+        "filter = { all = { equals = [\"PV1-2\", \"I\"] } }",
+        "note: found a table; wanted: a list of conditions, as [{ exists = \"PID-3.1\" }]\nBadRange at channel[0].filter.all\n",
+    ),
+    (
+        "steps = [{ set = [\"MSH-5\", 5] }]",
+        "note: found the number 5 as the second member; wanted: a list of a path and a text, as set = [\"PV1-2\", \"I\"]\nBadRange at channel[0].steps[0].set\n",
+    ),
+    (
+        "steps = [{ copy = [5, \"PID-2.1\"] }]",
+        "note: found the number 5 as the first member; wanted: a list of two paths, as copy = [\"PID-3.1\", \"PID-2.1\"]\nBadRange at channel[0].steps[0].copy\n",
+    ),
+    (
+        "steps = [{ lookup = \"PID-8\", table = [[\"1\", 2]] }]",
+        "note: found the number 2 as the second member; wanted: a list of two texts, as [\"1\", \"M\"]\nBadRange at channel[0].steps[0].table[0]\n",
+    ),
+    (
+        "filter = { equals = [\"PV1-2\", 1] }",
+        "note: found the number 1 as the second member; wanted: a list of a path and a text, as equals = [\"PV1-2\", \"I\"]\nBadRange at channel[0].filter.equals\n",
+    ),
+    (
+        "filter = { equals = [\"PV1-2\", [\"I\", \"E\"]] }",
+        "note: found a list of 2 members as the second member; wanted: a list of a path and a text, as equals = [\"PV1-2\", \"I\"]\nnote: one_of takes several texts, as one_of = [\"PV1-2\", [\"I\", \"E\"]]\nBadRange at channel[0].filter.equals\n",
+    ),
+    (
+        "filter = { equals = [\"PV1-2\", \"I\", \"E\"] }",
+        "note: found a list of 3 members; wanted: a list of a path and a text, as equals = [\"PV1-2\", \"I\"]\nnote: one_of takes several texts, as one_of = [\"PV1-2\", [\"I\", \"E\"]]\nBadRange at channel[0].filter.equals\n",
+    ),
+    (
+        "filter = { one_of = [\"PV1-2\", \"I\"] }",
+        "note: found the text \"I\" of 1 bytes as the second member; wanted: a list of a path and a list of at most 256 texts, as one_of = [\"PV1-2\", [\"I\", \"E\"]]\nnote: equals takes one text, as equals = [\"PV1-2\", \"I\"]\nBadRange at channel[0].filter.one_of\n",
+    ),
+    (
+        "filter = { one_of = [\"PV1-2\", [\"I\", 5]] }",
+        "note: found the number 5 at index 1 of the second member; wanted: a list of a path and a list of at most 256 texts, as one_of = [\"PV1-2\", [\"I\", \"E\"]]\nBadRange at channel[0].filter.one_of\n",
+    ),
+];
+
+/// Keys and paths that are written in that channel, likewise.
+const WORDS: [(&str, &str); 6] = [
+    (
+        "filter = { exists = \"PV1.2\" }",
+        "note: \"PV1.2\" is no path: its segment \"PV1.2\" is not three of A to Z and 0 to 9, the first a letter\nnote: a path is NAME[n]-F[r].C.S, as PID-3, PID-3[2] or PID-3.1\nBadPath at channel[0].filter.exists\n",
+    ),
+    (
+        "filter = { matches = [\"PID-3\", \"7\"] }",
+        "note: a condition has no key \"matches\" here\nnote: the keys of a condition here: equals, one_of, exists, starts, contains, all, any, not\nUnknownKey at channel[0].filter.matches\n",
+    ),
+    (
+        "steps = [{ delete = \"PID-19\" }]",
+        "note: a step has no key \"delete\" here\nnote: the keys of a step here: set, copy, clear, lookup, remove\nUnknownKey at channel[0].steps[0].delete\n",
+    ),
+    (
+        "steps = [{ clear = \"PID-19\", default = \"U\" }]",
+        "note: a step has \"default\" beside \"lookup\" alone\nnote: a step has no key \"default\" here\nnote: the keys of a step here: set, copy, clear, lookup, remove\nUnknownKey at channel[0].steps[0].default\n",
+    ),
+    (
+        "steps = [{ remvoe = \"ZPD\" }]",
+        "note: a step has no key \"remvoe\" here; the nearest is remove\nnote: the keys of a step here: set, copy, clear, lookup, remove\nUnknownKey at channel[0].steps[0].remvoe\n",
+    ),
+    (
+        "proc = []",
+        "note: a channel has no key \"proc\" here; the nearest is processing\nnote: the keys of a channel here: name, listen, types, processing, versions, filter, steps, route\nUnknownKey at channel[0].proc\n",
+    ),
+];
+
+/// Checks the lines for a plan whose channel has a line of its own.
+fn check_in_channel(
+    rt: &impl Abort,
+    alloc: Global,
+    written: &str,
+    lines: &str,
+) -> Result<(), AllocError> {
+    let plan = format!(in alloc; "{CHANNEL}{written}\n")?;
+    let wanted = format!(in alloc; "note: channel[0] is \"ADT\"\n{lines}")?;
+    let told = lines_of(alloc, plan.as_str())?;
+    assert_eq!(rt; told.as_str(), wanted.as_str());
+    Ok(())
+}
+
+#[test]
+fn a_value_of_another_shape_is_named(rt: HostRuntime) -> Result<(), AllocError> {
+    let alloc = rt.alloc();
+    for (written, lines) in SHAPES {
+        check_in_channel(&rt, alloc, written, lines)?;
+    }
+    Ok(())
+}
+
+#[test]
+fn a_word_that_is_not_known_is_named(rt: HostRuntime) -> Result<(), AllocError> {
+    let alloc = rt.alloc();
+    for (written, lines) in WORDS {
+        check_in_channel(&rt, alloc, written, lines)?;
     }
     Ok(())
 }
