@@ -21,70 +21,10 @@ import time
 
 from engine import checks_accesses, one_channel, plan
 from mllp import SILENCE, Destination, Sender, block, field, free_ports, message
+from outages import OUTAGES
+from served import LIMIT, Service, exchange, wait_received
 
 PROGRAM = os.path.join(os.path.dirname(os.path.abspath(__file__)), '..', 'crates', 'hl7_service', 'out', 'hl7_service')
-LIMIT = 30
-
-
-class Service:
-    """The program started with `run`, once it listens on all channels. Leaving the context kills it."""
-
-    def __init__(self, program, text, folder, *words):
-        self.path = os.path.join(folder, 'plan.toml')
-        with open(self.path, 'w', encoding='utf-8') as file:
-            file.write(text)
-        self.process = subprocess.Popen([program, 'run', self.path, *words], stdin=subprocess.PIPE,
-                                        stdout=subprocess.PIPE, stderr=subprocess.PIPE)
-        self.log, self.channels = [], text.count('[[channel]]')
-        self.ready = threading.Event()
-        self.reader = threading.Thread(target=self.read, daemon=True)
-        self.reader.start()
-        self.ready.wait(LIMIT)
-
-    def __enter__(self):
-        return self
-
-    def __exit__(self, *_):
-        if self.process.poll() is None:
-            self.process.kill()
-        self.process.wait()
-
-    def read(self):
-        for line in self.process.stderr:
-            self.log.append(line.decode(errors='replace').rstrip('\n'))
-            if sum('listening on ' in logged for logged in self.log) == self.channels:
-                self.ready.set()
-        self.ready.set()
-
-    def ask(self, command, limit=LIMIT):
-        """Sends a command, and returns its answer: the lines up to the empty one, or None if there is no answer in time."""
-        self.process.stdin.write(command.encode() + b'\n')
-        self.process.stdin.flush()
-        held, deadline = b'', time.monotonic() + limit
-        while not held.endswith(b'\n\n') and time.monotonic() < deadline:
-            if select.select([self.process.stdout], [], [], 0.1)[0]:
-                piece = os.read(self.process.stdout.fileno(), 65_536)
-                if not piece:
-                    break
-                held += piece
-        return held.decode(errors='replace').rstrip('\n').split('\n') if held.endswith(b'\n\n') else None
-
-    def ended(self, limit=LIMIT):
-        """Its exit status and its last lines of output; None and no lines if it doesn't end in time."""
-        try:
-            self.process.wait(limit)
-        except subprocess.TimeoutExpired:
-            return None, []
-        self.reader.join(5)
-        return self.process.returncode, self.process.stdout.read().decode(errors='replace').splitlines()
-
-
-def exchange(port, texts):
-    """Sends texts one after another on one connection, and returns the acknowledgments received."""
-    sender = Sender(port, texts)
-    sender.start()
-    sender.join(LIMIT)
-    return sender.replies
 
 
 class Closing(Destination):
@@ -114,14 +54,6 @@ class Chatting(Destination):
             return
 
 
-def wait_received(destination, number, limit=LIMIT):
-    """Waits until the destination has received `number` messages, for `limit` seconds at most, and returns whether it has."""
-    deadline = time.monotonic() + limit
-    while len(destination.received) < number and time.monotonic() < deadline:
-        time.sleep(0.02)
-    return len(destination.received) >= number
-
-
 def taken_again(program, folder):
     """With one connection allowed, connections are served one after another; each acknowledgment has its own MSH-10, and `stop`
     delivers every message."""
@@ -142,12 +74,16 @@ def taken_again(program, folder):
 def commands(program, folder):
     """Each command is answered, even an unknown one and one that is too long, and the service survives the end of its input."""
     lab, port = Destination(lambda text, before: b'AA'), free_ports(1)[0]
+    os.mkfifo(os.path.join(folder, 'fifo'))
     with Service(program, one_channel(port, [('LAB', lab.port, [])]), folder) as service:
         exchange(port, [message(b'A0')])
         wait_received(lab, 1)
         found = []
-        for command, begins in [('status', 'channel ADT '), ('x', 'unknown: '), ('stop ' * 2_000, 'unknown: '),
-                                ('deploy /nowhere', 'refused: '), ('cancel 7', 'refused: '),
+        for command, begins in [('status', 'channel ADT '), ('status \r', 'channel ADT '), ('help', 'status '),
+                                ('x', 'unknown: '), ('stop ' * 2_000, 'unknown: '),
+                                ('deploy /nowhere', 'refused: file /nowhere: '),
+                                (f'deploy {folder}/fifo', f'refused: file {folder}/fifo: '),
+                                ('deploy /dev/zero', 'refused: file /dev/zero: '), ('cancel 7', 'refused: '),
                                 (f'deploy {service.path}', 'deployed')]:
             answer = service.ask(command)
             if not answer or not answer[0].startswith(begins):
@@ -181,6 +117,58 @@ def moved(program, folder):
     return []
 
 
+def renamed(program, folder):
+    """A deployment that reorders, renames or removes destinations says whose counts are shown under which name."""
+    port = free_ports(1)[0]
+    labs = [Destination(lambda text, before: b'AA') for _ in range(2)]
+    one, two = labs[0].port, labs[1].port
+    with Service(program, one_channel(port, [('LAB', one, []), ('WARD', two, [])]), folder) as service:
+        exchange(port, [message(b'A0')])
+        wait_received(labs[0], 1)
+        until(lambda: number(service, 'destination WARD ', 'delivered') == 1 and number(service, 'destination LAB ', 'delivered') == 1)
+        found = []
+        for places, wanted in [
+                ([('LAB', one, []), ('WARD', two, []), ('RAD', one, [])], []),
+                ([('WARD', two, []), ('LAB', one, [])],
+                 ["destination[0] was LAB and is WARD: the counts and states of its messages are shown as WARD's",
+                  "destination[1] was WARD and is LAB: the counts and states of its messages are shown as LAB's"]),
+                ([('WARD', two, [])],
+                 ['destination[1] was LAB and is gone: the counts and states of its messages are no longer shown']),
+                ([('WARD', two, []), ('RAD', one, [])],
+                 ["destination[1] is RAD: the counts and states of a former destination's messages are shown as RAD's"])]:
+            with open(service.path, 'w', encoding='utf-8') as file:
+                file.write(one_channel(port, places))
+            answer = service.ask(f'deploy {service.path}')
+            if answer != ['deployed', *wanted]:
+                found.append(f'renamed: {answer} and not {wanted}')
+        for wanted in ['index=0 before=LAB now=WARD', 'index=1 before=LAB', 'index=1 now=RAD']:
+            if not until(lambda: any('WARN' in line and wanted in line for line in service.log), 5):
+                found.append(f'renamed: not logged: {wanted}: {service.log[-8:]}')
+        service.ask('stop')
+        status, _ = service.ended()
+    for lab in labs:
+        lab.close()
+    return found if status == 0 else [*found, f'renamed: status {status}']
+
+
+def warned(program, folder):
+    """The answer to a deployment has the warnings that `check` prints of the plan."""
+    port, found = free_ports(1)[0], []
+    with Service(program, one_channel(port, [('LAB', port + 1, [])]), folder) as service:
+        for text in [one_channel(port, [('LAB', 70_000, [])]), one_channel(port, [('LAB', port, [])]),
+                     one_channel(port, [('LAB', port + 1, [])]).replace('types = ["ADT"]', 'types = []')]:
+            with open(service.path, 'w', encoding='utf-8') as file:
+                file.write(text)
+            checked = subprocess.run([program, 'check', service.path], capture_output=True, timeout=LIMIT, check=False)
+            wanted = [line for line in checked.stderr.decode().splitlines() if line.startswith('warning: ')]
+            answer = service.ask(f'deploy {service.path}')
+            if not wanted or answer != ['deployed', *wanted]:
+                found.append(f'warned: {answer} and not {wanted}')
+        service.ask('stop')
+        status, _ = service.ended()
+    return found if status == 0 else [*found, f'warned: status {status}']
+
+
 def closing(program, folder):
     """A destination that closes its connection after each answer gets every message, in order."""
     lab, port = Closing(lambda text, before: b'AA'), free_ports(1)[0]
@@ -202,6 +190,7 @@ def stopped_now(program, folder):
     with Service(program, one_channel(port, [('LAB', lab.port, more)]), folder, '--grace', '1') as service:
         exchange(port, [message(b'A%d' % n) for n in range(5)])
         wait_received(lab, 1)
+        cancelled = service.ask('cancel 0')
         began = time.monotonic()
         service.ask('stop now')
         status, lines = service.ended()
@@ -209,6 +198,8 @@ def stopped_now(program, folder):
     lab.close()
     if status != 5 or passed > 10:
         return [f'stopped now: status {status} after {passed:.1f} seconds, {lines}, {service.log[-5:]}']
+    if not cancelled or not cancelled[0].startswith('refused: message 0 is in flight at LAB'):
+        return [f'stopped now: a message in flight: {cancelled}']
     return []
 
 
@@ -263,12 +254,16 @@ def questions(program, folder):
         exchange(ports[0], [message(b'A%d' % n) for n in range(3)] + [message(b'A1', ward=b'O')])
         found = []
         for command, wanted in [
-                ('find A1', ['message 1', 'found 1']), ('find B', ['found 0']), ('message 3', ['no such message']),
-                ('cancel 2', ['cancelled LAB']), ('waiting NOWHERE', ['refused: the plan has no destination of that name'])]:
+                ('find A1', ['message 1', 'found 1']), ('find \\x411', ['message 1', 'found 1']),
+                ('find B', ['found 0']), ('message 3', ['no such message']),
+                ('cancel 2', ['cancelled LAB']),
+                ('cancel 2', ['refused: message 2 waits nowhere: it is delivered or failed at each of its destinations']),
+                ('waiting NOWHERE', ['refused: the plan has no destination of that name'])]:
             answer = service.ask(command)
             if answer != wanted:
                 found.append(f'questions: {command}: {answer}')
-        if not until(lambda: any('message cancelled' in line and 'message=2' in line for line in service.log)):
+        wanted = 'message=2 control_id=A2 destinations=LAB'
+        if not until(lambda: any('message cancelled' in line and wanted in line for line in service.log)):
             found.append(f'questions: a cancellation that is not logged: {service.log[-5:]}')
         waiting = service.ask('waiting LAB')
         if len(waiting) != 3 or not waiting[0].startswith('message 0 control_id A0 waiting attempts 0 due ') or waiting[-1] != 'waiting 2':
@@ -290,6 +285,9 @@ def questions(program, folder):
         pruned = service.ask('prune')
         if pruned[-1] != 'message 0 is not delivered yet: it is kept, and so are those after it':
             found.append(f'questions: prune: {pruned}')
+        again, left = service.ask('prune'), number(service, 'prunings', 'left')
+        if again != ['nothing to forget', *pruned[1:]] or left != 999:
+            found.append(f'questions: prune again: {again}, {left} left')
         service.ask('stop now')
         status, lines = service.ended()
         left = [line for line in service.log if line.startswith('undelivered ')]
@@ -491,6 +489,35 @@ def unread(program, folder):
     return [] if (codes, whole) == ([b'CA'], True) else [f'unread: {codes}, {whole}']
 
 
+def unwritten(program, folder):
+    """Where standard output is full or its reader is gone, the counts are on standard error, and the exit status tells whether
+    messages are left undelivered."""
+    found = []
+    for is_full, texts, wanted in [(True, [message(b'A0')], 5), (False, [message(b'A0')], 5), (True, [], 3), (False, [], 3)]:
+        ports = free_ports(2)
+        path = os.path.join(folder, 'plan.toml')
+        with open(path, 'w', encoding='utf-8') as file:
+            file.write(one_channel(ports[0], [('LAB', ports[1], [])]))
+        reader, writer = (None, os.open('/dev/full', os.O_WRONLY)) if is_full else os.pipe()
+        process = subprocess.Popen([program, 'run', path], stdin=subprocess.PIPE, stdout=writer, stderr=subprocess.PIPE)
+        for one in (writer, reader):
+            if one is not None:
+                os.close(one)
+        try:
+            until(lambda: not socket.socket().connect_ex(('127.0.0.1', ports[0])))
+            exchange(ports[0], texts)
+            _, told = process.communicate(b'stop now\n', LIMIT)
+        finally:
+            process.kill()
+            process.wait()
+        lines = told.decode(errors='replace').splitlines()
+        counts_told = [line for line in lines if line.startswith('destination LAB waiting ')]
+        expected = f'destination LAB waiting {len(texts)} inflight 0 delivered 0 failed 0 attempts 0'
+        if (process.returncode, counts_told, 'device: write' in lines) != (wanted, [expected], True):
+            found.append(f'unwritten: full {is_full}, status {process.returncode} and not {wanted}, {lines[-5:]}')
+    return found
+
+
 def tools(program, folder):
     """Prometheus' own tool accepts the metrics and the alert rules, systemd accepts the unit, and hl7ctl sends commands through the
     FIFOs. Each is tried only if it is installed."""
@@ -575,10 +602,11 @@ def words(program, folder):
 
 
 SCENES = [('connections are accepted again', taken_again), ('commands', commands), ('questions', questions),
-          ('a destination moves', moved), ('a destination closes', closing), ('a destination comes back', comes_back),
-          ('unasked answers', unasked), ('a destination that sends all the time', chatting), ('the book forgets', forgets),
-          ('reading pauses', pauses), ('a crowd', crowd), ('killed receivers', killed), ('nobody reads', unread),
-          ('stop now', stopped_now), ('few descriptors', few_descriptors), ('tools', tools), ('words', words)]
+          ('a destination moves', moved), ('a destination is renamed', renamed), ('warnings of a plan', warned),
+          ('a destination closes', closing), ('a destination comes back', comes_back), ('unasked answers', unasked),
+          ('a destination that sends all the time', chatting), ('the book forgets', forgets), ('reading pauses', pauses),
+          ('a crowd', crowd), ('killed receivers', killed), ('nobody reads', unread), ('output that fails', unwritten),
+          ('stop now', stopped_now), ('few descriptors', few_descriptors), *OUTAGES, ('tools', tools), ('words', words)]
 
 
 def main():

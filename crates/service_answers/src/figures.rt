@@ -11,6 +11,17 @@ pub struct Unbooked {
     pub no_memory: u64,
 }
 
+/// How many blocks were dropped without an answer since the start, by cause.
+#[derive(Clone, Copy, Debug, PartialEq, Eq)]
+pub struct Dropped {
+    /// The block was no message.
+    pub unreadable: u64,
+    /// The block was an acknowledgment.
+    pub acknowledgments: u64,
+    /// The block was broken by its framing.
+    pub broken: u64,
+}
+
 /// What a service counts beside its book.
 #[derive(Clone, Copy, Debug, PartialEq, Eq)]
 pub struct Figures {
@@ -22,9 +33,11 @@ pub struct Figures {
     pub refused: u64,
     /// The arrivals that were not booked.
     pub unbooked: Unbooked,
+    /// The blocks that were dropped without an answer.
+    pub dropped: Dropped,
     /// The channels that are not read at this time, as a mask.
     pub paused: u64,
-    /// When the last message of each channel was received, by index, in seconds since 1970; 0: none was.
+    /// When the last message of each channel was accepted or filtered, by index, in seconds since 1970; 0: none was.
     pub received: [u64; 64],
     /// When the last message was delivered to each destination, by index, in seconds since 1970; 0: none was.
     pub delivered: [u64; 32],
@@ -36,12 +49,12 @@ impl Figures {
         self.paused.checked_shr(channel).unwrap_or(0) % 2 == 1
     }
 
-    /// When the last message of a channel was received; 0: none was.
+    /// When the last message of a channel was accepted or filtered, in seconds since 1970; 0: none was.
     pub fn received(&self, channel: u32) -> u64 {
         self.received.get(channel as usize).copied().unwrap_or(0)
     }
 
-    /// When the last message was delivered to a destination; 0: none was.
+    /// When the last message was delivered to a destination, in seconds since 1970; 0: none was.
     pub fn delivered(&self, destination: u32) -> u64 {
         self.delivered
             .get(destination as usize)

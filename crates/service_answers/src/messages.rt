@@ -32,7 +32,11 @@ pub(crate) fn add_state(text: &mut String, state: SlotState) -> Result<(), Alloc
 }
 
 /// The header of a message's bytes (MSH, HL7 v2.5.1, 2.15.9), none where they can't be read.
-fn header_of(alloc: Global, raw: &[u8]) -> Result<Option<Header>, AllocError> {
+///
+/// # Errors
+///
+/// Where memory is refused.
+pub(crate) fn header_of(alloc: Global, raw: &[u8]) -> Result<Option<Header>, AllocError> {
     match Tree::parse(alloc, raw) {
         Ok(tree) => Ok(Some(Header::read(&tree)?)),
         Err(Refusal::NoMemory) => Err(AllocError),

@@ -1,6 +1,6 @@
 //! The numbers of a service in the text format of Prometheus, version 0.0.4.
 
-use crate::figures::{Figures, Unbooked};
+use crate::figures::{Dropped, Figures, Unbooked};
 use book_lock::{Gauge, Status};
 use fixed_numbers::{DEPLOYMENTS_MAX, PRUNINGS_MAX};
 use plan_text::Plan;
@@ -102,14 +102,34 @@ fn add_by_destination<F: Fn(u32) -> u64>(
     Ok(())
 }
 
-/// The counters of a channel; those of the first one where no plan has a channel of that index.
+/// The counters of a channel; all are 0 where no plan has a channel of that index.
 fn channel_counts(counts: &Counts, index: u32) -> ChannelCounts {
-    counts.channel(if index < CHANNELS { index } else { 0 })
+    if index < CHANNELS {
+        counts.channel(index)
+    } else {
+        ChannelCounts {
+            received: 0,
+            filtered: 0,
+            accepted: 0,
+            refused: 0,
+            repeats: 0,
+        }
+    }
 }
 
-/// The counters of a destination; those of the first one where no plan has a destination of that index.
+/// The counters of a destination; all are 0 where no plan has a destination of that index.
 fn destination_counts(counts: &Counts, index: u32) -> DestinationCounts {
-    counts.destination(if index < DESTINATIONS { index } else { 0 })
+    if index < DESTINATIONS {
+        counts.destination(index)
+    } else {
+        DestinationCounts {
+            waiting: 0,
+            inflight: 0,
+            delivered: 0,
+            failed: 0,
+            attempts: 0,
+        }
+    }
 }
 
 /// Adds what the channels received, and what became of it.
@@ -207,7 +227,7 @@ fn add_moments(text: &mut String, plan: &Plan, figures: &Figures) -> Result<(), 
         plan,
         "hl7_channel_last_received_timestamp_seconds",
         Kind::Gauge,
-        "When the last message was received, in seconds since 1970; 0: none was.",
+        "When the last message was accepted or filtered, in seconds since 1970; 0: none was.",
         |index| figures.received(index),
     )?;
     add_by_channel(
@@ -228,10 +248,8 @@ fn add_moments(text: &mut String, plan: &Plan, figures: &Figures) -> Result<(), 
     )
 }
 
-/// Adds how full the book is, and how many prunings and deployments are left.
-fn add_book(text: &mut String, gauge: Gauge) -> Result<(), AllocError> {
-    let prunings_left = PRUNINGS_MAX.saturating_sub(gauge.prunings);
-    let deployments_left = DEPLOYMENTS_MAX.saturating_sub(gauge.deployments);
+/// Adds the entries of the book: those that it holds, those that it owes, and the most that it may have.
+fn add_entries(text: &mut String, gauge: Gauge) -> Result<(), AllocError> {
     add_one(
         &mut *text,
         "hl7_book_held_entries",
@@ -252,7 +270,11 @@ fn add_book(text: &mut String, gauge: Gauge) -> Result<(), AllocError> {
         Kind::Gauge,
         "Entries that the book may hold, those owed included.",
         u64::from(gauge.events_max),
-    )?;
+    )
+}
+
+/// Adds how many messages the book has accepted, and how many of them it remembers.
+fn add_messages(text: &mut String, gauge: Gauge) -> Result<(), AllocError> {
     add_one(
         &mut *text,
         "hl7_book_messages_total",
@@ -266,7 +288,13 @@ fn add_book(text: &mut String, gauge: Gauge) -> Result<(), AllocError> {
         Kind::Gauge,
         "Messages accepted and not forgotten.",
         u64::from(gauge.remembered()),
-    )?;
+    )
+}
+
+/// Adds how many prunings and deployments are left.
+fn add_left(text: &mut String, gauge: Gauge) -> Result<(), AllocError> {
+    let prunings_left = PRUNINGS_MAX.saturating_sub(gauge.prunings);
+    let deployments_left = DEPLOYMENTS_MAX.saturating_sub(gauge.deployments);
     add_one(
         &mut *text,
         "hl7_book_prunings_left",
@@ -300,6 +328,25 @@ fn add_unbooked(text: &mut String, unbooked: Unbooked) -> Result<(), AllocError>
     writeln!(text, "{name}{{cause=\"full\"}} {full}")?;
     writeln!(text, "{name}{{cause=\"plan_changed\"}} {plan_changed}")?;
     writeln!(text, "{name}{{cause=\"no_memory\"}} {no_memory}")
+}
+
+/// Adds the blocks that were dropped without an answer, by cause.
+fn add_dropped(text: &mut String, dropped: Dropped) -> Result<(), AllocError> {
+    let Dropped {
+        unreadable,
+        acknowledgments,
+        broken,
+    } = dropped;
+    let name = "hl7_dropped_blocks_total";
+    add_head(
+        &mut *text,
+        name,
+        Kind::Counter,
+        "Blocks that were dropped without an answer.",
+    )?;
+    writeln!(text, "{name}{{cause=\"unreadable\"}} {unreadable}")?;
+    writeln!(text, "{name}{{cause=\"acknowledgment\"}} {acknowledgments}")?;
+    writeln!(text, "{name}{{cause=\"broken\"}} {broken}")
 }
 
 /// Adds the connections of senders.
@@ -349,9 +396,12 @@ pub fn metrics_text(
     add_channels(&mut text, plan, &status.counts)?;
     add_destinations(&mut text, plan, &status.counts)?;
     add_moments(&mut text, plan, figures)?;
-    add_book(&mut text, status.gauge)?;
+    add_entries(&mut text, status.gauge)?;
+    add_messages(&mut text, status.gauge)?;
+    add_left(&mut text, status.gauge)?;
     add_connections(&mut text, status.gauge.admitted, figures)?;
     add_unbooked(&mut text, figures.unbooked)?;
+    add_dropped(&mut text, figures.dropped)?;
     writeln!(text, "")?;
     Ok(text)
 }

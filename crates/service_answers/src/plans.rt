@@ -1,4 +1,4 @@
-//! The results of a deployment and of a cancellation, as texts.
+//! The results of a deployment, as texts.
 
 use event_log::DeployRefusal;
 use log_text::Escaped;
@@ -56,6 +56,16 @@ pub fn no_file_text(alloc: Global, path: &str, error: &io::Error) -> Result<Stri
     format!(in alloc; "refused: file {path}: {error}\n\n")
 }
 
+/// The answer to a path of what is no regular file, as a folder, a FIFO or a device: a read of it may have no end.
+///
+/// # Errors
+///
+/// Where memory is refused.
+pub fn no_regular_file_text(alloc: Global, path: &str) -> Result<String, AllocError> {
+    let path = Escaped(path);
+    format!(in alloc; "refused: file {path}: it is no regular file\n\n")
+}
+
 /// The answer to a plan with a fault.
 ///
 /// # Errors
@@ -63,22 +73,4 @@ pub fn no_file_text(alloc: Global, path: &str, error: &io::Error) -> Result<Stri
 /// Where memory is refused.
 pub fn bad_plan_text(alloc: Global, fault: &PlanFault) -> Result<String, AllocError> {
     format!(in alloc; "{}", Refused(fault))
-}
-
-/// The names of the destinations at which a message was cancelled, by their mask, a line each.
-///
-/// # Errors
-///
-/// Where memory is refused.
-pub fn cancelled_text(alloc: Global, plan: &Plan, mask: u32) -> Result<String, AllocError> {
-    let mut text = String::new(alloc);
-    for index in 0..plan.destinations() {
-        if let Some(destination) = plan.destination(index)
-            && mask.checked_shr(index).unwrap_or(0) % 2 == 1
-        {
-            writeln!(text, "cancelled {}", destination.name())?;
-        }
-    }
-    writeln!(text, "")?;
-    Ok(text)
 }

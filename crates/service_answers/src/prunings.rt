@@ -2,6 +2,18 @@
 
 use std::alloc::{AllocError, Global};
 
+/// Adds why messages are kept: of all, the last `keep` are to stay, and `live` is the first that is still to be delivered.
+fn add_kept(text: &mut String, keep: u32, live: Option<u32>) -> Result<(), AllocError> {
+    writeln!(text, "the last {keep} messages are kept")?;
+    if let Some(number) = live {
+        writeln!(
+            text,
+            "message {number} is not delivered yet: it is kept, and so are those after it"
+        )?;
+    }
+    writeln!(text, "")
+}
+
 /// The result of a pruning by hand: the messages numbered below `before` are forgotten, of the rest the last `keep` were to
 /// stay, and `live` is the first that is still to be delivered.
 ///
@@ -16,13 +28,19 @@ pub fn pruned_text(
 ) -> Result<String, AllocError> {
     let mut text = String::new(alloc);
     writeln!(text, "messages below {before} are forgotten")?;
-    writeln!(text, "the last {keep} messages are kept")?;
-    if let Some(number) = live {
-        writeln!(
-            text,
-            "message {number} is not delivered yet: it is kept, and so are those after it"
-        )?;
-    }
-    writeln!(text, "")?;
+    add_kept(&mut text, keep, live)?;
+    Ok(text)
+}
+
+/// The answer where a pruning would change nothing, and none is made: what may be forgotten is, and the last `keep` messages were to
+/// stay, and `live` is the first that is still to be delivered.
+///
+/// # Errors
+///
+/// Where memory is refused.
+pub fn unpruned_text(alloc: Global, keep: u32, live: Option<u32>) -> Result<String, AllocError> {
+    let mut text = String::new(alloc);
+    writeln!(text, "nothing to forget")?;
+    add_kept(&mut text, keep, live)?;
     Ok(text)
 }

@@ -1,6 +1,6 @@
 //! The status of a service.
 
-use crate::figures::{Figures, Unbooked};
+use crate::figures::{Dropped, Figures, Unbooked};
 use crate::messages::add_state;
 use crate::time::Utc;
 use book_core::Front;
@@ -35,12 +35,13 @@ fn add_book(text: &mut String, gauge: Gauge) -> Result<(), AllocError> {
     writeln!(text, "deployments {deployments} left {deployments_left}")
 }
 
-/// Adds the lines of the connections and of the arrivals that were not booked.
+/// Adds the lines of the connections, of the arrivals that were not booked, and of the blocks that were dropped.
 fn add_connections(text: &mut String, admitted: u32, figures: &Figures) -> Result<(), AllocError> {
     let Figures {
         open,
         refused,
         unbooked,
+        dropped,
         ..
     } = *figures;
     let Unbooked {
@@ -55,6 +56,15 @@ fn add_connections(text: &mut String, admitted: u32, figures: &Figures) -> Resul
     writeln!(
         text,
         "unbooked full {full} plan_changed {plan_changed} no_memory {no_memory}"
+    )?;
+    let Dropped {
+        unreadable,
+        acknowledgments,
+        broken,
+    } = dropped;
+    writeln!(
+        text,
+        "dropped unreadable {unreadable} acknowledgments {acknowledgments} broken {broken}"
     )
 }
 
@@ -67,7 +77,7 @@ fn add_moment(text: &mut String, moment: u64) -> Result<(), AllocError> {
     }
 }
 
-/// Adds a line for each channel: when its last message was received, and whether it is read at this time.
+/// Adds a line for each channel: when its last message was accepted or filtered, and whether it is read at this time.
 fn add_channels(text: &mut String, plan: &Plan, figures: &Figures) -> Result<(), AllocError> {
     for index in 0..plan.channels() {
         if let Some(channel) = plan.channel(index) {

@@ -3,12 +3,14 @@
 use book_core::Front;
 use book_lock::{Gauge, Status};
 use dest_queue::SlotState;
+use log_text::ControlId;
 use plan_text::{Plan, PlanFault};
 use service_answers::{
-    Figures, Unbooked, Utc, found_text, metrics_text, pruned_text, status_text, waiting_text,
+    Dropped, Figures, Unbooked, Utc, found_text, metrics_text, pruned_text, rename_at, status_text,
+    unescaped, unpruned_text, waiting_text,
 };
 use stat_count::Counts;
-use std::alloc::AllocError;
+use std::alloc::{AllocError, Global};
 
 #[derive(Debug, Drop)]
 enum Fail {
@@ -58,6 +60,11 @@ fn state() -> (Status, Figures) {
             plan_changed: 0,
             no_memory: 1,
         },
+        dropped: Dropped {
+            unreadable: 2,
+            acknowledgments: 0,
+            broken: 3,
+        },
         paused: 1,
         received,
         delivered: [0; 32],
@@ -73,6 +80,23 @@ fn state() -> (Status, Figures) {
     )
 }
 
+/// The text of a plan with a channel and destinations of these names.
+fn plan_of(alloc: Global, names: &[&str]) -> Result<Vec<u8>, AllocError> {
+    let mut text = String::new(alloc);
+    writeln!(
+        text,
+        "[[channel]]\nname = \"ADT\"\nlisten = \"127.0.0.1:1\""
+    )?;
+    writeln!(text, "types = []\nprocessing = []\nversions = []")?;
+    for name in names {
+        writeln!(
+            text,
+            "[[destination]]\nname = \"{name}\"\naddress = \"127.0.0.1:1\""
+        )?;
+    }
+    Ok(text.into_bytes())
+}
+
 #[test]
 fn status_has_all(rt: HostRuntime) -> Result<(), Fail> {
     let plan = Plan::built_in(rt.alloc())?;
@@ -84,6 +108,7 @@ fn status_has_all(rt: HostRuntime) -> Result<(), Fail> {
         "deployments 1 left 999\n",
         "connections open 1 taken 2 refused 0\n",
         "unbooked full 8 plan_changed 0 no_memory 1\n",
+        "dropped unreadable 2 acknowledgments 0 broken 3\n",
         "waiting attempts 2 due 2001-09-09T01:46:40Z\n",
         " 1970-01-02T00:00:00Z\n",
     ] {
@@ -101,6 +126,7 @@ fn metrics_have_all(rt: HostRuntime) -> Result<(), Fail> {
     for line in [
         "# TYPE hl7_book_held_entries gauge\nhl7_book_held_entries 12\n",
         "hl7_unbooked_messages_total{cause=\"full\"} 8\n",
+        "hl7_dropped_blocks_total{cause=\"broken\"} 3\n",
         "hl7_book_prunings_left 996\n",
     ] {
         assert!(rt; text.contains(line), "{line} {text}");
@@ -122,7 +148,66 @@ fn lists_end_with_their_number(rt: HostRuntime) -> Result<(), Fail> {
         text.as_str(),
         "messages below 3 are forgotten\nthe last 2 messages are kept\n\n"
     );
+    let text = unpruned_text(rt.alloc(), 2, Some(1))?;
+    assert_eq!(rt;
+        text.as_str(),
+        "nothing to forget\nthe last 2 messages are kept\nmessage 1 is not delivered yet: it is kept, and so are those after it\n\n"
+    );
     let far = format!(in rt.alloc(); "{}", Utc(u64::MAX))?;
     assert_eq!(rt; far.as_str(), "18446744073709551615");
+    Ok(())
+}
+
+#[test]
+fn ids_are_read_as_they_are_shown(rt: HostRuntime) -> Result<(), Fail> {
+    for id in [
+        b"\xC3\x9C A\\x41\\\\".as_slice(),
+        b"A1001",
+        b"",
+        b"\x00\x7F\"",
+    ] {
+        let shown = format!(in rt.alloc(); "{}", ControlId(id))?;
+        let read = unescaped(rt.alloc(), shown.as_bytes())?;
+        assert_eq!(rt; read.as_slice(), id);
+    }
+    for (shown, id) in [
+        (b"\\\\".as_slice(), b"\\".as_slice()),
+        (b"\\x4", b"\\x4"),
+        (b"\\xg1\\", b"\\xg1\\"),
+        (b"\\x5c\\F\\", b"\\\\F\\"),
+    ] {
+        let read = unescaped(rt.alloc(), shown)?;
+        assert_eq!(rt; read.as_slice(), id);
+    }
+    Ok(())
+}
+
+#[test]
+fn renames_are_shown_where_something_was_counted(rt: HostRuntime) -> Result<(), Fail> {
+    let alloc = rt.alloc();
+    let before = Plan::read(alloc, &plan_of(alloc, &["LAB", "RAD", "WARD"])?)?;
+    let now = Plan::read(alloc, &plan_of(alloc, &["RAD", "RAD2"])?)?;
+    let mut counts = Counts::new();
+    counts.count_waiting(0);
+    counts.count_waiting(2);
+    let shown = |from: &Plan, to: &Plan, index: u32| match rename_at(from, to, &counts, index) {
+        Some(rename) => format!(in alloc; "{rename}"),
+        None => Ok(String::new(alloc)),
+    };
+    assert_eq!(rt;
+        shown(&before, &now, 0)?.as_str(),
+        "destination[0] was LAB and is RAD: the counts and states of its messages are shown as RAD's"
+    );
+    assert_eq!(rt; shown(&before, &now, 1)?.as_str(), "");
+    assert_eq!(rt;
+        shown(&before, &now, 2)?.as_str(),
+        "destination[2] was WARD and is gone: the counts and states of its messages are no longer shown"
+    );
+    assert_eq!(rt;
+        shown(&now, &before, 2)?.as_str(),
+        "destination[2] is WARD: the counts and states of a former destination's messages are shown as WARD's"
+    );
+    assert_eq!(rt; shown(&before, &before, 0)?.as_str(), "");
+    assert_eq!(rt; shown(&before, &now, 32)?.as_str(), "");
     Ok(())
 }

@@ -4,7 +4,23 @@ use std::fmt;
 
 /// The answer to a line that is no command: the commands there are.
 pub const UNKNOWN: &str = "\
-unknown: status, metrics, message N, find ID, waiting NAME, deploy PATH, prune, cancel N, stop, stop now
+unknown: status, metrics, message N, find ID, waiting NAME, deploy PATH, prune, cancel N, stop, stop now, help
+
+";
+
+/// The answer to `help`: the commands, a line each.
+pub const HELP: &str = "\
+status        counts of channels and destinations, the book, connections, and the front of each queue
+metrics       the same numbers in Prometheus' text format
+message N     where message N is
+find ID       the numbers of the messages with this control id (MSH-10), as received or as the log shows it
+waiting NAME  the first messages in the queue of destination NAME
+deploy PATH   puts the plan in the file PATH in force
+prune         forgets what is settled
+cancel N      message N is not delivered where it still waits
+stop          ends once nothing waits for delivery
+stop now      ends without waiting for deliveries
+help          this list
 
 ";
 

@@ -1,7 +1,7 @@
 //! The commands, and the one that a line is.
 
 ghost use Rattle.std.specs.Prelude.{◌≡◌, option_map};
-ghost use Rattle.service_commands.specs.inner.Commands.{argument, command_of, named, numbered, number_of, seen, with_digit};
+ghost use Rattle.service_commands.specs.inner.Commands.{argument, command_of, named, numbered, number_of, seen, single, trimmed, with_digit, without_return};
 
 /// The command that a line is. Texts are of type `T`, the bytes as they are in the line.
 #[derive(Clone, Copy, Debug, PartialEq, Eq)]
@@ -26,6 +26,8 @@ pub enum Command<T> {
     Stop,
     /// The end, without waiting for deliveries.
     StopNow,
+    /// What the commands are.
+    Help,
     /// No command.
     Unknown,
 }
@@ -64,6 +66,16 @@ fn number_of(text: &[u8]) -> Option<u32>
     Some(number)
 }
 
+/// A line without the carriage return at its end, where it has one.
+fn without_return(line: &[u8]) -> &[u8]
+    ensures { result.now ≡ without_return line.now }
+{
+    match line.strip_suffix(b"\r".as_slice()) {
+        Some(text) => text,
+        None => line,
+    }
+}
+
 /// The command of a line that begins with none of the words that a text follows.
 fn numbered(line: &[u8]) -> Command<&[u8]>
     ensures { seen result ≡ numbered line.now }
@@ -83,24 +95,16 @@ fn numbered(line: &[u8]) -> Command<&[u8]>
     Command::Unknown
 }
 
-/// The command of a line that is no command of a single word, nor `stop now`.
-fn named(line: &[u8]) -> Command<&[u8]>
-    ensures { seen result ≡ named line.now }
+/// A line without the white space at its end.
+fn trimmed(line: &[u8]) -> &[u8]
+    ensures { result.now ≡ trimmed line.now }
 {
-    if let Some(text) = argument(line, b"find ") {
-        Command::Find(text)
-    } else if let Some(text) = argument(line, b"waiting ") {
-        Command::Waiting(text)
-    } else if let Some(text) = argument(line, b"deploy ") {
-        Command::Deploy(text)
-    } else {
-        numbered(line)
-    }
+    line.trim_ascii_end()
 }
 
-/// The command that a line is. A line is one command; those that are none of the commands are `Unknown`.
-pub fn read_command(line: &[u8]) -> Command<&[u8]>
-    ensures { seen result ≡ command_of line.now }
+/// The command of a line without white space at its end that begins with neither `find ` nor `deploy `.
+fn single(line: &[u8]) -> Command<&[u8]>
+    ensures { seen result ≡ single line.now }
 {
     if line == b"status".as_slice() {
         Command::Status
@@ -112,9 +116,35 @@ pub fn read_command(line: &[u8]) -> Command<&[u8]>
         Command::Stop
     } else if line == b"stop now".as_slice() {
         Command::StopNow
+    } else if line == b"help".as_slice() {
+        Command::Help
+    } else if let Some(text) = argument(line, b"waiting ") {
+        Command::Waiting(text)
     } else {
-        named(line)
+        numbered(line)
     }
+}
+
+/// The command of a line that no carriage return ends. What a control id or a path ends with belongs to it; of any other command,
+/// white space at its end is dropped.
+fn named(line: &[u8]) -> Command<&[u8]>
+    ensures { seen result ≡ named line.now }
+{
+    if let Some(text) = argument(line, b"find ") {
+        Command::Find(text)
+    } else if let Some(text) = argument(line, b"deploy ") {
+        Command::Deploy(text)
+    } else {
+        single(trimmed(line))
+    }
+}
+
+/// The command that a line is. A line is one command; those that are none of the commands are `Unknown`. A carriage return at the
+/// end of a line is dropped, and so is white space there, but for what a control id or a path ends with.
+pub fn read_command(line: &[u8]) -> Command<&[u8]>
+    ensures { seen result ≡ command_of line.now }
+{
+    named(without_return(line))
 }
 
 #[cfg(test)]
@@ -142,6 +172,24 @@ mod tests {
         assert_eq!(rt; read_command(b"cancel 0"), Command::Cancel(0));
         assert_eq!(rt; read_command(b"stop"), Command::Stop);
         assert_eq!(rt; read_command(b"stop now"), Command::StopNow);
+        assert_eq!(rt; read_command(b"help"), Command::Help);
+    }
+
+    #[test]
+    fn the_end_of_a_line_is_dropped(rt: HostRuntime) {
+        assert_eq!(rt; read_command(b"status\r"), Command::Status);
+        assert_eq!(rt; read_command(b"stop now \t\r"), Command::StopNow);
+        assert_eq!(rt; read_command(b"message 7 "), Command::Message(7));
+        assert_eq!(rt;
+            read_command(b"waiting LAB \r"),
+            Command::Waiting(b"LAB".as_slice())
+        );
+        assert_eq!(rt; read_command(b"find A \r"), Command::Find(b"A ".as_slice()));
+        assert_eq!(rt;
+            read_command(b"deploy a.toml \r"),
+            Command::Deploy(b"a.toml ".as_slice())
+        );
+        assert_eq!(rt; read_command(b"find \r"), Command::Unknown);
     }
 
     #[test]
@@ -149,7 +197,7 @@ mod tests {
         for line in [
             b"".as_slice(),
             b"Status",
-            b"status ",
+            b" status",
             b"message",
             b"message ",
             b"message +1",

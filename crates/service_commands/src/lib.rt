@@ -6,6 +6,6 @@ mod answer;
 mod command;
 mod input;
 
-pub use answer::{Refused, UNKNOWN};
+pub use answer::{HELP, Refused, UNKNOWN};
 pub use command::{Command, read_command};
 pub use input::{Input, read_line};

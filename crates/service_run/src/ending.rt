@@ -1,6 +1,6 @@
 //! The end of a service: what was left undelivered, and the closed book.
 
-use crate::output::{tell, write_text};
+use crate::output::{tell, tell_text, write_text};
 use crate::questions::queued;
 use crate::service::RunEnd;
 use crate::workers::Returned;
@@ -11,6 +11,9 @@ use service_answers::{Listed, left_behind};
 use service_workers::{Crew, ServiceRows, Site, close_book};
 use stat_count::{Counts, DestinationCounts};
 use std::alloc::{AllocError, Global};
+
+/// What is said on standard error of standard output that can't be written, where messages are left undelivered besides.
+const WRITE_FAULT: &str = "device: write";
 
 /// Names each message that is left undelivered at a destination, a line each on standard error, as long as it is read. How many
 /// there are.
@@ -68,12 +71,35 @@ fn is_any_left(plan: &Plan, counts: &Counts) -> bool {
     false
 }
 
-/// Closes the book, and prints the statistics.
+/// Prints the statistics of a book that is closed. Where standard output can't be written, they go to standard error; then messages
+/// that are left undelivered count for more than that, so that the run does not end as if the output alone were lost.
+fn print_counts<'f>(
+    rt: &HostRuntime,
+    plan: &Plan,
+    counts: &Counts,
+    text: &str,
+) -> Result<RunEnd, Fault<'f>> {
+    let is_left = is_any_left(plan, counts);
+    if write_text(rt, text).is_err() {
+        tell_text(rt, text);
+        if !is_left {
+            return Err(Fault::Write);
+        }
+        let _ = tell(rt, WRITE_FAULT);
+    }
+    if is_left {
+        Ok(RunEnd::Undelivered)
+    } else {
+        Ok(RunEnd::Drained)
+    }
+}
+
+/// Closes the book, and prints the statistics, on standard error where standard output can't be written.
 ///
 /// # Errors
 ///
 /// `Audit` where the shares of the workers don't add up, `Write` where standard output can't be written or nobody reads it for
-/// five seconds, `Memory`.
+/// five seconds and no message is left undelivered, `Memory`.
 pub(crate) fn conclude<'f, A: Sharing>(
     rt: &HostRuntime,
     alloc: Global,
@@ -87,10 +113,5 @@ pub(crate) fn conclude<'f, A: Sharing>(
     };
     let (_rows, counts) = closed.promise();
     let text = statistics_text(alloc, plan, counts)?;
-    write_text(rt, &text).map_err(|_| Fault::Write)?;
-    if is_any_left(plan, counts) {
-        Ok(RunEnd::Undelivered)
-    } else {
-        Ok(RunEnd::Drained)
-    }
+    print_counts(rt, plan, counts, &text)
 }

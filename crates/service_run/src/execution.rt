@@ -8,8 +8,8 @@ use crate::settings::Settings;
 use crate::workers::Workers;
 use book_lock::Sharing;
 use log::{Log, info};
-use service_commands::{Command, Input, UNKNOWN, read_command, read_line};
-use service_workers::{Crew, Gate, Site, Stage, StandardInput, has_ended, stop};
+use service_commands::{Command, HELP, Input, UNKNOWN, read_command, read_line};
+use service_workers::{Crew, Gate, Site, Stage, StandardInput, StopMode, has_ended, stop};
 use std::str;
 use std::time::Duration;
 
@@ -50,8 +50,9 @@ fn execute<A: Sharing, H: Crew>(
         Command::Deploy(path) => deploy(rt, site, &workers.gates, path),
         Command::Prune => answer(rt, do_prune(site)),
         Command::Cancel(number) => answer(rt, do_cancel(site, number)),
-        Command::Stop => begin_stop(rt, site, workers, true, settings.grace),
-        Command::StopNow => begin_stop(rt, site, workers, false, settings.grace),
+        Command::Stop => begin_stop(rt, site, workers, StopMode::Drain, settings.grace),
+        Command::StopNow => begin_stop(rt, site, workers, StopMode::Now, settings.grace),
+        Command::Help => say(rt, HELP),
         Command::Unknown => say(rt, UNKNOWN),
     }
 }
@@ -61,17 +62,16 @@ fn begin_stop<A: Sharing, H: Crew>(
     rt: &HostRuntime,
     site: &Site<'_, A, H>,
     workers: &Workers<A>,
-    drains: bool,
+    mode: StopMode,
     grace: u32,
 ) {
-    if drains {
-        info!(site.rt; "stopping once nothing waits for delivery");
-    } else {
-        info!(site.rt; "stopping now");
+    match mode {
+        StopMode::Drain => info!(site.rt; "stopping once nothing waits for delivery"),
+        StopMode::Now => info!(site.rt; "stopping now"),
     }
     say(rt, "stopping\n\n");
     let grace = Duration::from_secs(u64::from(grace));
-    stop(site, &workers.gates, &workers.places, drains, grace);
+    stop(site, &workers.gates, &workers.places, mode, grace);
 }
 
 /// Waits until all workers have ended.

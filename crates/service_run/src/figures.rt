@@ -1,12 +1,12 @@
 //! What a service counts beside its book.
 
 use book_lock::Sharing;
-use service_answers::{Figures, Unbooked};
+use service_answers::{Dropped, Figures, Unbooked};
 use service_workers::{Crew, Site};
 
 /// What the workers of a service have counted so far.
 pub(crate) fn figures_of<A: Sharing, H: Crew>(site: &Site<'_, A, H>, started: u64) -> Figures {
-    let unbooked = site.unbooked();
+    let (unbooked, dropped) = (site.unbooked(), site.dropped());
     let mut received = [0; 64];
     for (moment, channel) in received.iter_mut().zip(0..u32::MAX) {
         *moment = site.last_received(channel);
@@ -23,6 +23,11 @@ pub(crate) fn figures_of<A: Sharing, H: Crew>(site: &Site<'_, A, H>, started: u6
             full: unbooked.full,
             plan_changed: unbooked.plan_changed,
             no_memory: unbooked.no_memory,
+        },
+        dropped: Dropped {
+            unreadable: dropped.unreadable,
+            acknowledgments: dropped.acknowledgments,
+            broken: dropped.broken,
         },
         paused: site.paused(),
         received,

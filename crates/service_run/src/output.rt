@@ -65,3 +65,12 @@ pub(crate) fn answer(rt: &HostRuntime, text: Result<String, AllocError>) {
 pub(crate) fn tell(rt: &HostRuntime, line: &str) -> bool {
     is_writable(STANDARD_ERROR) && eprintln!(rt; "{line}").is_ok()
 }
+
+/// Writes the lines of a text to standard error, as long as they are read.
+pub(crate) fn tell_text(rt: &HostRuntime, text: &str) {
+    for line in text.lines() {
+        if !tell(rt, line) {
+            return;
+        }
+    }
+}

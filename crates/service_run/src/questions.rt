@@ -2,19 +2,21 @@
 
 use crate::figures::figures_of;
 use book_core::Front;
-use book_lock::Sharing;
+use book_lock::{Gauge, Sharing, Status};
 use log::{Log, info, warn};
-use log_text::Escaped;
+use log_text::{ControlId, Escaped};
+use plan_notes::{Line, warnings};
 use plan_text::Plan;
 use service_answers::{
-    Listed, SHOWN_MAX, add_listener, bad_plan_text, cancelled_text, deployed_text, found_text,
-    message_text, metrics_text, no_file_text, pruned_text, refused_plan_text, status_text,
-    waiting_text,
+    Listed, Places, Rename, SHOWN_MAX, add_listener, bad_plan_text, cancelled_text, control_id_of,
+    deployed_text, found_text, message_text, metrics_text, no_file_text, no_regular_file_text,
+    not_cancelled_text, pruned_text, refused_plan_text, rename_at, status_text, unescaped,
+    unpruned_text, waiting_text,
 };
 use service_commands::Refused;
 use service_workers::{Crew, Gate, Site};
-use stat_count::{Counts, DestinationCounts};
-use std::alloc::{AllocError, Global};
+use stat_count::{Counts, DESTINATIONS, DestinationCounts};
+use std::alloc::AllocError;
 use std::fs;
 use std::io::ErrorKind;
 use std::sync::Arc;
@@ -61,15 +63,12 @@ pub(crate) fn ask_message<A: Sharing, H: Crew>(
     message_text(site.alloc, &plan, &site.shared.message(site.rt, number)?)
 }
 
-/// The remembered messages with a control id (MSH-10), looked for a slice at a time.
-///
-/// # Errors
-///
-/// Where memory is refused.
-pub(crate) fn ask_find<A: Sharing, H: Crew>(
+/// The numbers of the remembered messages with a control id (MSH-10), looked for a slice at a time: all of them, or more than an
+/// answer shows.
+fn numbers_with<A: Sharing, H: Crew>(
     site: &Site<'_, A, H>,
     id: &[u8],
-) -> Result<String, AllocError> {
+) -> Result<Vec<u32>, AllocError> {
     let gauge = site.shared.gauge(site.rt);
     let mut found = Vec::new(site.alloc);
     for from in (gauge.first..gauge.messages).step_by(SLICE as usize) {
@@ -78,6 +77,25 @@ pub(crate) fn ask_find<A: Sharing, H: Crew>(
         }
         for number in site.shared.find(site.rt, id, from, SLICE)? {
             found.push(number)?;
+        }
+    }
+    Ok(found)
+}
+
+/// The remembered messages with a control id (MSH-10). Where none has the id as given, it is read as the log shows ids.
+///
+/// # Errors
+///
+/// Where memory is refused.
+pub(crate) fn ask_find<A: Sharing, H: Crew>(
+    site: &Site<'_, A, H>,
+    id: &[u8],
+) -> Result<String, AllocError> {
+    let mut found = numbers_with(site, id)?;
+    if found.is_empty() {
+        let meant = unescaped(site.alloc, id)?;
+        if meant.as_slice() != id {
+            found = numbers_with(site, &meant)?;
         }
     }
     found_text(site.alloc, &found)
@@ -149,12 +167,32 @@ pub(crate) fn ask_waiting<A: Sharing, H: Crew>(
     waiting_text(site.alloc, &listed, all)
 }
 
-/// Forgets what is settled, and says what was forgotten, what stays and why.
+/// Whether a pruning that keeps the last `keep` messages would change nothing: the book holds no entry that it would fold, as those
+/// of filtered and refused messages, and each message that it would forget is forgotten.
+fn is_pruned(status: &Status, keep: u32) -> bool {
+    let Gauge {
+        held,
+        messages,
+        first,
+        ..
+    } = status.gauge;
+    let before = messages
+        .saturating_sub(keep)
+        .min(status.first_live.unwrap_or(messages));
+    held == 0 && before <= first
+}
+
+/// Forgets what is settled, and says what was forgotten, what stays and why. Where nothing would change, no pruning is made, since
+/// their number is limited.
 ///
 /// # Errors
 ///
-/// Where memory is refused.
+/// Where memory is refused, or the plan has more owners than can be counted.
 pub(crate) fn do_prune<A: Sharing, H: Crew>(site: &Site<'_, A, H>) -> Result<String, AllocError> {
+    let (status, _plan) = site.shared.status(site.rt)?;
+    if is_pruned(&status, site.keep) {
+        return unpruned_text(site.alloc, site.keep, status.first_live);
+    }
     match site.shared.prune_settled(site.rt, site.keep) {
         Ok(before) => {
             info!(site.rt; target: "always", before; "settled messages are forgotten");
@@ -180,13 +218,47 @@ pub(crate) fn do_cancel<A: Sharing, H: Crew>(
     number: u32,
 ) -> Result<String, AllocError> {
     let plan = site.shared.plan(site.rt)?;
+    let id = control_id_of(site.alloc, &site.shared.message(site.rt, number)?)?;
     match site.shared.cancel(site.rt, number) {
         Ok(mask) => {
-            info!(site.rt; target: "always", message = number; "message cancelled");
+            let destinations = Places { plan: &plan, mask };
+            info!(site.rt; target: "always", message = number, control_id:% = ControlId(&id), destinations:% = destinations; "message cancelled");
             cancelled_text(site.alloc, &plan, mask)
         }
-        Err(refusal) => format!(in site.alloc; "{}", Refused(refusal)),
+        Err(refusal) => {
+            let found = site.shared.message(site.rt, number)?;
+            not_cancelled_text(site.alloc, &plan, number, &found, refusal)
+        }
     }
+}
+
+/// The bytes of a file, or the answer that says why they can't be read. What is no regular file is not opened: opening a FIFO that
+/// nobody writes to has no end, and neither has reading some devices.
+fn read_file<A: Sharing, H: Crew>(
+    rt: &HostRuntime,
+    site: &Site<'_, A, H>,
+    path: &str,
+) -> Result<Result<Vec<u8>, String>, AllocError> {
+    let read = match fs::metadata(rt, path) {
+        Ok(found) if !found.is_file() => {
+            return Ok(Err(no_regular_file_text(site.alloc, path)?));
+        }
+        Ok(_) => fs::read(rt, path),
+        Err(error) => Err(error),
+    };
+    match read {
+        Ok(text) => Ok(Ok(text)),
+        Err(error) if error.kind() == ErrorKind::OutOfMemory => Err(AllocError),
+        Err(error) => Ok(Err(no_file_text(site.alloc, path, &error)?)),
+    }
+}
+
+/// A plan that was read from a file.
+#[derive(Drop)]
+struct Proposal {
+    plan: Arc<Plan>,
+    /// What `check` warns of in the plan.
+    warnings: Vec<Line>,
 }
 
 /// The plan in a file, or the answer that says why there is none.
@@ -194,21 +266,35 @@ fn read_plan<A: Sharing, H: Crew>(
     rt: &HostRuntime,
     site: &Site<'_, A, H>,
     path: &str,
-) -> Result<Result<Arc<Plan>, String>, AllocError> {
-    let text = match fs::read(rt, path) {
+) -> Result<Result<Proposal, String>, AllocError> {
+    let text = match read_file(rt, site, path)? {
         Ok(text) => text,
-        Err(error) if error.kind() == ErrorKind::OutOfMemory => return Err(AllocError),
-        Err(error) => return Ok(Err(no_file_text(site.alloc, path, &error)?)),
+        Err(refused) => return Ok(Err(refused)),
     };
-    match Plan::read(site.alloc, &text) {
-        Ok(plan) => Ok(Ok(Arc::new(site.alloc, plan).map_err(AllocError::from)?)),
-        Err(fault) => Ok(Err(bad_plan_text(site.alloc, &fault)?)),
-    }
+    let plan = match Plan::read(site.alloc, &text) {
+        Ok(plan) => plan,
+        Err(fault) => return Ok(Err(bad_plan_text(site.alloc, &fault)?)),
+    };
+    let warned = warnings(site.alloc, &text, &plan)?;
+    let plan = Arc::new(site.alloc, plan).map_err(AllocError::from)?;
+    Ok(Ok(Proposal {
+        plan,
+        warnings: warned,
+    }))
 }
 
-/// The answer to a plan that is deployed: for each channel whose address it changes, that the listener stays.
-fn deployed(alloc: Global, gates: &[Gate], plan: &Plan) -> Result<String, AllocError> {
-    let mut text = deployed_text(alloc)?;
+/// The answer to a plan that is deployed, where `before` is the plan in force until then: for each channel whose address it changes,
+/// that the listener stays; for each destination of which something was counted and whose name it changes, how that is shown from
+/// now on; and what `check` warns of.
+fn deployed<A: Sharing, H: Crew>(
+    site: &Site<'_, A, H>,
+    gates: &[Gate],
+    before: &Plan,
+    proposal: &Proposal,
+    counts: &Counts,
+) -> Result<String, AllocError> {
+    let plan = &proposal.plan;
+    let mut text = deployed_text(site.alloc)?;
     for gate in gates {
         if let Some(channel) = plan.channel(gate.channel())
             && channel.listen() != gate.listen()
@@ -216,31 +302,65 @@ fn deployed(alloc: Global, gates: &[Gate], plan: &Plan) -> Result<String, AllocE
             add_listener(&mut text, gate.name(), gate.listen())?;
         }
     }
+    for index in 0..DESTINATIONS {
+        if let Some(rename) = rename_at(before, plan, counts, index) {
+            writeln!(text, "{rename}")?;
+        }
+    }
+    for warning in &proposal.warnings {
+        writeln!(text, "{warning}")?;
+    }
     writeln!(text, "")?;
     Ok(text)
+}
+
+/// Logs that a plan is in force, and each destination of which something was counted and whose name it changes.
+fn log_deployed<A: Sharing, H: Crew>(
+    site: &Site<'_, A, H>,
+    path: Escaped<'_>,
+    before: &Plan,
+    now: &Plan,
+    counts: &Counts,
+) {
+    info!(site.rt; target: "always", path:% = path; "plan deployed");
+    for index in 0..DESTINATIONS {
+        match rename_at(before, now, counts, index) {
+            Some(Rename::Renamed { index, before, now }) => {
+                warn!(site.rt; target: "always", index, before, now; "destination renamed: its counts and states are shown under the new name");
+            }
+            Some(Rename::Gone { index, before }) => {
+                warn!(site.rt; target: "always", index, before; "destination gone: its counts and states are no longer shown");
+            }
+            Some(Rename::Filled { index, now }) => {
+                warn!(site.rt; target: "always", index, now; "destination added where one was before: the counts and states of that one are shown under its name");
+            }
+            None => {}
+        }
+    }
 }
 
 /// Replaces the plan in force by the plan in a file, and says what the result is.
 ///
 /// # Errors
 ///
-/// Where memory is refused, or the plan has more owners than can be counted.
+/// Where memory is refused, or a plan has more owners than can be counted.
 pub(crate) fn do_deploy<A: Sharing, H: Crew>(
     rt: &HostRuntime,
     site: &Site<'_, A, H>,
     gates: &[Gate],
     path: &str,
 ) -> Result<String, AllocError> {
-    let plan = match read_plan(rt, site, path)? {
-        Ok(plan) => plan,
+    let proposal = match read_plan(rt, site, path)? {
+        Ok(proposal) => proposal,
         Err(refused) => return Ok(refused),
     };
-    let before = site.shared.plan(site.rt)?;
-    let text = deployed(site.alloc, gates, &plan)?;
+    let (status, before) = site.shared.status(site.rt)?;
+    let text = deployed(site, gates, &before, &proposal, &status.counts)?;
     let path = Escaped(path);
-    match site.shared.deploy(site.rt, plan) {
+    let shared = Arc::try_clone(&proposal.plan)?;
+    match site.shared.deploy(site.rt, shared) {
         Ok(()) => {
-            info!(site.rt; target: "always", path:% = path; "plan deployed");
+            log_deployed(site, path, &before, &proposal.plan, &status.counts);
             Ok(text)
         }
         Err(refusal) => {

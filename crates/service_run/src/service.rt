@@ -40,19 +40,27 @@ const WRITER_STACK_BYTES: usize = 262_144;
 pub enum RunEnd {
     /// Each message was delivered or failed.
     Drained,
-    /// Messages were left undelivered.
+    /// Messages were left undelivered, or failed since their last attempt was cut off by the stop.
     Undelivered,
 }
 
-/// Runs all workers over a shared book until they have ended, and names what is left undelivered. Whether enough threads could
-/// be started.
+/// What the workers of a service leave.
+#[derive(Clone, Copy)]
+struct Worked {
+    /// Whether enough threads could be started.
+    is_staffed: bool,
+    /// How many messages failed since their last attempt was cut off by the stop.
+    cut: u64,
+}
+
+/// Runs all workers over a shared book until they have ended, and names what is left undelivered.
 fn run_workers<A: Sharing + Send + Sync, H: Crew + Threads + Sync>(
     rt: &HostRuntime,
     handle: &H,
     settings: &Settings,
     shared: &Shared<A, ServiceRows>,
     workers: &Workers<A>,
-) -> bool {
+) -> Worked {
     let alloc = rt.alloc();
     let started = seconds_now(handle);
     let site = Site::new(handle, alloc, shared, settings.keep, settings.idle);
@@ -62,7 +70,10 @@ fn run_workers<A: Sharing + Send + Sync, H: Crew + Threads + Sync>(
     {
         warn!(handle; target: "always", undelivered; "messages are left undelivered");
     }
-    is_staffed
+    Worked {
+        is_staffed,
+        cut: site.cut(),
+    }
 }
 
 /// Shares the book, runs all workers over it, closes it, and prints the statistics.
@@ -95,14 +106,16 @@ fn serve<'f, A: Sharing + Send + Sync, H: Crew + Threads + Sync>(
         return Err(Fault::Memory);
     };
     let workers = Workers::new(alloc, gates, desks, stations)?;
-    let is_staffed = run_workers(rt, handle, settings, &shared, &workers);
+    let worked = run_workers(rt, handle, settings, &shared, &workers);
     let plan = shared.plan(handle)?;
     let returned = workers.into_returned(alloc)?;
     let ended = conclude(rt, alloc, &plan, shared, returned)?;
-    if is_staffed {
-        Ok(ended)
-    } else {
+    if !worked.is_staffed {
         Err(Fault::Memory)
+    } else if worked.cut > 0 {
+        Ok(RunEnd::Undelivered)
+    } else {
+        Ok(ended)
     }
 }
 
@@ -149,7 +162,9 @@ fn run_by<'f, H: Crew + Threads + Sync>(
     let alloc = rt.alloc();
     let desks = connections_of(plan, settings.connections)?;
     log_start(handle, path, plan, settings);
-    log_descriptors(handle, descriptors_of(plan, desks));
+    let unused_queues = POSTS.saturating_sub(plan.destinations());
+    let needed = descriptors_of(plan, desks).saturating_add(u64::from(unused_queues));
+    log_descriptors(handle, needed);
     let hasher = hasher(rt)?;
     let shared_plan = Arc::try_clone(plan)?;
     let gates = open_gates(rt, handle, plan)?;

@@ -7,7 +7,7 @@ pub struct Settings {
     pub connections: u32,
     /// The most entries that the book may hold.
     pub events: u32,
-    /// How many settled messages a pruning keeps.
+    /// How many of the last messages a pruning keeps.
     pub keep: u32,
     /// After how many seconds without a byte a connection ends. 0: never.
     pub idle: u32,

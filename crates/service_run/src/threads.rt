@@ -5,7 +5,9 @@ use crate::settings::Settings;
 use crate::workers::Workers;
 use book_lock::Sharing;
 use log::{Log, info, warn};
-use service_workers::{Crew, Gate, Place, Post, Site, stop, work_place, work_post, work_warden};
+use service_workers::{
+    Crew, Gate, Place, Post, Site, StopMode, stop, work_place, work_post, work_warden,
+};
 use std::thread;
 use std::thread::{Builder, Scope, Threads};
 use std::time::Duration;
@@ -13,7 +15,7 @@ use std::time::Duration;
 /// The stack of a worker's thread, in bytes. The system gives memory to the part that is used alone.
 const STACK_BYTES: usize = 262_144;
 
-/// Starts a thread for each post. How many threads were refused.
+/// Starts a thread for each post. Returns how many threads were refused.
 fn start_posts<'s, 'x: 's, E: 's, A: Sharing + Send + Sync + 's, H: Crew + Sync + 's>(
     scope: &Scope<'s, E>,
     site: &'s Site<'x, A, H>,
@@ -39,7 +41,7 @@ fn gate_of(gates: &[Gate], index: u32) -> Option<&Gate> {
     gates.get(index as usize % channels)
 }
 
-/// Starts a thread for each place. How many threads were refused.
+/// Starts a thread for each place. Returns how many threads were refused.
 fn start_places<'s, 'x: 's, E: 's, A: Sharing + Send + Sync + 's, H: Crew + Sync + 's>(
     scope: &Scope<'s, E>,
     site: &'s Site<'x, A, H>,
@@ -63,7 +65,7 @@ fn start_places<'s, 'x: 's, E: 's, A: Sharing + Send + Sync + 's, H: Crew + Sync
     refused
 }
 
-/// Starts the thread that watches how full the book is. Whether it was started.
+/// Starts the thread that watches how full the book is. Returns whether it was started.
 fn start_warden<'s, 'x: 's, E: 's, A: Sharing + Send + Sync + 's, H: Crew + Sync + 's>(
     scope: &Scope<'s, E>,
     site: &'s Site<'x, A, H>,
@@ -74,7 +76,8 @@ fn start_warden<'s, 'x: 's, E: 's, A: Sharing + Send + Sync + 's, H: Crew + Sync
         .is_ok()
 }
 
-/// Starts all workers. Whether enough threads could be started: that of each post, the warden's, and one for each channel.
+/// Starts all workers. Returns whether enough threads could be started: that of each post, the warden's, and that of the first
+/// place of each channel.
 fn start_all<'s, 'x: 's, E: 's, A: Sharing + Send + Sync + 's, H: Crew + Sync + 's>(
     scope: &Scope<'s, E>,
     site: &'s Site<'x, A, H>,
@@ -83,16 +86,22 @@ fn start_all<'s, 'x: 's, E: 's, A: Sharing + Send + Sync + 's, H: Crew + Sync + 
     if start_posts(scope, site, &workers.posts) > 0 || !start_warden(scope, site) {
         return false;
     }
-    let refused = start_places(scope, site, &workers.gates, &workers.places);
+    let gates = &workers.gates;
+    let channels = gates.len().min(workers.places.len());
+    let (first, others) = workers.places.split_at(channels);
+    if start_places(scope, site, gates, first) > 0 {
+        return false;
+    }
+    let refused = start_places(scope, site, gates, others);
     if refused > 0 {
         let started = site.places();
         warn!(site.rt; refused, started; "not all threads could be started, fewer connections are served at once");
     }
-    site.places() as usize >= workers.gates.len()
+    true
 }
 
-/// Starts all workers, and obeys commands until they have ended. Whether enough threads could be started; where not, those that
-/// were are ended.
+/// Starts all workers, and obeys commands until they have ended. Returns whether enough threads could be started; where not,
+/// those that were are ended.
 fn work_within<'s, 'x: 's, E: 's, A: Sharing + Send + Sync + 's, H: Crew + Sync + 's>(
     scope: &Scope<'s, E>,
     rt: &HostRuntime,
@@ -106,12 +115,18 @@ fn work_within<'s, 'x: 's, E: 's, A: Sharing + Send + Sync + 's, H: Crew + Sync 
         info!(site.rt; "the service is ready");
         execute_all(rt, site, workers, settings, started);
     } else {
-        stop(site, &workers.gates, &workers.places, false, Duration::ZERO);
+        stop(
+            site,
+            &workers.gates,
+            &workers.places,
+            StopMode::Now,
+            Duration::ZERO,
+        );
     }
     is_staffed
 }
 
-/// Works until all workers have ended. Whether enough threads could be started.
+/// Works until all workers have ended. Returns whether enough threads could be started.
 pub(crate) fn work<'y, 'x: 'y, A: Sharing + Send + Sync, H: Crew + Threads + Sync>(
     rt: &HostRuntime,
     handle: &H,

@@ -2,9 +2,11 @@
 use Rattle.std.specs.Prelude.{ℕ, ◌+◌, ◌*◌, ◌-◌, ◌&&◌, ◌==◌, nat_lt, nat_le, if◌then◌else◌, List, [], ◌∷◌, length, take, drop, Option, None, Some, codes}
 use Rattle.std.specs.Borrow.{Bor}
 use Rattle.std.specs.Option.{option_map_or}
+use Rattle.std.specs.Char.{is_ascii_whitespace}
+use Rattle.std.specs.List.{suffix_len}
 use Rattle.std.specs.Str.{bytes_eq}
 use Rattle.service_commands.specs.declared.command.Command.{Command}
-use Rattle.service_commands.specs.declared.command.Command.TheVariants.{Status, Metrics, Message, Find, Waiting, Deploy, Prune, Cancel, Stop, StopNow, Unknown}
+use Rattle.service_commands.specs.declared.command.Command.TheVariants.{Status, Metrics, Message, Find, Waiting, Deploy, Prune, Cancel, Stop, StopNow, Help, Unknown}
 
 -- a command by the bytes of its text
 abbrev pub seen : Command (Bor (List ℕ)) → Command (List ℕ)
@@ -18,6 +20,7 @@ seen Prune = Prune
 seen (Cancel n) = Cancel n
 seen Stop = Stop
 seen StopNow = StopNow
+seen Help = Help
 seen Unknown = Unknown
 
 -- a text of at least one byte
@@ -48,19 +51,31 @@ numbered line =
     option_map_or (λ text. option_map_or (λ n. Message n) (number_of text) Unknown) (argument (codes "message ") line)
     (option_map_or (λ text. option_map_or (λ n. Cancel n) (number_of text) Unknown) (argument (codes "cancel ") line) Unknown)
 
--- find ID, waiting NAME, deploy PATH
-abbrev pub named : List ℕ → Command (List ℕ)
-named line =
-    option_map_or (λ text. Find text) (argument (codes "find ") line)
-    (option_map_or (λ text. Waiting text) (argument (codes "waiting ") line)
-    (option_map_or (λ text. Deploy text) (argument (codes "deploy ") line) (numbered line)))
+-- a line without the carriage return at its end
+abbrev pub without_return : List ℕ → List ℕ
+without_return line = if bytes_eq (drop (length line - 1) line) (codes "\r") then take (length line - 1) line else line
 
--- the command that a line is
-abbrev pub command_of : List ℕ → Command (List ℕ)
-command_of line =
+-- a line without the white space at its end
+abbrev pub trimmed : List ℕ → List ℕ
+trimmed line = take (length line - suffix_len is_ascii_whitespace line) line
+
+-- the command of a line that is neither find ID nor deploy PATH
+abbrev pub single : List ℕ → Command (List ℕ)
+single line =
     if bytes_eq line (codes "status") then Status
     else (if bytes_eq line (codes "metrics") then Metrics
     else (if bytes_eq line (codes "prune") then Prune
     else (if bytes_eq line (codes "stop") then Stop
     else (if bytes_eq line (codes "stop now") then StopNow
-    else named line))))
+    else (if bytes_eq line (codes "help") then Help
+    else option_map_or (λ text. Waiting text) (argument (codes "waiting ") line) (numbered line))))))
+
+-- find ID, deploy PATH, with all that follows the word; of any other command white space at its end is dropped
+abbrev pub named : List ℕ → Command (List ℕ)
+named line =
+    option_map_or (λ text. Find text) (argument (codes "find ") line)
+    (option_map_or (λ text. Deploy text) (argument (codes "deploy ") line) (single (trimmed line)))
+
+-- the command that a line is
+abbrev pub command_of : List ℕ → Command (List ℕ)
+command_of line = named (without_return line)
