@@ -429,11 +429,8 @@ impl<A: Sharing, S: BookRows> Locked<A, S> {
         Ok(before)
     }
 
-    /// The number of the next connection, counted from 0. The numbers rise, so none comes twice.
-    ///
-    /// # Errors
-    ///
-    /// None after the number before the last of 32 bits, and nothing changes then.
+    /// The number of the next connection, counted from 0; no number is given twice. None once 4,294,967,295 numbers were
+    /// given, and nothing changes then.
     pub fn admit(&mut self) -> Option<u32>
         ensures number { IfSome result (λ number. number ≡ self.old.admitted) }
         ensures next { OnSome result (self.new ≡ record self.old { admitted = self.old.admitted + 1 }) }
@@ -534,14 +531,14 @@ impl<A: Sharing, S: BookRows> Locked<A, S> {
         arrivals(self.book.counts()) - arrivals(&self.opening)
     }
 
-    /// The takes since.
+    /// The takes since the book was shared, by its statistics.
     fn begun(&self) -> u128
         ensures { result ≡ takes_rise self.now }
     {
         takes(self.book.counts()) - takes(&self.opening)
     }
 
-    /// The settlements since.
+    /// The settlements since the book was shared, by its statistics.
     fn ended(&self) -> u128
         ensures { result ≡ settlements_rise self.now }
     {

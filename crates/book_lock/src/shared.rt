@@ -45,7 +45,8 @@ use std::time::{Clock, Duration};
 /// How long a worker that hears nothing sleeps at most, in milliseconds: an idle worker wakes four times a second.
 const NAP: u64 = 250;
 
-/// The book under one lock. Each call takes the lock for a moment, and none waits for anything else but `bell`.
+/// The book under one lock. A call holds it for a moment; one that prunes (`prune`, `prune_settled`, and an arrival that tidies)
+/// holds it in proportion to what is remembered. None waits for anything else but `bell`.
 #[derive(Drop)]
 pub struct Shared<A: Sharing, S: BookRows> {
     locked: Mutex<Locked<A, S>>,
@@ -431,8 +432,8 @@ impl<A: Sharing, S: BookRows> Shared<A, S> {
         tidied
     }
 
-    /// The number of the next connection, counted from 0. The numbers rise, so none comes twice. None after the number
-    /// before the last of 32 bits.
+    /// The number of the next connection, counted from 0; no number is given twice. None once 4,294,967,295 numbers were
+    /// given.
     pub fn admit<H: Wait>(&self, rt: &H) -> Option<u32>
         ensures { IfSome result (λ number. number < u32.MAX) }
     {

@@ -22,7 +22,7 @@ use std::alloc::{AllocError, Global};
 use std::io::{Read, Write};
 use std::sync::{Arc, Wait};
 
-/// How many entries lie between two looks at how full the book is, for the log.
+/// An arrival looks at how full the book is, for the log, where the index of its entry is a multiple of this.
 const FILL_STEP: usize = 16;
 
 /// A desk of a shared book, at which messages are booked. Each call takes the book's lock for a moment.

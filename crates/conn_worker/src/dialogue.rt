@@ -1,4 +1,4 @@
-//! What a connection and the engine said to each other.
+//! The events of a connection that were handled, and the replies to them.
 
 ghost use Rattle.std.specs.Prelude.{◌≡◌, ◌+◌, ◌<◌, ◌≤◌, ◌∷◌, [], IfErr, OnOk, OnErr};
 ghost use Rattle.mllp_frame.specs.Event.{block};

@@ -19,6 +19,10 @@ pub trait ReceiptSink {
         ensures { has result [] };
 
     /// Makes room for one more.
+    ///
+    /// # Errors
+    ///
+    /// Where memory is refused; nothing changes then.
     fn reserve(&mut self) -> Result<(), AllocError>
         ensures same { (receipts : List Receipt) → has self.old receipts → has self.new receipts }
         ensures ok { OnOk result (has_room self.new) };

@@ -53,7 +53,7 @@ pub struct ServeReport<K = Vec<Receipt>> {
 }
 
 impl<K: ReceiptSink> ServeReport<K> {
-    /// The report of no event yet; where nothing else ends it, memory was refused.
+    /// A report without events; `end` is `NoMemory` until it is set.
     pub fn new(alloc: Global) -> Self
         ensures receipts { K.has result.receipts [] }
         ensures unreadable_ones { result.unreadable ≡ 0 }

@@ -27,7 +27,7 @@ pub struct Session<K> {
     pub framer: Framer,
     /// Where the next piece is read to.
     pub buffer: Vec<u8>,
-    /// How many reads may still be made.
+    /// How many reads, and writes and flushes made again after an interruption, may still be made.
     pub turns: u64,
     /// The most events that are handled.
     pub events_max: u64,

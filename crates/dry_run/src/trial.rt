@@ -173,7 +173,7 @@ fn try_lines<W: Write>(trial: &Trial, input: &[u8], writer: &mut W) -> Result<bo
 }
 
 /// Prints what would become of each message of an input: of blocks where its first byte is the start block character (MLLP
-/// Release 1), and else of one message as text. Whether each of them could be read and is not refused.
+/// Release 1), and else of one message as text. Returns whether each of them could be read and is not refused.
 ///
 /// # Errors
 ///

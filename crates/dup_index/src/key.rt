@@ -19,7 +19,7 @@ const SHORT_MAX: usize = 30;
 /// The bytes of a key that is kept.
 #[derive(Drop)]
 enum Bytes {
-    /// A count, and the bytes, of which the first that many are the key.
+    /// The length of the key, and a buffer that begins with its bytes.
     Short(u8, [u8; SHORT_MAX]),
     /// More than [`SHORT_MAX`] bytes.
     Long(Vec<u8>),

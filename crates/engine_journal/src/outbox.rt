@@ -131,7 +131,7 @@ impl Outbox {
         self.waiting.lock(rt).is_ended
     }
 
-    /// Waits until standard error takes a line; after the end for a second at most. Whether it does.
+    /// Waits until standard error takes a line; after the end for a second at most. Returns whether it does.
     fn wait_for_reader<H: Wait>(&self, rt: &H) -> bool {
         let mut last_looks: u32 = 0;
         for _ in rt.forever() {

@@ -16,7 +16,7 @@ pub const KINDS_MAX: usize = 64;
 #[derive(Clone, Copy)]
 pub struct Kind {
     key: u64,
-    /// When one of them was last shown, in seconds of the monotonic clock.
+    /// When one of them, or the number of those not shown, was last written, in seconds of the monotonic clock.
     since: u64,
     /// How many were logged since then and not shown.
     hidden: u64,
@@ -28,7 +28,7 @@ pub struct Kind {
 }
 
 impl Kind {
-    /// Whether one of its records was shown less than a minute ago.
+    /// Whether one of its records, or the number of those not shown, was written less than a minute ago.
     fn is_quiet(&self, now: u64) -> bool
         ensures { result ≡ nat_lt (now - self.now.since) 60 }
     {

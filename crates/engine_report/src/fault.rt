@@ -24,7 +24,7 @@ pub enum Fault<'a> {
     /// The plan has a fault. The line shows its path with control characters escaped and a key with a dot quoted.
     #[error("plan: {}", ShownFault(.0))]
     Plan(PlanFault),
-    /// The plan's channels would take more connections than the engine can number.
+    /// The connections of all channels together are more than 9,999.
     #[error("limit: connections")]
     Limit,
     /// A channel, of this name, can't listen, or couldn't go on.

@@ -6,7 +6,8 @@ use crate::fault::Fault;
 use fixed_numbers::CONNECTIONS_MAX;
 use plan_text::Plan;
 
-/// How many connections are accepted in all, where each channel of the plan takes `accept`.
+/// How many connections all channels take together, where each takes `accept`: over a whole run of the engine, or at once in a
+/// service.
 ///
 /// # Errors
 ///

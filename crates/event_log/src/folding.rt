@@ -36,7 +36,7 @@ pub fn folding_rules()
         → AllPairs (λ r s. has_key (key_of r.channel r.raw) s ≡ false) (folded bound h).remembered }
     ensures owes { (h : History) (bound : ℕ) → IsSound h → prune_answer h bound ≡ None → owed (pruned bound h) ≡ owed h }
 
-    // A key is known where it stood, from the arrival of the first message on that isn't forgotten; those before are unknown.
+    // Keys of arrivals from the first remembered message on keep their index; keys of earlier arrivals are unknown.
     ensures known { (h : History) (bound : ℕ) (key : List ℕ) → IsSound h → prune_answer h bound ≡ None
         → known (pruned bound h) key
         ≡ option_and_then (λ place. if nat_le (arrival_place h bound) place then Some place else None) (known h key) }

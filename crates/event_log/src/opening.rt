@@ -108,7 +108,7 @@ impl Remembered {
         self.told
     }
 
-    /// How it stood with it at each destination that it names.
+    /// The states of its slots at the destinations that it names.
     pub fn slots(&self) -> &Slots
         ensures { result.now ≡ self.now.slots }
     {

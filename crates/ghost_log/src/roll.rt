@@ -9,8 +9,8 @@ use crate::rule::Naming;
 use crate::steps::{Memory, Pass, hold, release, review};
 use std::marker::{Model, PhantomData};
 
-/// A log whose seats are handed in, and may be handed back: contracts see its entries, how many seats were issued, and the seats that it holds, the
-/// last one first, each by its number and what it has seen.
+/// A log whose seats are handed in, and may be handed back. Contracts see its entries, how many seats were issued, and the
+/// seats that it holds, the last one first, each by its number and what it has seen.
 #[derive(Drop)]
 pub struct Roll<J: Naming, E> {
     table: Memory<E>,

@@ -52,11 +52,11 @@ impl AckCode {
 /// Why a message is refused. Its name is the text of MSA-3.
 #[derive(Clone, Copy, Debug, PartialEq, Eq)]
 pub enum Cause {
-    /// No channel takes messages of this type, MSH-9.
+    /// The channel takes no messages of this type, MSH-9.
     UnsupportedType = 1,
-    /// No message with this processing id, MSH-11, is taken (table 0103).
+    /// The channel takes no messages with this processing id, MSH-11 (table 0103).
     UnsupportedProcessing,
-    /// No message of this version, MSH-12, is taken.
+    /// The channel takes no messages of this version, MSH-12.
     UnsupportedVersion,
     /// MSH-10 is empty or the null value.
     MissingControlId,
@@ -72,7 +72,7 @@ pub enum Cause {
     NoMemory,
     /// There is no room for the message.
     Full,
-    /// The rules changed while the message was being judged.
+    /// The plan was replaced while the message was judged.
     PlanChanged,
 }
 

@@ -69,7 +69,7 @@ impl Header {
 
     /// The text of the message, and the spans of the pieces in it.
     ///
-    /// It exists for speed: pieces that stand side by side in the text are copied as one.
+    /// It exists for speed: pieces that are side by side in the text are copied as one.
     pub(crate) fn source(&self) -> (&[u8], &Places)
         ensures pieces { pieces_at self.now.delims result.0.now result.1.now ≡ self.now }
         ensures within { AreWithin (length result.0.now) result.1.now }

@@ -44,8 +44,8 @@ fn push_two(
 
 /// Appends two pieces of a text, each after a separator.
 ///
-/// Where they stand in the text so, the second behind the first and the separator, they are copied as one for speed, which
-/// is some 50 instructions less. It is inlined, which saves another 25.
+/// Where the text has the second right after the first and a separator, they are copied as one for speed, which is some 50
+/// instructions less. It is inlined, which saves another 25.
 #[inline(always)]
 fn push_pair(
     text: &mut Vec<u8>,
@@ -157,7 +157,7 @@ fn push_header(
     )
 }
 
-/// Appends what stands between MSH-12 and MSA-2: the modes and the end of MSH, the name of MSA and MSA-1. In original mode
+/// Appends what is between MSH-12 and MSA-2: the modes and the end of MSH, the name of MSA and MSA-1. In original mode
 /// MSH ends behind MSH-12.
 ///
 /// It is one run for speed alone: a copy takes some 50 instructions, and there would be one for each field.

@@ -7,13 +7,16 @@ use crate::moment::Moment;
 /// The bytes of a stamp: year to second, and the offset.
 pub const STAMP_BYTES: usize = 19;
 
+/// The seconds of a day; there are no leap seconds in Unix time.
 pub const SECONDS_PER_DAY: u64 = 86_400;
 
+/// The seconds of an hour.
 pub const SECONDS_PER_HOUR: u32 = 3_600;
 
+/// The seconds of a minute.
 pub const SECONDS_PER_MINUTE: u32 = 60;
 
-/// The digit of nothing, from which the digits go on.
+/// The ASCII digit 0; the digits 1 to 9 follow it.
 pub const ZERO: u8 = b'0';
 
 /// The last two decimal digits of a number.

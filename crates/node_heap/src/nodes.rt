@@ -28,7 +28,7 @@ impl Clone for Place {
 impl Copy for Place {}
 
 impl Place {
-    /// A place where nothing lies.
+    /// The null address.
     pub fn nowhere() -> Place {
         Place {
             ptr: std::ptr::null_mut(),

@@ -27,7 +27,7 @@ pub enum Request<'a> {
         connections: u32,
         /// The most entries that the book may hold, 1 to 1,000,000.
         events: u32,
-        /// How many settled messages a pruning keeps, 0 to 1,000,000.
+        /// How many of the last messages a pruning keeps, 0 to 1,000,000.
         keep: u32,
         /// After how many seconds without a byte a connection ends, 0 to 86,400. 0: never.
         idle: u32,
@@ -111,7 +111,7 @@ fn keep_option<'a>(alloc: Global) -> Arg<'a>
     ensures local { result.global ≡ false }
 {
     let help =
-        "How many settled messages a pruning keeps, 0 to 1000000 [default: the lesser of 100000 and a quarter of --events]";
+        "How many of the last messages a pruning keeps, 0 to 1000000 [default: the lesser of 100000 and a quarter of --events]";
     number_option(alloc, "keep", "N", kept(), help)
 }
 
@@ -284,7 +284,7 @@ fn number_of(given: Option<u32>, least: u32, most: u32, usual: u32) -> u32
     given.unwrap_or(usual).clamp(least, most)
 }
 
-/// How many settled messages a pruning keeps, by what is given of them, in a book of `events` entries.
+/// How many of the last messages a pruning keeps, by what is given of them, in a book of `events` entries.
 fn keep_of(given: Option<u32>, events: u32) -> u32
     ensures written { IsKept events given result }
     ensures most { result ≤ 1_000_000 }
