@@ -159,6 +159,7 @@ impl Message {
     /// The message that a text says (HL7 v2.5.1, 2.5.2 and 2.5.4).
     ///
     /// Segments end with a carriage return, which the last may lack; one line feed behind it and empty segments are dropped.
+    ///
     /// # Errors
     ///
     /// The first refusal in this order: `NoHeader`, `BadDelimiters`, `TooManySegments`, `BadSegmentName` of

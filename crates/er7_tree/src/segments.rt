@@ -22,8 +22,8 @@ pub struct Span {
     pub end: usize,
 }
 
-/// How many spans lie in the value that keeps them. A message of so many segments requests no memory for them, which saves
-/// some 200 instructions.
+/// The most spans that are kept inline. A message of at most this number of segments requests no memory for them, which
+/// saves some 200 instructions.
 const FEW: usize = 8;
 
 /// The spans of a message's segments.

@@ -398,7 +398,7 @@ impl<'a> JudgedMessage<'a> {
 }
 
 impl Judged {
-    ghost use Rattle.judge_core.specs.Judging.{verdict, key_of, is_bookable, is_stray, is_unreadable};
+    ghost use Rattle.judge_core.specs.Judging.{verdict, key_of, is_bookable};
     ghost use Rattle.judge_core.specs.inner.Judging.{is_booked};
 
     /// The plan by which it was judged.

@@ -10,8 +10,8 @@ use std::simd::Simd;
 /// How many bytes are compared at a time.
 const LANES: usize = 64;
 
-/// A search for a byte in a text: it goes on at offset `at`, and each bit of `bits` says whether the byte is at an offset
-/// from `at` up to, and not with, `end`, the lowest bit at `at`.
+/// A search for a byte in a text. It continues at the offset `at`. Bit i of `bits` is set where the byte is at the offset
+/// `at` + i, for the offsets from `at` up to but not including `end`.
 #[derive(Clone, Copy)]
 pub struct Ahead {
     pub at: usize,

@@ -55,7 +55,7 @@ impl Destination {
         self.address.as_str()
     }
 
-    /// How often a message is sent at most, 1 to 100.
+    /// The most attempts to deliver a message, 1 to 100.
     pub fn attempts(&self) -> u32
         ensures { result ≡ self.now.attempts }
     {
@@ -69,7 +69,8 @@ impl Destination {
         self.interval
     }
 
-    /// The seconds that a read of the link may last, 1 to 3,600.
+    /// The most seconds for a connect to one address, for a write that makes no progress and for each read of an
+    /// answer, 1 to 3,600.
     pub fn timeout(&self) -> u32
         ensures { result ≡ self.now.timeout }
     {

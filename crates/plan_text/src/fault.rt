@@ -14,7 +14,7 @@ use std::fmt;
 pub enum PlanFaultKind {
     /// The text isn't a TOML document.
     NotToml,
-    /// A key that the plan has no use for.
+    /// A key that a plan doesn't have at this path.
     UnknownKey,
     /// A required key, or the one key of a condition or a step, isn't there.
     Missing,
@@ -24,7 +24,7 @@ pub enum PlanFaultKind {
     BadPath,
     /// A step that writes MSH-1, MSH-2 or MSH-10, or removes MSH.
     ForbiddenWrite,
-    /// A route to no destination.
+    /// A route to a name that no destination has.
     UnknownName,
     /// A name, a destination of a channel or a lookup text that occurs twice.
     DoubleName,
