@@ -24,7 +24,7 @@ ghost use Rattle.book_core.specs.Sending.{awaits_ack};
 ghost use Rattle.book_core.specs.inner.Sending.{IsAddition, goes_to, owed_waiting};
 
 use crate::arrival::{Addition, add_gain, gain_of, owed_by, told};
-use crate::dispatch::{awaits_ack, owed_waiting, payload};
+use crate::dispatch::{awaits_ack, owed_waiting};
 use crate::event_counts::{count_arrival, count_cancelled, count_settled};
 use crate::letter::{BookRows, Job, Outbound};
 use crate::pruning::{first_kept, forget_rows, prune_refusal, recall_since, unremembered};
@@ -258,7 +258,7 @@ impl<S: BookRows> Book<S> {
     pub fn connection(&self, number: u32) -> Option<u32>
         ensures { IfSome result (λ conn. CameBy self.now number conn) }
     {
-        let place = self.message(number)?.place;
+        let place = self.message(number)?.place();
         match self.log.entry(place) {
             Some(
                 Entry::Arrival {
@@ -543,7 +543,7 @@ impl<S: BookRows> Book<S> {
         let Some(message) = self.rows.get(number) else {
             unreachable!()
         };
-        let Some(text) = payload(message.content.deliveries.as_slice(), d) else {
+        let Some(text) = message.content.deliveries.payload(d) else {
             unreachable!()
         };
         Ok((message.content.control_id_piece()?, text.share()?))

@@ -1,26 +1,14 @@
 //! What is sent of a message, and where it waits.
 
-ghost use Rattle.std.specs.Prelude.{◌≡◌, ◌==◌, find, option_copied};
-ghost use Rattle.std.specs.Option.{option_map};
+ghost use Rattle.std.specs.Prelude.{◌≡◌, ◌==◌};
 ghost use Rattle.dest_queue.specs.Slots.{state_at};
 ghost use Rattle.book_core.specs.Sending.{awaits_ack};
 ghost use Rattle.book_core.specs.inner.Sending.{owed_waiting};
 
 use dest_queue::Slots;
 use event_log::{attempts_max, slot_owed};
-use judge_core::{Delivery, Text};
 use plan_text::{Await, Plan};
 use row_store::QUEUES;
-
-/// The text for d among deliveries.
-pub(crate) fn payload(deliveries: &[Delivery], d: u32) -> Option<&Text>
-    ensures { option_copied result ≡ option_map (λ x. x.payload) (find (λ x. x.destination == d) deliveries.now) }
-{
-    deliveries
-        .iter()
-        .find(|x| x.destination == d)
-        .map(|x| &x.payload)
-}
 
 /// Whether destination d answers with an acknowledgment.
 pub(crate) fn awaits_ack(plan: &Plan, d: u32) -> bool

@@ -7,7 +7,7 @@ use dest_queue::Queued;
 use er7_tree::Span;
 use event_log::Ticket;
 use hl7_head::Header;
-use judge_core::{Deliveries, Text, TextPiece, offset_32};
+use judge_core::{Deliveries, KeptDeliveries, Text, TextPiece, offset_32};
 use row_store::RowStore;
 use std::alloc::AllocError;
 use std::marker::Model;
@@ -15,8 +15,8 @@ use std::marker::Model;
 /// What a book keeps of an accepted message: the bytes received, its control id, and the text for each destination.
 #[derive(Drop)]
 pub struct Outbound {
-    /// The index of its arrival in the history.
-    pub place: usize,
+    /// The index of its arrival in the history, which is far below 2^32.
+    place: u32,
     /// The channel on which it arrived, by its index in the plan.
     pub channel: u32,
     /// Where its control id starts in the bytes received.
@@ -26,11 +26,11 @@ pub struct Outbound {
     /// The bytes received.
     pub raw: Text,
     /// Where it goes, and the text for each destination.
-    pub deliveries: Deliveries,
+    pub deliveries: KeptDeliveries,
 }
 
-/// It takes 56 bytes beside the texts that it shares: the control id is a span of the bytes received, and no owner of them.
-const _: () = prove!(size_of::<Outbound>() == 56);
+/// It takes 40 bytes beside the texts that it shares: the control id is a span of the bytes received, and no owner of them.
+const _: () = prove!(size_of::<Outbound>() == 40);
 
 impl Model for Outbound {
     ghost use Rattle.std.specs.Prelude.{length};
@@ -73,7 +73,7 @@ impl Outbound {
     ///
     /// # Errors
     ///
-    /// Where a text has more owners than can be counted, or the header isn't that of the bytes.
+    /// Where a text has more owners than can be counted, the header isn't that of the bytes, or the index is 2^32 or more.
     pub(crate) fn share(
         place: usize,
         channel: u32,
@@ -89,6 +89,7 @@ impl Outbound {
           deliveries = deliveries.now;
         }) }
     {
+        let place = u32::try_from(place).map_err(|_| AllocError)?;
         let span = control_id_span(raw.as_slice(), header)?;
         let id_start = offset_32(span.start)?;
         let id_end = offset_32(span.end)?;
@@ -98,8 +99,15 @@ impl Outbound {
             id_start,
             id_end,
             raw: raw.share()?,
-            deliveries: deliveries.share()?,
+            deliveries: deliveries.keep()?,
         })
+    }
+
+    /// The index of its arrival in the history.
+    pub fn place(&self) -> usize
+        ensures { result ≡ self.now.place }
+    {
+        self.place as usize
     }
 
     /// Where its control id is in the bytes received.

@@ -80,7 +80,7 @@ fn push_messages<S: BookRows>(told: &mut String, book: &Book<S>) -> Result<(), A
             write!(
                 told,
                 "; message {number} by {conn:?} at {}: {text}",
-                letter.place
+                letter.place()
             )?;
             push_slots(told, book, number)?;
         }

@@ -199,7 +199,7 @@ impl Books {
     fn note_taken(&mut self, ticket: Ticket) {
         self.last = ticket;
         if let Some(letter) = self.pruned.message(ticket.number)
-            && letter.place < self.pruned.first_place()
+            && letter.place() < self.pruned.first_place()
         {
             self.recalled = self.recalled.saturating_add(1);
         }

@@ -5,7 +5,7 @@ ghost use Rattle.row_store.specs.inner.Rows.{without};
 ghost use Rattle.dest_queue.specs.declared.SlotState.{SlotState};
 ghost use Rattle.dest_queue.specs.declared.slots.Slot.{Slot};
 ghost use Rattle.dest_queue.specs.States.{is_waiting};
-ghost use Rattle.dest_queue.specs.inner.Listed.{listed};
+ghost use Rattle.dest_queue.specs.inner.Listed.{listed, single};
 ghost use Rattle.dest_queue.specs.inner.SlotsBy.{slots_by, is_among};
 ghost use Rattle.dest_queue.specs.inner.Queues.{waiting_at, without_each};
 ghost use Rattle.std.specs.Int.{bit_at};
@@ -16,7 +16,6 @@ use crate::{ATTEMPTS_MAX, FailCause, SlotState};
 use row_store::QUEUES;
 use std::alloc::{AllocError, Global};
 use std::marker::Model;
-use std::slice;
 
 /// A message at one of its destinations.
 #[derive(Clone, Copy, Debug, PartialEq, Eq)]
@@ -25,62 +24,145 @@ pub struct Slot {
     pub state: SlotState,
 }
 
-/// Slots, with a list on the heap only where there are several. It is there for speed: a message for one destination takes
-/// a request for memory less.
+/// Slots, with a list on the heap only where there are several: a message for one destination takes a request for memory
+/// less. A single slot is a variant for each of its states. That takes 16 bytes, where an enum around a [`Slot`] takes 32.
 #[derive(Drop)]
 enum SlotList {
     Nowhere,
-    One(Slot),
-    Several(Vec<Slot>),
+    Waiting {
+        destination: u8,
+        attempts: u32,
+        due: u64,
+    },
+    InFlight {
+        destination: u8,
+        attempt: u32,
+    },
+    Delivered {
+        destination: u8,
+    },
+    Failed {
+        destination: u8,
+        cause: FailCause,
+    },
+    Several(Box<Vec<Slot>>),
 }
 
+/// A single slot takes 16 bytes.
+const _: () = prove!(size_of::<SlotList>() == 16);
+
 impl SlotList {
-    /// All of them, in order.
-    fn as_slice(&self) -> &[Slot]
-        ensures { result.now ≡ listed self.now }
+    /// The list of one slot.
+    fn one(slot: Slot) -> SlotList
+        requires { slot.destination < QUEUES }
+        ensures { listed result ≡ slot ∷ [] }
     {
-        match self {
-            SlotList::Nowhere => &[],
-            SlotList::One(slot) => slice::from_ref(slot),
-            SlotList::Several(list) => list.as_slice(),
+        let destination = slot.destination as u8;
+        match slot.state {
+            SlotState::Waiting { attempts, due } => SlotList::Waiting {
+                destination,
+                attempts,
+                due,
+            },
+            SlotState::InFlight { attempt } => SlotList::InFlight {
+                destination,
+                attempt,
+            },
+            SlotState::Delivered => SlotList::Delivered { destination },
+            SlotState::Failed(cause) => SlotList::Failed { destination, cause },
         }
+    }
+
+    /// The slot, where there is one and no list.
+    fn single(&self) -> Option<Slot>
+        ensures { result ≡ single self.now }
+    {
+        let (destination, state) = match self {
+            SlotList::Waiting {
+                destination,
+                attempts,
+                due,
+            } => {
+                let state = SlotState::Waiting {
+                    attempts: *attempts,
+                    due: *due,
+                };
+                (*destination, state)
+            }
+            SlotList::InFlight {
+                destination,
+                attempt,
+            } => (*destination, SlotState::InFlight { attempt: *attempt }),
+            SlotList::Delivered { destination } => (*destination, SlotState::Delivered),
+            SlotList::Failed { destination, cause } => (*destination, SlotState::Failed(*cause)),
+            SlotList::Nowhere | SlotList::Several(_) => return None,
+        };
+        Some(Slot {
+            destination: u32::from(destination),
+            state,
+        })
     }
 
     /// Adds a slot.
     fn add(&mut self, alloc: Global, slot: Slot) -> Result<(), AllocError>
+        requires { slot.destination < QUEUES }
         ensures ok { OnOk result (listed self.new ≡ listed self.old ++ slot ∷ []) }
         ensures err { OnErr result (listed self.new ≡ listed self.old) }
     {
-        match self {
-            SlotList::Nowhere => *self = SlotList::One(slot),
-            SlotList::One(first) => {
-                let both = vec![in alloc; *first, slot]?;
-                *self = SlotList::Several(both);
-            }
-            SlotList::Several(list) => list.push(slot)?,
+        if let SlotList::Several(list) = self {
+            list.push(slot)?;
+        } else {
+            *self = match self.single() {
+                None => SlotList::one(slot),
+                Some(first) => {
+                    let both = vec![in alloc; first, slot]?;
+                    SlotList::Several(Box::new(alloc, both)?)
+                }
+            };
         }
         Ok(())
     }
 
     /// A copy of the slots.
     fn copy(&self) -> Result<SlotList, AllocError>
+        requires { All (λ slot. slot.destination < QUEUES) (listed self.now) }
         ensures { IfOk result (λ list. listed list ≡ listed self.now) }
     {
-        Ok(match self {
-            SlotList::Nowhere => SlotList::Nowhere,
-            SlotList::One(slot) => SlotList::One(*slot),
-            SlotList::Several(list) => SlotList::Several(list.clone()?),
+        if let SlotList::Several(list) = self {
+            return Ok(SlotList::Several(list.clone()?));
+        }
+        Ok(match self.single() {
+            None => SlotList::Nowhere,
+            Some(slot) => SlotList::one(slot),
         })
+    }
+
+    /// The state at d, if there is a slot there.
+    fn state_at(&self, d: u32) -> Option<SlotState>
+        ensures { result ≡ state_at d (listed self.now) }
+    {
+        if let SlotList::Several(list) = self {
+            return list
+                .iter()
+                .find(|slot| slot.destination == d)
+                .map(|slot| slot.state);
+        }
+        self.single()
+            .filter(|slot| slot.destination == d)
+            .map(|slot| slot.state)
     }
 
     /// Puts the slot at d into a state.
     fn put(&mut self, d: u32, state: SlotState)
+        requires { All (λ slot. slot.destination < QUEUES) (listed self.old) }
         ensures { listed self.new ≡ with_state d state (listed self.old) }
     {
-        match self {
-            SlotList::Nowhere => {}
-            SlotList::One(slot) => put_in(slice::from_mut(slot), d, state),
-            SlotList::Several(list) => put_in(list, d, state),
+        if let SlotList::Several(list) = self {
+            put_in(list, d, state);
+        } else if let Some(slot) = self.single() {
+            let mut slots = [slot];
+            put_in(&mut slots, d, state);
+            *self = SlotList::one(slots[0]);
         }
     }
 
@@ -90,10 +172,15 @@ impl SlotList {
         ensures slots { listed self.new ≡ cancelled (listed self.old) }
         ensures mask { (d : ℕ) → (bit_at result d == 1) ≡ waits_at d (listed self.old) }
     {
-        match self {
-            SlotList::Nowhere => 0,
-            SlotList::One(slot) => cancel_in(slice::from_mut(slot)),
-            SlotList::Several(list) => cancel_in(list),
+        if let SlotList::Several(list) = self {
+            cancel_in(list)
+        } else if let Some(slot) = self.single() {
+            let mut slots = [slot];
+            let mask = cancel_in(&mut slots);
+            *self = SlotList::one(slots[0]);
+            mask
+        } else {
+            0
         }
     }
 }
@@ -148,13 +235,6 @@ impl Slots {
         self.list.add(self.alloc, slot)
     }
 
-    /// The slots in their order.
-    pub fn as_slice(&self) -> &[Slot]
-        ensures { result.now ≡ self.now }
-    {
-        self.list.as_slice()
-    }
-
     /// A copy of the slots.
     ///
     /// # Errors
@@ -173,11 +253,7 @@ impl Slots {
     pub fn state_at(&self, d: u32) -> Option<SlotState>
         ensures { result ≡ state_at d self.now }
     {
-        self.list
-            .as_slice()
-            .iter()
-            .find(|slot| slot.destination == d)
-            .map(|slot| slot.state)
+        self.list.state_at(d)
     }
 
     /// Puts the slot at d into a state.

@@ -1,6 +1,6 @@
 //! Where a message goes.
 
-ghost use Rattle.std.specs.Prelude.{◌≡◌, ◌≢◌, ◌<◌, ◌==◌, ◌∷◌, [], ◌++◌, length, IfOk, MatchOption, All, AllPairs, option_map, true, false};
+ghost use Rattle.std.specs.Prelude.{◌≡◌, ◌≢◌, ◌<◌, ◌==◌, ◌∷◌, [], ◌++◌, length, IfOk, MatchOption, All, AllPairs, find, option_copied, option_map, true, false};
 ghost use Rattle.std.specs.List.{list_any};
 ghost use Rattle.std.specs.Result.{result_ok};
 ghost use Rattle.hl7_transform.specs.Step.{after_steps};
@@ -63,6 +63,36 @@ impl Model for Deliveries {
     ghost view = { λ d. kept d.items };
 
     ghost invariant = { λ d. AreDeliveries (kept d.items) };
+}
+
+/// What is kept of deliveries. The fields of a single one are those of the variant, for memory: it takes 16 bytes, where
+/// an enum around a [`Delivery`] takes 24.
+#[derive(Drop)]
+enum Packed {
+    One { destination: u32, payload: Text },
+    Several(Arc<Vec<Delivery>>),
+}
+
+/// Deliveries that are kept for long, which share the texts of the [`Deliveries`] that they are made from.
+#[derive(Drop)]
+pub struct KeptDeliveries {
+    items: Packed,
+}
+
+/// Kept deliveries take 16 bytes beside what they share.
+const _: () = prove!(size_of::<KeptDeliveries>() == 16);
+
+impl Model for KeptDeliveries {
+    ghost use Rattle.std.specs.Prelude.{List};
+    ghost use Rattle.judge_core.specs.declared.delivery.Delivery.{Delivery};
+    ghost use Rattle.judge_core.specs.inner.Delivering.{AreDeliveries};
+    ghost use Rattle.judge_core.specs.inner.Outgoing.{unpacked};
+
+    ghost Value = { List Delivery };
+
+    ghost view = { λ d. unpacked d.items };
+
+    ghost invariant = { λ d. AreDeliveries (unpacked d.items) };
 }
 
 impl Outgoing {
@@ -237,5 +267,60 @@ impl Deliveries {
             Kept::Several(all) => Kept::Several(Arc::try_clone(all)?),
         };
         Ok(Deliveries { items })
+    }
+
+    /// The same deliveries for an owner that keeps them for long.
+    ///
+    /// # Errors
+    ///
+    /// Where they have more owners than can be counted.
+    pub fn keep(&self) -> Result<KeptDeliveries, AllocError>
+        ensures { IfOk result (λ kept. kept ≡ self.now) }
+    {
+        let items = match &self.items {
+            Kept::One(delivery) => Packed::One {
+                destination: delivery.destination,
+                payload: delivery.payload.share()?,
+            },
+            Kept::Several(all) => Packed::Several(Arc::try_clone(all)?),
+        };
+        Ok(KeptDeliveries { items })
+    }
+}
+
+impl KeptDeliveries {
+    /// The deliveries, for one more owner.
+    ///
+    /// # Errors
+    ///
+    /// Where they have more owners than can be counted.
+    pub fn share(&self) -> Result<Deliveries, AllocError>
+        ensures { IfOk result (λ deliveries. deliveries ≡ self.now) }
+    {
+        let items = match &self.items {
+            Packed::One {
+                destination,
+                payload,
+            } => Kept::One(Delivery {
+                destination: *destination,
+                payload: payload.share()?,
+            }),
+            Packed::Several(all) => Kept::Several(Arc::try_clone(all)?),
+        };
+        Ok(Deliveries { items })
+    }
+
+    /// The text for destination `d`, if there is one.
+    pub fn payload(&self, d: u32) -> Option<&Text>
+        ensures { option_copied result ≡ option_map (λ x. x.payload) (find (λ x. x.destination == d) self.now) }
+    {
+        match &self.items {
+            Packed::One {
+                destination,
+                payload,
+            } if *destination == d => Some(payload),
+            Packed::One { .. } => None,
+            Packed::Several(all) => all.iter().find(|x| x.destination == d).map(|x| &x.payload),
+        }
     }
 }
