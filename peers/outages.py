@@ -1,5 +1,9 @@
 """Destinations that are down in ways that a connect doesn't show, and senders without framing, around the built service."""
+import os
+import shutil
 import socket
+import subprocess
+import sys
 import threading
 import time
 
@@ -12,10 +16,10 @@ class Proxy:
     """A proxy as stunnel or HAProxy: it accepts connections, connects each to the port behind it, and closes it where that
     refuses. It counts the connections that it accepted."""
 
-    def __init__(self, behind):
+    def __init__(self, behind, address='127.0.0.1', port=None):
         self.behind, self.accepted, self._closed = behind, 0, False
         self._listener = socket.socket()
-        self._listener.bind(('127.0.0.1', free_ports(1)[0]))
+        self._listener.bind((address, port or free_ports(1)[0]))
         self._listener.listen(16)
         self.port = self._listener.getsockname()[1]
         self._thread = threading.Thread(target=self._listen, daemon=True)
@@ -133,5 +137,63 @@ def without_framing(program, folder):
     return []
 
 
+class Silent:
+    """An address at which a connect gets no answer: a listener that accepts nothing, with as many connections as may wait."""
+
+    def __init__(self, address, port):
+        self._sockets = [socket.socket() for _ in range(5)]
+        self._sockets[0].bind((address, port))
+        self._sockets[0].listen(0)
+        for waiting in self._sockets[1:]:
+            waiting.setblocking(False)
+            waiting.connect_ex((address, port))
+        time.sleep(0.2)
+
+    def close(self):
+        for each in self._sockets:
+            each.close()
+
+
+def with_hosts(folder, program, hosts):
+    """A script that runs a program where these names are known, and no others; None where this machine doesn't allow it."""
+    unshare = shutil.which('unshare')
+    if not unshare or subprocess.run([unshare, '-m', 'true'], stderr=subprocess.DEVNULL, check=False).returncode:
+        return None
+    names, script = os.path.join(folder, 'hosts'), os.path.join(folder, os.path.basename(program) + '.sh')
+    with open(names, 'w', encoding='utf-8') as file:
+        file.write(hosts)
+    with open(script, 'w', encoding='utf-8') as file:
+        file.write(f'#!/bin/sh\nexec {unshare} -m sh -c \'mount --bind "$1" /etc/hosts && shift && exec "$@"\' sh '
+                   f'{names} {program} "$@"\n')
+    os.chmod(script, 0o755)
+    return script
+
+
+def each_address(program, folder):
+    """The addresses of a destination's name are tried one after another: a first one that doesn't answer a connect keeps no
+    message from the second."""
+    hosts = '127.0.0.1 localhost\n127.0.0.2 twice.example\n127.0.0.3 twice.example\n'
+    service_there, python_there = (with_hosts(folder, each, hosts) for each in (program, sys.executable))
+    if service_there is None:
+        print('not played, since this machine allows no mounts: each address of a name')
+        return []
+    port, away = free_ports(2)
+    look = f'import socket\nfor a in socket.getaddrinfo("twice.example", {away}, type=socket.SOCK_STREAM): print(a[4][0])'
+    order = subprocess.run([python_there, '-c', look], stdout=subprocess.PIPE, check=True).stdout.decode().split()
+    lab = Destination(lambda text, before: b'AA')
+    silent, relay = Silent(order[0], away), Proxy(lab.port, order[-1], away)
+    text = one_channel(port, [('LAB', away, ['timeout = 1', 'attempts = 1'])])
+    with Service(service_there, text.replace(f'127.0.0.1:{away}', f'twice.example:{away}'), folder) as service:
+        exchange(port, [message(b'A0'), message(b'A1')])
+        whole = wait_received(lab, 2)
+        service.ask('stop')
+        status, _ = service.ended()
+    for each in (silent, relay, lab):
+        each.close()
+    if (len(order), whole, status, lab.received) != (2, True, 0, [message(b'A0'), message(b'A1')]):
+        return [f'each address: {order}, status {status}, {len(lab.received)} of 2 received']
+    return []
+
+
 OUTAGES = [('behind a proxy', behind_a_proxy), ('sent once an attempt', sent_once_an_attempt), ('cut off', cut_off),
-           ('without framing', without_framing)]
+           ('without framing', without_framing), ('each address of a name', each_address)]

@@ -117,6 +117,33 @@ def moved(program, folder):
     return []
 
 
+def deployed_under_load(program, folder):
+    """Plans that are deployed while messages arrive on four connections cost no sender an error: each message is acknowledged CA,
+    and delivered once."""
+    port, lab = free_ports(1)[0], Destination(lambda text, before: b'AA')
+    plans = [one_channel(port, [('LAB', lab.port, [f'interval = {interval}'])]) for interval in (1, 2)]
+    senders = [Sender(port, [message(b'%c%d' % (letter, n)) for n in range(500)]) for letter in b'ABCD']
+    answers = []
+    with Service(program, plans[0], folder) as service:
+        for sender in senders:
+            sender.start()
+        while any(sender.is_alive() for sender in senders) and len(answers) < 300:
+            with open(service.path, 'w', encoding='utf-8') as file:
+                file.write(plans[len(answers) % 2])
+            answers.append(service.ask(f'deploy {service.path}'))
+        for sender in senders:
+            sender.join(LIMIT)
+        whole = wait_received(lab, 2_000)
+        service.ask('stop')
+        status, _ = service.ended()
+    lab.close()
+    codes = {(field(reply, b'MSA', 1), field(reply, b'MSA', 3)) for sender in senders for reply in sender.replies}
+    texts = sorted(text for sender in senders for text in sender.texts)
+    if (codes, whole, status, sorted(lab.received)) != ({(b'CA', b'')}, True, 0, texts) or ['deployed'] not in answers:
+        return [f'deployed under load: codes {codes}, {len(answers)} deployed, status {status}, {len(lab.received)} received']
+    return []
+
+
 def renamed(program, folder):
     """A deployment that reorders, renames or removes destinations says whose counts are shown under which name."""
     port = free_ports(1)[0]
@@ -602,7 +629,8 @@ def words(program, folder):
 
 
 SCENES = [('connections are accepted again', taken_again), ('commands', commands), ('questions', questions),
-          ('a destination moves', moved), ('a destination is renamed', renamed), ('warnings of a plan', warned),
+          ('a destination moves', moved), ('a plan is deployed under load', deployed_under_load),
+          ('a destination is renamed', renamed), ('warnings of a plan', warned),
           ('a destination closes', closing), ('a destination comes back', comes_back), ('unasked answers', unasked),
           ('a destination that sends all the time', chatting), ('the book forgets', forgets), ('reading pauses', pauses),
           ('a crowd', crowd), ('killed receivers', killed), ('nobody reads', unread), ('output that fails', unwritten),

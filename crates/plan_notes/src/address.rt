@@ -28,6 +28,8 @@ pub(crate) enum AddressFlaw {
     Form,
     /// Its port is no number from 0 to 65,535.
     Port,
+    /// Its host has digits and dots alone, and is no IPv4 address.
+    Ipv4,
 }
 
 impl AddressFlaw {
@@ -36,6 +38,7 @@ impl AddressFlaw {
         match self {
             AddressFlaw::Form => "is not HOST:PORT, as 127.0.0.1:6660",
             AddressFlaw::Port => "has a port that is not a number from 1 to 65535",
+            AddressFlaw::Ipv4 => "has a host that is neither a name nor four numbers from 0 to 255",
         }
     }
 }
@@ -43,6 +46,16 @@ impl AddressFlaw {
 /// Whether a text can be a host: it isn't empty, and holds colons in brackets alone.
 fn is_host(text: &str) -> bool {
     !text.is_empty() && (!text.contains(':') || (text.starts_with('[') && text.ends_with(']')))
+}
+
+/// Whether a host is written as an IPv4 address is, in digits and dots, and is none: such a host has no name to look up.
+fn is_flawed_ipv4(host: &str) -> bool {
+    let is_numeric = host
+        .bytes()
+        .all(|byte| byte.is_ascii_digit() || byte == b'.');
+    let is_address = host.split('.').count() == 4
+        && host.split('.').all(|part| part.parse::<u8>().is_ok());
+    is_numeric && !is_address
 }
 
 impl<'a> Host<'a> {
@@ -84,7 +97,8 @@ impl<'a> Address<'a> {
     ///
     /// # Errors
     ///
-    /// `Form` where it isn't HOST:PORT, `Port` where the port is no number from 0 to 65,535.
+    /// `Form` where it isn't HOST:PORT, `Port` where the port is no number from 0 to 65,535, `Ipv4` where the host has digits
+    /// and dots alone and is no IPv4 address.
     pub(crate) fn of(text: &'a str) -> Result<Address<'a>, AddressFlaw> {
         let Some((host, port)) = text.rsplit_once(':') else {
             return Err(AddressFlaw::Form);
@@ -92,13 +106,16 @@ impl<'a> Address<'a> {
         if !is_host(host) {
             return Err(AddressFlaw::Form);
         }
-        match port.parse::<u16>() {
-            Ok(port) => Ok(Address {
-                host: Host::of(host),
-                port,
-            }),
-            Err(_) => Err(AddressFlaw::Port),
+        let Ok(port) = port.parse::<u16>() else {
+            return Err(AddressFlaw::Port);
+        };
+        if is_flawed_ipv4(host) {
+            return Err(AddressFlaw::Ipv4);
         }
+        Ok(Address {
+            host: Host::of(host),
+            port,
+        })
     }
 
     /// Whether two channels can't listen at both: the same port, which is not 0, and hosts that meet.

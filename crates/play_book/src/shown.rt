@@ -71,7 +71,8 @@ pub(crate) fn letter_shown(
     let text = shown(alloc, letter.raw.as_slice())?;
     format!(in alloc;
         "entry {}, connection {conn:?}, channel {}, control id {id}, {text}",
-        letter.place(), letter.channel
+        letter.place(),
+        letter.channel
     )
 }
 

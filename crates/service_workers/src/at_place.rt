@@ -1,6 +1,6 @@
 //! A desk of a shared book that prunes itself, at which the messages of a channel are booked.
 
-ghost use Rattle.std.specs.Prelude.{◌≡◌};
+ghost use Rattle.std.specs.Prelude.{◌≡◌, IfSome};
 
 use crate::pauses::paused_by;
 use crate::site::{Crew, Site};
@@ -9,7 +9,7 @@ use book_lock::{Desk, Sharing, Tidied, Tidying};
 use conn_core::Booking;
 use conn_worker::{log_arrival, log_break, log_fill, log_passed_over};
 use event_log::Told;
-use judge_core::Judged;
+use judge_core::{Judged, judge};
 use log::{Log, info, warn};
 use mllp_frame::Break;
 use plan_text::Plan;
@@ -71,6 +71,22 @@ impl<'a, 'x, A: Sharing, H: Crew> AtPlace<'a, 'x, A, H> {
         }
         receipt
     }
+
+    /// A message judged once more, by the plan that is in force now. Nothing where memory is refused for that, or the plan
+    /// doesn't have the message's channel.
+    fn judged_anew(&self, judged: &Judged) -> Option<Judged>
+        ensures channel { IfSome result (λ anew. anew.channel ≡ judged.now.channel) }
+        ensures raw { IfSome result (λ anew. anew.raw ≡ judged.now.raw) }
+    {
+        let site = self.site;
+        let plan = site.shared.plan(site.rt).ok()?;
+        let channel = judged.channel();
+        if channel >= plan.channels() {
+            return None;
+        }
+        let raw = Vec::from_slice(site.alloc, judged.raw().as_slice()).ok()?;
+        judge(site.alloc, &plan, channel, raw).ok()
+    }
 }
 
 impl<'a, 'x, A: Sharing, H: Crew> Booking for AtPlace<'a, 'x, A, H> {
@@ -105,11 +121,19 @@ impl<'a, 'x, A: Sharing, H: Crew> Booking for AtPlace<'a, 'x, A, H> {
         self.note_arrival(conn, judged, tidied)
     }
 
+    /// A message for which another plan was deployed since it was judged is judged once more. Where another one is
+    /// deployed at that moment too, or memory is refused, it is not booked.
     fn arrive_judged(&mut self, conn: u32, judged: &Judged) -> Result<Receipt, NotBooked> {
         let tidied = self
             .site
             .shared
             .arrive_tidy_judged(self.site.rt, self.desk, conn, judged, self.site.keep);
+        if matches!(tidied.receipt, Err(NotBooked::PlanChanged))
+            && let Some(anew) = self.judged_anew(judged)
+        {
+            log_tidying(self.site.rt, tidied.tidying);
+            return self.arrive(conn, &anew);
+        }
         self.note_arrival(conn, judged, tidied)
     }
 
