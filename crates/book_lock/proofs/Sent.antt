@@ -30,7 +30,10 @@ use Rattle.plan_text.proofs.channel.VersionId.TheSendSync as version_id
 use Rattle.plan_text.specs.contracts.plan.Plan as Plan
 use Rattle.plan_text.specs.contracts.channel.Channel as Channel
 use Rattle.plan_text.specs.contracts.channel.Route as Route
+use Rattle.dest_queue.proofs.slots.Slots.TheSendSync as slots
 use Rattle.event_log.specs.contracts.log.Log as Log
+use Rattle.event_log.specs.contracts.opening.Remembered as Remembered
+use Rattle.event_log.specs.contracts.opening.Snapshot as Snapshot
 use Rattle.event_log.specs.contracts.entry.DeployedPlan as DeployedPlan
 use Rattle.event_log.specs.contracts.entry.Entry as Entry
 
@@ -67,8 +70,14 @@ deployed_send = search (sendable, crosses, plan_send, plan_sync) depth 60 fits 3
 pub entry_send : IsSend Entry.the_row
 entry_send = search (sendable, crosses, deployed_send) depth 90 fits 30000
 
+pub remembered_send : IsSend Remembered.the_row
+remembered_send = search (sendable, crosses, slots.the_send) depth 90 fits 30000
+
+pub snapshot_send : IsSend Snapshot.the_row
+snapshot_send = search (sendable, crosses, plan_send, plan_sync, remembered_send) depth 90 fits 30000
+
 pub log_send : IsSend Log.the_row
-log_send = search (sendable, crosses, plan_send, plan_sync, entry_send) depth 90 fits 30000
+log_send = search (sendable, crosses, plan_send, plan_sync, entry_send, snapshot_send) depth 90 fits 30000
 
 pub book_send : (S : RattleType) (g : RowStore.Ghosts S.Denot (Queued.Queued Outbound.Outbound)) → IsSend S → IsSend (Book.the_row S g)
 book_send S g s =
