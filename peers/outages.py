@@ -1,6 +1,5 @@
 """Destinations that are down in ways that a connect doesn't show, and senders without framing, around the built service."""
 import os
-import shutil
 import socket
 import subprocess
 import sys
@@ -156,27 +155,30 @@ class Silent:
 
 def with_hosts(folder, program, hosts):
     """A script that runs a program where these names are known, and no others; None where this machine doesn't allow it."""
-    unshare = shutil.which('unshare')
-    if not unshare or subprocess.run([unshare, '-m', 'true'], stderr=subprocess.DEVNULL, check=False).returncode:
-        return None
     names, script = os.path.join(folder, 'hosts'), os.path.join(folder, os.path.basename(program) + '.sh')
     with open(names, 'w', encoding='utf-8') as file:
         file.write(hosts)
     with open(script, 'w', encoding='utf-8') as file:
-        file.write(f'#!/bin/sh\nexec {unshare} -m sh -c \'mount --bind "$1" /etc/hosts && shift && exec "$@"\' sh '
+        file.write(f'#!/bin/sh\nexec unshare -m sh -c \'mount --bind "$1" /etc/hosts && shift && exec "$@"\' sh '
                    f'{names} {program} "$@"\n')
     os.chmod(script, 0o755)
     return script
+
+
+def knows_names(folder, hosts):
+    """Whether this machine allows programs of their own names."""
+    done = subprocess.run([with_hosts(folder, '/bin/true', hosts)], stderr=subprocess.DEVNULL, check=False)
+    return done.returncode == 0
 
 
 def each_address(program, folder):
     """The addresses of a destination's name are tried one after another: a first one that doesn't answer a connect keeps no
     message from the second."""
     hosts = '127.0.0.1 localhost\n127.0.0.2 twice.example\n127.0.0.3 twice.example\n'
-    service_there, python_there = (with_hosts(folder, each, hosts) for each in (program, sys.executable))
-    if service_there is None:
+    if not knows_names(folder, hosts):
         print('not played, since this machine allows no mounts: each address of a name')
         return []
+    service_there, python_there = (with_hosts(folder, each, hosts) for each in (program, sys.executable))
     port, away = free_ports(2)
     look = f'import socket\nfor a in socket.getaddrinfo("twice.example", {away}, type=socket.SOCK_STREAM): print(a[4][0])'
     order = subprocess.run([python_there, '-c', look], stdout=subprocess.PIPE, check=True).stdout.decode().split()
