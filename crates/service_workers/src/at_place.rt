@@ -1,6 +1,6 @@
 //! A desk of a shared book that prunes itself, at which the messages of a channel are booked.
 
-ghost use Rattle.std.specs.Prelude.{◌≡◌, IfSome};
+ghost use Rattle.std.specs.Prelude.{◌≡◌, ◌↔◌, IfSome, IsErrOf, IsTrue};
 
 use crate::pauses::paused_by;
 use crate::site::{Crew, Site};
@@ -35,6 +35,13 @@ fn log_tidying<H: Log>(rt: &H, tidying: Tidying) {
         Tidying::Pruned { before } => info!(rt; before; "settled messages forgotten"),
         Tidying::Refused(refusal) => warn!(rt; "the book is tight and can't be pruned: {refusal}"),
     }
+}
+
+/// Whether an arrival was refused because another plan was deployed after its message was judged.
+fn is_plan_changed(receipt: &Result<Receipt, NotBooked>) -> bool
+    ensures { IsTrue result ↔ IsErrOf receipt.now NotBooked.PlanChanged }
+{
+    matches!(receipt, Err(NotBooked::PlanChanged))
 }
 
 /// Has reading pause at the channels that the book has no room for, at once: many messages may be received before the warden
@@ -128,7 +135,7 @@ impl<'a, 'x, A: Sharing, H: Crew> Booking for AtPlace<'a, 'x, A, H> {
             .site
             .shared
             .arrive_tidy_judged(self.site.rt, self.desk, conn, judged, self.site.keep);
-        if matches!(tidied.receipt, Err(NotBooked::PlanChanged))
+        if is_plan_changed(&tidied.receipt)
             && let Some(anew) = self.judged_anew(judged)
         {
             log_tidying(self.site.rt, tidied.tidying);
