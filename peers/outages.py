@@ -182,6 +182,9 @@ def each_address(program, folder):
     port, away = free_ports(2)
     look = f'import socket\nfor a in socket.getaddrinfo("twice.example", {away}, type=socket.SOCK_STREAM): print(a[4][0])'
     order = subprocess.run([python_there, '-c', look], stdout=subprocess.PIPE, check=True).stdout.decode().split()
+    if len(order) < 2:
+        print('not played, since this machine keeps one address for a name: each address of a name')
+        return []
     lab = Destination(lambda text, before: b'AA')
     silent, relay = Silent(order[0], away), Proxy(lab.port, order[-1], away)
     text = one_channel(port, [('LAB', away, ['timeout = 1', 'attempts = 1'])])
@@ -192,7 +195,7 @@ def each_address(program, folder):
         status, _ = service.ended()
     for each in (silent, relay, lab):
         each.close()
-    if (len(order), whole, status, lab.received) != (2, True, 0, [message(b'A0'), message(b'A1')]):
+    if (whole, status, lab.received) != (True, 0, [message(b'A0'), message(b'A1')]):
         return [f'each address: {order}, status {status}, {len(lab.received)} of 2 received']
     return []
 
