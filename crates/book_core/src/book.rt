@@ -543,7 +543,7 @@ impl<S: BookRows> Book<S> {
         let Some(message) = self.rows.get(number) else {
             unreachable!()
         };
-        let Some(text) = message.content.deliveries.payload(d) else {
+        let Some(text) = message.content.payload(d) else {
             unreachable!()
         };
         Ok((message.content.control_id_piece()?, text.share()?))

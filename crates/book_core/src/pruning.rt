@@ -102,7 +102,7 @@ fn recall<S: BookRows>(
     let Some(message) = message_told(rows, told) else {
         return Ok(Remembered::new(place, channel, raw, told, None, Slots::new(alloc)));
     };
-    let deliveries = message.content.deliveries.share()?;
+    let deliveries = message.content.deliveries()?;
     let slots = message.slots.copy()?;
     Ok(Remembered::new(place, channel, raw, told, Some(deliveries), slots))
 }

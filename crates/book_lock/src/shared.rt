@@ -504,9 +504,9 @@ impl<A: Sharing, S: BookRows> Shared<A, S> {
             return Ok(not_kept(number, book.message_count()));
         };
         Ok(Found::Kept(Message {
-            channel: letter.channel,
+            channel: letter.channel(),
             conn: book.connection(number),
-            raw: letter.raw.share()?,
+            raw: letter.raw().share()?,
             states: states_of(book, number),
         }))
     }

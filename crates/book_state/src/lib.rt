@@ -75,7 +75,7 @@ fn push_slots<S: BookRows>(
 fn push_messages<S: BookRows>(told: &mut String, book: &Book<S>) -> Result<(), AllocError> {
     for number in 0..book.message_count() {
         if let Some(letter) = book.message(number) {
-            let text = shown(*told.allocator(), letter.raw.as_slice())?;
+            let text = shown(*told.allocator(), letter.raw().as_slice())?;
             let conn = book.connection(number);
             write!(
                 told,

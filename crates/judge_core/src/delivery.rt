@@ -9,7 +9,7 @@ ghost use Rattle.plan_text.specs.Entries.{AllStand};
 ghost use Rattle.mllp_frame.specs.Framing.{IsData};
 ghost use Rattle.er7_tree.specs.Tree.{text_of};
 ghost use Rattle.hl7_filter.specs.inner.View.{view as condition_view};
-ghost use Rattle.judge_core.specs.inner.Outgoing.{listed};
+ghost use Rattle.judge_core.specs.inner.Outgoing.{listed, unpacked};
 ghost use Rattle.judge_core.specs.Judging.{passes, deliveries_by, is_stopped, open_routes};
 
 use crate::text::Text;
@@ -65,34 +65,34 @@ impl Model for Deliveries {
     ghost invariant = { λ d. AreDeliveries (kept d.items) };
 }
 
-/// What is kept of deliveries. The fields of a single one are those of the variant, for memory: it takes 16 bytes, where
-/// an enum around a [`Delivery`] takes 24.
+/// Deliveries as an owner of very many keeps them, beside small values of its own: the parts of a single one, or what several
+/// share.
 #[derive(Drop)]
-enum Packed {
-    One { destination: u32, payload: Text },
-    Several(Arc<Vec<Delivery>>),
+pub enum KeptDeliveries {
+    One { destination: u8, payload: Text },
+    Several(SharedDeliveries),
 }
 
-/// Deliveries that are kept for long, which share the texts of the [`Deliveries`] that they are made from.
+/// A list of deliveries that many owners share.
 #[derive(Drop)]
-pub struct KeptDeliveries {
-    items: Packed,
+pub struct SharedDeliveries {
+    all: Arc<Vec<Delivery>>,
 }
 
-/// Kept deliveries take 16 bytes beside what they share.
-const _: () = prove!(size_of::<KeptDeliveries>() == 16);
+/// Shared deliveries take 8 bytes beside what they share.
+const _: () = prove!(size_of::<SharedDeliveries>() == 8);
 
-impl Model for KeptDeliveries {
+impl Model for SharedDeliveries {
     ghost use Rattle.std.specs.Prelude.{List};
+    ghost use Rattle.std.specs.Arc.{arc_value};
     ghost use Rattle.judge_core.specs.declared.delivery.Delivery.{Delivery};
     ghost use Rattle.judge_core.specs.inner.Delivering.{AreDeliveries};
-    ghost use Rattle.judge_core.specs.inner.Outgoing.{unpacked};
 
     ghost Value = { List Delivery };
 
-    ghost view = { λ d. unpacked d.items };
+    ghost view = { λ d. (arc_value d.all).items };
 
-    ghost invariant = { λ d. AreDeliveries (unpacked d.items) };
+    ghost invariant = { λ d. AreDeliveries (arc_value d.all).items };
 }
 
 impl Outgoing {
@@ -269,26 +269,41 @@ impl Deliveries {
         Ok(Deliveries { items })
     }
 
-    /// The same deliveries for an owner that keeps them for long.
+    /// The same deliveries as an owner of very many keeps them.
     ///
     /// # Errors
     ///
     /// Where they have more owners than can be counted.
     pub fn keep(&self) -> Result<KeptDeliveries, AllocError>
-        ensures { IfOk result (λ kept. kept ≡ self.now) }
+        ensures kept { IfOk result (λ kept. unpacked kept ≡ self.now) }
+        ensures good { AreDeliveries self.now }
     {
-        let items = match &self.items {
-            Kept::One(delivery) => Packed::One {
-                destination: delivery.destination,
+        Ok(match &self.items {
+            Kept::One(delivery) => KeptDeliveries::One {
+                destination: delivery.destination as u8,
                 payload: delivery.payload.share()?,
             },
-            Kept::Several(all) => Packed::Several(Arc::try_clone(all)?),
-        };
-        Ok(KeptDeliveries { items })
+            Kept::Several(all) => KeptDeliveries::Several(SharedDeliveries {
+                all: Arc::try_clone(all)?,
+            }),
+        })
+    }
+
+    /// A single delivery.
+    pub fn single(destination: u8, payload: Text) -> Deliveries
+        requires { AreDeliveries (record { destination = destination; payload = payload } ∷ []) }
+        ensures { result ≡ record { destination = destination; payload = payload } ∷ [] }
+    {
+        Deliveries {
+            items: Kept::One(Delivery {
+                destination: u32::from(destination),
+                payload,
+            }),
+        }
     }
 }
 
-impl KeptDeliveries {
+impl SharedDeliveries {
     /// The deliveries, for one more owner.
     ///
     /// # Errors
@@ -297,30 +312,19 @@ impl KeptDeliveries {
     pub fn share(&self) -> Result<Deliveries, AllocError>
         ensures { IfOk result (λ deliveries. deliveries ≡ self.now) }
     {
-        let items = match &self.items {
-            Packed::One {
-                destination,
-                payload,
-            } => Kept::One(Delivery {
-                destination: *destination,
-                payload: payload.share()?,
-            }),
-            Packed::Several(all) => Kept::Several(Arc::try_clone(all)?),
-        };
-        Ok(Deliveries { items })
+        Ok(Deliveries {
+            items: Kept::Several(Arc::try_clone(&self.all)?),
+        })
     }
 
     /// The text for destination `d`, if there is one.
     pub fn payload(&self, d: u32) -> Option<&Text>
-        ensures { option_copied result ≡ option_map (λ x. x.payload) (find (λ x. x.destination == d) self.now) }
+        ensures { option_copied result ≡ option_map (λ x. x.payload)
+            (find (λ x. x.destination == d) self.now) }
     {
-        match &self.items {
-            Packed::One {
-                destination,
-                payload,
-            } if *destination == d => Some(payload),
-            Packed::One { .. } => None,
-            Packed::Several(all) => all.iter().find(|x| x.destination == d).map(|x| &x.payload),
-        }
+        self.all
+            .iter()
+            .find(|x| x.destination == d)
+            .map(|x| &x.payload)
     }
 }

@@ -6,7 +6,7 @@ mod judged;
 mod laws;
 mod text;
 
-pub use delivery::{Deliveries, Delivery, KeptDeliveries};
+pub use delivery::{Deliveries, Delivery, KeptDeliveries, SharedDeliveries};
 pub use judged::{Judged, JudgedMessage, Verdict, judge};
 pub use laws::{key_rules, verdict_rules};
 pub use text::{Text, TextPiece, fits_block, offset_32};

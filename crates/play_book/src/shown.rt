@@ -68,11 +68,11 @@ pub(crate) fn letter_shown(
     conn: Option<u32>,
 ) -> Result<String, AllocError> {
     let id = shown(alloc, letter.control_id())?;
-    let text = shown(alloc, letter.raw.as_slice())?;
+    let text = shown(alloc, letter.raw().as_slice())?;
     format!(in alloc;
         "entry {}, connection {conn:?}, channel {}, control id {id}, {text}",
         letter.place(),
-        letter.channel
+        letter.channel()
     )
 }
 

@@ -1,6 +1,6 @@
 -- Questions about a history, which don't change it.
-use Rattle.std.specs.Prelude.{◌≡◌, ◌≤◌, ◌<◌, ◌+◌, ◌-◌, ◌*◌, ℕ, Bool, false, ◌&&◌, not, nat_lt, if◌then◌else◌, List, length, filter, find, slice_get, Option, None, Some, option_and_then}
-use Rattle.std.specs.List.{filter_map, range_with_len}
+use Rattle.std.specs.Prelude.{◌≡◌, ◌+◌, ◌-◌, ◌*◌, ℕ, Bool, false, ◌&&◌, not, nat_lt, if◌then◌else◌, List, length, find, slice_get, Option, None, Some, option_and_then}
+use Rattle.std.specs.List.{range_with_len}
 use Rattle.std.specs.Option.{option_map, option_map_or}
 use Rattle.std.specs.Str.{bytes_eq}
 use Rattle.dest_queue.specs.declared.SlotState.{SlotState}

@@ -6,8 +6,8 @@ use Rattle.judge_core.specs.declared.delivery.Outgoing.{Outgoing}
 use Rattle.judge_core.specs.declared.delivery.Outgoing.TheVariants.{Nowhere, One, Several}
 use Rattle.judge_core.specs.declared.delivery.Kept.{Kept}
 use Rattle.judge_core.specs.declared.delivery.Kept.TheVariants.{One as KeptOne, Several as KeptSeveral}
-use Rattle.judge_core.specs.declared.delivery.Packed.{Packed}
-use Rattle.judge_core.specs.declared.delivery.Packed.TheVariants.{One as PackedOne, Several as PackedSeveral}
+use Rattle.judge_core.specs.declared.delivery.KeptDeliveries.{KeptDeliveries}
+use Rattle.judge_core.specs.declared.delivery.KeptDeliveries.TheVariants.{One as PackedOne, Several as PackedSeveral}
 
 -- all that were found, in their order
 abbrev pub listed : Outgoing → List Delivery
@@ -20,7 +20,7 @@ abbrev pub kept : Kept → List Delivery
 kept (KeptOne delivery) = delivery ∷ []
 kept (KeptSeveral all) = (arc_value all).items
 
--- all that are kept for long, in their order
-abbrev pub unpacked : Packed → List Delivery
+-- all that an owner of very many keeps, in their order
+abbrev pub unpacked : KeptDeliveries → List Delivery
 unpacked (PackedOne destination payload) = record { destination = destination; payload = payload } ∷ []
-unpacked (PackedSeveral all) = (arc_value all).items
+unpacked (PackedSeveral all) = all

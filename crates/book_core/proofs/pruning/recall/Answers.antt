@@ -1,9 +1,7 @@
 use Rattle.std.proofs.Common.{◌≡◌, [], None, Some, sym, ◌∙◌, ap}
 use Rattle.std.specs.Prelude.{option_and_then, option_copied}
 use Rattle.row_store.specs.Rows.{item_at}
-use Rattle.dest_queue.specs.declared.slots.Queued.{Queued}
 use Rattle.event_log.specs.History.{number_told}
-use Rattle.book_core.specs.declared.letter.Outbound.{Outbound}
 use Rattle.book_core.proofs.Remembering.{recalled-none, recalled-row}
 use Rattle.book_core.proofs.pruning.recall.Goals as goal
 
@@ -32,7 +30,7 @@ returns g c = λ h agree.
       channel = c.args.channel;
       raw = c.in_ok-raw.ensures i;
       told = c.args.told;
-      deliveries = (c.in_ok-deliveries.ensures ∙ ap (λ (m : Queued Outbound). m.content.deliveries) c.message.view_is) i;
-      slots = (c.in_ok-slots.ensures ∙ ap (λ (m : Queued Outbound). m.slots) c.message.view_is) i;
+      deliveries = c.in_ok-deliveries.ensures i;
+      slots = c.in_ok-slots.ensures i;
     })
     ∙ recalled-row h (g.S.RowStore.rows c.args.rows.now) agree c.args.place c.args.channel c.args.raw.now c.args.told c.in-Some.message.now found)
