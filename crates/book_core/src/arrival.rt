@@ -1,6 +1,6 @@
 //! The answer to an arrival, and what is kept of it.
 
-ghost use Rattle.std.specs.Prelude.{◌≡◌, ◌≢◌, ◌<◌, ◌≤◌, ◌==◌, ℕ, true, false, [], ◌∷◌, ◌++◌, IfOk, OnOk, OnErr, IsTrue, Some, None, All, AllPairs};
+ghost use Rattle.std.specs.Prelude.{◌≡◌, ◌≢◌, ◌<◌, ◌≤◌, ◌==◌, ℕ, true, false, List, [], ◌∷◌, ◌++◌, IfOk, OnOk, OnErr, IsTrue, Some, None, All, AllPairs};
 ghost use Rattle.std.specs.Int.{bit_at};
 ghost use Rattle.std.specs.Option.{option_map_or};
 ghost use Rattle.dup_index.specs.inner.Known.{place_of};
@@ -27,10 +27,11 @@ pub(crate) fn told(log: &Log, keys: &Keys, judged: &Judged) -> Told
     requires bookable { IsTrue (is_bookable judged.now.raw) }
     requires same_plan { judged.now.plan ≡ plan_in_force log.now.history }
     requires keys { KeysAgree log.now.history keys.now.known }
+    requires few_places { (key : List ℕ) (place : ℕ) → place_of key keys.now.known ≡ Some place → place ≤ u32.MAX }
     ensures { arrival_answer log.now.history judged.now.channel judged.now.raw ≡ Some result }
 {
     match keys.find(judged.key()) {
-        Some(place) if log.brings(place, judged.raw().as_slice()) => Told::Repeat(place),
+        Some(place) if log.brings(place, judged.raw().as_slice()) => Told::Repeat(place as u32),
         Some(_) => Told::Refused(Cause::IdReused),
         None => told_first(judged.verdict(), log.message_count()),
     }

@@ -24,8 +24,11 @@ pub enum Told {
     /// It was refused.
     Refused(Cause),
     /// It was received before: the index of the entry of its first arrival.
-    Repeat(usize),
+    Repeat(u32),
 }
+
+/// An answer takes 8 bytes, in each entry of an arrival.
+const _: () = prove!(size_of::<Told>() == 8);
 
 impl Told {
     /// Whether it says that the message has this number.

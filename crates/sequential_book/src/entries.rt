@@ -1,6 +1,6 @@
 //! What a list of entries says, read from its start.
 
-ghost use Rattle.std.specs.Prelude.{◌≡◌, ◌<◌, ◌==◌, [], IfOk, IfSome, None, All, false, if◌then◌else◌, count_by, length, slice_get};
+ghost use Rattle.std.specs.Prelude.{◌≡◌, ◌<◌, ◌≤◌, ◌==◌, [], IfOk, IfSome, None, All, false, if◌then◌else◌, count_by, length, slice_get};
 ghost use Rattle.std.specs.Arc.{arc_value};
 ghost use Rattle.std.specs.Int.{bit_at};
 ghost use Rattle.std.specs.List.{filter_map, position};
@@ -13,7 +13,7 @@ ghost use Rattle.event_log.specs.Answers.{brings, is_kept, keeps};
 ghost use Rattle.sequential_book.specs.inner.Reading.{IsJudgeable, is_acceptance, is_deployment};
 
 use dest_queue::{FailCause, SlotState};
-use event_log::{Entry, Ticket, Told};
+use event_log::{EVENTS_MAX, Entry, Ticket, Told};
 use hl7_head::Cause;
 use judge_core::{Deliveries, Delivery, Judged, Text, Verdict, judge};
 use plan_text::Plan;
@@ -263,11 +263,12 @@ pub(crate) fn known(
 
 /// The answer to a message whose key is known by the entry at this index.
 pub(crate) fn told_again(entries: &[Entry], raw: &[u8], place: usize) -> Told
+    requires { length entries.now ≤ EVENTS_MAX }
     ensures { result
         ≡ (if option_map_or (brings raw.now) (slice_get entries.now place) false then Told.Repeat place else Told.Refused Cause.IdReused) }
 {
     match entries.get(place) {
-        Some(entry) if entry.brings(raw) => Told::Repeat(place),
+        Some(entry) if entry.brings(raw) => Told::Repeat(place as u32),
         _ => Told::Refused(Cause::IdReused),
     }
 }
