@@ -1,5 +1,5 @@
 -- A book is kept by each event.
-use Rattle.std.proofs.Common.{◌≡◌, ℕ, ◌+◌, ◌-◌, ◌<◌, ◌≤◌, List, [], ◌∷◌, Some, Ok, refl, sym, ◌∙◌, ap, arith, length, length-append}
+use Rattle.std.proofs.Common.{◌≡◌, ℕ, ◌+◌, ◌-◌, ◌<◌, ◌≤◌, List, [], ◌∷◌, Ok, refl, sym, ◌∙◌, ap, arith, length, length-append}
 use Rattle.plan_text.specs.Entries.{PlanEntry, IsPlan}
 use Rattle.row_store.specs.declared.Row.{Row}
 use Rattle.row_store.specs.inner.Rows.{changed_at}
@@ -10,7 +10,7 @@ use Rattle.dest_queue.specs.declared.slots.Queued.{Queued}
 use Rattle.dest_queue.specs.Queues.{slot_of}
 use Rattle.dest_queue.specs.inner.Queues.{settle}
 use Rattle.dest_queue.specs.States.{is_live, slot_answer}
-use Rattle.dup_index.specs.inner.Known.{Known, place_of}
+use Rattle.dup_index.specs.inner.Known.{Known}
 use Rattle.stat_count.specs.Statistics.{Statistics, destination_at}
 use Rattle.stat_count.specs.inner.Statistics.{empty, on_destination}
 use Rattle.event_log.specs.declared.entry.Ticket.{Ticket}
@@ -21,7 +21,6 @@ use Rattle.event_log.specs.Answers.{attempts_max, interval, settle_answer}
 use Rattle.event_log.specs.Room.{owed, slot_owed}
 use Rattle.event_log.proofs.Beginning.{opened-sound}
 use Rattle.event_log.proofs.Reading.{opened-in_flight, slot-state}
-use Rattle.event_log.proofs.Replaying.{known-inside}
 use Rattle.event_log.proofs.Settling.{settle-step}
 use Rattle.event_log.proofs.Steps.{SettleStep}
 use Rattle.event_log.proofs.Totals.{in_flight-owed}
@@ -61,12 +60,6 @@ module _ (h : History) (rows : List (Row (Queued Outbound))) (index : List Known
   -- attempts under way are few
   pub few-flights : flights ≤ 1000000
   few-flights = omega (arith, kept.flights_are, in_flight-owed h, kept.sound.room, kept.bound)
-
-  -- the indices at which keys were booked are few
-  pub few-places : (key : List ℕ) (place : ℕ) → place_of key index ≡ Some place → place ≤ 4294967295
-  few-places key place is =
-      let inside = known-inside h key place kept.sound.opening (sym (kept.keys_agree key) ∙ is) in
-      omega (arith, inside, kept.sound.opening.places_few, kept.sound.opening.prunings_few, kept.sound.room, kept.bound)
 
   -- the slot call answers as the history does
   pub asked-settle : (ticket : Ticket) (outcome : Outcome) (now : ℕ)

@@ -1,6 +1,6 @@
 //! The answer to an arrival, and what is kept of it.
 
-ghost use Rattle.std.specs.Prelude.{◌≡◌, ◌≢◌, ◌<◌, ◌≤◌, ◌==◌, ℕ, true, false, List, [], ◌∷◌, ◌++◌, IfOk, OnOk, OnErr, IsTrue, Some, None, All, AllPairs};
+ghost use Rattle.std.specs.Prelude.{◌≡◌, ◌≢◌, ◌<◌, ◌≤◌, ◌==◌, ℕ, true, false, [], ◌∷◌, ◌++◌, IfOk, OnOk, OnErr, IsTrue, Some, None, All, AllPairs};
 ghost use Rattle.std.specs.Int.{bit_at};
 ghost use Rattle.std.specs.Option.{option_map_or};
 ghost use Rattle.dup_index.specs.inner.Known.{place_of};
@@ -16,10 +16,10 @@ ghost use Rattle.book_core.specs.inner.Sending.{AddsGain, AddsRow, HasRoomFor, I
 
 use crate::letter::{BookRows, Outbound};
 use dest_queue::{Queued, Slots};
-use dup_index::{Key, Keys};
+use dup_index::{Keys, KnownKey};
 use event_log::{Log, Told, committed_by_new, told_first};
 use hl7_head::{Cause, Header};
-use judge_core::{Deliveries, Delivery, Judged, Text, Verdict};
+use judge_core::{Deliveries, Delivery, Judged, Text, Verdict, offset_32};
 use std::alloc::{AllocError, Global};
 
 /// The answer to a message: its key is looked up before its verdict is used.
@@ -27,11 +27,10 @@ pub(crate) fn told(log: &Log, keys: &Keys, judged: &Judged) -> Told
     requires bookable { IsTrue (is_bookable judged.now.raw) }
     requires same_plan { judged.now.plan ≡ plan_in_force log.now.history }
     requires keys { KeysAgree log.now.history keys.now.known }
-    requires few_places { (key : List ℕ) (place : ℕ) → place_of key keys.now.known ≡ Some place → place ≤ u32.MAX }
     ensures { arrival_answer log.now.history judged.now.channel judged.now.raw ≡ Some result }
 {
     match keys.find(judged.key()) {
-        Some(place) if log.brings(place, judged.raw().as_slice()) => Told::Repeat(place as u32),
+        Some(place) if log.brings(place as usize, judged.raw().as_slice()) => Told::Repeat(place),
         Some(_) => Told::Refused(Cause::IdReused),
         None => told_first(judged.verdict(), log.message_count()),
     }
@@ -157,14 +156,20 @@ fn add_row<S: BookRows>(
     }
 }
 
-/// A copy of a key, with room for it among the keys.
-fn key_to_add(alloc: Global, keys: &mut Keys, key: &Key) -> Result<Key, AllocError>
+/// A key with the index of its entry, and room for it among the keys. An index is far below 2^32: one that isn't is refused as
+/// memory is.
+fn known_key(
+    alloc: Global,
+    keys: &mut Keys,
+    key: &[u8],
+    place: usize,
+) -> Result<KnownKey, AllocError>
     ensures known { keys.new.known ≡ keys.old.known }
-    ensures copy { IfOk result (λ copy. copy ≡ key.now) }
+    ensures key { IfOk result (λ known. known ≡ record { key = key.now; place = place }) }
     ensures room { OnOk result (0 < keys.new.room) }
 {
     keys.reserve(1)?;
-    key.copy(alloc)
+    KnownKey::new(alloc, key, offset_32(place)?)
 }
 
 /// Adds the row and the key that an arrival on a channel with these bytes adds, both with the index of its entry.
@@ -177,7 +182,7 @@ pub(crate) fn add_gain<S: BookRows>(
     rows: &mut S,
     keys: &mut Keys,
     gain: Addition<'_>,
-    key: &Key,
+    key: &[u8],
     place: usize,
     channel: u32,
     raw: &Text,
@@ -196,13 +201,13 @@ pub(crate) fn add_gain<S: BookRows>(
             header,
             deliveries,
         } => {
-            let key = key_to_add(alloc, keys, key)?;
+            let known = known_key(alloc, keys, key, place)?;
             add_row(alloc, rows, number, place, channel, raw, header, deliveries)?;
-            keys.add(key, place);
+            keys.add(known);
         }
         Addition::Key => {
-            let key = key_to_add(alloc, keys, key)?;
-            keys.add(key, place);
+            let known = known_key(alloc, keys, key, place)?;
+            keys.add(known);
         }
         Addition::Nothing => {}
     }

@@ -462,7 +462,7 @@ impl<S: BookRows> Book<S> {
             &mut self.rows,
             &mut self.keys,
             gain,
-            judged.kept_key(),
+            judged.key(),
             place,
             channel,
             &raw,

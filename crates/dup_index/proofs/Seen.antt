@@ -1,25 +1,20 @@
--- The entries of the map as known keys.
-use Rattle.std.proofs.Common.{◌≡◌, ℕ, Bool, true, false, cond, List, [], ◌∷◌, ◌++◌, None, Some, refl, ◌∙◌, ap, rules, option_and_then}
-use Rattle.std.specs.Prelude.{map, filter, find, nat_le}
+-- What is known after a key is added, and after some are forgotten.
+use Rattle.std.proofs.Common.{◌≡◌, ℕ, Bool, true, false, ◌||◌, cond, List, [], ◌∷◌, ◌++◌, None, Some, refl, ◌∙◌, rules, option_and_then}
+use Rattle.std.specs.Prelude.{find, nat_le}
+use Rattle.std.specs.List.{list_any}
 use Rattle.std.specs.Option.{option_map}
 use Rattle.std.specs.Str.{bytes_eq}
-use Rattle.std.specs.Map.{lookup}
 use Rattle.std.proofs.lemmas.Slice.Eq.{bytes_eq-Decides}
 use Rattle.dup_index.specs.inner.Known.{Known, is_key, place_of, from_place, EachOnce}
 
--- the entries as a clause sees them
-abbrev pub seen : List (List ℕ × ℕ) → List Known
-seen entries = map (λ e. record { key = e.0; place = e.1 }) entries
-
-pub lookup-seen : (key : List ℕ) (entries : List (List ℕ × ℕ)) → lookup (λ k. bytes_eq key k) entries ≡ place_of key (seen entries)
-lookup-seen key [] = refl
-lookup-seen key (e ∷ entries) = elim (bytes_eq key e.0) as (λ b. cond b (Some e.1) (lookup (λ k. bytes_eq key k) entries) ≡ option_map (λ (entry : Known). entry.place) (cond b (Some (record { key = e.0; place = e.1 })) (find (is_key key) (seen entries))))
-    [ true ↦ refl | false ↦ lookup-seen key entries ]
-
-pub from_place-seen : (place : ℕ) (entries : List (List ℕ × ℕ)) → seen (filter (λ e. nat_le place e.1) entries) ≡ from_place place (seen entries)
-from_place-seen place [] = refl
-from_place-seen place (e ∷ entries) = elim (nat_le place e.1) as (λ b. seen (cond b (e ∷ filter (λ e. nat_le place e.1) entries) (filter (λ e. nat_le place e.1) entries)) ≡ cond b (record { key = e.0; place = e.1 } ∷ from_place place (seen entries)) (from_place place (seen entries)))
-    [ true ↦ ap (λ rest. record { key = e.0; place = e.1 } ∷ rest) (from_place-seen place entries) | false ↦ from_place-seen place entries ]
+-- a key without a place is not among those that are known
+pub absent : (key : List ℕ) (known : List Known) → place_of key known ≡ None → list_any (is_key key) known ≡ false
+absent key [] none = refl
+absent key (entry ∷ known) none =
+    elim (bytes_eq key entry.key) as (λ b. bytes_eq key entry.key ≡ b → option_map (λ (e : Known). e.place) (cond b (Some entry) (find (is_key key) known)) ≡ None → (b || list_any (is_key key) known) ≡ false) [
+      | true ↦ λ hit found. absurd cc
+      | false ↦ λ miss later. absent key known later
+    ] refl none
 
 not_true : (b : Bool) → (b ≡ true → ⊥) → b ≡ false
 not_true true never = absurd (never refl)

@@ -1,22 +1,15 @@
-//! Keys as they are kept and as they are sought. For speed they are hashed by one write of all their bytes, where a list of
-//! bytes is hashed by a write of each; and for memory a short key is kept in the index itself: 32 bytes, where a list of
-//! bytes takes 24 and a block of its own, of 32 bytes or more.
+//! The key of a message that is judged. For speed and memory a short key is kept in place: 32 bytes, where a list of bytes takes
+//! 24 and a block of its own, of 32 bytes or more.
 
-ghost use Rattle.std.specs.Prelude.{◌≡◌, ◌≤◌, ◌++◌, [], ◌∷◌, take, IfOk};
-ghost use Rattle.std.proofs.Common.{ap};
-ghost use Rattle.std.specs.Cmp.{on_equiv, on_per, partial_equiv_from_equiv};
-ghost use Rattle.std.specs.Cmp.Lexicographic.{bytes_decides, nat_list_eq_equiv};
-ghost use Rattle.std.specs.Str.{bytes_eq};
+ghost use Rattle.std.specs.Prelude.{◌≡◌, ◌≤◌, ◌++◌, [], take, IfOk};
 
-use indexmap::Equivalent;
 use std::alloc::{AllocError, Global};
-use std::hash::{Hash, Hasher};
 use std::marker::Model;
 
-/// The most bytes of a key that is kept in the index itself.
+/// The most bytes of a key that is kept in place.
 const SHORT_MAX: usize = 30;
 
-/// The bytes of a key that is kept.
+/// The bytes of a key.
 #[derive(Drop)]
 enum Bytes {
     /// The length of the key, and a buffer that begins with its bytes.
@@ -25,18 +18,18 @@ enum Bytes {
     Long(Vec<u8>),
 }
 
-/// A key that is kept.
+/// The key of a message that is judged.
 #[derive(Drop)]
 pub struct Key {
     bytes: Bytes,
 }
 
-/// A key takes 32 bytes in the index.
+/// A key takes 32 bytes.
 const _: () = prove!(size_of::<Key>() == 32);
 
 impl Model for Key {
     ghost use Rattle.std.specs.Prelude.{List, ℕ};
-    ghost use Rattle.dup_index.specs.inner.Kept.{bytes_of, IsKept};
+    ghost use Rattle.dup_index.specs.inner.Key.{bytes_of, IsKept};
 
     ghost Value = { List ℕ };
 
@@ -107,23 +100,6 @@ impl Key {
         }
     }
 
-    /// A copy. It is made for speed by a move of the bytes that are kept, where a key that is built from them again takes
-    /// some 50 instructions.
-    ///
-    /// # Errors
-    ///
-    /// Where memory is refused for a key of more than thirty bytes.
-    #[inline(always)]
-    pub fn copy(&self, alloc: Global) -> Result<Key, AllocError>
-        ensures { IfOk result (λ key. key ≡ self.now) }
-    {
-        let bytes = match &self.bytes {
-            Bytes::Short(len, bytes) => Bytes::Short(*len, *bytes),
-            Bytes::Long(bytes) => Bytes::Long(Vec::from_slice(alloc, bytes)?),
-        };
-        Ok(Key { bytes })
-    }
-
     /// Its bytes.
     pub fn as_slice(&self) -> &[u8]
         ensures { result.now ≡ self.now }
@@ -132,71 +108,5 @@ impl Key {
             Bytes::Short(len, bytes) => &bytes[..*len as usize],
             Bytes::Long(bytes) => bytes.as_slice(),
         }
-    }
-}
-
-impl PartialEq for Key {
-    ghost eq = { bytes_eq };
-
-    ghost laws = { partial_equiv_from_equiv nat_list_eq_equiv };
-
-    fn eq(&self, other: &Key) -> bool {
-        self.as_slice() == other.as_slice()
-    }
-}
-
-impl Eq for Key {
-    ghost laws = { nat_list_eq_equiv };
-}
-
-impl Hash for Key {
-    ghost hash_input = { λ k. k ∷ [] };
-
-    ghost respects_eq = { λ x y same. ap (λ bytes. bytes ∷ []) ((bytes_decides x y).0 same) };
-
-    fn hash<H: Hasher>(&self, state: &mut H) {
-        state.write(self.as_slice());
-    }
-}
-
-/// A key that is sought.
-#[derive(Clone, Copy)]
-pub struct Sought<'k> {
-    pub bytes: &'k [u8],
-}
-
-impl<'k> PartialEq for Sought<'k> {
-    ghost eq = { λ x y. bytes_eq x.bytes.now y.bytes.now };
-
-    ghost laws = { on_per (λ k. k.bytes.now) (partial_equiv_from_equiv nat_list_eq_equiv) };
-
-    fn eq(&self, other: &Sought<'k>) -> bool {
-        self.bytes == other.bytes
-    }
-}
-
-impl<'k> Eq for Sought<'k> {
-    ghost laws = { on_equiv (λ k. k.bytes.now) nat_list_eq_equiv };
-}
-
-impl<'k> Hash for Sought<'k> {
-    ghost hash_input = { λ k. k.bytes.now ∷ [] };
-
-    ghost respects_eq = { λ x y same. ap (λ bytes. bytes ∷ []) ((bytes_decides x.bytes.now y.bytes.now).0 same) };
-
-    fn hash<H: Hasher>(&self, state: &mut H) {
-        state.write(self.bytes);
-    }
-}
-
-impl<'k> Equivalent<Key> for Sought<'k> {
-    ghost equivalent = { λ sought key. bytes_eq sought.bytes.now key };
-
-    ghost respects_hash = { λ sought key same. ap (λ bytes. bytes ∷ []) ((bytes_decides sought.bytes.now key).0 same) };
-
-    ghost respects_eq = { λ sought x y. nat_list_eq_equiv.congr sought.bytes.now x y };
-
-    fn equivalent(&self, key: &Key) -> bool {
-        self.bytes == key.as_slice()
     }
 }

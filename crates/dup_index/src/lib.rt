@@ -6,10 +6,12 @@ ghost use Rattle.std.specs.Str.{bytes_eq};
 ghost use Rattle.dup_index.specs.inner.Known.{Known, place_of, from_place};
 
 mod key;
+mod known;
 
 pub use crate::key::Key;
-use crate::key::Sought;
-use indexmap::IndexMap;
+pub use crate::known::KnownKey;
+use crate::known::Sought;
+use indexmap::IndexSet;
 use std::alloc::{AllocError, Global};
 use std::hash::RandomState;
 use std::marker::Model;
@@ -17,19 +19,18 @@ use std::marker::Model;
 /// The known keys. They are hashed under a random seed, so that no sender can choose keys that collide.
 #[derive(Drop)]
 pub struct Keys {
-    places: IndexMap<Key, usize, RandomState>,
+    known: IndexSet<KnownKey, RandomState>,
 }
 
 impl Model for Keys {
-    ghost use Rattle.std.specs.Prelude.{map};
-    ghost use Rattle.indexmap.specs.IndexMap.{spare};
+    ghost use Rattle.indexmap.specs.IndexSet.{spare};
     ghost use Rattle.dup_index.specs.inner.Known.{Index, EachOnce};
 
     ghost Value = { Index };
 
-    ghost view = { λ s. record { known = map (λ e. record { key = e.0; place = e.1 }) s.places.entries; room = spare s.places } };
+    ghost view = { λ s. record { known = s.known.keys; room = spare s.known } };
 
-    ghost invariant = { λ s. EachOnce (map (λ e. record { key = e.0; place = e.1 }) s.places.entries) };
+    ghost invariant = { λ s. EachOnce s.known.keys };
 }
 
 impl Keys {
@@ -38,15 +39,16 @@ impl Keys {
         ensures { result.known ≡ [] }
     {
         Keys {
-            places: IndexMap::with_hasher(alloc, hasher),
+            known: IndexSet::with_hasher(alloc, hasher),
         }
     }
 
     /// The history index of a key, if it is known.
-    pub fn find(&self, key: &[u8]) -> Option<usize>
+    pub fn find(&self, key: &[u8]) -> Option<u32>
         ensures { result ≡ place_of key.now self.now.known }
     {
-        self.places.get(Sought { bytes: key }).copied()
+        let known = self.known.get(Sought { bytes: key })?;
+        Some(known.place())
     }
 
     /// Makes room for that many more keys. The keys stay, also where memory is refused.
@@ -60,17 +62,17 @@ impl Keys {
         ensures ok { OnOk result (additional ≤ self.new.room) }
         ensures succeeds { additional ≤ self.old.room → IsOk result }
     {
-        self.places.reserve(additional)
+        self.known.reserve(additional)
     }
 
     /// Adds a key that is not known yet. There has to be room for it, so no memory is requested.
-    pub fn add(&mut self, key: Key, place: usize)
-        requires unknown { place_of key self.old.known ≡ None }
+    pub fn add(&mut self, key: KnownKey)
+        requires unknown { place_of key.key self.old.known ≡ None }
         requires room { 0 < self.old.room }
-        ensures known { self.new.known ≡ self.old.known ++ record { key = key; place = place } ∷ [] }
+        ensures known { self.new.known ≡ self.old.known ++ key ∷ [] }
         ensures room { self.old.room ≤ self.new.room + 1 }
     {
-        let _first = self.places.insert(key, place).unwrap();
+        let _added = self.known.insert(key).unwrap();
     }
 
     /// Forgets the keys whose history index is before `place`, and releases the memory that those that stay don't
@@ -80,12 +82,12 @@ impl Keys {
         ensures found { (key : List ℕ) → place_of key self.new.known
             ≡ option_and_then (λ added. if nat_le place added then Some added else None) (place_of key self.old.known) }
     {
-        self.places.retain(
-            |_key: &Key, added: &mut usize| -> bool
-                ensures { (result ≡ nat_le place added.old) × (added.new ≡ added.old) }
-            { place <= *added },
+        self.known.retain(
+            |known: &KnownKey| -> bool
+                ensures { result ≡ nat_le place known.now.place }
+            { place <= known.place() as usize },
         );
-        self.places.shrink_to_fit();
+        self.known.shrink_to_fit();
     }
 }
 

@@ -1,14 +1,15 @@
--- How the bytes of a key are kept.
-use Rattle.std.specs.Prelude.{ℕ, ◌≤◌, List, take}
-use Rattle.dup_index.specs.declared.key.Bytes.{Bytes}
-use Rattle.dup_index.specs.declared.key.Bytes.TheVariants.{Short, Long}
+-- How a known key and its history index are kept.
+use Rattle.std.specs.Prelude.{◌≤◌, take}
+use Rattle.dup_index.specs.inner.Known.{Known}
+use Rattle.dup_index.specs.declared.known.Kept.{Kept}
+use Rattle.dup_index.specs.declared.known.Kept.TheVariants.{Short, Long}
 
--- the bytes of the key
-abbrev pub bytes_of : Bytes → List ℕ
-bytes_of (Short len bytes) = take len bytes
-bytes_of (Long bytes) = bytes.items
+-- the key and its history index
+abbrev pub known_of : Kept → Known
+known_of (Short len bytes place) = record { key = take len bytes; place = place }
+known_of (Long place bytes) = record { key = bytes.items; place = place }
 
--- no more bytes are kept inline than there is room for
-abbrev pub IsKept : Bytes → Type 0
-IsKept (Short len bytes) = len ≤ 30
-IsKept (Long bytes) = Unit {0}
+-- no more bytes are kept in place than there is room for
+abbrev pub IsKept : Kept → Type 0
+IsKept (Short len bytes place) = len ≤ 26
+IsKept (Long place bytes) = Unit {0}

@@ -1,4 +1,4 @@
-use Rattle.std.proofs.Common.{Some, None, ap, arith, sym, ◌∙◌}
+use Rattle.std.proofs.Common.{Some, None, ap, sym, ◌∙◌}
 use Rattle.judge_core.specs.Judging.{key_of, verdict}
 use Rattle.event_log.specs.History.{plan_in_force}
 use Rattle.event_log.specs.Answers.{told_by}
@@ -30,8 +30,3 @@ returns-in-None c =
     ∙ (ap (λ number. told_by number (verdict (plan_in_force h) judged.channel judged.raw)) (sym c.message_count.ensures)
     ∙ (ap (λ plan. told_by c.message_count.result (verdict plan judged.channel judged.raw)) (sym c.requires.same_plan)
     ∙ (ap (told_by c.message_count.result) (sym c.verdict.ensures.value) ∙ c.told_first.ensures)))
-
-pub overflow_cast-result : goal.overflow_cast-result
-overflow_cast-result c =
-    let few = c.requires.few_places c.key.result.now c.in-Some.place (sym c.find.ensures ∙ c.in-Some.is) in
-    omega arith

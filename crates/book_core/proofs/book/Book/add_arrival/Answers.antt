@@ -27,7 +27,7 @@ add_gain-requires-clause-unknown g c =
     let channel = c.args.judged.now.channel in
     let raw = c.args.judged.now.raw in
     let told : arrival_answer h channel raw ≡ Some c.args.told = ap (λ k. arrival_answer k channel raw) c.self.view_is ∙ c.requires.told in
-    key-unknown _ _ _ _ _ _ c.self.invariant channel raw c.kept_key.result.now c.args.told (has_key c.args.gain) told (key-kept c.args.told (control_id_of raw) (decided c.args.judged.now.plan channel raw) c.args.gain c.requires.gain) c.kept_key.ensures
+    key-unknown _ _ _ _ _ _ c.self.invariant channel raw c.key.result.now c.args.told (has_key c.args.gain) told (key-kept c.args.told (control_id_of raw) (decided c.args.judged.now.plan channel raw) c.args.gain c.requires.gain) c.key.ensures
 
 pub count_arrival-requires-clause-few : goal.count_arrival-requires-clause-few
 count_arrival-requires-clause-few g c = few-received _ _ _ _ _ _ c.self.invariant _ (search rules)
@@ -97,8 +97,8 @@ invariant_of-self-2 g c =
     let few : channel < 64 = let known = rw plan at c.channel-channel.ensures.known in omega (arith, known, c.channel-channel.ensures.value, c.self.invariant.sound.plan.few_channels) in
     rw (c.push.ensures.history, c.reserve.ensures.history, c.channel-channel.ensures.value, c.in_ok-kept.ensures ∙ c.raw-2.ensures.value)
     (kept-arrived _ _ _ _ _ _ c.self.invariant c.args.conn channel raw c.args.told fits enough told c.args.gain _ _ _ _ few (rw plan at c.requires.gain) (rw (c.channel-channel.ensures.value, c.in_ok-raw.ensures ∙ c.raw.ensures.value) at c.in_ok-add_gain.ensures.row)
-    (keys-arrived _ _ _ _ _ _ c.self.invariant c.args.conn channel raw c.args.told fits enough told c.kept_key.result.now (has_key c.args.gain) c.len-place.result _
-    (key-kept c.args.told (control_id_of raw) (decided c.args.judged.now.plan channel raw) c.args.gain c.requires.gain) c.kept_key.ensures (c.len-place.ensures ∙ ap next_place c.reserve.ensures.history) c.in_ok-add_gain.ensures.key c.in_ok-add_gain.ensures.no_key)
+    (keys-arrived _ _ _ _ _ _ c.self.invariant c.args.conn channel raw c.args.told fits enough told c.key.result.now (has_key c.args.gain) c.len-place.result _
+    (key-kept c.args.told (control_id_of raw) (decided c.args.judged.now.plan channel raw) c.args.gain c.requires.gain) c.key.ensures (c.len-place.ensures ∙ ap next_place c.reserve.ensures.history) c.in_ok-add_gain.ensures.key c.in_ok-add_gain.ensures.no_key)
     (rw (c.channel-channel.ensures.value, c.deliveries.ensures.value, added) at c.count_arrival.ensures)
     (omega (arith, c.in_ok-reserve.ensures.ok, c.push.ensures.room)))
 

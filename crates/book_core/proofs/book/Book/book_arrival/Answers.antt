@@ -6,11 +6,7 @@ use Rattle.event_log.specs.Event.{arrive}
 use Rattle.event_log.proofs.Events.{arrival-answered, arrival-full}
 use Rattle.book_core.proofs.Answering.{asked-full, memory-last, told-accepting}
 use Rattle.book_core.proofs.Gains.{gain-owed}
-use Rattle.book_core.proofs.Keeping.{few-places}
 use Rattle.book_core.proofs.book.Book.book_arrival.Goals as goal
-
-pub told-told-requires-clause-few_places : goal.told-told-requires-clause-few_places
-told-told-requires-clause-few_places g c = few-places _ _ _ _ _ _ c.self.invariant
 
 pub gain_of-gain-requires : goal.gain_of-gain-requires
 gain_of-gain-requires g c = told-accepting c.self.inside.log.history c.args.judged.now.plan c.args.judged.now.channel c.args.judged.now.raw _ _ (c.requires.same_plan ∙ ap plan_in_force (sym c.self.view_is)) refl c.told-told.ensures
