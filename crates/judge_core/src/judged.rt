@@ -438,13 +438,6 @@ impl Judged {
         self.key.as_slice()
     }
 
-    /// The same key as it is kept, of which an index takes a copy.
-    pub fn kept_key(&self) -> &Key
-        ensures { result.now ≡ key_of self.now.channel self.now.raw }
-    {
-        &self.key
-    }
-
     /// What was decided.
     pub fn verdict(&self) -> &Verdict
         ensures value { result.now ≡ verdict self.now.plan self.now.channel self.now.raw }

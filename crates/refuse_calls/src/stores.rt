@@ -2,7 +2,7 @@
 
 use anyhow::Result;
 use call_window::{Window, done, no_memory};
-use dup_index::{Key, Keys};
+use dup_index::{Keys, KnownKey};
 use mllp_frame::{FrameEvent, FrameFault, Framer};
 use play_script::{bytes_of, shown};
 use std::alloc::{AllocError, Global};
@@ -15,7 +15,7 @@ pub struct Stores {
     alloc: Global,
     framer: Framer,
     keys: Keys,
-    added: usize,
+    added: u32,
 }
 
 /// An event of a stream.
@@ -97,10 +97,10 @@ impl Stores {
 
     /// Adds a key with the next index, unless it is known. Its index is printed.
     fn add_key(&mut self, text: &str) -> Result<String> {
-        let key = Key::new().with(self.alloc, text.as_bytes())?;
         self.keys.reserve(1)?;
-        if self.keys.find(key.as_slice()).is_none() {
-            self.keys.add(key, self.added);
+        if self.keys.find(text.as_bytes()).is_none() {
+            let key = KnownKey::new(self.alloc, text.as_bytes(), self.added)?;
+            self.keys.add(key);
             self.added = self.added.saturating_add(1);
         }
         Ok(self.place(text)?)
