@@ -3,7 +3,6 @@ use Rattle.std.proofs.Common.{◌≡◌, ℕ, ◌+◌, ◌-◌, ◌<◌, ◌≤�
 use Rattle.std.specs.Prelude.{filter, find, is_some, option_and_then, slice_get}
 use Rattle.std.specs.List.{filter_map, cons_option, range_with_len}
 use Rattle.std.specs.Option.{option_map, option_map_or}
-use Rattle.std.proofs.lemmas.Bool.Decides.{nat_tests}
 use Rattle.std.proofs.lemmas.List.Elements.{filter-append, filter_map-append}
 use Rattle.std.proofs.lemmas.List.FromFn.{length-range_with_len}
 use Rattle.row_store.specs.declared.Row.{Row}
@@ -23,7 +22,7 @@ use Rattle.event_log.proofs.Reading.{queue-outside}
 use Rattle.book_core.specs.declared.letter.Outbound.{Outbound}
 use Rattle.book_core.specs.declared.questions.Front.{Front}
 use Rattle.book_core.specs.inner.Parts.{RowsAgree}
-use Rattle.book_core.specs.inner.Questions.{came_as, first_live, front_at, queued_as, settled_before, standing}
+use Rattle.book_core.specs.inner.Questions.{came_as, first_live, front_at, queued_as, standing}
 use Rattle.book_core.proofs.FirstLive.{settled-below}
 use Rattle.book_core.proofs.PrunedRows.{filter-whole, length-numbers}
 use Rattle.book_core.proofs.Rows.{kept-front_state, row-of}

@@ -1,5 +1,5 @@
 -- When a retry is due, and what the slots of a message that is forgotten are.
-use Rattle.std.proofs.Common.{◌≡◌, ℕ, ◌+◌, ◌≤◌, ◌==◌, Bool, true, false, cond, Option, None, Some, Result, Ok, Err, IfSome, ap, subst, sym, arith}
+use Rattle.std.proofs.Common.{◌≡◌, ℕ, ◌+◌, ◌≤◌, ◌==◌, Bool, true, false, cond, Option, None, Some, Ok, Err, IfSome, subst, arith}
 use Rattle.std.specs.Option.{option_map_or}
 use Rattle.dest_queue.specs.declared.FailCause.TheVariants.{Exhausted}
 use Rattle.dest_queue.specs.declared.Outcome.{Outcome}

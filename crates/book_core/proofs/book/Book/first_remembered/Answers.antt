@@ -1,4 +1,4 @@
-use Rattle.std.proofs.Common.{◌≡◌, ◌-◌, sym, ◌∙◌, ap, subst}
+use Rattle.std.proofs.Common.{◌≡◌, ◌-◌, subst}
 use Rattle.std.specs.List.{range_with_len}
 use Rattle.event_log.specs.History.{History, message_count, remaining}
 use Rattle.book_core.proofs.Asked.{remaining-last}

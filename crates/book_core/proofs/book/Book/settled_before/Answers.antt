@@ -1,8 +1,8 @@
-use Rattle.std.proofs.Common.{◌≡◌, ℕ, ◌-◌, ◌≤◌, ◌<◌, Bool, cond, nat_lt, None, Some, sym, ◌∙◌, ap, subst, arith, rules}
+use Rattle.std.proofs.Common.{◌≡◌, ◌≤◌, cond, nat_lt, None, Some, sym, ◌∙◌, ap, arith}
 use Rattle.std.specs.Option.{option_map_or}
 use Rattle.event_log.specs.declared.refusal.PruneRefusal.TheVariants.{TooMany}
 use Rattle.event_log.specs.Folding.{is_live_message, prune_answer}
-use Rattle.event_log.specs.History.{History, message_count}
+use Rattle.event_log.specs.History.{History}
 use Rattle.book_core.specs.inner.Questions.{first_live}
 use Rattle.book_core.proofs.Asked.{settled, settled-all, settled-answer}
 use Rattle.book_core.proofs.book.Book.settled_before.Goals.{then-newest-settled, else-newest-settled}
