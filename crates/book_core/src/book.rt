@@ -31,8 +31,8 @@ use crate::pruning::{first_kept, forget_rows, prune_refusal, recall_since, unrem
 use crate::questions::{Front, first_queued, is_tight};
 use crate::receipt::{NotBooked, Receipt};
 use dest_queue::{
-    Outcome, SettleRefusal, SlotState, begin_attempt, cancel_waiting, front_state, settle_slot,
-    slot_of,
+    KeptState, Outcome, SettleRefusal, SlotState, begin_attempt, cancel_waiting, front_state,
+    settle_slot, slot_of,
 };
 use dup_index::Keys;
 use event_log::{
@@ -592,7 +592,7 @@ impl<S: BookRows> Book<S> {
                 ticket,
                 outcome,
                 now,
-                state,
+                state: KeptState::new(state),
             },
             owed,
         );

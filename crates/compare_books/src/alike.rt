@@ -88,7 +88,7 @@ pub(crate) fn is_same(one: &Entry, other: &Entry) -> bool {
             ticket,
             now,
             state,
-        } => is_settlement(other, (*outcome, *ticket, *now, *state)),
+        } => is_settlement(other, (*outcome, *ticket, *now, state.get())),
         Entry::Cancel { number, mask } => {
             matches!(other, Entry::Cancel { number: of, mask: at } if number == of && mask == at)
         }
@@ -123,5 +123,5 @@ fn is_settlement(entry: &Entry, due: (Outcome, Ticket, Moment, SlotState)) -> bo
     else {
         return false;
     };
-    (*outcome, *ticket, *now, *state) == due
+    (*outcome, *ticket, *now, state.get()) == due
 }

@@ -1,3 +1,4 @@
+pub mod Keepable
 pub mod QueueLemmas
 pub mod SlotLaws
 pub mod SlotLemmas

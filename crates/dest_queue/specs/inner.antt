@@ -1,4 +1,5 @@
 -- What proofs alone use: no claim rests on these pages.
+pub mod Kept
 pub mod Listed
 pub mod Queues
 pub mod Slots

@@ -8,10 +8,12 @@ ghost use Rattle.dest_queue.specs.inner.States.{refusal_code};
 
 use thiserror::Error;
 
+mod kept;
 mod queues;
 mod slots;
 
 pub use fixed_numbers::ATTEMPTS_MAX;
+pub use kept::KeptState;
 pub use queues::{begin_attempt, cancel_waiting, front_state, settle_slot, slot_of, take_front};
 pub use slots::{Queued, Slot, Slots, slot_rules};
 

@@ -1,5 +1,5 @@
 -- What a settlement changes.
-use Rattle.std.proofs.Common.{◌≡◌, ℕ, ◌+◌, ◌≤◌, inl, inr, Bool, false, cond, Option, None, Some, Ok, Err, refl, sym, ◌∙◌, ap, subst, arith}
+use Rattle.std.proofs.Common.{◌≡◌, ℕ, ◌+◌, ◌<◌, ◌≤◌, inl, inr, Bool, false, cond, Option, None, Some, Ok, Err, refl, sym, ◌∙◌, ap, subst, arith}
 use Rattle.std.specs.Prelude.{IfSome}
 use Rattle.std.proofs.lemmas.Bool.Decides.{eqb_tells}
 use Rattle.dest_queue.specs.declared.SlotState.{SlotState}
@@ -9,6 +9,8 @@ use Rattle.dest_queue.specs.declared.Outcome.{Outcome}
 use Rattle.dest_queue.specs.declared.Outcome.TheVariants as outcomes
 use Rattle.dest_queue.specs.declared.SettleRefusal.TheVariants.{NotInFlight}
 use Rattle.dest_queue.specs.States.{state_after, slot_answer}
+use Rattle.dest_queue.specs.inner.Kept.{IsKeepable}
+use Rattle.dest_queue.proofs.Keepable.{after-keepable}
 use Rattle.event_log.specs.declared.entry.Ticket.{Ticket}
 use Rattle.event_log.specs.declared.entry.Entry.TheVariants.{Settle}
 use Rattle.event_log.specs.History.{History, followed_by, is_for, plan_in_force, slot, state}
@@ -111,3 +113,11 @@ settle-less h ticket outcome now after sound answered =
     let step = settle-step h sound ticket outcome now after answered in
     subst (λ s. slot_owed (attempts_max (plan_in_force h) ticket.destination) s + 1 ≤ slot_owed (attempts_max (plan_in_force h) ticket.destination) (InFlight ticket.attempt)) (sym step.after_is)
     (outcome-lands outcome ticket.attempt now (attempts_max (plan_in_force h) ticket.destination) (interval (plan_in_force h) ticket.destination) step.allowed).less
+
+-- the state that it leaves can be kept, where the attempts are few and the moment of a retry is near
+pub settle-keepable : (h : History) (ticket : Ticket) (outcome : Outcome) (now : ℕ) (after : SlotState) → IsSound h → settle_answer h ticket outcome now ≡ Ok after
+    → attempts_max (plan_in_force h) ticket.destination < 256 → now + interval (plan_in_force h) ticket.destination < 281474976710656 → IsKeepable after
+settle-keepable h ticket outcome now after sound answered few near =
+    let step = settle-step h sound ticket outcome now after answered in
+    subst IsKeepable (sym step.after_is)
+    (after-keepable outcome ticket.attempt now (attempts_max (plan_in_force h) ticket.destination) (interval (plan_in_force h) ticket.destination) (omega (arith, step.allowed)) near)

@@ -7,7 +7,7 @@ ghost use Rattle.event_log.specs.inner.Counting.{is_acceptance};
 ghost use Rattle.event_log.specs.History.{is_numbered};
 ghost use Rattle.event_log.specs.inner.History.{is_arrival_of};
 
-use dest_queue::{Outcome, SlotState};
+use dest_queue::{KeptState, Outcome};
 use hl7_head::{Cause, Moment};
 use judge_core::Text;
 use plan_text::Plan;
@@ -108,7 +108,7 @@ pub enum Entry {
         outcome: Outcome,
         ticket: Ticket,
         now: Moment,
-        state: SlotState,
+        state: KeptState,
     },
     /// A message was cancelled where it waited: bit d of the mask is set for each such destination d.
     Cancel {
@@ -121,8 +121,8 @@ pub enum Entry {
     },
 }
 
-/// An entry takes 40 bytes beside the text that it shares.
-const _: () = prove!(size_of::<Entry>() == 40);
+/// An entry takes 32 bytes beside the text that it shares.
+const _: () = prove!(size_of::<Entry>() == 32);
 
 impl Entry {
     /// Whether it is the arrival of these bytes.

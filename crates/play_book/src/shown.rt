@@ -192,7 +192,7 @@ pub(crate) fn entry_shown(alloc: Global, entry: &Entry) -> Result<String, AllocE
             outcome,
             now,
             state,
-        } => settle_shown(alloc, *ticket, *outcome, *now, *state),
+        } => settle_shown(alloc, *ticket, *outcome, *now, state.get()),
         Entry::Cancel { number, mask } => format!(in alloc; "cancel {number} where {mask} says"),
         Entry::Deploy { plan } => deploy_shown(alloc, plan.plan()),
     }

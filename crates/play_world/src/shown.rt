@@ -106,7 +106,7 @@ pub(crate) fn entry_shown(alloc: Global, entry: &Entry) -> Result<String, AllocE
             state,
         } => {
             let settlement = settlement_shown(alloc, ticket, *outcome, *now)?;
-            format!(in alloc; "{settlement}, {state:?}")
+            format!(in alloc; "{settlement}, {:?}", state.get())
         }
         Entry::Cancel { number, mask } => format!(in alloc; "cancel {number}, mask {mask}"),
         Entry::Deploy { plan } => deployment_shown(alloc, plan.plan()),

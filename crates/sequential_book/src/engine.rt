@@ -15,7 +15,7 @@ mod slots;
 
 use crate::entries::in_force;
 use crate::refusal::{NotBooked, NotSettled};
-use dest_queue::{Outcome, SlotState};
+use dest_queue::{KeptState, Outcome, SlotState};
 use event_log::{
     CancelRefusal, DeployRefusal, DeployedPlan, EVENTS_MAX, Entry, TakeRefusal, Ticket, Told,
 };
@@ -163,7 +163,7 @@ impl SequentialBook {
             ticket: *ticket,
             outcome,
             now,
-            state,
+            state: KeptState::new(state),
         })?;
         Ok(state)
     }

@@ -42,7 +42,7 @@ fn state_by(entry: &Entry, number: u32, d: u32) -> Option<SlotState>
         Entry::Take { ticket, .. } if is_for(ticket, number, d) => Some(SlotState::InFlight {
             attempt: ticket.attempt,
         }),
-        Entry::Settle { ticket, state, .. } if is_for(ticket, number, d) => Some(*state),
+        Entry::Settle { ticket, state, .. } if is_for(ticket, number, d) => Some(state.get()),
         Entry::Cancel {
             number: cancelled,
             mask,

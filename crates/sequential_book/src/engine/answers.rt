@@ -2,6 +2,7 @@
 
 ghost use Rattle.std.specs.Prelude.{◌≡◌, IfOk, IsTrue, Some};
 ghost use Rattle.judge_core.specs.Judging.{is_bookable};
+ghost use Rattle.dest_queue.specs.inner.Kept.{IsKeepable};
 ghost use Rattle.event_log.specs.History.{plan_in_force};
 ghost use Rattle.event_log.specs.Answers.{arrival_answer, cancel_answer, settle_answer, take_answer};
 ghost use Rattle.event_log.specs.Deployment.{deploy_answer, first_lost, is_lost};
@@ -75,8 +76,10 @@ impl SequentialBook {
         outcome: Outcome,
         now: Moment,
     ) -> Result<Result<SlotState, SettleRefusal>, AllocError>
-        ensures { IfOk result (λ answer. answer ≡ settle_answer self.now ticket.now outcome now) }
+        ensures value { IfOk result (λ answer. answer ≡ settle_answer self.now ticket.now outcome now) }
+        ensures keepable { IfOk result (λ answer. IfOk answer IsKeepable) }
     {
+        self.rules();
         let slot = self.slot(ticket.number, ticket.destination)?;
         let max = attempts_max(self.plan(), ticket.destination);
         let interval = interval(self.plan(), ticket.destination);

@@ -4,6 +4,7 @@ use Rattle.dest_queue.specs.declared.SlotState.TheVariants.{InFlight}
 use Rattle.event_log.specs.Answers.{attempts_max, interval, settle_answer}
 use Rattle.event_log.specs.History.{plan_in_force}
 use Rattle.event_log.specs.Room.{owed, slot_owed}
+use Rattle.event_log.proofs.Settling.{settle-keepable}
 use Rattle.book_core.proofs.Keeping.{asked-settle, kept-settled, settled-flies, settled-flights, settled-inside, settled-less, settled-owed, settled-reserved, settled-within}
 use Rattle.book_core.proofs.Settled.{settled-due}
 use Rattle.book_core.proofs.book.Book.settle.Goals as goal
@@ -49,6 +50,15 @@ overflow_sub-owed g c =
     sym (asked-settle _ _ _ _ _ _ c.self.invariant c.args.ticket.now c.args.outcome c.args.now) ∙ sym (rw (max, wait, c.secs.ensures.value) at c.in_ok-state.ensures.answer) in
     rw (c.owed.ensures.value, c.slot_owed.ensures, c.slot_owed-2.ensures, max) (settled-less _ _ _ _ _ _ c.self.invariant c.args.ticket.now c.args.outcome c.args.now c.in_ok-state.state asked)
 
+pub new-requires : goal.new-requires
+new-requires g c =
+    let max : c.attempts_max-max.result ≡ attempts_max (plan_in_force c.self.inside.log.history) c.args.ticket.now.destination = c.attempts_max-max.ensures.value ∙ ap (λ p. attempts_max p c.args.ticket.now.destination) (c.deref.ensures ∙ c.plan.ensures) in
+    let wait : c.interval-interval.result ≡ interval (plan_in_force c.self.inside.log.history) c.args.ticket.now.destination = c.interval-interval.ensures.value ∙ ap (λ p. interval p c.args.ticket.now.destination) (c.deref-2.ensures ∙ c.plan-2.ensures) in
+    let asked : settle_answer c.self.inside.log.history c.args.ticket.now c.args.outcome c.args.now ≡ Ok c.in_ok-state.state =
+    sym (asked-settle _ _ _ _ _ _ c.self.invariant c.args.ticket.now c.args.outcome c.args.now) ∙ sym (rw (max, wait, c.secs.ensures.value) at c.in_ok-state.ensures.answer) in
+    settle-keepable _ c.args.ticket.now c.args.outcome c.args.now c.in_ok-state.state c.self.invariant.sound asked
+    (omega (arith, max, c.attempts_max-max.ensures.bound)) (omega (arith, wait, c.interval-interval.ensures.bound, c.secs.ensures.value, c.secs.ensures.bound))
+
 pub push-requires-clause-reserved : goal.push-requires-clause-reserved
 push-requires-clause-reserved g c =
     let max : c.attempts_max-max.result ≡ attempts_max (plan_in_force c.self.inside.log.history) c.args.ticket.now.destination = c.attempts_max-max.ensures.value ∙ ap (λ p. attempts_max p c.args.ticket.now.destination) (c.deref.ensures ∙ c.plan.ensures) in
@@ -65,7 +75,7 @@ push-requires-clause-owed g c =
     sym (asked-settle _ _ _ _ _ _ c.self.invariant c.args.ticket.now c.args.outcome c.args.now) ∙ sym (rw (max, wait, c.secs.ensures.value) at c.in_ok-state.ensures.answer) in
     let now-owed : c.owed.result + c.slot_owed.result - c.slot_owed-2.result ≡ owed c.self.inside.log.history + slot_owed (attempts_max (plan_in_force c.self.inside.log.history) c.args.ticket.now.destination) c.in_ok-state.state - slot_owed (attempts_max (plan_in_force c.self.inside.log.history) c.args.ticket.now.destination) (InFlight c.args.ticket.now.attempt) =
     rw (c.owed.ensures.value, c.slot_owed.ensures, c.slot_owed-2.ensures, max) refl in
-    now-owed ∙ settled-owed _ _ _ _ _ _ c.self.invariant c.args.ticket.now c.args.outcome c.args.now c.in_ok-state.state asked
+    rw c.new.ensures (now-owed ∙ settled-owed _ _ _ _ _ _ c.self.invariant c.args.ticket.now c.args.outcome c.args.now c.in_ok-state.state asked)
 
 pub push-requires-clause-within : goal.push-requires-clause-within
 push-requires-clause-within g c =
@@ -83,7 +93,7 @@ invariant_of-self-2 g c =
     let wait : c.interval-interval.result ≡ interval (plan_in_force c.self.inside.log.history) c.args.ticket.now.destination = c.interval-interval.ensures.value ∙ ap (λ p. interval p c.args.ticket.now.destination) (c.deref-2.ensures ∙ c.plan-2.ensures) in
     let asked : settle_answer c.self.inside.log.history c.args.ticket.now c.args.outcome c.args.now ≡ Ok c.in_ok-state.state =
     sym (asked-settle _ _ _ _ _ _ c.self.invariant c.args.ticket.now c.args.outcome c.args.now) ∙ sym (rw (max, wait, c.secs.ensures.value) at c.in_ok-state.ensures.answer) in
-    rw (c.push.ensures.history, c.in_ok-state.ensures.settled, c.count_settled.ensures) (kept-settled _ _ _ _ _ _ c.self.invariant c.args.ticket.now c.args.outcome c.args.now c.in_ok-state.state asked c.push.new.self.room c.push.ensures.room)
+    rw (c.push.ensures.history, c.new.ensures, c.in_ok-state.ensures.settled, c.count_settled.ensures) (kept-settled _ _ _ _ _ _ c.self.invariant c.args.ticket.now c.args.outcome c.args.now c.in_ok-state.state asked c.push.new.self.room c.push.ensures.room)
 
 pub returns-clause-does : goal.returns-clause-does
 returns-clause-does g c =
