@@ -4,7 +4,9 @@ use lib.Dec.{eqb_refl}
 use Rattle.record_list.proofs.Chains.{keys}
 use Rattle.record_list.specs.declared.links.Links.{Links}
 use Rattle.record_list.specs.inner.Chain.{members, items_at}
-use Rattle.record_list.specs.inner.Linked.{IsApart, places, IsLinked, IsSameChain}
+use Rattle.record_list.specs.inner.Linked.{IsLinked, IsSameChain}
+use Rattle.record_list.specs.inner.Stands.{NodesRise}
+use Rattle.record_list.proofs.Rising.{rise_like}
 use Rattle.record_list.proofs.Leave.{same_then}
 use Rattle.record_list.proofs.Enter.{same_linked}
 
@@ -16,25 +18,25 @@ same e d f = eqb→eq e d (subst T (sym f) tt)
 
 module _ {T : Type 0} where
   pub record Entered (d : ℕ) (s t : Links T) : Type 0 where
-    pub apart : IsApart (places t.nodes.held)
+    pub rise : NodesRise t.nodes.items
     pub linked : (e : ℕ) → e < d → IsLinked e t
     pub rest : (e : ℕ) → d ≤ e → IsSameChain e s t
-    pub members_same : (e : ℕ) → members e t.nodes.held ≡ members e s.nodes.held
-    pub items_same : items_at t.nodes.held ≡ items_at s.nodes.held
+    pub members_same : (e : ℕ) → members e t.nodes.items ≡ members e s.nodes.items
+    pub items_same : items_at t.nodes.items ≡ items_at s.nodes.items
     pub visits_most : t.visits ≤ s.visits + d
     pub visits_least : s.visits ≤ t.visits
 
-  pub step_entered : (d : ℕ) (s m t : Links T) → Entered d s m → IsLinked d t → members d t.nodes.held ≡ members d m.nodes.held → ((e : ℕ) → e ≢ d → IsSameChain e m t) → IsApart (places t.nodes.held) → items_at t.nodes.held ≡ items_at m.nodes.held
+  pub step_entered : (d : ℕ) (s m t : Links T) → Entered d s m → IsLinked d t → members d t.nodes.items ≡ members d m.nodes.items → ((e : ℕ) → e ≢ d → IsSameChain e m t) → items_at t.nodes.items ≡ items_at m.nodes.items
       → t.visits ≤ m.visits + 1 → m.visits ≤ t.visits → Entered (d + 1) s t
-  step_entered d s m t a l ms others apart items visits rises = record {
-    apart = apart;
+  step_entered d s m t a l ms others items visits rises = record {
+    rise = rise_like m.nodes.items t.nodes.items items a.rise;
     linked = λ e lt. (elim (e == d) as (λ b. (e == d) ≡ b → IsLinked e t) [
       | true ↦ λ q. subst (λ k. IsLinked k t) (sym (same e d q)) l
       | false ↦ λ q. same_linked e m t (others e (differ e d q)) (a.linked e (below e d lt (differ e d q)))
     ]) refl;
     rest = λ e le. same_then e s m t (a.rest e (omega (arith, le))) (others e (above e d le));
-    members_same = λ e. (elim (e == d) as (λ b. (e == d) ≡ b → members e t.nodes.held ≡ members e s.nodes.held) [
-      | true ↦ λ q. subst (λ k. members k t.nodes.held ≡ members k m.nodes.held) (sym (same e d q)) ms ∙ a.members_same e
+    members_same = λ e. (elim (e == d) as (λ b. (e == d) ≡ b → members e t.nodes.items ≡ members e s.nodes.items) [
+      | true ↦ λ q. subst (λ k. members k t.nodes.items ≡ members k m.nodes.items) (sym (same e d q)) ms ∙ a.members_same e
       | false ↦ λ q. ap keys (others e (differ e d q)).entries_same ∙ a.members_same e
     ]) refl;
     items_same = items ∙ a.items_same;
@@ -50,7 +52,7 @@ module _ {T : Type 0} where
 
   pub skip_entered : (d : ℕ) (s m : Links T) → Entered d s m → IsLinked d s → Entered (d + 1) s m
   skip_entered d s m a l = record {
-    apart = a.apart;
+    rise = a.rise;
     linked = λ e lt. (elim (e == d) as (λ b. (e == d) ≡ b → IsLinked e m) [
       | true ↦ λ q. subst (λ k. IsLinked k m) (sym (same e d q)) (same_linked d s m (a.rest d (omega arith)) l)
       | false ↦ λ q. a.linked e (below e d lt (differ e d q))

@@ -5,8 +5,8 @@ use Rattle.std.proofs.Math.Nat.{zero-div}
 use Rattle.std.proofs.lemmas.List.{get_or-set_other}
 use Rattle.std.specs.declared.option.Option.{Option}
 use Rattle.std.specs.declared.option.Option.TheVariants.{None, Some}
-use Rattle.node_heap.specs.declared.nodes.Place.{Place}
-use Rattle.record_list.specs.declared.link_table.Link.{Link}
+use Rattle.record_list.specs.declared.row_head.Place.{Place}
+use Rattle.record_list.specs.declared.row_head.Link.{Link}
 use Rattle.record_list.specs.inner.Chain.{link}
 use Rattle.std.specs.Option.{is_some}
 use Rattle.record_list.specs.inner.Stands.{stands, new_link}

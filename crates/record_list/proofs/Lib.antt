@@ -1,4 +1,3 @@
-pub mod Beside
 pub mod Change
 pub mod Chains
 pub mod Closing
@@ -9,7 +8,8 @@ pub mod Join
 pub mod Kept
 pub mod LastLinks
 pub mod Leave
-pub mod Listing
+pub mod Numbers
 pub mod Packing
+pub mod Rising
 pub mod Store
 pub mod Table

@@ -1,9 +1,9 @@
 -- Links as they are kept: reading one, and writing one.
 use Rattle.std.proofs.Common.{◌≡◌, ◌<◌, ℕ, zero, suc, List, [], ◌∷◌, length, slice_index_or, slice_set, refl, ap, arith}
 use Rattle.std.specs.declared.option.Option.TheVariants.{None}
-use Rattle.record_list.specs.declared.link_table.LinkKind.{LinkKind}
-use Rattle.record_list.specs.declared.link_table.LinkKind.TheVariants.{Absent}
-use Rattle.record_list.specs.declared.link_table.Neighbours.{Neighbours}
+use Rattle.record_list.specs.declared.row_head.LinkKind.{LinkKind}
+use Rattle.record_list.specs.declared.row_head.LinkKind.TheVariants.{Absent}
+use Rattle.record_list.specs.declared.row_head.Neighbours.{Neighbours}
 use Rattle.record_list.specs.inner.Packing.{link_of, links_of}
 
 pub link_read : (ss : List LinkKind) (es : List Neighbours) (d : ℕ) (e : Neighbours) → d < length ss → d < length es → slice_index_or (links_of ss es) d None ≡ link_of (slice_index_or ss d Absent) (slice_index_or es d e)

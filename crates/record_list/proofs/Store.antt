@@ -1,114 +1,87 @@
 -- What each call does to a store that is whole.
-use Rattle.std.proofs.Common.{◌≡◌, ◌≢◌, ◌≤◌, ◌<◌, ◌+◌, ◌-◌, ◌^◌, ◌==◌, ℕ, zero, suc, Bool, true, false, cond, List, [], ◌∷◌, ◌++◌, map, Result, Ok, Err, slice_index_or, slice_set, refl, sym, ap, ◌∙◌, subst, arith}
-use Rattle.std.specs.Prelude.{All, OnOk, OnErr}
+use Rattle.std.proofs.Common.{◌≡◌, ◌≢◌, ◌≤◌, ◌<◌, ◌+◌, ◌-◌, ◌^◌, ◌==◌, ℕ, zero, suc, Bool, true, false, cond, List, [], ◌∷◌, ◌++◌, length, map, slice_index_or, slice_set, refl, sym, ap, ◌∙◌, subst, arith}
+use Rattle.std.specs.Prelude.{All, remove}
 use Rattle.std.specs.Option.{is_some}
-use Rattle.std.specs.Result.{is_ok}
 use Rattle.std.specs.Int.{bit_at}
 use Rattle.std.proofs.lemmas.List.{map-append, set-get_or, get_or-set_other}
 use Rattle.std.specs.declared.option.Option.{Option}
 use Rattle.std.specs.declared.option.Option.TheVariants.{None, Some}
-use denote.RawPtr.{Ptr}
-use Rattle.node_heap.specs.inner.Held.{HeldNode, held_at, same_ptr, find_node, drop_node}
-use Rattle.node_heap.specs.declared.nodes.Place.{Place}
-use Rattle.node_heap.proofs.Cut.{same_ptr_symm}
+use Rattle.record_list.specs.inner.Held.{index_in, find_node, set_node, drop_node, IsHeld}
 use Rattle.row_store.specs.declared.Row.{Row}
-use Rattle.row_store.specs.inner.Rows.{without}
+use Rattle.row_store.specs.inner.Rows.{without, changed_at}
 use Rattle.row_store.proofs.Bits.{bit_at-without_same, bit_at-without_other}
 use Rattle.row_store.proofs.Places.{numbers-changed_at, NumbersRise-removed, NumbersRise-push}
-use Rattle.record_list.specs.declared.link_table.Link.{Link}
+use Rattle.record_list.specs.declared.row_head.Link.{Link}
 use Rattle.record_list.specs.declared.links.Node.{Node}
 use Rattle.record_list.specs.declared.links.Links.{Links}
-use Rattle.record_list.specs.inner.Chain.{place, link, first_or, last_or, chain, entry_of, entries, members, link_at, without_link, change_node, row_of, rows_of, items_at}
-use Rattle.record_list.specs.inner.Linked.{IsNotAmong, IsApart, places, tail_at, IsLinked, LacksTail, IsSameChain}
-use Rattle.record_list.specs.inner.Listed.{place_of, without_number}
-use Rattle.record_list.specs.inner.Stands.{stands, new_link, AreMarked, IsWhole, IsKept}
+use Rattle.record_list.specs.inner.Chain.{link, first_or, last_or, chain, entry_of, entries, members, link_at, without_link, change_node, row_of, rows_of, items_at}
+use Rattle.record_list.specs.inner.Linked.{tail_at, IsLinked, IsOpen, LacksTail, IsSameChain}
+use Rattle.record_list.specs.inner.Stands.{stands, new_link, AreMarked, NodesRise, IsWhole}
 use Rattle.record_list.proofs.Change.{set_change, set_none}
 use Rattle.record_list.proofs.Chains.{keys}
 use Rattle.record_list.proofs.Enter.{same_linked}
 use Rattle.record_list.proofs.Entering.{differ, same}
-use Rattle.record_list.proofs.Found.{Found, found_at, Absent, absent_at}
-use Rattle.record_list.proofs.Kept.{is_some_at, IsMarked, kept_from, marked_push, marked_changed, marked_dropped, apart_dropped, listed_changed, in_queue}
+use Rattle.record_list.proofs.Found.{Found, found_at}
+use Rattle.record_list.proofs.Kept.{is_some_at, IsMarked, whole_from, marked_push, marked_changed, marked_dropped, in_queue}
 use Rattle.record_list.proofs.LastLinks.{is_new}
-use Rattle.record_list.proofs.Leave.{set_same, places_changed}
-
-pub on_ok : {A B P : Type 0} (r : Result A B) → is_ok r ≡ true → OnOk r P → P
-on_ok (Ok a) e p = p
-on_ok (Err b) e p = cc
-
-pub on_err : {A B P : Type 0} (r : Result A B) → is_ok r ≡ false → OnErr r P → P
-on_err (Ok a) e p = cc
-on_err (Err b) e p = p
+use Rattle.record_list.proofs.Leave.{set_same}
+use Rattle.record_list.proofs.Rising.{rows_like, apart_of, node_there, dropped_there, stands_there}
+use Rattle.record_list.proofs.Closing.{opened}
 
 less : (d mask : ℕ) → mask < 2 ^ 32 → without d mask < 2 ^ 32
 less d mask lt = elim (bit_at mask d == 1) as (λ b. cond b (mask - 2 ^ d) mask < 2 ^ 32) [ true ↦ omega (arith, lt) | false ↦ lt ]
 
-apart_push : (ps : List Ptr) (p : Ptr) → IsApart ps → IsNotAmong p ps → IsApart (ps ++ p ∷ [])
-apart_push [] p a w = (tt, tt)
-apart_push (q ∷ qs) p a w = (away_push q qs p a.0 (same_ptr_symm p q w.0), apart_push qs p a.1 w.1)
-  where
-    away_push : (q : Ptr) (qs : List Ptr) (p : Ptr) → IsNotAmong q qs → same_ptr p q ≡ false → IsNotAmong q (qs ++ p ∷ [])
-    away_push q [] p a e = (e, tt)
-    away_push q (r ∷ rs) p a e = (a.0, away_push q rs p a.1 e)
-
 module _ {T : Type 0} where
-  pub node_of : (n : ℕ) (at : Place) (s : Links T) (directory : List (ℕ × Place)) → IsKept s directory → Some at ≡ place_of n directory → Found n at s.nodes.held
-  node_of n at s directory k e = found_at n at s.nodes.held k.whole.apart k.rise (subst (λ l. place_of n l ≡ Some at) k.listed_is (sym e))
-
-  pub absent_of : (n : ℕ) (s : Links T) (directory : List (ℕ × Place)) → IsKept s directory → None ≡ place_of n directory → Absent n (rows_of s.nodes.held)
-  absent_of n s directory k e = absent_at n s.nodes.held (subst (λ l. place_of n l ≡ None) k.listed_is (sym e))
-
-  pub marked_found : (p : Ptr) (x : Node T) (hs : List (HeldNode (Node T))) → AreMarked (items_at hs) → find_node p hs ≡ Some x → IsMarked (p, row_of x, map is_some x.links)
+  pub marked_found : (p : ℕ) (x : Node T) (hs : List (Node T)) → AreMarked (items_at hs) → find_node p hs ≡ Some x → IsMarked (row_of x, map is_some x.head.links)
   marked_found p x [] m f = cc
-  marked_found p x (h ∷ hs) m f = (elim (same_ptr h.at p) as (λ y. same_ptr h.at p ≡ y → IsMarked (p, row_of x, map is_some x.links)) [
+  marked_found p x (h ∷ hs) m f = (elim (h.head.number == p) as (λ y. (h.head.number == p) ≡ y → IsMarked (row_of x, map is_some x.head.links)) [
     | true ↦ λ t.
-        let is : Some h.node ≡ Some x = subst (λ (b : Bool). cond b (Some h.node) (find_node p hs) ≡ Some x) t f in
-        let node : h.node ≡ x = cc in
-        subst (λ (y : Node T). IsMarked (p, row_of y, map is_some y.links)) node m.0
-    | false ↦ λ t. marked_found p x hs m.1 (subst (λ (b : Bool). cond b (Some h.node) (find_node p hs) ≡ Some x) t f)
+        let is : Some h ≡ Some x = subst (λ (b : Bool). cond b (Some h) (find_node p hs) ≡ Some x) t f in
+        let node : h ≡ x = cc in
+        subst (λ (y : Node T). IsMarked (row_of y, map is_some y.head.links)) node m.0
+    | false ↦ λ t. marked_found p x hs m.1 (subst (λ (b : Bool). cond b (Some h) (find_node p hs) ≡ Some x) t f)
   ]) refl
 
   -- a node is changed
-  pub kept_changed : (s t : Links T) (directory : List (ℕ × Place)) (n : ℕ) (at : Place) (f : Node T → Node T) (g : Row T → Row T) → IsKept s directory → Found n at s.nodes.held → ((x : Node T) → (f x).row ≡ g x.row) → ((r : Row T) → (g r).number ≡ r.number)
-      → items_at t.nodes.held ≡ items_at (change_node at.ptr f s.nodes.held) → ((x : Node T) → IsMarked (at.ptr, row_of x, map is_some x.links) → IsMarked (at.ptr, row_of (f x), map is_some (f x).links)) → ((d : ℕ) → d < 32 → IsLinked d t) → IsKept t directory
-  kept_changed s t directory n at f g k on rows numbers items marks linked =
-      kept_from (change_node at.ptr f s.nodes.held) t directory items
-      (subst IsApart (sym (places_changed at.ptr f s.nodes.held)) k.whole.apart)
-      (marked_changed at.ptr f marks s.nodes.held k.whole.marked)
-      (rw (on.changed_is f g rows, numbers-changed_at n g numbers (rows_of s.nodes.held)) k.rise)
-      (k.listed_is ∙ sym (listed_changed at.ptr f (λ x. ap (λ r. r.number) (rows x) ∙ numbers x.row) s.nodes.held)) linked
+  pub whole_changed : (s t : Links T) (n : ℕ) (f : Node T → Node T) (g : Row T → Row T) → IsWhole s → Found n s.nodes.items → ((x : Node T) → row_of (f x) ≡ g (row_of x)) → ((r : Row T) → (g r).number ≡ r.number)
+      → items_at t.nodes.items ≡ items_at (change_node n f s.nodes.items) → ((x : Node T) → IsMarked (row_of x, map is_some x.head.links) → IsMarked (row_of (f x), map is_some (f x).head.links)) → ((d : ℕ) → d < 32 → IsLinked d t) → IsWhole t
+  whole_changed s t n f g w on rows numbers items marks linked =
+      whole_from (change_node n f s.nodes.items) t items
+      (rw (on.changed_is f g rows, numbers-changed_at n g numbers (rows_of s.nodes.items)) w.rise)
+      (marked_changed n f marks s.nodes.items w.marked) linked
 
-  pub marks_left : (d : ℕ) → d < 32 → (p : Ptr) (x : Node T) → IsMarked (p, row_of x, map is_some x.links) → IsMarked (p, row_of (without_link d x), map is_some (without_link d x).links)
-  marks_left d lt p x m = (
-    less d x.row.mask m.0,
-    λ e le. is_some_at (slice_set x.links d None) e ∙ (elim (e == d) as (λ b. (e == d) ≡ b → is_some (slice_index_or (slice_set x.links d None) e None) ≡ stands e (without d x.row.mask)) [
+  pub marks_left : (d : ℕ) → d < 32 → (x : Node T) → IsMarked (row_of x, map is_some x.head.links) → IsMarked (row_of (without_link d x), map is_some (without_link d x).head.links)
+  marks_left d lt x m = (
+    less d x.head.mask m.0,
+    λ e le. is_some_at (slice_set x.head.links d None) e ∙ (elim (e == d) as (λ b. (e == d) ≡ b → is_some (slice_index_or (slice_set x.head.links d None) e None) ≡ stands e (without d x.head.mask)) [
       | true ↦ λ q.
           let at : e ≡ d = same e d q in
-          let gone : is_some (slice_index_or (slice_set x.links d None) e None) ≡ false = ap (λ k. is_some (slice_index_or (slice_set x.links d None) k None)) at ∙ ap is_some (set_none x.links d) in
-          let out : stands d (without d x.row.mask) ≡ false = ap (λ b. b == 1) (bit_at-without_same x.row.mask d) in
-          gone ∙ sym out ∙ ap (λ k. stands k (without d x.row.mask)) (sym at)
+          let gone : is_some (slice_index_or (slice_set x.head.links d None) e None) ≡ false = ap (λ k. is_some (slice_index_or (slice_set x.head.links d None) k None)) at ∙ ap is_some (set_none x.head.links d) in
+          let out : stands d (without d x.head.mask) ≡ false = ap (λ b. b == 1) (bit_at-without_same x.head.mask d) in
+          gone ∙ sym out ∙ ap (λ k. stands k (without d x.head.mask)) (sym at)
       | false ↦ λ q.
-          ap is_some (get_or-set_other x.links d e None None (differ e d q)) ∙ sym (is_some_at x.links e) ∙ m.1 e le ∙ ap (λ b. b == 1) (sym (bit_at-without_other x.row.mask d e (differ e d q)))
+          ap is_some (get_or-set_other x.head.links d e None None (differ e d q)) ∙ sym (is_some_at x.head.links e) ∙ m.1 e le ∙ ap (λ b. b == 1) (sym (bit_at-without_other x.head.mask d e (differ e d q)))
     ]) refl,
   )
 
   -- to leave a chain in which the node doesn't stand changes nothing
-  pub left_none : (d : ℕ) → d < 32 → (p : Ptr) (x : Node T) (hs : List (HeldNode (Node T))) → find_node p hs ≡ Some x → IsMarked (p, row_of x, map is_some x.links) → link_at d x ≡ None → change_node p (without_link d) hs ≡ hs
+  pub left_none : (d : ℕ) → d < 32 → (p : ℕ) (x : Node T) (hs : List (Node T)) → find_node p hs ≡ Some x → IsMarked (row_of x, map is_some x.head.links) → link_at d x ≡ None → change_node p (without_link d) hs ≡ hs
   left_none d lt p x hs found m none =
-      let out : (bit_at x.row.mask d == 1) ≡ false = in_queue d (held_at p x) lt m ∙ ap is_some none in
-      let mask : without d x.row.mask ≡ x.row.mask = rw out refl in
-      let links : slice_set x.links d None ≡ x.links = ap (slice_set x.links d) (sym none) ∙ set-get_or x.links d None in
-      let is : x ≡ without_link d x = λ i. record x { links = sym links i; row = record x.row { mask = sym mask i } } in
+      let out : (bit_at x.head.mask d == 1) ≡ false = in_queue d (x) lt m ∙ ap is_some none in
+      let mask : without d x.head.mask ≡ x.head.mask = rw out refl in
+      let links : slice_set x.head.links d None ≡ x.head.links = ap (slice_set x.head.links d) (sym none) ∙ set-get_or x.head.links d None in
+      let is : x ≡ without_link d x = λ i. record x { head = record x.head { links = sym links i; mask = sym mask i } } in
       sym (set_change p (without_link d) x x hs found is) ∙ set_same p x hs found
 
-  pub left_items : (d : ℕ) → d < 32 → (p : Ptr) (x : Node T) (s t : Links T) (r : Bool) → find_node p s.nodes.held ≡ Some x → IsMarked (p, row_of x, map is_some x.links) → r ≡ is_some (link_at d x)
-      → items_at t.nodes.held ≡ cond r (items_at (change_node p (without_link d) s.nodes.held)) (items_at s.nodes.held) → items_at t.nodes.held ≡ items_at (change_node p (without_link d) s.nodes.held)
-  left_items d lt p x s t r found m stood items = (elim (link_at d x) as (λ o. link_at d x ≡ o → items_at t.nodes.held ≡ items_at (change_node p (without_link d) s.nodes.held)) [
+  pub left_items : (d : ℕ) → d < 32 → (p : ℕ) (x : Node T) (s t : Links T) (r : Bool) → find_node p s.nodes.items ≡ Some x → IsMarked (row_of x, map is_some x.head.links) → r ≡ is_some (link_at d x)
+      → items_at t.nodes.items ≡ cond r (items_at (change_node p (without_link d) s.nodes.items)) (items_at s.nodes.items) → items_at t.nodes.items ≡ items_at (change_node p (without_link d) s.nodes.items)
+  left_items d lt p x s t r found m stood items = (elim (link_at d x) as (λ o. link_at d x ≡ o → items_at t.nodes.items ≡ items_at (change_node p (without_link d) s.nodes.items)) [
     | None ↦ λ k.
         let not : r ≡ false = stood ∙ ap is_some k in
-        subst (λ b. items_at t.nodes.held ≡ cond b (items_at (change_node p (without_link d) s.nodes.held)) (items_at s.nodes.held)) not items ∙ sym (ap items_at (left_none d lt p x s.nodes.held found m k))
+        subst (λ b. items_at t.nodes.items ≡ cond b (items_at (change_node p (without_link d) s.nodes.items)) (items_at s.nodes.items)) not items ∙ sym (ap items_at (left_none d lt p x s.nodes.items found m k))
     | Some l ↦ λ k.
         let yet : r ≡ true = stood ∙ ap is_some k in
-        subst (λ b. items_at t.nodes.held ≡ cond b (items_at (change_node p (without_link d) s.nodes.held)) (items_at s.nodes.held)) yet items
+        subst (λ b. items_at t.nodes.items ≡ cond b (items_at (change_node p (without_link d) s.nodes.items)) (items_at s.nodes.items)) yet items
   ]) refl
 
   pub left_linked : (d : ℕ) (s t : Links T) → IsWhole s → IsLinked d t → ((e : ℕ) → e ≢ d → IsSameChain e s t) → (e : ℕ) → e < 32 → IsLinked e t
@@ -117,66 +90,92 @@ module _ {T : Type 0} where
     | false ↦ λ q. same_linked e s t (others e (differ e d q)) (w.linked e lt)
   ]) refl
 
+  -- a node that leaves a chain stays where it is
+  pub rise_left : (d p : ℕ) (x : Node T) (hs : List (Node T)) → NodesRise hs → IsHeld p hs → find_node p hs ≡ Some x → NodesRise (set_node p (without_link d x) hs)
+  rise_left d p x hs rise held found =
+      let on = found_at p hs rise held in
+      let change : Row T → Row T = λ row. record row { mask = without d row.mask } in
+      let rows : rows_of (set_node p (without_link d x) hs) ≡ changed_at p change (rows_of hs) = ap rows_of (set_change p (without_link d) x (without_link d x) hs found refl) ∙ on.changed_is (without_link d) change (λ y. refl) in
+      rw (rows, numbers-changed_at p change (λ row. refl) (rows_of hs)) rise
+
   -- a node is gone
-  pub kept_removed : (s t : Links T) (directory after : List (ℕ × Place)) (n : ℕ) (at : Place) → IsKept s directory → Found n at s.nodes.held → items_at t.nodes.held ≡ items_at (drop_node at.ptr s.nodes.held) → IsWhole t → after ≡ without_number n directory → IsKept t after
-  kept_removed s t directory after n at k on items whole gone =
-      kept_from (drop_node at.ptr s.nodes.held) t after items (apart_dropped at.ptr s.nodes.held k.whole.apart) (marked_dropped at.ptr s.nodes.held k.whole.marked)
-      (rw on.removed_is (NumbersRise-removed n (rows_of s.nodes.held) k.rise)) (gone ∙ ap (without_number n) k.listed_is ∙ sym on.unlisted) whole.linked
+  pub rise_dropped : (n : ℕ) (hs : List (Node T)) → NodesRise hs → Found n hs → NodesRise (drop_node n hs)
+  rise_dropped n hs rise on = rw on.removed_is (NumbersRise-removed n (rows_of hs) rise)
 
-  away_fresh : (p : Ptr) (hs : List (HeldNode (Node T))) → find_node p hs ≡ None → IsNotAmong p (places hs)
-  away_fresh p [] e = tt
-  away_fresh p (h ∷ hs) e = (elim (same_ptr h.at p) as (λ y. same_ptr h.at p ≡ y → IsNotAmong p (places (h ∷ hs))) [
-    | true ↦ λ t. let wrong : Some h.node ≡ None = subst (λ (b : Bool). cond b (Some h.node) (find_node p hs) ≡ None) t e in cc
-    | false ↦ λ t. (t, away_fresh p hs (subst (λ (b : Bool). cond b (Some h.node) (find_node p hs) ≡ None) t e))
-  ]) refl
+  -- the state s, and the state m without the node x, which stands at i
+  module _ (s m : Links T) (i : ℕ) (x : Node T) (w : IsWhole s) (inside : i < length s.nodes.items) (there : x ≡ slice_index_or s.nodes.items i x)
+      (gone : m.nodes.items ≡ remove s.nodes.items i) (heads : m.heads ≡ s.heads) (tails : m.tails ≡ s.tails) where
+    stands_here : IsHeld x.head.number s.nodes.items × (i ≡ index_in x.head.number s.nodes.items)
+    stands_here = stands_there x.head.number i x s.nodes.items w.rise inside there refl
 
-  entries_push : (d : ℕ) (hs : List (HeldNode (Node T))) (h : HeldNode (Node T)) → entries d (hs ++ h ∷ []) ≡ entries d hs ++ entry_of h.at (link_at d h.node) []
+    found : find_node x.head.number s.nodes.items ≡ Some x
+    found =
+        let held = stands_here.0 in
+        held.1 ∙ ap Some (sym (there ∙ ap (λ k. slice_index_or s.nodes.items k x) stands_here.1 ∙ node_there x.head.number held.0 x s.nodes.items held.1))
+
+    dropped : m.nodes.items ≡ drop_node x.head.number s.nodes.items
+    dropped = gone ∙ ap (remove s.nodes.items) stands_here.1 ∙ dropped_there x.head.number x s.nodes.items found
+
+    pub rise_taken : NodesRise m.nodes.items
+    rise_taken = subst NodesRise (sym dropped) (rise_dropped x.head.number s.nodes.items w.rise (found_at x.head.number s.nodes.items w.rise stands_here.0))
+
+    pub open_taken : (d : ℕ) → d < 32 → IsOpen d m (link_at d x)
+    open_taken d lt = opened d x.head.number x s m (apart_of s.nodes.items w.rise) (w.linked d lt) found dropped heads tails
+
+    pub whole_taken : (t : Links T) → items_at t.nodes.items ≡ items_at m.nodes.items → ((d : ℕ) → d < 32 → IsLinked d t) → IsWhole t
+    whole_taken t items linked = whole_from m.nodes.items t items rise_taken (subst (λ hs. AreMarked (items_at hs)) (sym dropped) (marked_dropped x.head.number s.nodes.items w.marked)) linked
+
+  entries_push : (d : ℕ) (hs : List (Node T)) (h : Node T) → entries d (hs ++ h ∷ []) ≡ entries d hs ++ entry_of h.head.number (link_at d h) []
   entries_push d [] h = refl
-  entries_push d (k ∷ ks) h = ap (entry_of k.at (link_at d k.node)) (entries_push d ks h) ∙ past (link_at d k.node)
+  entries_push d (k ∷ ks) h = ap (entry_of k.head.number (link_at d k)) (entries_push d ks h) ∙ past (link_at d k)
     where
-      past : (o : Option Link) → entry_of k.at o (entries d ks ++ entry_of h.at (link_at d h.node) []) ≡ entry_of k.at o (entries d ks) ++ entry_of h.at (link_at d h.node) []
+      past : (o : Option Link) → entry_of k.head.number o (entries d ks ++ entry_of h.head.number (link_at d h) []) ≡ entry_of k.head.number o (entries d ks) ++ entry_of h.head.number (link_at d h) []
       past None = refl
       past (Some l) = refl
 
   -- the state s, and the state m with one more node, whose links know the ends of the chains
-  module _ (s m : Links T) (w : IsWhole s) (p : Ptr) (x : Node T) (fresh : find_node p s.nodes.held ≡ None) (held : m.nodes.held ≡ s.nodes.held ++ held_at p x ∷ []) (heads : m.heads ≡ s.heads) (tails : m.tails ≡ s.tails)
-      (links : (d : ℕ) → d < 32 → link_at d x ≡ new_link (stands d x.row.mask) (tail_at d s)) where
-    abbrev longer : List (HeldNode (Node T))
-    longer = s.nodes.held ++ held_at p x ∷ []
+  module _ (s m : Links T) (w : IsWhole s) (number mask : ℕ) (x : Node T) (row : (x.head.number ≡ number) × (x.head.mask ≡ mask)) (held : m.nodes.items ≡ s.nodes.items ++ x ∷ []) (heads : m.heads ≡ s.heads) (tails : m.tails ≡ s.tails)
+      (below : All (λ row. row.number < number) (rows_of s.nodes.items)) (links : (d : ℕ) → d < 32 → link_at d x ≡ new_link (stands d mask) (tail_at d s)) where
+    abbrev longer : List (Node T)
+    longer = s.nodes.items ++ x ∷ []
 
-    apart_longer : IsApart (places longer)
-    apart_longer = subst IsApart (sym (map-append (λ h. h.at) s.nodes.held (held_at p x ∷ []))) (apart_push (places s.nodes.held) p w.apart (away_fresh p s.nodes.held fresh))
+    rows_longer : rows_of longer ≡ rows_of s.nodes.items ++ row_of x ∷ []
+    rows_longer = map-append row_of s.nodes.items (x ∷ [])
 
-    pub apart_pushed : IsApart (places m.nodes.held)
-    apart_pushed = subst (λ hs. IsApart (places hs)) (sym held) apart_longer
+    rise_longer : NodesRise longer
+    rise_longer = rw rows_longer (NumbersRise-push (rows_of s.nodes.items) (row_of x) w.rise (subst (λ k. All (λ row. row.number < k) (rows_of s.nodes.items)) (sym row.0) below))
 
-    in_now : (d : ℕ) → d < 32 → (y : Bool) → stands d x.row.mask ≡ y → entries d m.nodes.held ≡ entries d s.nodes.held ++ entry_of p (new_link y (tail_at d s)) []
-    in_now d lt y e = ap (entries d) held ∙ entries_push d s.nodes.held (held_at p x) ∙ ap (λ o. entries d s.nodes.held ++ entry_of p o []) (links d lt ∙ ap (λ b. new_link b (tail_at d s)) e)
+    pub rise_pushed : NodesRise m.nodes.items
+    rise_pushed = subst NodesRise (sym held) rise_longer
 
-    pub hangs_pushed : (d : ℕ) → d < 32 → stands d x.row.mask ≡ true → LacksTail d m p
+    in_now : (d : ℕ) → d < 32 → (y : Bool) → stands d mask ≡ y → entries d m.nodes.items ≡ entries d s.nodes.items ++ entry_of number (new_link y (tail_at d s)) []
+    in_now d lt y e = ap (entries d) held ∙ entries_push d s.nodes.items x ∙ (λ i. entries d s.nodes.items ++ entry_of (row.0 i) ((links d lt ∙ ap (λ b. new_link b (tail_at d s)) e) i) [])
+
+    pub hangs_pushed : (d : ℕ) → d < 32 → stands d mask ≡ true → LacksTail d m number
     hangs_pushed d lt e =
         let k = w.linked d lt in
         record {
-          front = members d s.nodes.held;
-          linked = in_now d lt true e ∙ (λ i. k.0 i ++ (p, link (k.2 i) None) ∷ []);
+          front = members d s.nodes.items;
+          linked = in_now d lt true e ∙ (λ i. k.0 i ++ (number, link (k.2 i) None) ∷ []);
           head = ap (λ l. slice_index_or l d None) heads ∙ k.1;
           tail = ap (λ l. slice_index_or l d None) tails ∙ k.2;
         }
 
-    pub linked_pushed : (d : ℕ) → d < 32 → stands d x.row.mask ≡ false → IsLinked d m
+    pub linked_pushed : (d : ℕ) → d < 32 → stands d mask ≡ false → IsLinked d m
     linked_pushed d lt e =
         let k = w.linked d lt in
-        let same : entries d m.nodes.held ≡ entries d s.nodes.held = in_now d lt false e ∙ Rattle.std.proofs.Common.append-nil (entries d s.nodes.held) in
+        let same : entries d m.nodes.items ≡ entries d s.nodes.items = in_now d lt false e ∙ Rattle.std.proofs.Common.append-nil (entries d s.nodes.items) in
         (same ∙ k.0 ∙ ap (λ es. chain None (keys es) None) (sym same), ap (λ l. slice_index_or l d None) heads ∙ k.1 ∙ ap (λ es. first_or None (keys es)) (sym same), ap (λ l. slice_index_or l d None) tails ∙ k.2 ∙ ap (λ es. last_or None (keys es)) (sym same))
 
-    pub rows_longer : rows_of longer ≡ rows_of s.nodes.held ++ x.row ∷ []
-    rows_longer = map-append (λ (h : HeldNode (Node T)). h.node.row) s.nodes.held (held_at p x ∷ [])
+    pub rows_pushed : (t : Links T) → items_at t.nodes.items ≡ items_at m.nodes.items → rows_of t.nodes.items ≡ rows_of s.nodes.items ++ record { number = number; mask = mask; item = x.item } ∷ []
+    rows_pushed t items = rows_like longer t.nodes.items (items ∙ ap items_at held) ∙ rows_longer ∙ (λ i. rows_of s.nodes.items ++ record { number = row.0 i; mask = row.1 i; item = x.item } ∷ [])
 
-    pub kept_pushed : (t : Links T) (directory after : List (ℕ × Place)) → IsKept s directory → x.row.mask < 2 ^ 32 → All (λ row. row.number < x.row.number) (rows_of s.nodes.held) → after ≡ directory ++ (x.row.number, place p) ∷ []
-        → items_at t.nodes.held ≡ items_at m.nodes.held → ((d : ℕ) → d < 32 → IsLinked d t) → IsKept t after
-    kept_pushed t directory after k fits below more items linked =
-        kept_from longer t after (items ∙ ap items_at held) apart_longer
-        (subst AreMarked (sym (map-append (λ (h : HeldNode (Node T)). (h.at, row_of h.node, map is_some h.node.links)) s.nodes.held (held_at p x ∷ [])))
-        (marked_push (items_at s.nodes.held) (p, row_of x, map is_some x.links) k.whole.marked (fits, λ d lt. is_some_at x.links d ∙ ap is_some (links d lt) ∙ is_new (stands d x.row.mask) (tail_at d s))))
-        (rw rows_longer (NumbersRise-push (rows_of s.nodes.held) x.row k.rise below))
-        (more ∙ ap (λ l. l ++ (x.row.number, place p) ∷ []) k.listed_is ∙ sym (map-append (λ (h : HeldNode (Node T)). (h.node.row.number, place h.at)) s.nodes.held (held_at p x ∷ []))) linked
+    pub whole_pushed : (t : Links T) → mask < 2 ^ 32 → items_at t.nodes.items ≡ items_at m.nodes.items → ((d : ℕ) → d < 32 → IsLinked d t) → IsWhole t
+    whole_pushed t fits items linked =
+        let marked : IsMarked (row_of x, map is_some x.head.links) =
+        subst (λ k. (k < 2 ^ 32) × ((d : ℕ) → d < 32 → slice_index_or (map is_some x.head.links) d false ≡ stands d k)) (sym row.1)
+        (fits, λ d lt. is_some_at x.head.links d ∙ ap is_some (links d lt) ∙ is_new (stands d mask) (tail_at d s)) in
+        whole_from longer t (items ∙ ap items_at held) rise_longer
+        (subst AreMarked (sym (map-append (λ (h : Node T). (row_of h, map is_some h.head.links)) s.nodes.items (x ∷ [])))
+        (marked_push (items_at s.nodes.items) (row_of x, map is_some x.head.links) w.marked marked))
+        linked

@@ -1,5 +1,5 @@
 -- The table of a node's links: reading one, writing one, and what a node has that stands alone.
-use Rattle.std.proofs.Common.{◌≡◌, ◌≢◌, ◌<◌, ◌+◌, ◌==◌, ℕ, nat_lt, true, false, if◌then◌else◌, List, map, slice_index_or, slice_set, refl, sym, ap, ◌∙◌, subst, arith, length-set}
+use Rattle.std.proofs.Common.{◌≡◌, ◌≢◌, ◌<◌, ◌+◌, ◌-◌, ◌^◌, ◌==◌, ℕ, cond, inl, inr, nat_lt, true, false, if◌then◌else◌, List, map, slice_index_or, slice_set, refl, sym, ap, ◌∙◌, subst, arith, length-set}
 use Rattle.std.specs.List.{range_with_len}
 use Rattle.std.specs.Int.{bit_at}
 use Rattle.std.proofs.lemmas.Bool.Decides.{nat_tests}
@@ -10,8 +10,17 @@ use Rattle.std.specs.declared.option.Option.{Option}
 use Rattle.std.specs.declared.option.Option.TheVariants.{None}
 use Rattle.row_store.specs.inner.Rows.{without}
 use Rattle.row_store.proofs.Bits.{bit_at-without_other}
-use Rattle.record_list.specs.declared.link_table.Link.{Link}
-use Rattle.record_list.specs.inner.Packing.{slot_of, link_in, table_of}
+use Rattle.record_list.specs.declared.row_head.Link.{Link}
+use Rattle.std.specs.Option.{is_some}
+use Rattle.std.proofs.lemmas.Bool.{cases_lt}
+use Rattle.std.proofs.lemmas.Nat.Bits.{bit_at_above, bit_at-pow_same}
+use Rattle.record_list.specs.declared.row_head.Neighbours.{Neighbours}
+use Rattle.record_list.specs.declared.row_head.LinkKind.{LinkKind}
+use Rattle.record_list.specs.declared.row_head.LinkKind.TheVariants.{Absent, Alone, First, Middle, Last}
+use Rattle.record_list.specs.declared.row_head.HeadParts.{HeadParts}
+use Rattle.record_list.specs.declared.row_head.HeadParts.TheVariants.{OneQueue, Several}
+use Rattle.record_list.specs.inner.Packing.{is_seated, link_of, mask_after, slot_of, link_in, table_of}
+use Rattle.record_list.specs.inner.Seating.{queue_seat_of, queue_ends_of, mask_of, mask_with}
 use Rattle.record_list.specs.inner.Stands.{stands, new_link}
 use Rattle.record_list.proofs.Entering.{differ, same}
 
@@ -84,3 +93,32 @@ pub in_no_other : (queue mask d : ℕ) → without queue mask ≡ 0 → d ≢ qu
 in_no_other queue mask d none other =
     let bit : bit_at mask d ≡ 0 = sym (bit_at-without_other mask queue d other) ∙ ap (λ m. bit_at m d) none ∙ bit_at-zero d in
     ap (λ b. new_link (b == 1) None) bit
+
+-- the mask of a row that has one bit at most
+pub only_bit : (queue mask : ℕ) → without queue mask ≡ 0 → mask ≡ (if stands queue mask then 2 ^ queue else 0)
+only_bit queue mask none = (elim (stands queue mask) as (λ b. stands queue mask ≡ b → cond b (mask - 2 ^ queue) mask ≡ 0 → mask ≡ cond b (2 ^ queue) 0) [
+  | true ↦ λ q rest. elim (cases_lt mask (2 ^ queue)) [
+    | inl less ↦ let bit : bit_at mask queue ≡ 0 = bit_at_above mask queue queue less (omega arith) in let wrong : true ≡ false = sym q ∙ ap (λ b. b == 1) bit in cc
+    | inr more ↦ omega (arith, rest, more)
+  ]
+  | false ↦ λ q rest. rest
+]) refl none
+
+-- a mask of one bit without it
+none_left : (queue : ℕ) → without queue (2 ^ queue) ≡ 0
+none_left queue = rw (bit_at-pow_same queue) (omega arith)
+
+pub seated : (s : LinkKind) (ends : Neighbours) → is_some (link_of s ends) ≡ is_seated s
+seated Absent ends = refl
+seated Alone ends = refl
+seated First ends = refl
+seated Middle ends = refl
+seated Last ends = refl
+
+-- the mask of a row whose first queue gets a link, or loses it
+pub mask_first : (link : Option Link) (parts : HeadParts) (d : ℕ) → d ≡ (queue_seat_of parts).queue → is_some (link_of (queue_seat_of parts).seat (queue_ends_of parts)) ≡ true → mask_with link parts ≡ mask_after d (is_some link) (mask_of parts)
+mask_first link (OneQueue first number ends) d is there =
+    let sits : is_seated first.seat ≡ true = sym (seated first.seat ends) ∙ there in
+    let left : without d (2 ^ first.queue) ≡ 0 = ap (λ q. without q (2 ^ first.queue)) is ∙ none_left first.queue in
+    rw sits (elim (is_some link) as (λ b. cond b (2 ^ first.queue) 0 ≡ cond b (2 ^ first.queue) (without d (2 ^ first.queue))) [ true ↦ refl | false ↦ sym left ])
+mask_first link (Several first number block) d is there = ap (λ q. mask_after q (is_some link) block.value.mask) (sym is)

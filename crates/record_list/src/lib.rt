@@ -1,4 +1,4 @@
-//! Rows that are in up to 32 queues, each row in a block of its own, linked from row to row.
+//! Rows that are in up to 32 queues, side by side in the order of their numbers, linked from row to row by number.
 #![tactic(auto)]
 
 ghost use Rattle.std.specs.Prelude.{◌≡◌, ◌≢◌, ℕ, List};
@@ -6,16 +6,13 @@ ghost use Rattle.row_store.specs.declared.Row.{Row};
 ghost use Rattle.row_store.specs.Rows.{row_numbers, queue_of, item_at};
 ghost use Rattle.row_store.specs.inner.Rows.{unlinked};
 
-mod directory;
-mod entries;
-mod link_table;
 mod links;
 mod record_list;
+mod row_head;
 
-pub use directory::Directory;
-pub use link_table::{Link, LinkTable};
 pub use links::{Links, Node};
 pub use record_list::RecordList;
+pub use row_head::{Link, Place, RowHead};
 
 /// The laws of links: what a row that leaves one queue leaves as it was.
 pub fn link_rules<T>()

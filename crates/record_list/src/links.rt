@@ -1,32 +1,37 @@
 //! Nodes that are in up to 32 chains, one for each queue.
-ghost use Rattle.std.specs.Prelude.{min, ◌-◌, ◌^◌, ◌≡◌, ◌≢◌, ◌<◌, ◌≤◌, ◌+◌, ℕ, [], ◌∷◌, ◌++◌, slice_index_or, true, false, IfOk, IfSome, MatchOption, MatchResult, replicate, if◌then◌else◌};
+ghost use Rattle.std.specs.Prelude.{min, ◌-◌, ◌^◌, ◌≡◌, ◌≢◌, ◌<◌, ◌≤◌, ◌+◌, ℕ, [], ◌∷◌, ◌++◌, All, length, remove, slice_index_or, true, false, IsTrue, IfOk, IfSome, IfNone, MatchOption, MatchResult, replicate, if◌then◌else◌};
+ghost use Rattle.std.specs.List.{HoldsAt};
 ghost use Rattle.std.specs.Option.{is_some};
 ghost use Rattle.record_list.specs.inner.Stands.{stands};
 ghost use Rattle.std.specs.Borrow.{sem, Lends};
 ghost use Rattle.std.specs.declared.option.Option.TheVariants.{None, Some};
-ghost use Rattle.node_heap.specs.inner.Held.{IsHeld, find_node, drop_node, held_at};
+ghost use Rattle.record_list.specs.inner.Held.{IsHeld, index_in, find_node};
 
-use crate::directory::Directory;
-use crate::link_table::{Link, LinkTable, QueueLinks, none_from, stands};
-use node_heap::{Nodes, Place};
-use row_store::Row;
-use std::alloc::{AllocError, Global};
+use crate::row_head::{Link, Place, QueueLinks, RowHead, none_from, stands};
+use std::alloc::{AllocError, AllocFailed, Global};
+use std::collections::VecDeque;
 
 /// One row, with its link in each chain that it is in.
 #[derive(Drop)]
 pub struct Node<T> {
-    pub(crate) row: Row<T>,
-    pub(crate) links: LinkTable,
+    pub(crate) head: RowHead,
+    pub(crate) item: T,
 }
 
-/// A row of a word takes 32 bytes beside its item, and one of several queues 576 with the block of its links there.
-const _: () = prove!(size_of::<Node<u64>>() == size_of::<u64>() + 32);
+/// A row takes 16 bytes beside its item, and one of several queues 308 with the block of its links there.
+const _: () = prove!(size_of::<Node<u64>>() == size_of::<u64>() + 16);
 
-const _: () = prove!(size_of::<Node<u64>>() + size_of::<QueueLinks>() == size_of::<u64>() + 576);
+const _: () = prove!(size_of::<Node<u64>>() + size_of::<QueueLinks>() == size_of::<u64>() + 308);
 
-/// The ends of the chains, and the memory of the nodes.
+/// For how many rows room is kept, whether they are there or not.
+const ROOM_KEPT: usize = 1024;
+
+/// The nodes in the order of their numbers, and the ends of the chains. The nodes lie side by side, for speed and memory:
+/// a row costs no request for memory of its own, and its number tells where it stands. Where a node is taken out, those
+/// before it move up, or those behind it, whichever are fewer.
+#[derive(Drop)]
 pub struct Links<T> {
-    pub(crate) nodes: Nodes<Node<T>>,
+    pub(crate) nodes: VecDeque<Node<T>>,
     pub(crate) heads: [Option<Place>; 32],
     pub(crate) tails: [Option<Place>; 32],
     pub(crate) visits: u64,
@@ -34,49 +39,89 @@ pub struct Links<T> {
 
 impl<T> Links<T> {
     ghost use Rattle.record_list.specs.inner.Chain.{change_at, with_next, with_prev, end_after, members, items_at, link_at, change_node, without_link};
-    ghost use Rattle.record_list.specs.inner.Linked.{IsApart, places, IsLinked, BrokenAt, LacksTail, IsSameChain, tail_at};
-    ghost use Rattle.record_list.specs.inner.Stands.{new_link};
+    ghost use Rattle.record_list.specs.inner.Linked.{IsLinked, BrokenAt, LacksTail, IsSameChain, tail_at};
+    ghost use Rattle.record_list.specs.inner.Stands.{NodesRise, new_link};
     ghost use Rattle.record_list.specs.inner.Visit.{lends_visit};
 
-    pub(crate) fn new() -> Links<T>
-        ensures nodes { result.nodes.held ≡ [] }
+    /// No node yet.
+    pub(crate) fn new(alloc: Global) -> Links<T>
+        ensures nodes { result.nodes.items ≡ [] }
         ensures ends { (result.heads ≡ replicate 32 None) × (result.tails ≡ replicate 32 None) }
         ensures visits { result.visits ≡ 0 }
     {
         Links {
-            nodes: Nodes::new(),
+            nodes: VecDeque::new(alloc),
             heads: [None; 32],
             tails: [None; 32],
             visits: 0,
         }
     }
 
-    /// Each node that is read counts, up to the greatest count.
+    /// Where the node of a number stands. For speed it is tried first where it stands if all rows between the first and
+    /// it are there, as they are where rows leave in their order, then where it stands if all between it and the last are
+    /// there, as they are where rows leave in their order but for older ones that stay, and searched only after that.
+    pub(crate) fn index_of(&self, number: u32) -> Option<usize>
+        requires { NodesRise self.now.nodes.items }
+        ensures within { IfSome result (λ index. index < length self.now.nodes.items) }
+        ensures found { IfSome result (λ index. IsHeld number self.now.nodes.items × (index ≡ index_in number self.now.nodes.items)) }
+        ensures missing { IfNone result (find_node number self.now.nodes.items ≡ None) }
+    {
+        let first = self.nodes.front()?.head.number();
+        let last = self.nodes.back()?.head.number();
+        let behind_first = number.checked_sub(first)? as usize;
+        let before_last = last.checked_sub(number)? as usize;
+        if self.stands_at(number, behind_first) {
+            return Some(behind_first);
+        }
+        match self.nodes.len().checked_sub(before_last + 1) {
+            Some(index) if self.stands_at(number, index) => Some(index),
+            _ => self.search(number),
+        }
+    }
+
+    /// Whether the node of a number stands there.
+    fn stands_at(&self, number: u32, index: usize) -> bool
+        requires { NodesRise self.now.nodes.items }
+        ensures within { IsTrue result → index < length self.now.nodes.items }
+        ensures found { IsTrue result → IsHeld number self.now.nodes.items × (index ≡ index_in number self.now.nodes.items) }
+    {
+        match self.nodes.get(index) {
+            Some(node) => node.head.number() == number,
+            None => false,
+        }
+    }
+
+    /// Where the node of a number stands, by a binary search.
+    fn search(&self, number: u32) -> Option<usize>
+        requires { NodesRise self.now.nodes.items }
+        ensures within { IfSome result (λ index. index < length self.now.nodes.items) }
+        ensures found { IfSome result (HoldsAt (λ node. node.head.number ≡ number) self.now.nodes.items) }
+        ensures missing { IfNone result (All (λ node. node.head.number ≢ number) self.now.nodes.items) }
+    {
+        self.nodes
+            .binary_search_by_key(&number, |node| node.head.number())
+            .ok()
+    }
+
+    /// The node of a row that a link names. Each node that is read counts, up to the greatest count.
     pub(crate) fn visit(&mut self, at: Place) -> &mut Node<T>
-        requires { IsHeld at.ptr self.old.nodes.held }
-        ensures* writes_back { sem 𝓛 (lends_visit T.row self.entry at.ptr (min (self.old.visits + 1) (2 ^ 64 - 1)) result) }
-        ensures value { find_node at.ptr self.old.nodes.held ≡ Some result.now }
+        requires rise { NodesRise self.old.nodes.items }
+        requires held { IsHeld at.number self.old.nodes.items }
+        ensures* writes_back { sem 𝓛 (lends_visit T.row self.entry at.number (min (self.old.visits + 1) (2 ^ 64 - 1)) result) }
+        ensures value { find_node at.number self.old.nodes.items ≡ Some result.now }
         ensures fits { self.old.visits < 2 ^ 64 }
     {
         self.visits = self.visits.saturating_add(1);
-        self.nodes.get_mut(at)
-    }
-
-    /// The number of the row at a node.
-    pub(crate) fn number(&mut self, at: Place) -> u32
-        requires { IsHeld at.ptr self.old.nodes.held }
-        ensures number { MatchOption (find_node at.ptr self.old.nodes.held) (result ≡ 0) (λ n. result ≡ n.row.number) }
-        ensures rest { (self.new.nodes.held ≡ self.old.nodes.held) × (self.new.heads ≡ self.old.heads) × (self.new.tails ≡ self.old.tails) }
-        ensures visits { self.new.visits ≡ min (self.old.visits + 1) (2 ^ 64 - 1) }
-    {
-        self.visit(at).row.number
+        let index = self.index_of(at.number).unwrap();
+        &mut self.nodes[index]
     }
 
     /// `prev` is followed by `next` in the chain d.
     pub(crate) fn point_on(&mut self, d: usize, prev: Option<Place>, next: Option<Place>)
         requires chain { d < 32 }
-        requires held { IfSome prev (λ at. IsHeld at.ptr self.old.nodes.held) }
-        ensures nodes { self.new.nodes.held ≡ change_at prev (with_next d next) self.old.nodes.held }
+        requires rise { NodesRise self.old.nodes.items }
+        requires held { IfSome prev (λ at. IsHeld at.number self.old.nodes.items) }
+        ensures nodes { self.new.nodes.items ≡ change_at prev (with_next d next) self.old.nodes.items }
         ensures heads { self.new.heads ≡ end_after prev d next self.old.heads }
         ensures tails { self.new.tails ≡ self.old.tails }
         ensures visits { self.new.visits ≤ self.old.visits + 1 }
@@ -85,12 +130,12 @@ impl<T> Links<T> {
         match prev {
             Some(at) => {
                 let node = self.visit(at);
-                if let Some(link) = node.links.get(d) {
+                if let Some(link) = node.head.get(d) {
                     let link = Link {
                         prev: link.prev,
                         next,
                     };
-                    node.links.set(d, Some(link));
+                    node.head.set(d, Some(link));
                 }
             }
             None => self.heads[d] = next,
@@ -100,8 +145,9 @@ impl<T> Links<T> {
     /// `next` is preceded by `prev` in the chain d.
     pub(crate) fn point_back(&mut self, d: usize, prev: Option<Place>, next: Option<Place>)
         requires chain { d < 32 }
-        requires held { IfSome next (λ at. IsHeld at.ptr self.old.nodes.held) }
-        ensures nodes { self.new.nodes.held ≡ change_at next (with_prev d prev) self.old.nodes.held }
+        requires rise { NodesRise self.old.nodes.items }
+        requires held { IfSome next (λ at. IsHeld at.number self.old.nodes.items) }
+        ensures nodes { self.new.nodes.items ≡ change_at next (with_prev d prev) self.old.nodes.items }
         ensures heads { self.new.heads ≡ self.old.heads }
         ensures tails { self.new.tails ≡ end_after next d prev self.old.tails }
         ensures visits { self.new.visits ≤ self.old.visits + 1 }
@@ -110,12 +156,12 @@ impl<T> Links<T> {
         match next {
             Some(at) => {
                 let node = self.visit(at);
-                if let Some(link) = node.links.get(d) {
+                if let Some(link) = node.head.get(d) {
                     let link = Link {
                         prev,
                         next: link.next,
                     };
-                    node.links.set(d, Some(link));
+                    node.head.set(d, Some(link));
                 }
             }
             None => self.tails[d] = prev,
@@ -125,12 +171,12 @@ impl<T> Links<T> {
     /// Closes the gap in the chain d.
     pub(crate) fn join(&mut self, d: usize, prev: Option<Place>, next: Option<Place>)
         requires chain { d < 32 }
-        requires apart { IsApart (places self.old.nodes.held) }
+        requires rise { NodesRise self.old.nodes.items }
         requires gap { BrokenAt d self.old prev next }
         ensures linked { IsLinked d self.new }
-        ensures members { members d self.new.nodes.held ≡ members d self.old.nodes.held }
+        ensures members { members d self.new.nodes.items ≡ members d self.old.nodes.items }
         ensures others { (e : ℕ) → e ≢ d → IsSameChain e self.old self.new }
-        ensures items { items_at self.new.nodes.held ≡ items_at self.old.nodes.held }
+        ensures items { items_at self.new.nodes.items ≡ items_at self.old.nodes.items }
         ensures visits { self.new.visits ≤ self.old.visits + 2 }
         ensures rises { self.old.visits ≤ self.new.visits }
     {
@@ -141,12 +187,12 @@ impl<T> Links<T> {
     /// The chain d ends with the node at `at`, which is in it.
     pub(crate) fn enter(&mut self, d: usize, at: Place)
         requires chain { d < 32 }
-        requires apart { IsApart (places self.old.nodes.held) }
-        requires hangs { LacksTail d self.old at.ptr }
+        requires rise { NodesRise self.old.nodes.items }
+        requires hangs { LacksTail d self.old at.number }
         ensures linked { IsLinked d self.new }
-        ensures members { members d self.new.nodes.held ≡ members d self.old.nodes.held }
+        ensures members { members d self.new.nodes.items ≡ members d self.old.nodes.items }
         ensures others { (e : ℕ) → e ≢ d → IsSameChain e self.old self.new }
-        ensures items { items_at self.new.nodes.held ≡ items_at self.old.nodes.held }
+        ensures items { items_at self.new.nodes.items ≡ items_at self.old.nodes.items }
         ensures visits { self.new.visits ≤ self.old.visits + 1 }
         ensures rises { self.old.visits ≤ self.new.visits }
     {
@@ -155,34 +201,40 @@ impl<T> Links<T> {
         self.tails[d] = Some(at);
     }
 
-    /// The links of a node that will be the last row. An error means that memory is refused.
-    pub(crate) fn last_links(&self, alloc: Global, mask: u32) -> Result<LinkTable, AllocError>
-        ensures { IfOk result (λ links. (d : ℕ) → d < 32 → slice_index_or links d None ≡ new_link (stands d mask) (tail_at d self.now)) }
+    /// What a node has beside its item that will be the last row's. An error means that memory is refused.
+    pub(crate) fn last_head(
+        &self,
+        alloc: Global,
+        number: u32,
+        mask: u32,
+    ) -> Result<RowHead, AllocError>
+        ensures row { IfOk result (λ head. (head.number ≡ number) × (head.mask ≡ mask)) }
+        ensures links { IfOk result (λ head. (d : ℕ) → d < 32 → slice_index_or head.links d None ≡ new_link (stands d mask) (tail_at d self.now)) }
     {
-        let mut links = LinkTable::for_queues(alloc, mask)?;
+        let mut head = RowHead::for_queues(alloc, number, mask)?;
         for d in 0..32 {
             if none_from(mask, d) {
-                return Ok(links);
+                return Ok(head);
             }
             if stands(mask, d) {
                 let link = Link {
                     prev: self.tails[d],
                     next: None,
                 };
-                links.set(d, Some(link));
+                head.set(d, Some(link));
             }
         }
-        Ok(links)
+        Ok(head)
     }
 
     /// The last row's node, at `at`, is linked into each of its chains.
     pub(crate) fn enter_all(&mut self, at: Place, mask: u32)
-        requires apart { IsApart (places self.old.nodes.held) }
-        requires hangs { (d : ℕ) → d < 32 → stands d mask ≡ true → LacksTail d self.old at.ptr }
+        requires rise { NodesRise self.old.nodes.items }
+        requires hangs { (d : ℕ) → d < 32 → stands d mask ≡ true → LacksTail d self.old at.number }
         requires linked { (d : ℕ) → d < 32 → stands d mask ≡ false → IsLinked d self.old }
         ensures linked { (d : ℕ) → d < 32 → IsLinked d self.new }
-        ensures members { (d : ℕ) → d < 32 → members d self.new.nodes.held ≡ members d self.old.nodes.held }
-        ensures items { items_at self.new.nodes.held ≡ items_at self.old.nodes.held }
+        ensures members { (d : ℕ) → d < 32 → members d self.new.nodes.items ≡ members d self.old.nodes.items }
+        ensures items { items_at self.new.nodes.items ≡ items_at self.old.nodes.items }
         ensures visits { self.new.visits ≤ self.old.visits + 32 }
         ensures rises { self.old.visits ≤ self.new.visits }
     {
@@ -199,23 +251,22 @@ impl<T> Links<T> {
     /// Takes the node out of the chain d, if it is there, and returns whether it was.
     pub(crate) fn leave(&mut self, d: u32, at: Place) -> bool
         requires chain { d < 32 }
-        requires apart { IsApart (places self.old.nodes.held) }
+        requires rise { NodesRise self.old.nodes.items }
         requires linked { IsLinked d self.old }
-        requires held { IsHeld at.ptr self.old.nodes.held }
-        ensures stood { MatchOption (find_node at.ptr self.old.nodes.held) ⊥ (λ n. result ≡ is_some (link_at d n)) }
-        ensures items { items_at self.new.nodes.held
-            ≡ (if result then items_at (change_node at.ptr (without_link d) self.old.nodes.held) else items_at self.old.nodes.held) }
+        requires held { IsHeld at.number self.old.nodes.items }
+        ensures stood { MatchOption (find_node at.number self.old.nodes.items) ⊥ (λ n. result ≡ is_some (link_at d n)) }
+        ensures items { items_at self.new.nodes.items
+            ≡ (if result then items_at (change_node at.number (without_link d) self.old.nodes.items) else items_at self.old.nodes.items) }
         ensures linked { IsLinked d self.new }
         ensures others { (e : ℕ) → e ≢ d → IsSameChain e self.old self.new }
         ensures visits { self.new.visits ≤ self.old.visits + 3 }
         ensures rises { self.old.visits ≤ self.new.visits }
     {
         let node = self.visit(at);
-        let Some(link) = node.links.get(d as usize) else {
+        let Some(link) = node.head.get(d as usize) else {
             return false;
         };
-        node.links.set(d as usize, None);
-        node.row.leave(d);
+        node.head.set(d as usize, None);
         self.join(d as usize, link.prev, link.next);
         true
     }
@@ -223,78 +274,63 @@ impl<T> Links<T> {
 
 impl<T: Drop> Links<T> {
     ghost use Rattle.record_list.specs.inner.Chain.{items_at};
-    ghost use Rattle.record_list.specs.inner.Linked.{IsApart, places, IsLinked, IsOpen};
-    ghost use Rattle.record_list.specs.inner.Listed.{listed};
-    ghost use Rattle.record_list.specs.inner.Stands.{IsWhole};
+    ghost use Rattle.record_list.specs.inner.Linked.{IsLinked, IsOpen};
+    ghost use Rattle.record_list.specs.inner.Stands.{NodesRise, IsWhole};
 
-    /// Gives the node a block, and returns it where memory is refused.
-    pub(crate) fn place(&mut self, alloc: Global, node: Node<T>) -> Result<Place, Node<T>>
-        ensures placed { MatchResult result
-            (λ at. (find_node at.ptr self.old.nodes.held ≡ None) × (self.new.nodes.held ≡ self.old.nodes.held ++ held_at at.ptr node ∷ []))
-            (λ back. (back ≡ node) × (self.new ≡ self.old)) }
+    /// Adds a node at the end, and returns it where memory is refused.
+    pub(crate) fn add(&mut self, node: Node<T>) -> Result<(), Node<T>>
+        ensures added { MatchResult result (λ _. self.new.nodes.items ≡ self.old.nodes.items ++ node ∷ [])
+            (λ back. (back ≡ node) × (self.new.nodes.items ≡ self.old.nodes.items)) }
         ensures rest { (self.new.heads ≡ self.old.heads) × (self.new.tails ≡ self.old.tails) × (self.new.visits ≡ self.old.visits) }
     {
-        match Box::new(alloc, node) {
-            Ok(block) => Ok(self.nodes.add(block)),
-            Err(refused) => Err(refused.value),
+        match self.nodes.push_back(node) {
+            Ok(()) => Ok(()),
+            Err(AllocFailed { value }) => Err(value),
         }
     }
 
-    /// Takes a node back that is in no chain yet.
-    pub(crate) fn withdraw(&mut self, at: Place, alloc: Global) -> Node<T>
-        requires { IsHeld at.ptr self.old.nodes.held }
-        ensures value { find_node at.ptr self.old.nodes.held ≡ Some result }
-        ensures nodes { self.new.nodes.held ≡ drop_node at.ptr self.old.nodes.held }
-        ensures rest { (self.new.heads ≡ self.old.heads) × (self.new.tails ≡ self.old.tails) × (self.new.visits ≡ self.old.visits) }
-    {
-        Box::into_inner(self.nodes.take(at, alloc))
-    }
-
-    /// Takes a node out of each chain that it is in.
-    pub(crate) fn take_out(&mut self, at: Place, alloc: Global) -> Node<T>
+    /// Takes a node out of each chain that it is in, and out of the list.
+    pub(crate) fn take_out(&mut self, index: usize) -> Node<T>
         requires whole { IsWhole self.old }
-        requires held { IsHeld at.ptr self.old.nodes.held }
-        ensures value { find_node at.ptr self.old.nodes.held ≡ Some result }
+        requires within { index < length self.old.nodes.items }
+        ensures value { result ≡ slice_index_or self.old.nodes.items index result }
         ensures whole { IsWhole self.new }
-        ensures items { items_at self.new.nodes.held ≡ items_at (drop_node at.ptr self.old.nodes.held) }
+        ensures items { items_at self.new.nodes.items ≡ items_at (remove self.old.nodes.items index) }
         ensures visits { self.new.visits ≤ self.old.visits + 65 }
         ensures rises { self.old.visits ≤ self.new.visits }
     {
-        self.visit(at);
-        let node = self.withdraw(at, alloc);
-        self.join_all(&node.links);
+        self.visits = self.visits.saturating_add(1);
+        let node = self.nodes.remove(index).unwrap();
+        self.give_back();
+        self.join_all(&node.head);
         node
     }
 
+    /// Gives half of the list's memory back where three quarters of it are free. It exists for memory: what many rows took
+    /// that are gone is not held for ever.
+    fn give_back(&mut self)
+        ensures nodes { self.new.nodes.items ≡ self.old.nodes.items }
+        ensures rest { (self.new.heads ≡ self.old.heads) × (self.new.tails ≡ self.old.tails) × (self.new.visits ≡ self.old.visits) }
+    {
+        let room = self.nodes.capacity();
+        if room > ROOM_KEPT && self.nodes.len() < room / 4 {
+            self.nodes.shrink_to(room / 2);
+        }
+    }
+
     /// Closes the gaps that a node left.
-    fn join_all(&mut self, gaps: &LinkTable)
-        requires apart { IsApart (places self.old.nodes.held) }
-        requires gaps { (d : ℕ) → d < 32 → IsOpen d self.old (slice_index_or gaps.now d None) }
+    fn join_all(&mut self, gone: &RowHead)
+        requires rise { NodesRise self.old.nodes.items }
+        requires gaps { (d : ℕ) → d < 32 → IsOpen d self.old (slice_index_or gone.now.links d None) }
         ensures linked { (d : ℕ) → d < 32 → IsLinked d self.new }
-        ensures items { items_at self.new.nodes.held ≡ items_at self.old.nodes.held }
+        ensures items { items_at self.new.nodes.items ≡ items_at self.old.nodes.items }
         ensures visits { self.new.visits ≤ self.old.visits + 64 }
         ensures rises { self.old.visits ≤ self.new.visits }
     {
         for d in 0..32 {
-            if let Some(link) = gaps.get(d) {
+            if let Some(link) = gone.get(d) {
                 self.join(d, link.prev, link.next);
             }
         }
-    }
-
-    /// Frees each node, in the order of the rows. The directory has the place of each.
-    pub(crate) fn free(self, mut directory: Directory, alloc: Global)
-        requires { directory ≡ listed self.nodes.held }
-    {
-        let Links {
-            mut nodes,
-            heads: _,
-            tails: _,
-            visits: _,
-        } = self;
-        while let Some((_, at)) = directory.pop_first() {
-            let _block = nodes.take(at, alloc);
-        }
-        nodes.destroy_empty();
     }
 }

@@ -7,34 +7,35 @@ ghost use Rattle.row_store.specs.declared.Row.{Row};
 ghost use Rattle.row_store.specs.Rows.{item_at};
 ghost use Rattle.row_store.specs.inner.Rows.{front_of, is_linked, unlinked, removed};
 
-use crate::directory::Directory;
 use crate::links::{Links, Node};
-use row_store::{QUEUES, Row, RowStore};
+use crate::row_head::Place;
+use row_store::{QUEUES, RowStore};
 use std::alloc::{AllocFailed, Global};
 use std::marker::Model;
 
-/// The rows, each in a node of its own that is linked in each queue that the row is in, and the directory, which leads
-/// from a number to its node by binary search and has all nodes in the order of the rows. No call goes over the rows.
+/// The rows, each in a node that is linked in each queue that the row is in. The nodes lie side by side in the order of
+/// their numbers, so a number leads to its node with no directory beside them. No call goes over the rows.
+#[derive(Drop)]
 pub struct RecordList<T: Drop> {
     links: Links<T>,
-    directory: Directory,
     alloc: Global,
 }
 
 impl<T: Drop> Model for RecordList<T> {
     ghost use Rattle.record_list.specs.inner.Chain.{rows_of};
     ghost use Rattle.record_list.specs.inner.LinkedRows.{LinkedRows};
-    ghost use Rattle.record_list.specs.inner.Stands.{IsKept};
+    ghost use Rattle.record_list.specs.inner.Stands.{IsWhole};
 
     ghost Value = { LinkedRows T };
 
-    ghost view = { λ s. record { rows = rows_of s.links.nodes.held; visits = s.links.visits } };
+    ghost view = { λ s. record { rows = rows_of s.links.nodes.items; visits = s.links.visits } };
 
-    ghost invariant = { λ s. IsKept s.links s.directory };
+    ghost invariant = { λ s. IsWhole s.links };
 }
 
 impl<T: Drop> RecordList<T> {
-    /// How many nodes the calls `front`, `unlink`, `push` and `remove` have read. It stays at its greatest value.
+    /// How many nodes the calls `front`, `unlink`, `push` and `remove` have gone to, but for those that were read to find
+    /// the node of a number. It stays at its greatest value.
     pub fn visits(&self) -> u64
         ensures { result ≡ self.now.visits }
     {
@@ -52,8 +53,7 @@ impl<T: Drop> RowStore<T> for RecordList<T> {
         ensures visits { result.visits ≡ 0 }
     {
         RecordList {
-            links: Links::new(),
-            directory: Directory::new(alloc),
+            links: Links::new(alloc),
             alloc,
         }
     }
@@ -73,24 +73,14 @@ impl<T: Drop> RowStore<T> for RecordList<T> {
         ensures rises { self.old.visits ≤ self.new.visits }
         ensures unread { OnErr result (self.new.visits ≡ self.old.visits) }
     {
-        let Ok(links) = self.links.last_links(self.alloc, mask) else {
+        let Ok(head) = self.links.last_head(self.alloc, number, mask) else {
             return Err(AllocFailed { value: item });
         };
-        let node = Node {
-            row: Row { number, item, mask },
-            links,
-        };
-        match self.links.place(self.alloc, node) {
-            Ok(at) => {
-                if self.directory.add(number, at).is_ok() {
-                    self.links.enter_all(at, mask);
-                    Ok(())
-                } else {
-                    let node = self.links.withdraw(at, self.alloc);
-                    Err(AllocFailed {
-                        value: item_of(node),
-                    })
-                }
+        let node = Node { head, item };
+        match self.links.add(node) {
+            Ok(()) => {
+                self.links.enter_all(Place { number }, mask);
+                Ok(())
             }
             Err(node) => Err(AllocFailed {
                 value: item_of(node),
@@ -109,21 +99,19 @@ impl<T: Drop> RowStore<T> for RecordList<T> {
             return None;
         }
         let at = links.heads[d as usize]?;
-        let number = links.number(at);
-        self.directory.remember(number, at);
-        Some(number)
+        links.visits = links.visits.saturating_add(1);
+        Some(at.number)
     }
 
     fn get(&self, number: u32) -> Option<&T> {
-        let at = self.directory.find(number)?;
-        let node = self.links.nodes.get(at);
-        Some(&node.row.item)
+        let index = self.links.index_of(number)?;
+        Some(&self.links.nodes[index].item)
     }
 
     fn get_mut(&mut self, number: u32) -> Option<&mut T> {
-        let at = self.directory.look_up(number)?;
-        let node = self.links.nodes.get_mut(at);
-        Some(&mut node.row.item)
+        let index = self.links.index_of(number)?;
+        let node = &mut self.links.nodes[index];
+        Some(&mut node.item)
     }
 
     fn unlink(&mut self, number: u32, d: u32) -> bool
@@ -132,13 +120,13 @@ impl<T: Drop> RowStore<T> for RecordList<T> {
         ensures visits { self.new.visits ≤ self.old.visits + 3 }
         ensures rises { self.old.visits ≤ self.new.visits }
     {
-        let Some(at) = self.directory.look_up(number) else {
+        let Some(_) = self.links.index_of(number) else {
             return false;
         };
         if d >= QUEUES {
             return false;
         }
-        self.links.leave(d, at)
+        self.links.leave(d, Place { number })
     }
 
     fn remove(&mut self, number: u32) -> Option<T>
@@ -147,37 +135,20 @@ impl<T: Drop> RowStore<T> for RecordList<T> {
         ensures visits { self.new.visits ≤ self.old.visits + 65 }
         ensures rises { self.old.visits ≤ self.new.visits }
     {
-        let at = self.directory.find(number)?;
-        let node = self.links.take_out(at, self.alloc);
-        self.directory.remove(number);
+        let index = self.links.index_of(number)?;
+        let node = self.links.take_out(index);
         Some(item_of(node))
     }
 
     fn len(&self) -> usize {
-        self.directory.len()
+        self.links.nodes.len()
     }
 }
 
 /// The item of a node that is in no chain.
 fn item_of<T>(node: Node<T>) -> T
-    ensures { result ≡ node.row.item }
+    ensures { result ≡ node.item }
 {
-    let Node { row, links: _ } = node;
-    let Row {
-        number: _,
-        item,
-        mask: _,
-    } = row;
+    let Node { head: _, item } = node;
     item
-}
-
-impl<T: Drop> Drop for RecordList<T> {
-    fn drop(self) {
-        let RecordList {
-            links,
-            directory,
-            alloc,
-        } = self;
-        links.free(directory, alloc);
-    }
 }

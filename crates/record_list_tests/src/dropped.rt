@@ -13,7 +13,7 @@ use std::test::*;
 /// The queues in which the rows are, row by row, and again from the first.
 const MASKS: [u32; 8] = [40, 8, 32, 40, 0, 0xFFFF_FFFF, 1, 0x8000_0000];
 
-/// How many rows there are: enough that the directory grows.
+/// How many rows there are: enough that the list of rows grows.
 const ROWS: u32 = 24;
 
 /// The number whose digit of base 4, at the place of each row, is one.

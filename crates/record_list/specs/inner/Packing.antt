@@ -1,12 +1,13 @@
--- How a node's links are kept.
-use Rattle.std.specs.Prelude.{ℕ, ◌-◌, ◌==◌, nat_lt, if◌then◌else◌, List, [], ◌∷◌, map, slice_index_or}
+-- How a node's links and its row's mask are kept.
+use Rattle.std.specs.Prelude.{ℕ, Bool, true, false, ◌-◌, ◌==◌, nat_lt, if◌then◌else◌, List, [], ◌∷◌, map, slice_index_or}
 use Rattle.std.specs.List.{range_with_len}
 use Rattle.std.specs.declared.option.Option.{Option}
 use Rattle.std.specs.declared.option.Option.TheVariants.{None, Some}
-use Rattle.record_list.specs.declared.link_table.Link.{Link}
-use Rattle.record_list.specs.declared.link_table.LinkKind.{LinkKind}
-use Rattle.record_list.specs.declared.link_table.LinkKind.TheVariants.{Absent, Alone, First, Middle, Last}
-use Rattle.record_list.specs.declared.link_table.Neighbours.{Neighbours}
+use Rattle.row_store.specs.inner.Rows.{without}
+use Rattle.record_list.specs.declared.row_head.Link.{Link}
+use Rattle.record_list.specs.declared.row_head.LinkKind.{LinkKind}
+use Rattle.record_list.specs.declared.row_head.LinkKind.TheVariants.{Absent, Alone, First, Middle, Last}
+use Rattle.record_list.specs.declared.row_head.Neighbours.{Neighbours}
 
 -- the link of a node in a chain, by its seat there: a neighbour that it hasn't counts for nothing
 abbrev pub link_of : LinkKind → Neighbours → Option Link
@@ -15,6 +16,18 @@ link_of Alone ends = Some (record { prev = None; next = None })
 link_of First ends = Some (record { prev = None; next = Some ends.next })
 link_of Middle ends = Some (record { prev = Some ends.prev; next = Some ends.next })
 link_of Last ends = Some (record { prev = Some ends.prev; next = None })
+
+-- whether that is a link at all
+abbrev pub is_seated : LinkKind → Bool
+is_seated Absent = false
+is_seated Alone = true
+is_seated First = true
+is_seated Middle = true
+is_seated Last = true
+
+-- the mask of a row that stays in the queue, or leaves it
+abbrev pub mask_after : ℕ → Bool → ℕ → ℕ
+mask_after d stays mask = if stays then mask else without d mask
 
 abbrev pub links_of : List LinkKind → List Neighbours → List (Option Link)
 links_of [] es = []

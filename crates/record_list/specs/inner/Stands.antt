@@ -3,15 +3,14 @@ use Rattle.std.specs.Prelude.{◌≡◌, ℕ, ◌<◌, ◌^◌, ◌==◌, Bool, 
 use Rattle.std.specs.Int.{bit_at}
 use Rattle.std.specs.declared.option.Option.{Option}
 use Rattle.std.specs.declared.option.Option.TheVariants.{None, Some}
-use denote.RawPtr.{Ptr}
 use Rattle.row_store.specs.declared.Row.{Row}
-use Rattle.record_list.specs.declared.link_table.Link.{Link}
+use Rattle.record_list.specs.declared.row_head.Link.{Link}
 use Rattle.record_list.specs.declared.links.Links.{Links}
 use Rattle.row_store.specs.inner.Rows.{NumbersRise}
 use Rattle.record_list.specs.inner.Chain.{link, items_at, rows_of}
-use Rattle.record_list.specs.inner.Listed.{listed}
-use Rattle.node_heap.specs.declared.nodes.Place.{Place}
-use Rattle.record_list.specs.inner.Linked.{IsApart, places, IsLinked}
+use Rattle.record_list.specs.declared.row_head.Place.{Place}
+use Rattle.record_list.specs.declared.links.Node.{Node}
+use Rattle.record_list.specs.inner.Linked.{IsLinked}
 
 -- whether a row with this mask is in the chain d
 abbrev pub stands : ℕ → ℕ → Bool
@@ -23,18 +22,16 @@ new_link true last = Some (link last None)
 new_link false last = None
 
 -- the masks have bits of queues alone, and each node has its links exactly in the chains that its row is in
-abbrev pub AreMarked : {T : Type 0} → List (Ptr × Row T × List Bool) → Type 0
+abbrev pub AreMarked : {T : Type 0} → List (Row T × List Bool) → Type 0
 AreMarked [] = Unit {0}
-AreMarked (i ∷ is) = ((i.1.mask < 2 ^ 32) × ((d : ℕ) → d < 32 → slice_index_or i.2 d false ≡ stands d i.1.mask)) × AreMarked is
+AreMarked (i ∷ is) = ((i.0.mask < 2 ^ 32) × ((d : ℕ) → d < 32 → slice_index_or i.1 d false ≡ stands d i.0.mask)) × AreMarked is
 
--- every chain is linked, each node is in those that its row's mask says, and no two nodes lie at one place
+-- the nodes lie in the order of their numbers
+abbrev pub NodesRise : {T : Type 0} → List (Node T) → Type 0
+NodesRise hs = NumbersRise (rows_of hs)
+
+-- the whole of a store of linked rows: the numbers rise, every chain is linked, and each node is in those that its row's mask says
 pub record IsWhole {T : Type 0} (s : Links T) : Type 0 where
-  pub apart : IsApart (places s.nodes.held)
+  pub rise : NodesRise s.nodes.items
   pub linked : (d : ℕ) → d < 32 → IsLinked d s
-  pub marked : AreMarked (items_at s.nodes.held)
-
--- the whole of a store of linked rows: beside the chains, the numbers rise, and the directory has each with its place
-pub record IsKept {T : Type 0} (s : Links T) (directory : List (ℕ × Place)) : Type 0 where
-  pub whole : IsWhole s
-  pub rise : NumbersRise (rows_of s.nodes.held)
-  pub listed_is : directory ≡ listed s.nodes.held
+  pub marked : AreMarked (items_at s.nodes.items)

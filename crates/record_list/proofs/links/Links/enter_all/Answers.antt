@@ -1,5 +1,4 @@
 use Rattle.std.proofs.Common.{rules, ◌∙◌, sym, subst, ◌+◌}
-use Rattle.record_list.proofs.Join.{apart_like}
 use Rattle.record_list.proofs.Entering.{Entered, step_entered, skip_entered}
 use Rattle.record_list.proofs.links.Links.enter_all.Goals as goal
 use Rattle.record_list.proofs.links.Links.enter_all.Goals.{then-stands, else-stands}
@@ -7,7 +6,7 @@ use Rattle.record_list.proofs.links.Links.enter_all.Goals.{then-stands, else-sta
 pub loop-d-preserved : goal.loop-d-preserved
 loop-d-preserved g c = elim c.if-stands.branch [
   | then-stands w ↦ subst (λ t. Entered (c.loop-d.d + 1) c.args.self.now t) (sym w.self-is)
-      (step_entered c.loop-d.d c.args.self.now c.loop-d.self w.enter.new.self c.loop-d.invariant w.enter.ensures.linked w.enter.ensures.members w.enter.ensures.others (apart_like c.loop-d.self.nodes.held w.enter.new.self.nodes.held w.enter.ensures.items c.loop-d.invariant.apart) w.enter.ensures.items w.enter.ensures.visits w.enter.ensures.rises)
+      (step_entered c.loop-d.d c.args.self.now c.loop-d.self w.enter.new.self c.loop-d.invariant w.enter.ensures.linked w.enter.ensures.members w.enter.ensures.others w.enter.ensures.items w.enter.ensures.visits w.enter.ensures.rises)
   | else-stands w ↦ subst (λ t. Entered (c.loop-d.d + 1) c.args.self.now t) (sym w.self-is)
       (skip_entered c.loop-d.d c.args.self.now c.loop-d.self c.loop-d.invariant (c.requires.linked c.loop-d.d (search rules) (sym c.stands.ensures ∙ w.if-stands.false)))
 ]

@@ -5,8 +5,8 @@ use Rattle.record_list.proofs.Closing.{Closed, same_open, step_closed, skip_clos
 use Rattle.record_list.proofs.links.Links.join_all.Goals as goal
 use Rattle.record_list.proofs.links.Links.join_all.Goals.{in-Some, in_default}
 
-pub join-requires-clause-apart : goal.join-requires-clause-apart
-join-requires-clause-apart g c = c.loop-d.invariant.apart
+pub join-requires-clause-rise : goal.join-requires-clause-rise
+join-requires-clause-rise g c = c.loop-d.invariant.rise
 
 pub join-requires-clause-gap : goal.join-requires-clause-gap
 join-requires-clause-gap g c = same_open c.loop-d.d c.args.self.now c.loop-d.self (Some c.in-Some.link) (c.loop-d.invariant.rest c.loop-d.d (search rules)) (subst (IsOpen c.loop-d.d c.args.self.now) (sym c.get.ensures ∙ c.in-Some.is) (c.requires.gaps c.loop-d.d (search rules)))

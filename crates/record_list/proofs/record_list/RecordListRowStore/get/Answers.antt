@@ -1,21 +1,19 @@
-use Rattle.std.proofs.Common.{◌≡◌, rules, sym, ap, ◌∙◌, refl}
-use Rattle.std.specs.declared.option.Option.TheVariants.{Some}
-use Rattle.record_list.proofs.Store.{node_of, absent_of}
+use Rattle.std.proofs.Common.{◌≡◌, rules, slice_index_or, ap, ◌∙◌, refl}
+use Rattle.record_list.proofs.Found.{found_at, absent_at}
+use Rattle.record_list.proofs.Rising.{node_there}
 use Rattle.record_list.proofs.record_list.RecordListRowStore.get.Goals as goal
 
-pub returns-in_err-at : goal.returns-in_err-at
-returns-in_err-at g c =
+pub returns-in_err-index : goal.returns-in_err-index
+returns-in_err-index g c =
     let shown = ap (λ s. s.rows) c.self.view_is in
-    let absent = (absent_of c.args.number c.self.inside.links c.self.inside.directory c.self.invariant c.in_err-at.ensures) in
+    let absent = absent_at c.args.number c.self.inside.links.nodes.items c.in_err-index.ensures.missing in
     rw (← shown, absent.row_is) (search rules)
-
-pub get-node-requires : goal.get-node-requires
-get-node-requires g c = let on = (node_of c.args.number c.in_ok-at.at c.self.inside.links c.self.inside.directory c.self.invariant c.in_ok-at.ensures) in (on.node, on.found)
 
 pub returns : goal.returns
 returns g c =
     let shown = ap (λ s. s.rows) c.self.view_is in
-    let on = (node_of c.args.number c.in_ok-at.at c.self.inside.links c.self.inside.directory c.self.invariant c.in_ok-at.ensures) in
-    let is : Some on.node ≡ Some c.get-node.result.now = sym on.found ∙ c.get-node.ensures in
-    let node : on.node ≡ c.get-node.result.now = cc in
+    let items = c.self.inside.links.nodes.items in
+    let at = c.in_ok-index.ensures.found in
+    let on = found_at c.args.number items c.self.invariant.rise at.0 in
+    let node : c.index.result.now ≡ on.node = c.index.ensures ∙ ap (λ k. slice_index_or items k c.index.result.now) at.1 ∙ node_there c.args.number on.node c.index.result.now items on.found in
     rw (← shown, on.row_is, node) refl

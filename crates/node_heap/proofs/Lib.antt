@@ -1,5 +1,0 @@
-pub mod Crosses
-pub mod Cut
-pub mod Memory
-pub mod Sharing
-pub mod Parts
