@@ -33,7 +33,7 @@ COUNTED = (1_000, 3_000)  # messages of the two runs under valgrind, whose diffe
 TOOLS = [('callgrind', r'Collected : ([0-9]+)', 'instructions', 10_500),
          ('memcheck', r'total heap usage: ([0-9,]+) allocs', 'requests for memory', 8)]  # each with its bound for a message
 BESIDE = 300  # bytes that a message may take at the peak, in addition to those received
-ROW = 200  # bytes that a message takes in addition to its text: 56 bytes of its row for links, and its slots, key and entry
+ROW = 200  # bytes that a message takes in addition to its text, at most: its row, key and entry, and the owner of its bytes
 LARGE, LARGE_SEGMENTS = (2_000, 20_000), 660
 HELD_ONCE = 1.5
 NO_SLOWER = 1.05
