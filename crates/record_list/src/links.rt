@@ -58,8 +58,9 @@ impl<T> Links<T> {
     }
 
     /// Where the node of a number stands. For speed it is tried first where it stands if all rows between the first and
-    /// it are there, as they are where rows leave in their order, then where it stands if all between it and the last are
-    /// there, as they are where rows leave in their order but for older ones that stay, and searched only after that.
+    /// it are there, as they are where rows leave in their order; and it is inlined, which saves some 80 instructions a
+    /// message by an estimate.
+    #[inline(always)]
     pub(crate) fn index_of(&self, number: u32) -> Option<usize>
         requires { NodesRise self.now.nodes.items }
         ensures within { IfSome result (λ index. index < length self.now.nodes.items) }
@@ -67,12 +68,24 @@ impl<T> Links<T> {
         ensures missing { IfNone result (find_node number self.now.nodes.items ≡ None) }
     {
         let first = self.nodes.front()?.head.number();
-        let last = self.nodes.back()?.head.number();
         let behind_first = number.checked_sub(first)? as usize;
-        let before_last = last.checked_sub(number)? as usize;
         if self.stands_at(number, behind_first) {
             return Some(behind_first);
         }
+        self.index_from_last(number)
+    }
+
+    /// Where the node of a number stands. For speed it is tried first where it stands if all rows between it and the last
+    /// are there, as they are where rows leave in their order but for older ones that stay, and searched only after that.
+    #[inline(never)]
+    fn index_from_last(&self, number: u32) -> Option<usize>
+        requires { NodesRise self.now.nodes.items }
+        ensures within { IfSome result (λ index. index < length self.now.nodes.items) }
+        ensures found { IfSome result (λ index. IsHeld number self.now.nodes.items × (index ≡ index_in number self.now.nodes.items)) }
+        ensures missing { IfNone result (find_node number self.now.nodes.items ≡ None) }
+    {
+        let last = self.nodes.back()?.head.number();
+        let before_last = last.checked_sub(number)? as usize;
         match self.nodes.len().checked_sub(before_last + 1) {
             Some(index) if self.stands_at(number, index) => Some(index),
             _ => self.search(number),

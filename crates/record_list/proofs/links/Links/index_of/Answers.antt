@@ -1,23 +1,10 @@
-use Rattle.std.proofs.Common.{rules, ◌≤◌, ◌-◌, arith, refl, sym, subst}
-use Rattle.record_list.proofs.Rising.{before_first, after_last, stands_some, missing_none, where_none}
+use Rattle.std.proofs.Common.{rules, ◌≤◌, sym, subst}
+use Rattle.record_list.proofs.Rising.{before_first, where_none}
 use Rattle.record_list.proofs.links.Links.index_of.Goals as goal
 
 pub returns-in_err-behind_first-clause-missing : goal.returns-in_err-behind_first-clause-missing
 returns-in_err-behind_first-clause-missing g c = where_none c.from_residual-in_err-behind_first.result
     (before_first c.args.number c.in_ok-front.field-0.now c.args.self.now.nodes.items c.requires c.in_ok-front.ensures.lookup (λ le. c.in_err-behind_first.ensures (subst (λ k. k ≤ c.args.number) (sym c.number-first.ensures) le)))
 
-pub returns-in_err-before_last-clause-missing : goal.returns-in_err-before_last-clause-missing
-returns-in_err-before_last-clause-missing g c = where_none c.from_residual-in_err-before_last.result
-    (after_last c.args.number (c.args.self.now.nodes.len - 1) c.in_ok-back.field-0.now c.args.self.now.nodes.items c.requires (omega (arith, c.in_ok-back.ensures.variant.0 refl, c.args.self.now.nodes.ok.0)) c.in_ok-back.ensures.lookup (λ le. c.in_err-before_last.ensures (subst (λ k. c.args.number ≤ k) (sym c.number-last.ensures) le)))
-
 pub returns-then-stands_at-clause-found : goal.returns-then-stands_at-clause-found
 returns-then-stands_at-clause-found g c = c.stands_at.ensures.found (search rules)
-
-pub returns-in-Some-clause-found : goal.returns-in-Some-clause-found
-returns-in-Some-clause-found g c = c.if-stands_at-2.ensures.found refl
-
-pub returns-in_default-clause-found : goal.returns-in_default-clause-found
-returns-in_default-clause-found g c = stands_some c.args.number c.search.result c.args.self.now.nodes.items c.requires c.search.ensures.within c.search.ensures.found
-
-pub returns-in_default-clause-missing : goal.returns-in_default-clause-missing
-returns-in_default-clause-missing g c = missing_none c.args.number c.search.result c.args.self.now.nodes.items c.search.ensures.missing
