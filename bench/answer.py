@@ -30,9 +30,9 @@ HERE = os.path.dirname(os.path.abspath(__file__))
 PROGRAM = os.path.join(HERE, '..', 'crates', 'hl7_engine', 'out', 'hl7_engine')
 FEW, MANY, ROUTED = 2_000, 200_000, 5_000
 COUNTED = (1_000, 3_000)  # messages of the two runs under valgrind, whose difference is printed
-TOOLS = [('callgrind', r'Collected : ([0-9]+)', 'instructions', 10_500),
-         ('memcheck', r'total heap usage: ([0-9,]+) allocs', 'requests for memory', 8)]  # each with its bound for a message
-BESIDE = 300  # bytes that a message may take at the peak, in addition to those received
+TOOLS = [('callgrind', r'Collected : ([0-9]+)', 'instructions', 7_000),
+         ('memcheck', r'total heap usage: ([0-9,]+) allocs', 'requests for memory', 3)]  # each with its bound for a message
+BESIDE = 222  # bytes that a message may take at the peak, in addition to those received
 ROW = 200  # bytes that a message takes in addition to its text, at most: its row, key and entry, and the owner of its bytes
 LARGE, LARGE_SEGMENTS = (2_000, 20_000), 660
 HELD_ONCE = 1.5
