@@ -128,7 +128,7 @@ told-sum c (Arrival conn channel raw reply) = by (channel == c) reply
     by false reply = refl
 told-sum c (Take ticket now) = refl
 told-sum c (Settle outcome ticket now state) = refl
-told-sum c (Cancel number mask) = refl
+told-sum c (Cancel number among mask) = refl
 told-sum c (Deploy plan) = refl
 
 -- a sum of three sums

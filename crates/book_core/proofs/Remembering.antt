@@ -104,7 +104,7 @@ kept-place h place (Arrival conn channel raw reply) r is = by (is_kept reply) is
     by false e = absurd cc
 kept-place h place (Take ticket now) r is = absurd cc
 kept-place h place (Settle outcome ticket now state) r is = absurd cc
-kept-place h place (Cancel number mask) r is = absurd cc
+kept-place h place (Cancel number among mask) r is = absurd cc
 kept-place h place (Deploy plan) r is = absurd cc
 
 kept_at-place : (h : History) (place : ℕ) (r : Remembered) → kept_at h place ≡ Some r → r.place ≡ place

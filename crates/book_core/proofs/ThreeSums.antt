@@ -108,7 +108,7 @@ taken-after h (Settle outcome ticket now after) sound may were d below =
     (changed-at AreTaken (settled_one after) (counted h) ticket.destination d (destination-inside h ticket.destination inside)
     (settle-taken after (destination_at ticket.destination (counted h)) (settle-flies h ticket outcome now after (counted h) step are) (subst AreTaken (sym (are.destination ticket.destination inside)) (were ticket.destination inside)))
     (subst AreTaken (sym (are.destination d below)) (were d below)))
-taken-after h (Cancel number mask) sound may were d below = subst AreTaken (sym (cancelled-counts h number mask (cancel-step h sound number mask may.replied) d)) (by (bit_at mask d == 1))
+taken-after h (Cancel number among mask) sound may were d below = subst AreTaken (sym (cancelled-counts h number among mask (cancel-step h sound number among mask may.replied) d)) (by (bit_at mask d == 1))
   where
     by : (b : Bool) → AreTaken (cond b (cancelled_one (destination_counts h d)) (destination_counts h d))
     by true = were d below
@@ -180,14 +180,14 @@ and-none : (n m : ℕ) → n ≡ m → n ≡ m + 0
 and-none n m same = omega arith
 
 -- a cancellation
-pub cancel-sums : (h : History) (number mask : ℕ) → IsSound h → cancel_answer h number ≡ Ok mask → SumsRise 0 0 0 (counted h) (counted (followed_by h (Cancel number mask)))
-cancel-sums h number mask sound is = record {
-  arrivals = and-none _ _ (sum-same (λ (c : ChannelCounts). c.received + c.repeats) (channel_counts (followed_by h (Cancel number mask))) (channel_counts h)
-      (λ c. ap (λ (k : ChannelCounts). k.received + k.repeats) (channels-kept h (Cancel number mask) (λ c so. refl) c)) (range_with_len 0 64));
-  takes = and-none _ _ (sum-same (λ (c : DestinationCounts). c.attempts) (destination_counts (followed_by h (Cancel number mask))) (destination_counts h)
-      (λ d. attempts-kept h (Cancel number mask) d refl) (range_with_len 0 32));
-  settlements = and-none _ _ (sum-same (λ (c : DestinationCounts). c.attempts - c.inflight) (destination_counts (followed_by h (Cancel number mask))) (destination_counts h)
-      (λ d. ap (λ (k : DestinationCounts). k.attempts - k.inflight) (cancelled-counts h number mask (cancel-step h sound number mask is) d) ∙ by d (bit_at mask d == 1)) (range_with_len 0 32));
+pub cancel-sums : (h : History) (number among mask : ℕ) → IsSound h → cancel_answer h number among ≡ Ok mask → SumsRise 0 0 0 (counted h) (counted (followed_by h (Cancel number among mask)))
+cancel-sums h number among mask sound is = record {
+  arrivals = and-none _ _ (sum-same (λ (c : ChannelCounts). c.received + c.repeats) (channel_counts (followed_by h (Cancel number among mask))) (channel_counts h)
+      (λ c. ap (λ (k : ChannelCounts). k.received + k.repeats) (channels-kept h (Cancel number among mask) (λ c so. refl) c)) (range_with_len 0 64));
+  takes = and-none _ _ (sum-same (λ (c : DestinationCounts). c.attempts) (destination_counts (followed_by h (Cancel number among mask))) (destination_counts h)
+      (λ d. attempts-kept h (Cancel number among mask) d refl) (range_with_len 0 32));
+  settlements = and-none _ _ (sum-same (λ (c : DestinationCounts). c.attempts - c.inflight) (destination_counts (followed_by h (Cancel number among mask))) (destination_counts h)
+      (λ d. ap (λ (k : DestinationCounts). k.attempts - k.inflight) (cancelled-counts h number among mask (cancel-step h sound number among mask is) d) ∙ by d (bit_at mask d == 1)) (range_with_len 0 32));
 }
   where
     by : (d : ℕ) (b : Bool) → (cond b (cancelled_one (destination_counts h d)) (destination_counts h d)).attempts - (cond b (cancelled_one (destination_counts h d)) (destination_counts h d)).inflight

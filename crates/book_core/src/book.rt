@@ -18,7 +18,7 @@ ghost use Rattle.event_log.specs.inner.Legal.{IsSound};
 ghost use Rattle.event_log.specs.Room.{is_full, owed, committed_by_new};
 ghost use Rattle.event_log.specs.Counting.{counted};
 ghost use Rattle.book_core.specs.Headline.{KeepsItsPromise};
-ghost use Rattle.book_core.specs.inner.Questions.{CameBy, came_as, first_live, front_at, has_control_id, is_tight, live_at, queued_as, settled_before};
+ghost use Rattle.book_core.specs.inner.Questions.{CameBy, came_as, first_live, failed_as, front_at, has_control_id, is_tight, live_at, queued_as, settled_before};
 ghost use Rattle.book_core.specs.Receiving.{IsReceipt, arrival_reply};
 ghost use Rattle.book_core.specs.Sending.{awaits_ack};
 ghost use Rattle.book_core.specs.inner.Sending.{IsAddition, goes_to, owed_waiting};
@@ -28,10 +28,10 @@ use crate::dispatch::{awaits_ack, owed_waiting};
 use crate::event_counts::{count_arrival, count_cancelled, count_settled};
 use crate::letter::{BookRows, Job, Outbound};
 use crate::pruning::{first_kept, forget_rows, prune_refusal, recall_since, unremembered};
-use crate::questions::{Front, first_queued, is_tight};
+use crate::questions::{Failure, Front, first_queued, is_tight};
 use crate::receipt::{NotBooked, Receipt};
 use dest_queue::{
-    KeptState, Outcome, SettleRefusal, SlotState, begin_attempt, cancel_waiting, front_state,
+    KeptState, Outcome, SettleRefusal, SlotState, begin_attempt, cancel_among, front_state,
     settle_slot, slot_of,
 };
 use dup_index::Keys;
@@ -240,6 +240,34 @@ impl<S: BookRows> Book<S> {
         for number in from..to {
             if let Some(front) = self.queued(d, number) {
                 found.push(front)?;
+            }
+        }
+        Ok(found)
+    }
+
+    /// Message `number` with why it failed at destination `d`, where it did.
+    fn failed(&self, d: u32, number: u32) -> Option<Failure>
+        ensures { result ≡ failed_as self.now d number }
+    {
+        match self.status(number, d) {
+            Some(SlotState::Failed(cause)) => Some(Failure { number, cause }),
+            _ => None,
+        }
+    }
+
+    /// The messages numbered from `from` up to but not including `to` that failed at destination `d`, in their order, with
+    /// why. It looks at as many messages as there are numbers.
+    ///
+    /// # Errors
+    ///
+    /// Where memory for the answer is refused.
+    pub fn failed_among(&self, d: u32, from: u32, to: u32) -> Result<Vec<Failure>, AllocError>
+        ensures { IfOk result (λ found. found.items ≡ filter_map (failed_as self.now d) (range_with_len from (to - from))) }
+    {
+        let mut found = Vec::new(self.alloc);
+        for number in from..to {
+            if let Some(failure) = self.failed(d, number) {
+                found.push(failure)?;
             }
         }
         Ok(found)
@@ -607,32 +635,52 @@ impl<S: BookRows> Book<S> {
     /// `NoSuchMessage`, `NothingWaiting` where the message waits nowhere, and `NoMemory` where a growth was refused. A
     /// refusal leaves the book as it was.
     pub fn cancel(&mut self, number: u32) -> Result<u32, CancelRefusal>
-        ensures does { Does (cancel number) self.old self.new result }
-        ensures memory { MemoryIsLast (cancel number) self.old result }
+        ensures does { Does (cancel number 4294967295) self.old self.new result }
+        ensures memory { MemoryIsLast (cancel number 4294967295) self.old result }
     {
-        let waiting = self.waiting_owed(number)?;
+        self.cancel_among(number, u32::MAX)
+    }
+
+    /// Cancels a message where it waits at one of the destinations of the mask `among`, which has bit d for destination d,
+    /// and answers as a mask where it did. Its other slots, and attempts under way, stay as they are. It is never refused
+    /// for room.
+    ///
+    /// # Errors
+    ///
+    /// `NoSuchMessage`, `NothingWaiting` where the message waits at none of these destinations, and `NoMemory` where a
+    /// growth was refused. A refusal leaves the book as it was.
+    pub fn cancel_among(&mut self, number: u32, among: u32) -> Result<u32, CancelRefusal>
+        ensures does { Does (cancel number among) self.old self.new result }
+        ensures memory { MemoryIsLast (cancel number among) self.old result }
+    {
+        let waiting = self.waiting_owed(number, among)?;
         self.log.reserve(self.flights as usize + 1)?;
         // All growths are made: nothing below is refused.
-        let Some(mask) = cancel_waiting(&mut self.rows, number) else {
+        let Some(mask) = cancel_among(&mut self.rows, number, among) else {
             unreachable!()
         };
         count_cancelled(&mut self.counts, mask);
         let owed = self.log.owed() - waiting;
-        self.log.push(Entry::Cancel { number, mask }, owed);
+        let entry = Entry::Cancel {
+            number,
+            among,
+            mask,
+        };
+        self.log.push(entry, owed);
         Ok(mask)
     }
 
-    /// What a message owes where it waits, or why it can't be cancelled.
-    fn waiting_owed(&self, number: u32) -> Result<u32, CancelRefusal>
-        ensures owed { IfOk result (λ owed. owed ≡ owed_waiting (plan_in_force self.now) (slot self.now number)) }
-        ensures waits { OnOk result (IsOk (cancel_answer self.now number)) }
-        ensures refused { IfErr result (λ e. cancel_answer self.now number ≡ Err e) }
+    /// What a message owes where it waits at a destination of the mask, or why it can't be cancelled there.
+    fn waiting_owed(&self, number: u32, among: u32) -> Result<u32, CancelRefusal>
+        ensures owed { IfOk result (λ owed. owed ≡ owed_waiting (plan_in_force self.now) among (slot self.now number)) }
+        ensures waits { OnOk result (IsOk (cancel_answer self.now number among)) }
+        ensures refused { IfErr result (λ e. cancel_answer self.now number among ≡ Err e) }
     {
         let Some(message) = self.rows.get(number) else {
             return Err(CancelRefusal::NoSuchMessage);
         };
         // A slot that waits owes its cancellation at least.
-        let owed = owed_waiting(self.log.plan(), &message.slots);
+        let owed = owed_waiting(self.log.plan(), &message.slots, among);
         if owed == 0 {
             return Err(CancelRefusal::NothingWaiting);
         }

@@ -26,8 +26,8 @@ pub fn three_sums()
     ensures settlement { (h : History) (ticket : Ticket) (outcome : Outcome) (now : ℕ) (state : SlotState) →
         IsSound h → settle_answer h ticket outcome now ≡ Ok state →
         SumsRise 0 0 1 (counted h) (counted (followed_by h (Settle outcome ticket now state))) }
-    ensures cancellation { (h : History) (number mask : ℕ) → IsSound h → cancel_answer h number ≡ Ok mask →
-        SumsRise 0 0 0 (counted h) (counted (followed_by h (Cancel number mask))) }
+    ensures cancellation { (h : History) (number among mask : ℕ) → IsSound h → cancel_answer h number among ≡ Ok mask →
+        SumsRise 0 0 0 (counted h) (counted (followed_by h (Cancel number among mask))) }
     ensures deployment { (h : History) (plan : PlanEntry) → IsSound h → MayFollow h (Deploy plan) →
         SumsRise 0 0 0 (counted h) (counted (followed_by h (Deploy plan))) }
 

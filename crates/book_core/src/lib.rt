@@ -18,5 +18,5 @@ pub use event_log::{
 };
 pub use laws::three_sums;
 pub use letter::{BookRows, Job, Outbound};
-pub use questions::{Front, is_tight};
+pub use questions::{Failure, Front, is_tight};
 pub use receipt::{NotBooked, Receipt};

@@ -8,7 +8,7 @@ ghost use Rattle.book_core.specs.inner.Questions.{first_live};
 
 use crate::letter::BookRows;
 use crate::pruning::lesser;
-use dest_queue::SlotState;
+use dest_queue::{FailCause, SlotState};
 use row_store::QUEUES;
 
 /// A message in the queue of a destination, with its state there.
@@ -18,6 +18,15 @@ pub struct Front {
     pub number: u32,
     /// Its state at the destination: it waits or is in flight.
     pub state: SlotState,
+}
+
+/// A message that failed at a destination.
+#[derive(Clone, Copy, Debug, PartialEq, Eq)]
+pub struct Failure {
+    /// Its number.
+    pub number: u32,
+    /// Why it failed.
+    pub cause: FailCause,
 }
 
 /// The first message that is still to be delivered. It is the least at the front of a queue, so no row is searched.

@@ -1,12 +1,12 @@
 -- What the calls on slots leave in the rows.
-use Rattle.std.proofs.Common.{◌≡◌, ℕ, ◌+◌, Bool, true, false, ◌==◌, ◌&&◌, ◌||◌, List, [], ◌∷◌, ◌++◌, Some, refl, ◌∙◌, ap, arith, fold, zero, suc, add-zero, add-one, zero-add, bit_and, ◌/◌, ◌^◌, ◌≢◌}
-use Rattle.std.specs.Prelude.{filter}
+use Rattle.std.proofs.Common.{◌≡◌, ℕ, ◌+◌, ◌<◌, Bool, true, false, ◌==◌, ◌&&◌, ◌||◌, List, [], ◌∷◌, ◌++◌, Option, None, Some, refl, ◌∙◌, ap, arith, fold, zero, suc, add-zero, add-one, zero-add}
+use Rattle.std.specs.Prelude.{All, IfSome, filter}
 use Rattle.std.specs.List.{range_with_len}
 use Rattle.std.specs.Int.{bit_at}
 use Rattle.std.proofs.lemmas.Bool.Decides.{nat_tests}
 use Rattle.std.proofs.lemmas.Grind.{fold-append}
 use Rattle.std.proofs.lemmas.List.{append-nil}
-use Rattle.std.proofs.lemmas.Nat.Bits.{shr_and_one, bit_at-zero}
+use Rattle.std.proofs.lemmas.Nat.Bits.{bit_at-zero}
 use Rattle.std.proofs.lemmas.List.Elements.{filter-append, filter_agree}
 use Rattle.row_store.specs.declared.Row.{Row}
 use Rattle.row_store.specs.Rows.{item_at}
@@ -17,26 +17,30 @@ use Rattle.dest_queue.specs.declared.slots.Slot.{Slot}
 use Rattle.dest_queue.specs.declared.SlotState.{SlotState}
 use Rattle.dest_queue.specs.States.{is_live, is_waiting}
 use Rattle.dest_queue.specs.Slots.{is_at}
-use Rattle.dest_queue.specs.inner.Slots.{with_state, waits_at, cancelled}
-use Rattle.dest_queue.specs.inner.Queues.{put, settle, cancel, waiting_at}
+use Rattle.dest_queue.specs.inner.Slots.{with_state, waits_at, has_bit, everywhere, cancelled}
+use Rattle.dest_queue.specs.inner.Queues.{put, settle, cancel, waiting_at, waits_in}
+use Rattle.dest_queue.proofs.SlotLemmas.{cancelled-everywhere, waits-everywhere}
 
-or-false_left : (a b : Bool) → (a || b) ≡ false → a ≡ false
-or-false_left true b none = none
-or-false_left false b none = refl
+or-false_left : (named a b : Bool) → (named && (a || b)) ≡ false → (named && a) ≡ false
+or-false_left true true b none = none
+or-false_left true false b none = refl
+or-false_left false a b none = refl
 
-or-false_right : (a b : Bool) → (a || b) ≡ false → b ≡ false
-or-false_right true b none = absurd cc
-or-false_right false b none = none
+or-false_right : (named a b : Bool) → (named && (a || b)) ≡ false → (named && b) ≡ false
+or-false_right true true b none = absurd cc
+or-false_right true false b none = none
+or-false_right false a b none = refl
 
-not_waiting : (d : ℕ) (slot : Slot) → (is_at d slot && is_waiting slot.state) ≡ false → slot.destination ≡ d → is_waiting slot.state ≡ false
-not_waiting d slot idle same = let here : is_at d slot ≡ true = grind (arith, nat_tests) in rw here at idle
+not_waiting : (named : Bool) (d : ℕ) (slot : Slot) → (named && (is_at d slot && is_waiting slot.state)) ≡ false → slot.destination ≡ d → (named && is_waiting slot.state) ≡ false
+not_waiting named d slot idle same = let here : is_at d slot ≡ true = grind (arith, nat_tests) in rw here at idle
 
--- slots none of which waits stay as they are
-cancelled-idle : (slots : List Slot) → ((d : ℕ) → waits_at d slots ≡ false) → cancelled slots ≡ slots
-cancelled-idle [] idle = refl
-cancelled-idle (slot ∷ slots) idle =
-    let first : is_waiting slot.state ≡ false = not_waiting slot.destination slot (or-false_left (is_at slot.destination slot && is_waiting slot.state) (waits_at slot.destination slots) (idle slot.destination)) refl in
-    rw first (ap (λ rest. slot ∷ rest) (cancelled-idle slots (λ d. or-false_right (is_at d slot && is_waiting slot.state) (waits_at d slots) (idle d))))
+-- slots none of which waits at one of these destinations stay as they are
+cancelled-idle : (among : ℕ → Bool) (slots : List Slot) → ((d : ℕ) → (among d && waits_at d slots) ≡ false) → cancelled among slots ≡ slots
+cancelled-idle among [] idle = refl
+cancelled-idle among (slot ∷ slots) idle =
+    let first : (among slot.destination && is_waiting slot.state) ≡ false = not_waiting (among slot.destination) slot.destination slot
+    (or-false_left (among slot.destination) (is_at slot.destination slot && is_waiting slot.state) (waits_at slot.destination slots) (idle slot.destination)) refl in
+    rw first (ap (λ rest. slot ∷ rest) (cancelled-idle among slots (λ d. or-false_right (among d) (is_at d slot && is_waiting slot.state) (waits_at d slots) (idle d))))
 
 filter-none : (p : ℕ → Bool) (xs : List ℕ) → ((x : ℕ) → p x ≡ false) → filter p xs ≡ []
 filter-none p [] none = refl
@@ -51,13 +55,17 @@ range_with_len-push a (suc n) =
 range-push : (n : ℕ) → range_with_len 0 (n + 1) ≡ range_with_len 0 n ++ n ∷ []
 range-push n = rw (add-one n) (range_with_len-push 0 n ∙ rw (zero-add n) refl)
 
-pub waiting_at-bits : (mask : ℕ) (slots : List Slot) → ((d : ℕ) → (bit_at mask d == 1) ≡ waits_at d slots) → filter (λ d. bit_at mask d == 1) (range_with_len 0 32) ≡ waiting_at slots
+pub waiting_at-bits : (among : ℕ → Bool) (mask : ℕ) (slots : List Slot) → ((d : ℕ) → (bit_at mask d == 1) ≡ (among d && waits_at d slots)) → filter (λ d. bit_at mask d == 1) (range_with_len 0 32) ≡ waiting_at among slots
 unfolding waiting_at
-waiting_at-bits mask slots same = filter_agree (λ d. bit_at mask d == 1) (λ d. waits_at d slots) same (range_with_len 0 32)
+waiting_at-bits among mask slots same = filter_agree (λ d. bit_at mask d == 1) (λ d. among d && waits_at d slots) same (range_with_len 0 32)
 
-waiting_at-idle : (slots : List Slot) → ((d : ℕ) → waits_at d slots ≡ false) → waiting_at slots ≡ []
+waiting_at-idle : (among : ℕ → Bool) (slots : List Slot) → ((d : ℕ) → (among d && waits_at d slots) ≡ false) → waiting_at among slots ≡ []
 unfolding waiting_at
-waiting_at-idle slots idle = filter-none (λ d. waits_at d slots) (range_with_len 0 32) idle
+waiting_at-idle among slots idle = filter-none (λ d. among d && waits_at d slots) (range_with_len 0 32) idle
+
+waiting_at-everywhere : (slots : List Slot) → All (λ slot. slot.destination < 32) slots → waiting_at (has_bit 4294967295) slots ≡ waiting_at everywhere slots
+unfolding waiting_at
+waiting_at-everywhere slots bounded = filter_agree (λ d. has_bit 4294967295 d && waits_at d slots) (λ d. everywhere d && waits_at d slots) (waits-everywhere slots bounded) (range_with_len 0 32)
 
 module _ {T : Type 0} (n : ℕ) where
   -- a slot is written through its row's item
@@ -75,12 +83,12 @@ module _ {T : Type 0} (n : ℕ) where
       ∙ rw dead refl
 
   -- the slots of a message are cancelled, and it leaves one queue after another
-  pub cancel-folded : (rows : List (Row (Queued T))) (message : Queued T) (ds : List ℕ) → NumbersRise rows → item_at n rows ≡ Some message → ds ≡ waiting_at message.slots
-      → fold (λ rows d. unlinked n d rows) (with_item n (record message { slots = cancelled message.slots }) rows) ds ≡ changed_at n cancel rows
-  cancel-folded rows message ds rise found waits =
-      fold-unlinked n ds (λ row. record row { item = record message { slots = cancelled message.slots } }) (λ row. refl) rows
-      ∙ changed_at-for n (λ row. record row { item = record message { slots = cancelled message.slots }; mask = fold (λ mask d. without d mask) row.mask ds })
-      (λ row. record row { item = record row.item { slots = cancelled row.item.slots }; mask = fold (λ mask d. without d mask) row.mask (waiting_at row.item.slots) }) rows message rise found
+  pub cancel-folded : (among : ℕ → Bool) (rows : List (Row (Queued T))) (message : Queued T) (ds : List ℕ) → NumbersRise rows → item_at n rows ≡ Some message → ds ≡ waiting_at among message.slots
+      → fold (λ rows d. unlinked n d rows) (with_item n (record message { slots = cancelled among message.slots }) rows) ds ≡ changed_at n (cancel among) rows
+  cancel-folded among rows message ds rise found waits =
+      fold-unlinked n ds (λ row. record row { item = record message { slots = cancelled among message.slots } }) (λ row. refl) rows
+      ∙ changed_at-for n (λ row. record row { item = record message { slots = cancelled among message.slots }; mask = fold (λ mask d. without d mask) row.mask ds })
+      (λ row. record row { item = record row.item { slots = cancelled among row.item.slots }; mask = fold (λ mask d. without d mask) row.mask (waiting_at among row.item.slots) }) rows message rise found
       (λ row same. rw (same, waits) refl)
 
   -- one more queue is left, or not
@@ -95,36 +103,50 @@ module _ {T : Type 0} (n : ℕ) where
       rw (range-push d, filter-append (λ d. bit_at mask d == 1) (range_with_len 0 d) (d ∷ []), clear, append-nil) refl
 
   -- where a message waits nowhere, nothing changes
-  pub cancel-idle : (rows : List (Row (Queued T))) (message : Queued T) → NumbersRise rows → item_at n rows ≡ Some message → ((d : ℕ) → waits_at d message.slots ≡ false) → changed_at n cancel rows ≡ rows
-  cancel-idle rows message rise found idle =
-      changed_at-for n (λ row. record row { item = record row.item { slots = cancelled row.item.slots }; mask = fold (λ mask d. without d mask) row.mask (waiting_at row.item.slots) }) (λ row. row) rows message rise found
+  pub cancel-idle : (among : ℕ → Bool) (rows : List (Row (Queued T))) (message : Queued T) → NumbersRise rows → item_at n rows ≡ Some message → ((d : ℕ) → (among d && waits_at d message.slots) ≡ false) → changed_at n (cancel among) rows ≡ rows
+  cancel-idle among rows message rise found idle =
+      changed_at-for n (λ row. record row { item = record row.item { slots = cancelled among row.item.slots }; mask = fold (λ mask d. without d mask) row.mask (waiting_at among row.item.slots) }) (λ row. row) rows message rise found
       (λ row same.
-      let slots : cancelled row.item.slots ≡ row.item.slots = rw same (cancelled-idle message.slots idle) in
-      let none : waiting_at row.item.slots ≡ [] = rw same (waiting_at-idle message.slots idle) in
+      let slots : cancelled among row.item.slots ≡ row.item.slots = rw same (cancelled-idle among message.slots idle) in
+      let none : waiting_at among row.item.slots ≡ [] = rw same (waiting_at-idle among message.slots idle) in
       rw (slots, none) refl)
       ∙ changed_at-kept n rows
 
--- the code's test of a bit
-pub bit-set : (mask d : ℕ) → bit_and (mask / 2 ^ d) 1 ≡ 1 → (bit_at mask d == 1) ≡ true
-bit-set mask d set = let same = shr_and_one mask d in grind (arith, nat_tests)
+  -- a cancellation among all 32 destinations is one everywhere
+  pub cancel-everywhere : (rows : List (Row (Queued T))) (message : Queued T) → NumbersRise rows → item_at n rows ≡ Some message → All (λ slot. slot.destination < 32) message.slots
+      → changed_at n (cancel (has_bit 4294967295)) rows ≡ changed_at n (cancel everywhere) rows
+  cancel-everywhere rows message rise found bounded =
+      changed_at-for n (λ row. record row { item = record row.item { slots = cancelled (has_bit 4294967295) row.item.slots }; mask = fold (λ mask d. without d mask) row.mask (waiting_at (has_bit 4294967295) row.item.slots) })
+      (λ row. record row { item = record row.item { slots = cancelled everywhere row.item.slots }; mask = fold (λ mask d. without d mask) row.mask (waiting_at everywhere row.item.slots) }) rows message rise found
+      (λ row same.
+      let slots : cancelled (has_bit 4294967295) row.item.slots ≡ cancelled everywhere row.item.slots = rw same (cancelled-everywhere message.slots bounded) in
+      let left : waiting_at (has_bit 4294967295) row.item.slots ≡ waiting_at everywhere row.item.slots = rw same (waiting_at-everywhere message.slots bounded) in
+      rw (slots, left) refl)
 
-pub bit-clear : (mask d : ℕ) → bit_and (mask / 2 ^ d) 1 ≢ 1 → (bit_at mask d == 1) ≡ false
-bit-clear mask d clear = let same = shr_and_one mask d in grind (arith, nat_tests)
+  -- it waits there as it waits anywhere
+  pub waits_in-everywhere : (rows : List (Row (Queued T))) (message : Queued T) → item_at n rows ≡ Some message → All (λ slot. slot.destination < 32) message.slots
+      → (d : ℕ) → (has_bit 4294967295 d && waits_in n d rows) ≡ waits_in n d rows
+  waits_in-everywhere rows message found bounded d = rw found (waits-everywhere message.slots bounded d)
+
+-- a mask whose bits are as two tests that agree
+pub mask-alike : (o : Option ℕ) (f g : ℕ → Bool) → ((d : ℕ) → f d ≡ g d) → IfSome o (λ mask. (d : ℕ) → (bit_at mask d == 1) ≡ f d) → IfSome o (λ mask. (d : ℕ) → (bit_at mask d == 1) ≡ g d)
+mask-alike None f g same is = tt
+mask-alike (Some mask) f g same is = λ d. is d ∙ same d
 
 -- a mask of no bit
 pub no_bits : (d : ℕ) → (bit_at 0 d == 1) ≡ false
 no_bits d = rw (bit_at-zero d) refl
 
-bits-at : (mask d : ℕ) (slots : List Slot) → d ≡ 32 → ((d : ℕ) → (bit_at mask d == 1) ≡ waits_at d slots) → filter (λ d. bit_at mask d == 1) (range_with_len 0 d) ≡ waiting_at slots
-bits-at mask d slots end same = ap (λ n. filter (λ d. bit_at mask d == 1) (range_with_len 0 n)) end ∙ waiting_at-bits mask slots same
+bits-at : (among : ℕ → Bool) (mask d : ℕ) (slots : List Slot) → d ≡ 32 → ((d : ℕ) → (bit_at mask d == 1) ≡ (among d && waits_at d slots)) → filter (λ d. bit_at mask d == 1) (range_with_len 0 d) ≡ waiting_at among slots
+bits-at among mask d slots end same = ap (λ n. filter (λ d. bit_at mask d == 1) (range_with_len 0 n)) end ∙ waiting_at-bits among mask slots same
 
 -- the rows when each queue was looked at
-pub cancel-done : {T : Type 0} (n mask d : ℕ) (before start after : List (Row (Queued T))) (message : Queued T) (slots : List Slot)
-    → NumbersRise before → item_at n before ≡ Some message → slots ≡ cancelled message.slots → ((d : ℕ) → (bit_at mask d == 1) ≡ waits_at d message.slots)
+pub cancel-done : {T : Type 0} (among : ℕ → Bool) (n mask d : ℕ) (before start after : List (Row (Queued T))) (message : Queued T) (slots : List Slot)
+    → NumbersRise before → item_at n before ≡ Some message → slots ≡ cancelled among message.slots → ((d : ℕ) → (bit_at mask d == 1) ≡ (among d && waits_at d message.slots))
     → start ≡ with_item n (record message { slots = slots }) before → d ≡ 32
-    → after ≡ fold (λ rows d. unlinked n d rows) start (filter (λ d. bit_at mask d == 1) (range_with_len 0 d)) → after ≡ changed_at n cancel before
-cancel-done n mask d before start after message slots rise found are bits written end folded =
+    → after ≡ fold (λ rows d. unlinked n d rows) start (filter (λ d. bit_at mask d == 1) (range_with_len 0 d)) → after ≡ changed_at n (cancel among) before
+cancel-done among n mask d before start after message slots rise found are bits written end folded =
     let begun = written ∙ ap (λ slots. with_item n (record message { slots = slots }) before) are in
     folded
     ∙ ap (λ start. fold (λ rows d. unlinked n d rows) start (filter (λ d. bit_at mask d == 1) (range_with_len 0 d))) begun
-    ∙ cancel-folded n before message _ rise found (bits-at mask d message.slots end bits)
+    ∙ cancel-folded n among before message _ rise found (bits-at among mask d message.slots end bits)

@@ -47,11 +47,11 @@ with_state-slots_by state (e ∷ ds) d next =
     elim (e == d) as (λ b. cond b (record { destination = e; state = next }) (record { destination = e; state = state e }) ∷ with_state d next (slots_by state ds) ≡ record { destination = e; state = cond b next (state e) } ∷ slots_by (λ e. cond (e == d) next (state e)) ds)
     [ true ↦ rw (with_state-slots_by state ds d next) refl | false ↦ rw (with_state-slots_by state ds d next) refl ]
 
-pub cancelled-slots_by : (state : ℕ → SlotState) (ds : List ℕ) → cancelled (slots_by state ds) ≡ slots_by (λ e. cond (is_waiting (state e)) (Failed Cancelled) (state e)) ds
-cancelled-slots_by state [] = refl
-cancelled-slots_by state (e ∷ ds) =
-    elim (is_waiting (state e)) as (λ b. cond b (record { destination = e; state = Failed Cancelled }) (record { destination = e; state = state e }) ∷ cancelled (slots_by state ds) ≡ record { destination = e; state = cond b (Failed Cancelled) (state e) } ∷ slots_by (λ e. cond (is_waiting (state e)) (Failed Cancelled) (state e)) ds)
-    [ true ↦ rw (cancelled-slots_by state ds) refl | false ↦ rw (cancelled-slots_by state ds) refl ]
+pub cancelled-slots_by : (among : ℕ → Bool) (state : ℕ → SlotState) (ds : List ℕ) → cancelled among (slots_by state ds) ≡ slots_by (λ e. cond (among e && is_waiting (state e)) (Failed Cancelled) (state e)) ds
+cancelled-slots_by among state [] = refl
+cancelled-slots_by among state (e ∷ ds) =
+    elim (among e && is_waiting (state e)) as (λ b. cond b (record { destination = e; state = Failed Cancelled }) (record { destination = e; state = state e }) ∷ cancelled among (slots_by state ds) ≡ record { destination = e; state = cond b (Failed Cancelled) (state e) } ∷ slots_by (λ e. cond (among e && is_waiting (state e)) (Failed Cancelled) (state e)) ds)
+    [ true ↦ rw (cancelled-slots_by among state ds) refl | false ↦ rw (cancelled-slots_by among state ds) refl ]
 
 -- a bit of a mask that leaves one queue after another
 bit_at-left : (ds : List ℕ) (mask d : ℕ) → (bit_at (fold (λ mask d. without d mask) mask ds) d == 1) ≡ ((bit_at mask d == 1) && not (is_among d ds))
@@ -96,9 +96,9 @@ is_among-range d a (suc n) low high =
       | inr other ↦ (let miss : (a == d) ≡ false = grind (arith, nat_tests) in rw (miss, is_among-range d (a + 1) n (omega arith) (omega arith)) refl)
     ]
 
-is_among-waiting : (slots : List Slot) (d : ℕ) → d < 32 → is_among d (waiting_at slots) ≡ waits_at d slots
+is_among-waiting : (among : ℕ → Bool) (slots : List Slot) (d : ℕ) → d < 32 → is_among d (waiting_at among slots) ≡ (among d && waits_at d slots)
 unfolding waiting_at
-is_among-waiting slots d below = is_among-filter (λ d. waits_at d slots) d (range_with_len 0 32) ∙ ap (λ b. b && waits_at d slots) (is_among-range d 0 32 (omega arith) (omega arith))
+is_among-waiting among slots d below = is_among-filter (λ d. among d && waits_at d slots) d (range_with_len 0 32) ∙ ap (λ b. b && (among d && waits_at d slots)) (is_among-range d 0 32 (omega arith) (omega arith))
 
-pub left-waiting_at : (slots : List Slot) (mask d : ℕ) → d < 32 → (bit_at (fold (λ mask d. without d mask) mask (waiting_at slots)) d == 1) ≡ ((bit_at mask d == 1) && not (waits_at d slots))
-left-waiting_at slots mask d below = bit_at-left (waiting_at slots) mask d ∙ ap (λ b. (bit_at mask d == 1) && not b) (is_among-waiting slots d below)
+pub left-waiting_at : (among : ℕ → Bool) (slots : List Slot) (mask d : ℕ) → d < 32 → (bit_at (fold (λ mask d. without d mask) mask (waiting_at among slots)) d == 1) ≡ ((bit_at mask d == 1) && not (among d && waits_at d slots))
+left-waiting_at among slots mask d below = bit_at-left (waiting_at among slots) mask d ∙ ap (λ b. (bit_at mask d == 1) && not b) (is_among-waiting among slots d below)

@@ -14,7 +14,9 @@ mod slots;
 
 pub use fixed_numbers::ATTEMPTS_MAX;
 pub use kept::KeptState;
-pub use queues::{begin_attempt, cancel_waiting, front_state, settle_slot, slot_of, take_front};
+pub use queues::{
+    begin_attempt, cancel_among, cancel_waiting, front_state, settle_slot, slot_of, take_front,
+};
 pub use slots::{Queued, Slot, Slots, slot_rules};
 
 /// Why a message failed at a destination.

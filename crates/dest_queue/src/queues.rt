@@ -1,14 +1,16 @@
 //! The calls on slots, over any store of rows.
 
-ghost use Rattle.std.specs.Prelude.{◌≡◌, ◌==◌, ◌+◌, ◌<◌, ◌^◌, ◌↔◌, ℕ, Some, None, IsNone, IsSomeAnd, IfSome, IfOk, OnErr};
+ghost use Rattle.std.specs.Prelude.{◌≡◌, ◌==◌, ◌&&◌, ◌+◌, ◌<◌, ◌^◌, ◌↔◌, ℕ, Some, None, IsNone, IsSomeAnd, IfSome, IfOk, OnErr};
 ghost use Rattle.std.specs.Int.{bit_at};
 ghost use Rattle.row_store.specs.Rows.{item_at};
 ghost use Rattle.row_store.specs.inner.Rows.{changed_at};
 ghost use Rattle.dest_queue.specs.States.{slot_answer, state_after};
+ghost use Rattle.dest_queue.specs.inner.Slots.{everywhere, has_bit};
 ghost use Rattle.dest_queue.specs.inner.States.{next_attempt};
 ghost use Rattle.dest_queue.specs.Queues.{slot_of};
 ghost use Rattle.dest_queue.specs.inner.Queues.{front_state, put, settle, cancel, waits_in, WaitsBelow};
 
+use crate::slots::has_bit;
 use crate::{ATTEMPTS_MAX, FailCause, Outcome, Queued, SettleRefusal, SlotState};
 use row_store::{QUEUES, RowStore};
 
@@ -95,14 +97,28 @@ pub fn settle_slot<T, S: RowStore<Queued<T>>>(
 pub fn cancel_waiting<T, S: RowStore<Queued<T>>>(rows: &mut S, number: u32) -> Option<u32>
     ensures missing { IsNone result ↔ (item_at number (S.rows rows.old) ≡ None) }
     ensures mask { IfSome result (λ mask. (d : ℕ) → (bit_at mask d == 1) ≡ waits_in number d (S.rows rows.old)) }
-    ensures cancelled { S.rows rows.new ≡ changed_at number cancel (S.rows rows.old) }
+    ensures cancelled { S.rows rows.new ≡ changed_at number (cancel everywhere) (S.rows rows.old) }
+    ensures unchanged { result ≡ Some 0 → S.rows rows.new ≡ S.rows rows.old }
+{
+    rows.numbers_rise();
+    rows.get(number)?.slots.destinations_are_few();
+    cancel_among(rows, number, u32::MAX)
+}
+
+/// Cancels each slot of a message that waits at one of the destinations of the mask `among`, and answers where as a mask:
+/// bit d is set where bit d of `among` is and the message waited at d. Those queues lose it. Nothing where there is no such
+/// message; 0, and nothing changes, where it waits at none of these destinations.
+pub fn cancel_among<T, S: RowStore<Queued<T>>>(rows: &mut S, number: u32, among: u32) -> Option<u32>
+    ensures missing { IsNone result ↔ (item_at number (S.rows rows.old) ≡ None) }
+    ensures mask { IfSome result (λ mask. (d : ℕ) → (bit_at mask d == 1) ≡ (has_bit among d && waits_in number d (S.rows rows.old))) }
+    ensures cancelled { S.rows rows.new ≡ changed_at number (cancel (has_bit among)) (S.rows rows.old) }
     ensures unchanged { result ≡ Some 0 → S.rows rows.new ≡ S.rows rows.old }
 {
     // Each number has one row: its item is the one that is changed.
     rows.numbers_rise();
-    let mask = rows.get_mut(number)?.slots.cancel();
+    let mask = rows.get_mut(number)?.slots.cancel(among);
     for d in 0..QUEUES {
-        if mask >> d & 1 == 1 {
+        if has_bit(mask, d) {
             rows.unlink(number, d);
         }
     }

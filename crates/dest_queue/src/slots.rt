@@ -1,6 +1,6 @@
 //! The slots of one message.
 
-ghost use Rattle.std.specs.Prelude.{◌≡◌, ◌==◌, ◌<◌, ◌&&◌, ℕ, List, [], ◌∷◌, ◌++◌, Some, None, IfOk, OnOk, OnErr, All, not, fold, if◌then◌else◌};
+ghost use Rattle.std.specs.Prelude.{◌≡◌, ◌==◌, ◌<◌, ◌&&◌, ℕ, Bool, List, [], ◌∷◌, ◌++◌, Some, None, IfOk, OnOk, OnErr, All, not, fold, if◌then◌else◌};
 ghost use Rattle.row_store.specs.inner.Rows.{without};
 ghost use Rattle.dest_queue.specs.declared.SlotState.{SlotState};
 ghost use Rattle.dest_queue.specs.declared.slots.Slot.{Slot};
@@ -10,7 +10,7 @@ ghost use Rattle.dest_queue.specs.inner.SlotsBy.{slots_by, is_among};
 ghost use Rattle.dest_queue.specs.inner.Queues.{waiting_at, without_each};
 ghost use Rattle.std.specs.Int.{bit_at};
 ghost use Rattle.dest_queue.specs.Slots.{state_at};
-ghost use Rattle.dest_queue.specs.inner.Slots.{new_slot, with_state, waits_at, cancelled};
+ghost use Rattle.dest_queue.specs.inner.Slots.{new_slot, with_state, waits_at, has_bit, cancelled};
 
 use crate::{ATTEMPTS_MAX, FailCause, SlotState};
 use row_store::QUEUES;
@@ -22,6 +22,24 @@ use std::marker::Model;
 pub struct Slot {
     pub destination: u32,
     pub state: SlotState,
+}
+
+impl Slot {
+    /// Whether it waits at one of the destinations of the mask.
+    fn waits_among(self, among: u32) -> bool
+        requires { self.destination < QUEUES }
+        ensures { result ≡ (has_bit among self.destination && is_waiting self.state) }
+    {
+        has_bit(among, self.destination) && self.state.is_waiting()
+    }
+}
+
+/// Whether bit d of a mask is set.
+pub(crate) fn has_bit(mask: u32, d: u32) -> bool
+    requires { d < QUEUES }
+    ensures { result ≡ has_bit mask d }
+{
+    mask >> d & 1 == 1
 }
 
 /// Slots, with a list on the heap only where there are several: a message for one destination takes a request for memory
@@ -166,17 +184,17 @@ impl SlotList {
         }
     }
 
-    /// Cancels the slots that wait, and answers their destinations as a mask.
-    fn cancel(&mut self) -> u32
+    /// Cancels the slots that wait at one of the destinations of the mask `among`, and answers these as a mask.
+    fn cancel(&mut self, among: u32) -> u32
         requires { All (λ slot. slot.destination < QUEUES) (listed self.old) }
-        ensures slots { listed self.new ≡ cancelled (listed self.old) }
-        ensures mask { (d : ℕ) → (bit_at result d == 1) ≡ waits_at d (listed self.old) }
+        ensures slots { listed self.new ≡ cancelled (has_bit among) (listed self.old) }
+        ensures mask { (d : ℕ) → (bit_at result d == 1) ≡ (has_bit among d && waits_at d (listed self.old)) }
     {
         if let SlotList::Several(list) = self {
-            cancel_in(list)
+            cancel_in(list, among)
         } else if let Some(slot) = self.single() {
             let mut slots = [slot];
-            let mask = cancel_in(&mut slots);
+            let mask = cancel_in(&mut slots, among);
             *self = SlotList::one(slots[0]);
             mask
         } else {
@@ -263,12 +281,20 @@ impl Slots {
         self.list.put(d, state);
     }
 
-    /// Cancels the slots that wait, and answers their destinations: bit d is set where the message waited at d.
-    pub fn cancel(&mut self) -> u32
-        ensures slots { self.new ≡ cancelled self.old }
-        ensures mask { (d : ℕ) → (bit_at result d == 1) ≡ waits_at d self.old }
+    /// Cancels the slots that wait at one of the destinations of the mask `among`, and answers these: bit d is set where
+    /// bit d of `among` is and the message waited at d.
+    pub fn cancel(&mut self, among: u32) -> u32
+        ensures slots { self.new ≡ cancelled (has_bit among) self.old }
+        ensures mask { (d : ℕ) → (bit_at result d == 1) ≡ (has_bit among d && waits_at d self.old) }
     {
-        self.list.cancel()
+        self.list.cancel(among)
+    }
+
+    /// Each destination is below `QUEUES`.
+    pub(crate) fn destinations_are_few(&self)
+        ensures { All (λ slot. slot.destination < QUEUES) self.now }
+    {
+        let _ = &self.list;
     }
 }
 
@@ -283,15 +309,15 @@ fn put_in(slots: &mut [Slot], d: u32, state: SlotState)
     }
 }
 
-/// Cancels the slots that wait, and answers their destinations as a mask.
-fn cancel_in(slots: &mut [Slot]) -> u32
+/// Cancels the slots that wait at one of the destinations of the mask `among`, and answers these as a mask.
+fn cancel_in(slots: &mut [Slot], among: u32) -> u32
     requires { All (λ slot. slot.destination < QUEUES) slots.old }
-    ensures slots { slots.new ≡ cancelled slots.old }
-    ensures mask { (d : ℕ) → (bit_at result d == 1) ≡ waits_at d slots.old }
+    ensures slots { slots.new ≡ cancelled (has_bit among) slots.old }
+    ensures mask { (d : ℕ) → (bit_at result d == 1) ≡ (has_bit among d && waits_at d slots.old) }
 {
     let mut mask = 0;
     for slot in slots {
-        if slot.state.is_waiting() {
+        if slot.waits_among(among) {
             slot.state = SlotState::Failed(FailCause::Cancelled);
             mask |= 1 << slot.destination;
         }
@@ -314,10 +340,11 @@ pub fn slot_rules()
         waits_at d (slots_by state ds) ≡ (is_among d ds && is_waiting (state d)) }
     ensures with_state { (state : ℕ → SlotState) (ds : List ℕ) (d : ℕ) (next : SlotState) →
         with_state d next (slots_by state ds) ≡ slots_by (λ e. if e == d then next else state e) ds }
-    ensures cancelled { (state : ℕ → SlotState) (ds : List ℕ) →
-        cancelled (slots_by state ds) ≡ slots_by (λ e. if is_waiting (state e) then SlotState.Failed FailCause.Cancelled else state e) ds }
+    ensures cancelled { (among : ℕ → Bool) (state : ℕ → SlotState) (ds : List ℕ) →
+        cancelled among (slots_by state ds) ≡
+        slots_by (λ e. if among e && is_waiting (state e) then SlotState.Failed FailCause.Cancelled else state e) ds }
 
     // To cancel takes a row out of the queues where it waits, and out of no other.
-    ensures left { (slots : List Slot) (mask d : ℕ) → d < QUEUES →
-        (bit_at (without_each (waiting_at slots) mask) d == 1) ≡ ((bit_at mask d == 1) && not (waits_at d slots)) }
+    ensures left { (among : ℕ → Bool) (slots : List Slot) (mask d : ℕ) → d < QUEUES →
+        (bit_at (without_each (waiting_at among slots) mask) d == 1) ≡ ((bit_at mask d == 1) && not (among d && waits_at d slots)) }
 {}

@@ -85,7 +85,7 @@ no-arrival : (e : Event) → IsNoArrival e → (reply : Reply e) (conn : ℕ) �
 no-arrival (event.arrive conn channel raw) none reply on = absurd none
 no-arrival (event.take d now) none reply on = refl
 no-arrival (event.settle ticket outcome now) none reply on = refl
-no-arrival (event.cancel number) none reply on = refl
+no-arrival (event.cancel number among) none reply on = refl
 no-arrival (event.deploy plan) none reply on = refl
 
 -- an event that is possible, but no arrival

@@ -117,5 +117,5 @@ have-channels [] one = record { channels = []; keep = record { keeps = λ place 
 have-channels (Arrival conn channel raw told ∷ es) one = arrived conn channel raw told es one (have-channels es (others-one (Arrival conn channel raw told) es one))
 have-channels (Take ticket now ∷ es) one = passed (Take ticket now) es (λ conn channel raw told is. absurd cc) (have-channels es (others-one (Take ticket now) es one))
 have-channels (Settle outcome ticket now state ∷ es) one = passed (Settle outcome ticket now state) es (λ conn channel raw told is. absurd cc) (have-channels es (others-one (Settle outcome ticket now state) es one))
-have-channels (Cancel number mask ∷ es) one = passed (Cancel number mask) es (λ conn channel raw told is. absurd cc) (have-channels es (others-one (Cancel number mask) es one))
+have-channels (Cancel number among mask ∷ es) one = passed (Cancel number among mask) es (λ conn channel raw told is. absurd cc) (have-channels es (others-one (Cancel number among mask) es one))
 have-channels (Deploy plan ∷ es) one = passed (Deploy plan) es (λ conn channel raw told is. absurd cc) (have-channels es (others-one (Deploy plan) es one))

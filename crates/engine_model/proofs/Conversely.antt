@@ -22,7 +22,7 @@ pub came : (h : History) (place : ℕ) (e : Entry) → IsLegal h → Some e ≡ 
 came h place (Arrival conn channel raw told) legal at = (follows-since h legal place (Arrival conn channel raw told) (sym at)).possible.plain
 came h place (Take ticket now) legal at = tt
 came h place (Settle outcome ticket now state) legal at = tt
-came h place (Cancel number mask) legal at = tt
+came h place (Cancel number among mask) legal at = tt
 came h place (Deploy plan) legal at = tt
 
 -- an entry that is held, by its place

@@ -146,12 +146,12 @@ module _ (channels : List ℕ) (n : ℕ) (r : Run) (ready : AllReady channels n 
         history = refl;
         ready = still (followed_by r.history (Settle outcome ticket now state));
       }
-  step (Cancel number mask) may keeps few =
+  step (Cancel number among mask) may keeps few =
       record {
-        to = with_history r (followed_by r.history (Cancel number mask));
-        steps = (tt, inl (tt, ap (with_history r) (sym (next-again r.history (Cancel number mask) may))));
+        to = with_history r (followed_by r.history (Cancel number among mask));
+        steps = (tt, inl (tt, ap (with_history r) (sym (next-again r.history (Cancel number among mask) may))));
         history = refl;
-        ready = still (followed_by r.history (Cancel number mask));
+        ready = still (followed_by r.history (Cancel number among mask));
       }
   step (Deploy plan) may keeps few =
       record {

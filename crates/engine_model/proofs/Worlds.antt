@@ -51,7 +51,7 @@ does-step e none h h' cs (Err refusal) does = (none, by e none refusal does)
         ] in
         inl (tt, ap (λ g. run_of g cs) (does.unchanged ∙ sym (next-same h (event.settle ticket outcome now) refusal said)))
     by (event.take d now) none refusal does = inr (tt, ap (λ g. run_of g cs) does.unchanged)
-    by (event.cancel number) none refusal does = inr (tt, ap (λ g. run_of g cs) does.unchanged)
+    by (event.cancel number among) none refusal does = inr (tt, ap (λ g. run_of g cs) does.unchanged)
     by (event.deploy plan) none refusal does = inr (tt, ap (λ g. run_of g cs) does.unchanged)
 
 -- the plan in force has as many channels
@@ -66,7 +66,7 @@ same-channels e none h h' (Ok reply) does = ap (λ (g : History). length (plan_i
     by (event.arrive conn channel raw) none reply does = absurd none
     by (event.take d now) none ticket does = kept (Take ticket now) refl
     by (event.settle ticket outcome now) none state does = kept (Settle outcome ticket now state) refl
-    by (event.cancel number) none mask does = kept (Cancel number mask) refl
+    by (event.cancel number among) none mask does = kept (Cancel number among mask) refl
     by (event.deploy plan) none done does =
         ap (λ (p : PlanEntry). length p.channels) (plan-followed_by h (Deploy plan)) ∙ channels-same h plan (deployable h plan (does-follow (event.deploy plan) h h' done does))
 

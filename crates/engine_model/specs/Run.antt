@@ -37,7 +37,7 @@ arrival_on conn (Arrival came channel raw told) =
     if came == conn then Some (record { conn = came; channel = channel; raw = raw; told = told }) else None
 arrival_on conn (Take ticket now) = None
 arrival_on conn (Settle outcome ticket now state) = None
-arrival_on conn (Cancel number mask) = None
+arrival_on conn (Cancel number among mask) = None
 arrival_on conn (Deploy plan) = None
 
 -- the arrivals of a connection, in the order in which they were booked

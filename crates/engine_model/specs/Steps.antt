@@ -126,7 +126,7 @@ abbrev pub IsNoArrival : Event → Type 0
 IsNoArrival (arrive conn channel raw) = ⊥
 IsNoArrival (take d now) = ⊤
 IsNoArrival (settle ticket outcome now) = ⊤
-IsNoArrival (cancel number) = ⊤
+IsNoArrival (cancel number among) = ⊤
 IsNoArrival (deploy plan) = ⊤
 
 -- whether an event may be refused for lack of memory: a settlement needs none
@@ -134,7 +134,7 @@ abbrev pub NeedsMemory : Event → Type 0
 NeedsMemory (arrive conn channel raw) = ⊤
 NeedsMemory (take d now) = ⊤
 NeedsMemory (settle ticket outcome now) = ⊥
-NeedsMemory (cancel number) = ⊤
+NeedsMemory (cancel number among) = ⊤
 NeedsMemory (deploy plan) = ⊤
 
 -- An event changes what is booked as the sequential engine does, which books nothing where it refuses the event, or

@@ -42,7 +42,15 @@ fn step_of(alloc: Global, entry: &Entry, first: Moment) -> Result<Step, AllocErr
             outcome: *outcome,
             now: *now,
         }),
-        Entry::Cancel { number, .. } => Ok(Step::Cancel { number: *number }),
+        Entry::Cancel {
+            number,
+            among: u32::MAX,
+            ..
+        } => Ok(Step::Cancel { number: *number }),
+        Entry::Cancel { number, among, .. } => Ok(Step::CancelAmong {
+            number: *number,
+            among: *among,
+        }),
         Entry::Deploy { plan } => Ok(Step::Deploy {
             plan: Arc::try_clone(plan.plan())?,
         }),

@@ -26,9 +26,14 @@ pub enum Step {
         outcome: Outcome,
         now: Moment,
     },
-    /// A message is cancelled.
+    /// A message is cancelled wherever it waits.
     Cancel {
         number: u32,
+    },
+    /// A message is cancelled where it waits at one of the destinations of a mask, which has bit d for destination d.
+    CancelAmong {
+        number: u32,
+        among: u32,
     },
     /// A plan is deployed.
     Deploy {

@@ -130,11 +130,11 @@ impl<S: BookRows> World<S> {
         let _ = self.book.settle(ticket, outcome, now);
     }
 
-    /// A message is cancelled.
-    fn cancel(&mut self, number: u32)
-        ensures { Steps (event (cancel number)) self.old self.new }
+    /// A message is cancelled among the destinations of a mask.
+    fn cancel(&mut self, number: u32, among: u32)
+        ensures { Steps (event (cancel number among)) self.old self.new }
     {
-        let _ = self.book.cancel(number);
+        let _ = self.book.cancel_among(number, among);
     }
 
     /// A plan is deployed.
@@ -167,7 +167,8 @@ impl<S: BookRows> World<S> {
                 outcome,
                 now,
             } => self.settle(ticket, *outcome, *now),
-            Step::Cancel { number } => self.cancel(*number),
+            Step::Cancel { number } => self.cancel(*number, u32::MAX),
+            Step::CancelAmong { number, among } => self.cancel(*number, *among),
             Step::Deploy { plan } => self.deploy(plan),
             Step::Prune { before } => self.prune(*before),
         }

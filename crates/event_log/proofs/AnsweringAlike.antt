@@ -3,6 +3,7 @@ use Rattle.std.proofs.Common.{◌≡◌, ℕ, ◌+◌, Bool, true, false, cond, 
 use Rattle.std.specs.Prelude.{find, is_some, slice_get}
 use Rattle.std.specs.List.{range_with_len}
 use Rattle.std.specs.Option.{option_map_or}
+use Rattle.std.specs.Int.{bit_at}
 use Rattle.judge_core.specs.Judging.{verdict as decided, is_bookable, key_of}
 use Rattle.dest_queue.specs.declared.Outcome.{Outcome}
 use Rattle.dest_queue.specs.States.{is_live, is_waiting, slot_answer}
@@ -20,7 +21,7 @@ use Rattle.event_log.specs.declared.refusal.TakeRefusal.TheVariants as take_refu
 use Rattle.hl7_head.specs.declared.ack.Cause.TheVariants.{IdReused}
 use Rattle.event_log.specs.History.{History, control_id_of, is_queued, message_at, message_count, plan_in_force, queue, slot}
 use Rattle.event_log.specs.Alike.{RepliesAlike, Aside, IsAlike, IsMet, SendsAlike}
-use Rattle.event_log.specs.Answers.{arrival_answer, attempts_max, cancel_answer, front_answer, interval, known, mask_where, settle_answer, take_answer, told_again, told_by, waits}
+use Rattle.event_log.specs.Answers.{arrival_answer, attempts_max, cancel_answer, front_answer, interval, known, mask_where, settle_answer, take_answer, told_again, told_by, waits_among}
 use Rattle.event_log.specs.Deployment.{deploy_answer, is_lost, same_channels, stays}
 use Rattle.event_log.specs.Event as event
 use Rattle.event_log.specs.Event.{Event}
@@ -91,13 +92,13 @@ module _ (aside : Aside) (h k : History) (alike : IsAlike aside h k) where
       (alike.slots ticket.number ticket.destination apart)
 
   -- a message waits at the same destinations
-  waits-alike : (n : ℕ) → aside.messages n ≡ false → mask_where (waits k n) ≡ mask_where (waits h n)
-  waits-alike n apart = ap mask_where (λ i d. option_map_or is_waiting (alike.slots n d apart i) false)
+  waits-alike : (n among : ℕ) → aside.messages n ≡ false → mask_where (waits_among k n among) ≡ mask_where (waits_among h n among)
+  waits-alike n among apart = ap mask_where (λ i d. (bit_at among d == 1) && option_map_or is_waiting (alike.slots n d apart i) false)
 
-  cancel-alike : (n : ℕ) → aside.messages n ≡ false → cancel_answer k n ≡ cancel_answer h n
-  cancel-alike n apart =
-      ap (λ b. cond b (cond (mask_where (waits k n) == 0) (Err NothingWaiting) (Ok (mask_where (waits k n)))) (Err NoSuchMessage)) (ap is_some (alike.message n apart))
-      ∙ ap (λ mask. cond (is_some (message_at h n)) (cond (mask == 0) (Err NothingWaiting) (Ok mask)) (Err NoSuchMessage)) (waits-alike n apart)
+  cancel-alike : (n among : ℕ) → aside.messages n ≡ false → cancel_answer k n among ≡ cancel_answer h n among
+  cancel-alike n among apart =
+      ap (λ b. cond b (cond (mask_where (waits_among k n among) == 0) (Err NothingWaiting) (Ok (mask_where (waits_among k n among)))) (Err NoSuchMessage)) (ap is_some (alike.message n apart))
+      ∙ ap (λ mask. cond (is_some (message_at h n)) (cond (mask == 0) (Err NothingWaiting) (Ok mask)) (Err NoSuchMessage)) (waits-alike n among apart)
 
   deploy-alike : (plan : PlanEntry) → deploy_answer k plan ≡ deploy_answer h plan
   unfolding deploy_answer
@@ -136,5 +137,5 @@ module _ (aside : Aside) (h k : History) (alike : IsAlike aside h k) where
   answers-alike (event.arrive conn channel raw) met = record { replied = arrival-alike conn channel raw met; sends = tt }
   answers-alike (event.take d now) met = record { replied = take-alike d now; sends = sends-alike d now }
   answers-alike (event.settle ticket outcome now) met = record { replied = settle-alike ticket outcome now met.apart; sends = tt }
-  answers-alike (event.cancel n) met = record { replied = cancel-alike n met.apart; sends = tt }
+  answers-alike (event.cancel n among) met = record { replied = cancel-alike n among met.apart; sends = tt }
   answers-alike (event.deploy plan) met = record { replied = deployment-alike plan met; sends = tt }

@@ -52,7 +52,7 @@ find-number h n a (Arrival conn channel raw reply ∷ es) =
 find-number h n a (Take ticket now ∷ es) = find-number-past h n a (Take ticket now) es refl (find-number h n (a + 1) es)
 find-number h n a (Settle outcome ticket now state ∷ es) =
     find-number-past h n a (Settle outcome ticket now state) es refl (find-number h n (a + 1) es)
-find-number h n a (Cancel number mask ∷ es) = find-number-past h n a (Cancel number mask) es refl (find-number h n (a + 1) es)
+find-number h n a (Cancel number among mask ∷ es) = find-number-past h n a (Cancel number among mask) es refl (find-number h n (a + 1) es)
 find-number h n a (Deploy plan ∷ es) = find-number-past h n a (Deploy plan) es refl (find-number h n (a + 1) es)
 
 -- where the arrival of a message that is remembered stood

@@ -17,7 +17,7 @@ use Rattle.event_log.specs.declared.entry.Entry.TheVariants.{Cancel}
 use Rattle.event_log.specs.declared.refusal.CancelRefusal.{CancelRefusal}
 use Rattle.event_log.specs.declared.refusal.CancelRefusal.TheVariants.{NoSuchMessage, NothingWaiting}
 use Rattle.event_log.specs.History.{History, accepted, deliveries, followed_by, message_at, message_count, names, plan_in_force, slot, state}
-use Rattle.event_log.specs.Answers.{attempts_max, cancel_answer, mask_where, waits}
+use Rattle.event_log.specs.Answers.{attempts_max, cancel_answer, mask_where, waits_among}
 use Rattle.event_log.specs.Room.{is_in_flight, message_total, owed, slot_owed, total}
 use Rattle.event_log.specs.inner.Room.{in_flight}
 use Rattle.event_log.specs.inner.Legal.{IsSound, IsWithin}
@@ -30,54 +30,58 @@ use Rattle.event_log.proofs.Touching.{state-picked}
 
 -- ---- one slot
 
--- the state in which a cancellation leaves a slot
-abbrev pub cancelled_state : SlotState → SlotState
-cancelled_state s = cond (is_waiting s) (Failed Cancelled) s
+-- the state in which a cancellation leaves a slot, by whether it is among the destinations
+abbrev pub cancelled_state : Bool → SlotState → SlotState
+cancelled_state named s = cond (named && is_waiting s) (Failed Cancelled) s
 
--- what a slot owes if it waits
-abbrev pub owed_waiting : ℕ → SlotState → ℕ
-owed_waiting max s = cond (is_waiting s) (slot_owed max s) 0
+-- what a slot owes if it waits and is among them
+abbrev pub owed_waiting : Bool → ℕ → SlotState → ℕ
+owed_waiting named max s = cond (named && is_waiting s) (slot_owed max s) 0
 
 -- a slot owes what it owes afterwards, and what it owed if it waited
-owed-cancelled : (max : ℕ) (o : Option SlotState) → option_map_or (slot_owed max) o 0 ≡ option_map_or (slot_owed max) (option_map cancelled_state o) 0 + option_map_or (owed_waiting max) o 0
-owed-cancelled max None = refl
-owed-cancelled max (Some (Waiting attempts due)) = omega arith
-owed-cancelled max (Some (InFlight attempt)) = omega arith
-owed-cancelled max (Some Delivered) = refl
-owed-cancelled max (Some (Failed cause)) = refl
+owed-cancelled : (named : Bool) (max : ℕ) (o : Option SlotState) → option_map_or (slot_owed max) o 0 ≡ option_map_or (slot_owed max) (option_map (cancelled_state named) o) 0 + option_map_or (owed_waiting named max) o 0
+owed-cancelled named max None = refl
+owed-cancelled false max (Some s) = omega arith
+owed-cancelled true max (Some (Waiting attempts due)) = omega arith
+owed-cancelled true max (Some (InFlight attempt)) = omega arith
+owed-cancelled true max (Some Delivered) = refl
+owed-cancelled true max (Some (Failed cause)) = refl
 
 -- 1 for an attempt under way
 abbrev pub flight : SlotState → ℕ
 flight s = if is_in_flight s then 1 else 0
 
 -- an attempt under way goes on
-flight-cancelled : (o : Option SlotState) → option_map_or flight (option_map cancelled_state o) 0 ≡ option_map_or flight o 0
-flight-cancelled None = refl
-flight-cancelled (Some (Waiting attempts due)) = refl
-flight-cancelled (Some (InFlight attempt)) = refl
-flight-cancelled (Some Delivered) = refl
-flight-cancelled (Some (Failed cause)) = refl
+flight-cancelled : (named : Bool) (o : Option SlotState) → option_map_or flight (option_map (cancelled_state named) o) 0 ≡ option_map_or flight o 0
+flight-cancelled named None = refl
+flight-cancelled false (Some s) = refl
+flight-cancelled true (Some (Waiting attempts due)) = refl
+flight-cancelled true (Some (InFlight attempt)) = refl
+flight-cancelled true (Some Delivered) = refl
+flight-cancelled true (Some (Failed cause)) = refl
 
 -- no attempt is added
-within-cancelled : (max : ℕ) (o : Option SlotState) → IfSome o (IsWithin max) → IfSome (option_map cancelled_state o) (IsWithin max)
-within-cancelled max None within = tt
-within-cancelled max (Some (Waiting attempts due)) within = tt
-within-cancelled max (Some (InFlight attempt)) within = within
-within-cancelled max (Some Delivered) within = tt
-within-cancelled max (Some (Failed cause)) within = tt
+within-cancelled : (named : Bool) (max : ℕ) (o : Option SlotState) → IfSome o (IsWithin max) → IfSome (option_map (cancelled_state named) o) (IsWithin max)
+within-cancelled named max None within = tt
+within-cancelled false max (Some s) within = within
+within-cancelled true max (Some (Waiting attempts due)) within = tt
+within-cancelled true max (Some (InFlight attempt)) within = within
+within-cancelled true max (Some Delivered) within = tt
+within-cancelled true max (Some (Failed cause)) within = tt
 
--- a slot that owes nothing by waiting doesn't wait
-idle-slot : (max : ℕ) (o : Option SlotState) → option_map_or (owed_waiting max) o 0 ≡ 0 → option_map_or is_waiting o false ≡ false
-idle-slot max None none = refl
-idle-slot max (Some (Waiting attempts due)) none = absurd (omega arith)
-idle-slot max (Some (InFlight attempt)) none = refl
-idle-slot max (Some Delivered) none = refl
-idle-slot max (Some (Failed cause)) none = refl
+-- a slot that owes nothing by waiting doesn't wait, or isn't among them
+idle-slot : (named : Bool) (max : ℕ) (o : Option SlotState) → option_map_or (owed_waiting named max) o 0 ≡ 0 → (named && option_map_or is_waiting o false) ≡ false
+idle-slot false max o none = refl
+idle-slot true max None none = refl
+idle-slot true max (Some (Waiting attempts due)) none = absurd (omega arith)
+idle-slot true max (Some (InFlight attempt)) none = refl
+idle-slot true max (Some Delivered) none = refl
+idle-slot true max (Some (Failed cause)) none = refl
 
 -- a slot whose state fails where it waits
-slot-cancelled : (named : Bool) (s : SlotState) → cond named (Some (cond (option_map_or is_waiting (cond named (Some s) None) false) (Failed Cancelled) s)) None ≡ option_map cancelled_state (cond named (Some s) None)
-slot-cancelled true s = refl
-slot-cancelled false s = refl
+slot-cancelled : (named there : Bool) (s : SlotState) → cond there (Some (cond (named && option_map_or is_waiting (cond there (Some s) None) false) (Failed Cancelled) s)) None ≡ option_map (cancelled_state named) (cond there (Some s) None)
+slot-cancelled named true s = refl
+slot-cancelled named false s = refl
 
 -- ---- sums
 
@@ -132,120 +136,124 @@ left-flight new old before after changed same = omega arith
 room-left : (count more bound new old waiting : ℕ) → more ≡ count + 1 → new + waiting ≡ old → 1 ≤ waiting → count + old ≤ bound → more + new ≤ bound
 room-left count more bound new old waiting longer left owes room = omega arith
 
-module _ (h : History) (sound : IsSound h) (n mask : ℕ) (is : cancel_answer h n ≡ Ok mask) where
+module _ (h : History) (sound : IsSound h) (n among mask : ℕ) (is : cancel_answer h n among ≡ Ok mask) where
   -- the parts of the answer
-  parts : (is_some (message_at h n) ≡ true) × ((mask_where (waits h n) == 0) ≡ false) × (mask ≡ mask_where (waits h n))
-  parts = answered (is_some (message_at h n)) (mask_where (waits h n) == 0) (mask_where (waits h n)) mask is
+  parts : (is_some (message_at h n) ≡ true) × ((mask_where (waits_among h n among) == 0) ≡ false) × (mask ≡ mask_where (waits_among h n among))
+  parts = answered (is_some (message_at h n)) (mask_where (waits_among h n among) == 0) (mask_where (waits_among h n among)) mask is
 
   -- the message exists
   exists : n < message_count h
   exists = message-exists h n parts.0
 
   -- it waits somewhere
-  some-wait : mask_where (waits h n) ≢ 0
+  some-wait : mask_where (waits_among h n among) ≢ 0
   some-wait = let t = parts.1 in grind (arith, nat_tests)
 
   -- no message waits past the last destination
-  waits-beyond : (d : ℕ) → 32 ≤ d → waits h n d ≡ false
-  waits-beyond d beyond = ap (λ o. option_map_or is_waiting o false) (slot-outside h sound n d beyond)
+  waits-beyond : (d : ℕ) → 32 ≤ d → waits_among h n among d ≡ false
+  waits-beyond d beyond = ap (λ o. (bit_at among d == 1) && option_map_or is_waiting o false) (slot-outside h sound n d beyond) ∙ never (bit_at among d == 1)
+    where
+      never : (b : Bool) → (b && false) ≡ false
+      never true = refl
+      never false = refl
 
-  -- the mask is of the slots that wait
-  bits : (d : ℕ) → (bit_at mask d == 1) ≡ waits h n d
+  -- the mask is of the slots that wait and are among the destinations
+  bits : (d : ℕ) → (bit_at mask d == 1) ≡ waits_among h n among d
   bits d = ap (λ m. bit_at m d == 1) parts.2 ∙ elim (cases_lt d 32)
-      [ inl below ↦ mask_where-bits (waits h n) d below | inr beyond ↦ mask_where-beyond (waits h n) d beyond ∙ sym (waits-beyond d beyond) ]
+      [ inl below ↦ mask_where-bits (waits_among h n among) d below | inr beyond ↦ mask_where-beyond (waits_among h n among) d beyond ∙ sym (waits-beyond d beyond) ]
 
   -- the plan in force stays
-  plan : plan_in_force (followed_by h (Cancel n mask)) ≡ plan_in_force h
-  plan = plan-kept h (Cancel n mask) refl
+  plan : plan_in_force (followed_by h (Cancel n among mask)) ≡ plan_in_force h
+  plan = plan-kept h (Cancel n among mask) refl
 
   -- no message comes or goes
-  same-messages : accepted (followed_by h (Cancel n mask)) ≡ accepted h
-  same-messages = accepted-kept h (Cancel n mask) refl
+  same-messages : accepted (followed_by h (Cancel n among mask)) ≡ accepted h
+  same-messages = accepted-kept h (Cancel n among mask) refl
 
   -- the state that each slot is left in
-  state-after : (m d : ℕ) → state (followed_by h (Cancel n mask)) m d ≡ cond ((n == m) && (bit_at mask d == 1)) (Failed Cancelled) (state h m d)
-  state-after m d = state-followed_by h (Cancel n mask) m d ∙ state-picked ((n == m) && (bit_at mask d == 1)) (Failed Cancelled) (state h m d)
+  state-after : (m d : ℕ) → state (followed_by h (Cancel n among mask)) m d ≡ cond ((n == m) && (bit_at mask d == 1)) (Failed Cancelled) (state h m d)
+  state-after m d = state-followed_by h (Cancel n among mask) m d ∙ state-picked ((n == m) && (bit_at mask d == 1)) (Failed Cancelled) (state h m d)
 
   -- the slots of other messages stay
-  slot-other : (m : ℕ) → m ≢ n → (d : ℕ) → slot (followed_by h (Cancel n mask)) m d ≡ slot h m d
+  slot-other : (m : ℕ) → m ≢ n → (d : ℕ) → slot (followed_by h (Cancel n among mask)) m d ≡ slot h m d
   slot-other m apart d =
-      slot-same h (followed_by h (Cancel n mask)) refl same-messages m d
+      slot-same h (followed_by h (Cancel n among mask)) refl same-messages m d
       ∙ ap (λ s. cond (names d (deliveries h m)) (Some s) None) (state-after m d ∙ ap (λ b. cond b (Failed Cancelled) (state h m d)) (and-apart n m (bit_at mask d == 1) apart))
 
-  -- those of the message fail where they wait
-  slot-own : (d : ℕ) → slot (followed_by h (Cancel n mask)) n d ≡ option_map cancelled_state (slot h n d)
+  -- those of the message that are among the destinations fail where they wait
+  slot-own : (d : ℕ) → slot (followed_by h (Cancel n among mask)) n d ≡ option_map (cancelled_state (bit_at among d == 1)) (slot h n d)
   slot-own d =
-      slot-same h (followed_by h (Cancel n mask)) refl same-messages n d
+      slot-same h (followed_by h (Cancel n among mask)) refl same-messages n d
       ∙ ap (λ s. cond (names d (deliveries h n)) (Some s) None) (state-after n d ∙ ap (λ b. cond b (Failed Cancelled) (state h n d)) (and-same n (bit_at mask d == 1) ∙ bits d))
-      ∙ slot-cancelled (names d (deliveries h n)) (state h n d)
+      ∙ slot-cancelled (bit_at among d == 1) (names d (deliveries h n)) (state h n d)
 
   -- what the slots that waited owed is no more owed
-  owed-after : owed (followed_by h (Cancel n mask)) + waiting_owed h n ≡ owed h
+  owed-after : owed (followed_by h (Cancel n among mask)) + waiting_owed h n among ≡ owed h
   owed-after =
       let weight : ℕ → SlotState → ℕ = λ d. slot_owed (attempts_max (plan_in_force h) d) in
-      ap (λ p. total (λ d. slot_owed (attempts_max p d)) (followed_by h (Cancel n mask)) + waiting_owed h n) plan
-      ∙ left-owed (total weight (followed_by h (Cancel n mask))) (owed h) (message_total weight (slot h n)) (message_total weight (slot (followed_by h (Cancel n mask)) n)) (waiting_owed h n)
-      (total-changed weight h (followed_by h (Cancel n mask)) n (message_count-same h (followed_by h (Cancel n mask)) refl same-messages) exists slot-other)
-      (sum-split (λ d. option_map_or (weight d) (slot h n d) 0) (λ d. option_map_or (weight d) (slot (followed_by h (Cancel n mask)) n d) 0)
-      (λ d. option_map_or (owed_waiting (attempts_max (plan_in_force h) d)) (slot h n d) 0)
-      (λ d. rw (slot-own d) (owed-cancelled (attempts_max (plan_in_force h) d) (slot h n d))) (range_with_len 0 32))
+      ap (λ p. total (λ d. slot_owed (attempts_max p d)) (followed_by h (Cancel n among mask)) + waiting_owed h n among) plan
+      ∙ left-owed (total weight (followed_by h (Cancel n among mask))) (owed h) (message_total weight (slot h n)) (message_total weight (slot (followed_by h (Cancel n among mask)) n)) (waiting_owed h n among)
+      (total-changed weight h (followed_by h (Cancel n among mask)) n (message_count-same h (followed_by h (Cancel n among mask)) refl same-messages) exists slot-other)
+      (sum-split (λ d. option_map_or (weight d) (slot h n d) 0) (λ d. option_map_or (weight d) (slot (followed_by h (Cancel n among mask)) n d) 0)
+      (λ d. option_map_or (owed_waiting (bit_at among d == 1) (attempts_max (plan_in_force h) d)) (slot h n d) 0)
+      (λ d. rw (slot-own d) (owed-cancelled (bit_at among d == 1) (attempts_max (plan_in_force h) d) (slot h n d))) (range_with_len 0 32))
 
   -- attempts under way go on
-  flight-after : in_flight (followed_by h (Cancel n mask)) ≡ in_flight h
+  flight-after : in_flight (followed_by h (Cancel n among mask)) ≡ in_flight h
   flight-after =
       let weight : ℕ → SlotState → ℕ = λ d. flight in
-      left-flight (in_flight (followed_by h (Cancel n mask))) (in_flight h) (message_total weight (slot h n)) (message_total weight (slot (followed_by h (Cancel n mask)) n))
-      (total-changed weight h (followed_by h (Cancel n mask)) n (message_count-same h (followed_by h (Cancel n mask)) refl same-messages) exists slot-other)
-      (sum-alike (λ d. option_map_or flight (slot h n d) 0) (λ d. option_map_or flight (slot (followed_by h (Cancel n mask)) n d) 0) 0 32
-      (λ d low below. ap (λ o. option_map_or flight o 0) (slot-own d) ∙ flight-cancelled (slot h n d)))
+      left-flight (in_flight (followed_by h (Cancel n among mask))) (in_flight h) (message_total weight (slot h n)) (message_total weight (slot (followed_by h (Cancel n among mask)) n))
+      (total-changed weight h (followed_by h (Cancel n among mask)) n (message_count-same h (followed_by h (Cancel n among mask)) refl same-messages) exists slot-other)
+      (sum-alike (λ d. option_map_or flight (slot h n d) 0) (λ d. option_map_or flight (slot (followed_by h (Cancel n among mask)) n d) 0) 0 32
+      (λ d low below. ap (λ o. option_map_or flight o 0) (slot-own d) ∙ flight-cancelled (bit_at among d == 1) (slot h n d)))
 
   -- a slot that waits owes something
-  owes : 1 ≤ waiting_owed h n
-  owes = waiting-owed (λ d. option_map_or (owed_waiting (attempts_max (plan_in_force h) d)) (slot h n d) 0) (waits h n) (λ d. idle-slot (attempts_max (plan_in_force h) d) (slot h n d)) some-wait
+  owes : 1 ≤ waiting_owed h n among
+  owes = waiting-owed (λ d. option_map_or (owed_waiting (bit_at among d == 1) (attempts_max (plan_in_force h) d)) (slot h n d) 0) (waits_among h n among) (λ d. idle-slot (bit_at among d == 1) (attempts_max (plan_in_force h) d) (slot h n d)) some-wait
 
   -- no slot has more attempts than before
-  within-after : (m d : ℕ) → IfSome (slot (followed_by h (Cancel n mask)) m d) (IsWithin (attempts_max (plan_in_force h) d))
+  within-after : (m d : ℕ) → IfSome (slot (followed_by h (Cancel n among mask)) m d) (IsWithin (attempts_max (plan_in_force h) d))
   within-after m d = elim (cases_eq m n) [
     | inl same ↦
-        subst (λ k. IfSome (slot (followed_by h (Cancel n mask)) k d) (IsWithin (attempts_max (plan_in_force h) d))) (sym same)
-        (subst (λ o. IfSome o (IsWithin (attempts_max (plan_in_force h) d))) (sym (slot-own d)) (within-cancelled (attempts_max (plan_in_force h) d) (slot h n d) (sound.attempts n d)))
+        subst (λ k. IfSome (slot (followed_by h (Cancel n among mask)) k d) (IsWithin (attempts_max (plan_in_force h) d))) (sym same)
+        (subst (λ o. IfSome o (IsWithin (attempts_max (plan_in_force h) d))) (sym (slot-own d)) (within-cancelled (bit_at among d == 1) (attempts_max (plan_in_force h) d) (slot h n d) (sound.attempts n d)))
     | inr apart ↦ subst (λ o. IfSome o (IsWithin (attempts_max (plan_in_force h) d))) (sym (slot-other m apart d)) (sound.attempts m d)
   ]
 
   -- messages to come wait for their first attempt
-  to_come-after : (m d : ℕ) → message_count (followed_by h (Cancel n mask)) ≤ m → state (followed_by h (Cancel n mask)) m d ≡ Waiting 0 0
+  to_come-after : (m d : ℕ) → message_count (followed_by h (Cancel n among mask)) ≤ m → state (followed_by h (Cancel n among mask)) m d ≡ Waiting 0 0
   to_come-after m d beyond =
-      let past : message_count h ≤ m = subst (λ k. k ≤ m) (message_count-same h (followed_by h (Cancel n mask)) refl same-messages) beyond in
+      let past : message_count h ≤ m = subst (λ k. k ≤ m) (message_count-same h (followed_by h (Cancel n among mask)) refl same-messages) beyond in
       let inside = exists in
       let apart : m ≢ n = λ same. omega arith in
       state-after m d ∙ ap (λ b. cond b (Failed Cancelled) (state h m d)) (and-apart n m (bit_at mask d == 1) apart) ∙ sound.to_come m d past
 
   -- the history stays sound
-  sound-after : IsSound (followed_by h (Cancel n mask))
+  sound-after : IsSound (followed_by h (Cancel n among mask))
   sound-after = record {
     opening = sound.opening;
     plan = subst IsPlan (sym plan) sound.plan;
-    legal = legal-followed_by h (Cancel n mask) sound.legal (record { possible = tt; replied = is });
-    deliveries = λ m. subst AreDeliveries (sym (deliveries-same h (followed_by h (Cancel n mask)) refl same-messages m)) (sound.deliveries m);
-    attempts = λ m d. subst (λ p. IfSome (slot (followed_by h (Cancel n mask)) m d) (IsWithin (attempts_max p d))) (sym plan) (within-after m d);
+    legal = legal-followed_by h (Cancel n among mask) sound.legal (record { possible = tt; replied = is });
+    deliveries = λ m. subst AreDeliveries (sym (deliveries-same h (followed_by h (Cancel n among mask)) refl same-messages m)) (sound.deliveries m);
+    attempts = λ m d. subst (λ p. IfSome (slot (followed_by h (Cancel n among mask)) m d) (IsWithin (attempts_max p d))) (sym plan) (within-after m d);
     to_come = to_come-after;
-    room = room-left (length h.entries) (length (h.entries ++ Cancel n mask ∷ [])) h.opening.events_max (owed (followed_by h (Cancel n mask))) (owed h) (waiting_owed h n)
-        (length-append h.entries (Cancel n mask ∷ [])) owed-after owes sound.room;
+    room = room-left (length h.entries) (length (h.entries ++ Cancel n among mask ∷ [])) h.opening.events_max (owed (followed_by h (Cancel n among mask))) (owed h) (waiting_owed h n among)
+        (length-append h.entries (Cancel n among mask ∷ [])) owed-after owes sound.room;
   }
 
 -- a cancellation that may be booked next
-pub cancel-step : (h : History) → IsSound h → (n mask : ℕ) → cancel_answer h n ≡ Ok mask → CancelStep h n mask
-cancel-step h sound n mask is = record {
-  exists = exists h sound n mask is;
-  mask_is = (parts h sound n mask is).2;
-  bits = bits h sound n mask is;
-  sound = sound-after h sound n mask is;
-  nothing = record { accepted = same-messages h sound n mask is; known = λ key. known-kept h (Cancel n mask) key refl };
-  state = state-after h sound n mask is;
-  owed = owed-after h sound n mask is;
-  in_flight = flight-after h sound n mask is;
+pub cancel-step : (h : History) → IsSound h → (n among mask : ℕ) → cancel_answer h n among ≡ Ok mask → CancelStep h n among mask
+cancel-step h sound n among mask is = record {
+  exists = exists h sound n among mask is;
+  mask_is = (parts h sound n among mask is).2;
+  bits = bits h sound n among mask is;
+  sound = sound-after h sound n among mask is;
+  nothing = record { accepted = same-messages h sound n among mask is; known = λ key. known-kept h (Cancel n among mask) key refl };
+  state = state-after h sound n among mask is;
+  owed = owed-after h sound n among mask is;
+  in_flight = flight-after h sound n among mask is;
 }
 
 -- a slot that is cancelled owed something
-pub cancel-owes : (h : History) → IsSound h → (n mask : ℕ) → cancel_answer h n ≡ Ok mask → 1 ≤ waiting_owed h n
-cancel-owes h sound n mask is = owes h sound n mask is
+pub cancel-owes : (h : History) → IsSound h → (n among mask : ℕ) → cancel_answer h n among ≡ Ok mask → 1 ≤ waiting_owed h n among
+cancel-owes h sound n among mask is = owes h sound n among mask is

@@ -131,7 +131,7 @@ pub may-follow : (h : History) (e : Event) (reply : Reply e) → IsPossible e �
 may-follow h (arrive conn channel raw) told possible is = record { possible = possible; replied = is }
 may-follow h (take d now) ticket possible is = record { possible = tt; replied = subst (λ x. take_answer h x now ≡ Ok ticket) (sym (ticket-destination h d now ticket is)) is }
 may-follow h (settle ticket outcome now) state possible is = record { possible = tt; replied = is }
-may-follow h (cancel number) mask possible is = record { possible = tt; replied = is }
+may-follow h (cancel number among) mask possible is = record { possible = tt; replied = is }
 may-follow h (deploy plan) done possible is = record { possible = possible; replied = is }
 
 -- the history after an event that is answered
@@ -147,7 +147,7 @@ pub next-again : (h : History) (x : Entry) → MayFollow h x → next h (event_o
 next-again h (entry.Arrival conn channel raw told) may = next-is h (arrive conn channel raw) told may.replied
 next-again h (entry.Take ticket now) may = next-is h (take ticket.destination now) ticket may.replied
 next-again h (entry.Settle outcome ticket now state) may = next-is h (settle ticket outcome now) state may.replied
-next-again h (entry.Cancel number mask) may = next-is h (cancel number) mask may.replied
+next-again h (entry.Cancel number among mask) may = next-is h (cancel number among) mask may.replied
 next-again h (entry.Deploy plan) may = next-is h (deploy plan) tt may.replied
 
 -- ---- a call that does an event

@@ -26,7 +26,7 @@ pub sound-followed_by : (h : History) (e : Entry) → IsSound h → MayFollow h 
 sound-followed_by h (Arrival conn channel raw reply) sound may = (arrival-step h sound conn channel raw reply (arrivable h conn channel raw reply may)).sound
 sound-followed_by h (Take ticket now) sound may = (take-step h sound ticket.destination now ticket may.replied).1.sound
 sound-followed_by h (Settle outcome ticket now state) sound may = (settle-step h sound ticket outcome now state may.replied).sound
-sound-followed_by h (Cancel number mask) sound may = (cancel-step h sound number mask may.replied).sound
+sound-followed_by h (Cancel number among mask) sound may = (cancel-step h sound number among mask may.replied).sound
 sound-followed_by h (Deploy plan) sound may = (deploy-step h sound plan (deployable h plan may)).sound
 
 -- the first items, where there is no other
@@ -78,8 +78,8 @@ settle-fits h ticket outcome now state sound is =
     (next-more h (Settle outcome ticket now state)) (omega (arith, step.owed, less))
 
 -- and a cancellation
-pub cancel-fits : (h : History) (number mask : ℕ) → IsSound h → cancel_answer h number ≡ Ok mask → next_place (followed_by h (Cancel number mask)) + owed (followed_by h (Cancel number mask)) ≤ next_place h + owed h
-cancel-fits h number mask sound is =
-    let step = cancel-step h sound number mask is in
-    let some = cancel-owes h sound number mask is in
-    fits (next_place h) (next_place (followed_by h (Cancel number mask))) (owed h) (owed (followed_by h (Cancel number mask))) (next-more h (Cancel number mask)) (omega (arith, step.owed, some))
+pub cancel-fits : (h : History) (number among mask : ℕ) → IsSound h → cancel_answer h number among ≡ Ok mask → next_place (followed_by h (Cancel number among mask)) + owed (followed_by h (Cancel number among mask)) ≤ next_place h + owed h
+cancel-fits h number among mask sound is =
+    let step = cancel-step h sound number among mask is in
+    let some = cancel-owes h sound number among mask is in
+    fits (next_place h) (next_place (followed_by h (Cancel number among mask))) (owed h) (owed (followed_by h (Cancel number among mask))) (next-more h (Cancel number among mask)) (omega (arith, step.owed, some))

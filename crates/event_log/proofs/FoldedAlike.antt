@@ -104,7 +104,7 @@ renewed-entries h a (Arrival conn channel raw reply ∷ es) = by (is_kept reply)
     by false rest = rest
 renewed-entries h a (Take ticket now ∷ es) = renewed-entries h (a + 1) es
 renewed-entries h a (Settle outcome ticket now state ∷ es) = renewed-entries h (a + 1) es
-renewed-entries h a (Cancel number mask ∷ es) = renewed-entries h (a + 1) es
+renewed-entries h a (Cancel number among mask ∷ es) = renewed-entries h (a + 1) es
 renewed-entries h a (Deploy plan ∷ es) = renewed-entries h (a + 1) es
 
 pub all-append : (Q : Remembered → Type 0) (xs ys : List Remembered) → AllByRecursion Q xs → AllByRecursion Q ys → AllByRecursion Q (xs ++ ys)

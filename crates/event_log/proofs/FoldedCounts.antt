@@ -36,7 +36,7 @@ told-once c (Arrival conn channel raw reply) = by (channel == c) (is_repeat repl
     by false r = omega arith
 told-once c (Take ticket now) = omega arith
 told-once c (Settle outcome ticket now state) = omega arith
-told-once c (Cancel number mask) = omega arith
+told-once c (Cancel number among mask) = omega arith
 told-once c (Deploy plan) = omega arith
 
 -- and as received where it is counted as filtered, accepted or refused
@@ -51,7 +51,7 @@ told-sum c (Arrival conn channel raw reply) = by (channel == c) reply
     by false t = omega arith
 told-sum c (Take ticket now) = omega arith
 told-sum c (Settle outcome ticket now state) = omega arith
-told-sum c (Cancel number mask) = omega arith
+told-sum c (Cancel number among mask) = omega arith
 told-sum c (Deploy plan) = omega arith
 
 arrivals-few : (c : ℕ) (es : List Entry) → count_by (is_told c (λ told. not (is_repeat told))) es + count_by (is_told c is_repeat) es ≤ length es

@@ -187,7 +187,7 @@ accepts-one plan (Arrival conn channel raw (told.Refused cause)) = refl
 accepts-one plan (Arrival conn channel raw (told.Repeat place)) = refl
 accepts-one plan (Take ticket now) = refl
 accepts-one plan (Settle outcome ticket now after) = refl
-accepts-one plan (Cancel number mask) = refl
+accepts-one plan (Cancel number among mask) = refl
 accepts-one plan (Deploy next) = refl
 
 -- an entry that brings no message leaves the messages as they are

@@ -40,14 +40,14 @@ abbrev FitsBlock : Entry → Type 0
 FitsBlock (Arrival conn channel raw reply) = IsBlockData raw
 FitsBlock (Take ticket now) = Unit {0}
 FitsBlock (Settle outcome ticket now state) = Unit {0}
-FitsBlock (Cancel number mask) = Unit {0}
+FitsBlock (Cancel number among mask) = Unit {0}
 FitsBlock (Deploy plan) = Unit {0}
 
 fits-of : (h : History) (e : Entry) → MayFollow h e → FitsBlock e
 fits-of h (Arrival conn channel raw reply) may = may.possible
 fits-of h (Take ticket now) may = tt
 fits-of h (Settle outcome ticket now state) may = tt
-fits-of h (Cancel number mask) may = tt
+fits-of h (Cancel number among mask) may = tt
 fits-of h (Deploy plan) may = tt
 
 all-from-get : (P : Entry → Type 0) (es : List Entry) → ((k : ℕ) (e : Entry) → slice_get es k ≡ Some e → P e) → AllByRecursion P es
@@ -130,7 +130,7 @@ module _ (h : History) (sound : IsSound h) where
       by false is rest = rest
   memories-since a (Take ticket now ∷ es) all = memories-since (a + 1) es all.1
   memories-since a (Settle outcome ticket now state ∷ es) all = memories-since (a + 1) es all.1
-  memories-since a (Cancel number mask ∷ es) all = memories-since (a + 1) es all.1
+  memories-since a (Cancel number among mask ∷ es) all = memories-since (a + 1) es all.1
   memories-since a (Deploy plan ∷ es) all = memories-since (a + 1) es all.1
 
   -- each arrival that is kept can be remembered

@@ -35,7 +35,7 @@ abbrev key_in : Entry → Option (List ℕ)
 key_in (Arrival conn channel raw reply) = cond (is_kept reply) (Some (key_of channel raw)) None
 key_in (Take ticket now) = None
 key_in (Settle outcome ticket now state) = None
-key_in (Cancel number mask) = None
+key_in (Cancel number among mask) = None
 key_in (Deploy plan) = None
 
 -- all keys of a history, in their order
@@ -60,7 +60,7 @@ keys-entries h a (Arrival conn channel raw reply ∷ es) = by (is_kept reply) (k
     by false rest = rest
 keys-entries h a (Take ticket now ∷ es) = keys-entries h (a + 1) es
 keys-entries h a (Settle outcome ticket now state ∷ es) = keys-entries h (a + 1) es
-keys-entries h a (Cancel number mask ∷ es) = keys-entries h (a + 1) es
+keys-entries h a (Cancel number among mask ∷ es) = keys-entries h (a + 1) es
 keys-entries h a (Deploy plan ∷ es) = keys-entries h (a + 1) es
 
 -- they are those of the arrivals that are kept
@@ -128,7 +128,7 @@ apart-with h (Arrival conn channel raw reply) may apart = by (is_kept reply) ref
     by false kept = subst AreApart (sym (append-nil (seen h))) apart
 apart-with h (Take ticket now) may apart = subst AreApart (sym (append-nil (seen h))) apart
 apart-with h (Settle outcome ticket now state) may apart = subst AreApart (sym (append-nil (seen h))) apart
-apart-with h (Cancel number mask) may apart = subst AreApart (sym (append-nil (seen h))) apart
+apart-with h (Cancel number among mask) may apart = subst AreApart (sym (append-nil (seen h))) apart
 apart-with h (Deploy plan) may apart = subst AreApart (sym (append-nil (seen h))) apart
 
 apart-on : (h : History) (es : List Entry) → IsLegal (with_more h es) → AreApart (seen h) → AreApart (seen (with_more h es))

@@ -75,7 +75,7 @@ climbing-entries h count a plan (Arrival conn channel raw (told.Refused cause) �
 climbing-entries h count a plan (Arrival conn channel raw (told.Repeat place) ∷ es) numbered = climbing-entries h count (a + 1) plan es (subst (λ c. Numbered c plan es) (less-zero count) numbered.1)
 climbing-entries h count a plan (Take ticket now ∷ es) numbered = climbing-entries h count (a + 1) plan es (subst (λ c. Numbered c plan es) (less-zero count) numbered.1)
 climbing-entries h count a plan (Settle outcome ticket now state ∷ es) numbered = climbing-entries h count (a + 1) plan es (subst (λ c. Numbered c plan es) (less-zero count) numbered.1)
-climbing-entries h count a plan (Cancel number mask ∷ es) numbered = climbing-entries h count (a + 1) plan es (subst (λ c. Numbered c plan es) (less-zero count) numbered.1)
+climbing-entries h count a plan (Cancel number among mask ∷ es) numbered = climbing-entries h count (a + 1) plan es (subst (λ c. Numbered c plan es) (less-zero count) numbered.1)
 climbing-entries h count a plan (Deploy next ∷ es) numbered = climbing-entries h count (a + 1) next es (subst (λ c. Numbered c next es) (less-zero count) numbered.1)
 
 -- those of arrivals of which some are dropped

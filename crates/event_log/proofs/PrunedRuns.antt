@@ -42,7 +42,7 @@ within-entries h a high (Arrival conn channel raw reply ∷ es) less = by (is_ke
     by false rest = rest
 within-entries h a high (Take ticket now ∷ es) less = within-entries h (a + 1) high es (omega arith)
 within-entries h a high (Settle outcome ticket now state ∷ es) less = within-entries h (a + 1) high es (omega arith)
-within-entries h a high (Cancel number mask ∷ es) less = within-entries h (a + 1) high es (omega arith)
+within-entries h a high (Cancel number among mask ∷ es) less = within-entries h (a + 1) high es (omega arith)
 within-entries h a high (Deploy plan ∷ es) less = within-entries h (a + 1) high es (omega arith)
 
 pub arrivals-within : (h : History) → IsSound h → AllByRecursion (λ r. r.place < next_place h) (known_arrivals h)

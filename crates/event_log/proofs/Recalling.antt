@@ -89,7 +89,7 @@ abbrev number_in : Entry → Option ℕ
 number_in (Arrival conn channel raw reply) = number_told reply
 number_in (Take ticket now) = None
 number_in (Settle outcome ticket now state) = None
-number_in (Cancel number mask) = None
+number_in (Cancel number among mask) = None
 number_in (Deploy plan) = None
 
 -- each accepted arrival has the next number, where so many messages came before
@@ -124,7 +124,7 @@ follows-number h (Arrival conn channel raw (told.Refused cause)) may j is = absu
 follows-number h (Arrival conn channel raw (told.Repeat place)) may j is = absurd cc
 follows-number h (Take ticket now) may j is = absurd cc
 follows-number h (Settle outcome ticket now state) may j is = absurd cc
-follows-number h (Cancel number mask) may j is = absurd cc
+follows-number h (Cancel number among mask) may j is = absurd cc
 follows-number h (Deploy plan) may j is = absurd cc
 
 pub get-after : {A : Type 0} (xs ys : List A) (x : A) → slice_get (xs ++ x ∷ ys) (length xs) ≡ Some x
@@ -184,7 +184,7 @@ find-numbered h n count p plan (Arrival conn channel raw (told.Refused cause) �
 find-numbered h n count p plan (Arrival conn channel raw (told.Repeat place) ∷ es) numbered from = find-numbered h n count (p + 1) plan es (subst (λ c. Numbered c plan es) (less-zero count) numbered.1) from
 find-numbered h n count p plan (Take ticket now ∷ es) numbered from = find-numbered h n count (p + 1) plan es (subst (λ c. Numbered c plan es) (less-zero count) numbered.1) from
 find-numbered h n count p plan (Settle outcome ticket now state ∷ es) numbered from = find-numbered h n count (p + 1) plan es (subst (λ c. Numbered c plan es) (less-zero count) numbered.1) from
-find-numbered h n count p plan (Cancel number mask ∷ es) numbered from = find-numbered h n count (p + 1) plan es (subst (λ c. Numbered c plan es) (less-zero count) numbered.1) from
+find-numbered h n count p plan (Cancel number among mask ∷ es) numbered from = find-numbered h n count (p + 1) plan es (subst (λ c. Numbered c plan es) (less-zero count) numbered.1) from
 find-numbered h n count p plan (Deploy next ∷ es) numbered from = find-numbered h n count (p + 1) next es (subst (λ c. Numbered c next es) (less-zero count) numbered.1) from
 
 -- no message of an earlier number is among them
@@ -199,7 +199,7 @@ find-below h n count p plan (Arrival conn channel raw (told.Refused cause) ∷ e
 find-below h n count p plan (Arrival conn channel raw (told.Repeat place) ∷ es) numbered below = find-below h n count (p + 1) plan es (subst (λ c. Numbered c plan es) (less-zero count) numbered.1) below
 find-below h n count p plan (Take ticket now ∷ es) numbered below = find-below h n count (p + 1) plan es (subst (λ c. Numbered c plan es) (less-zero count) numbered.1) below
 find-below h n count p plan (Settle outcome ticket now state ∷ es) numbered below = find-below h n count (p + 1) plan es (subst (λ c. Numbered c plan es) (less-zero count) numbered.1) below
-find-below h n count p plan (Cancel number mask ∷ es) numbered below = find-below h n count (p + 1) plan es (subst (λ c. Numbered c plan es) (less-zero count) numbered.1) below
+find-below h n count p plan (Cancel number among mask ∷ es) numbered below = find-below h n count (p + 1) plan es (subst (λ c. Numbered c plan es) (less-zero count) numbered.1) below
 find-below h n count p plan (Deploy next ∷ es) numbered below = find-below h n count (p + 1) next es (subst (λ c. Numbered c next es) (less-zero count) numbered.1) below
 
 -- nothing remembered has the number of a message that came since

@@ -61,7 +61,7 @@ find-key h key a (Arrival conn channel raw reply ∷ es) =
     by true false is rest = rw is rest
 find-key h key a (Take ticket now ∷ es) = find-key h key (a + 1) es ∙ (further a (position (keeps key) es) ∙ ap (option_map (λ k. a + k)) (sym (position-cons (keeps key) (Take ticket now) es)))
 find-key h key a (Settle outcome ticket now state ∷ es) = find-key h key (a + 1) es ∙ (further a (position (keeps key) es) ∙ ap (option_map (λ k. a + k)) (sym (position-cons (keeps key) (Settle outcome ticket now state) es)))
-find-key h key a (Cancel number mask ∷ es) = find-key h key (a + 1) es ∙ (further a (position (keeps key) es) ∙ ap (option_map (λ k. a + k)) (sym (position-cons (keeps key) (Cancel number mask) es)))
+find-key h key a (Cancel number among mask ∷ es) = find-key h key (a + 1) es ∙ (further a (position (keeps key) es) ∙ ap (option_map (λ k. a + k)) (sym (position-cons (keeps key) (Cancel number among mask) es)))
 find-key h key a (Deploy plan ∷ es) = find-key h key (a + 1) es ∙ (further a (position (keeps key) es) ∙ ap (option_map (λ k. a + k)) (sym (position-cons (keeps key) (Deploy plan) es)))
 
 -- a key is known at the place of the arrival that has it
@@ -127,7 +127,7 @@ rising-entries h a (Arrival conn channel raw reply ∷ es) = by (is_kept reply) 
     by false rest = rising-lower (a + 1) a (recalled_all h (a + 1) es) (omega arith) rest
 rising-entries h a (Take ticket now ∷ es) = rising-lower (a + 1) a (recalled_all h (a + 1) es) (omega arith) (rising-entries h (a + 1) es)
 rising-entries h a (Settle outcome ticket now state ∷ es) = rising-lower (a + 1) a (recalled_all h (a + 1) es) (omega arith) (rising-entries h (a + 1) es)
-rising-entries h a (Cancel number mask ∷ es) = rising-lower (a + 1) a (recalled_all h (a + 1) es) (omega arith) (rising-entries h (a + 1) es)
+rising-entries h a (Cancel number among mask ∷ es) = rising-lower (a + 1) a (recalled_all h (a + 1) es) (omega arith) (rising-entries h (a + 1) es)
 rising-entries h a (Deploy plan ∷ es) = rising-lower (a + 1) a (recalled_all h (a + 1) es) (omega arith) (rising-entries h (a + 1) es)
 
 rising-after : (r : Remembered) (rs : List Remembered) → IsStrictlyIncreasing (map (λ x. x.place) (r ∷ rs)) → Rising (r.place + 1) rs
@@ -225,7 +225,7 @@ found-at h p a (e ∷ es) r is = by e (λ f. later e (found-at h p (a + 1) es r 
     by (Arrival conn channel came reply) rest is = told (is_kept reply) conn channel came reply rest is
     by (Take ticket now) rest is = rest is
     by (Settle outcome ticket now state) rest is = rest is
-    by (Cancel number mask) rest is = rest is
+    by (Cancel number among mask) rest is = rest is
     by (Deploy plan) rest is = rest is
 
 -- the bytes at the place of an arrival that a sound history keeps

@@ -186,7 +186,7 @@ arrived-by plan (Arrival conn channel raw (told.Refused cause)) m is = absurd cc
 arrived-by plan (Arrival conn channel raw (told.Repeat place)) m is = absurd cc
 arrived-by plan (Take ticket now) m is = absurd cc
 arrived-by plan (Settle outcome ticket now state) m is = absurd cc
-arrived-by plan (Cancel number mask) m is = absurd cc
+arrived-by plan (Cancel number among mask) m is = absurd cc
 arrived-by plan (Deploy next) m is = absurd cc
 
 -- a message that is remembered

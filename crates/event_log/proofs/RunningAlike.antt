@@ -15,9 +15,9 @@ use Rattle.event_log.specs.declared.entry.Entry.{Entry}
 use Rattle.event_log.specs.declared.entry.Entry.TheVariants.{Arrival, Take, Settle, Cancel, Deploy}
 use Rattle.event_log.specs.declared.entry.Ticket.{Ticket}
 use Rattle.event_log.specs.declared.refusal.CancelRefusal.TheVariants.{NoSuchMessage, NothingWaiting}
-use Rattle.event_log.specs.History.{History, Remembered, followed_by, is_for, is_queued, message_at, next_place, plan_in_force, queue, slot, state_by}
+use Rattle.event_log.specs.History.{History, Remembered, followed_by, is_for, is_queued, message_at, next_place, plan_in_force, slot, state_by}
 use Rattle.event_log.specs.Alike.{AllReplyAlike, AreMet, Aside, IsAlike, IsMet}
-use Rattle.event_log.specs.Answers.{arrival_answer, attempts_max, cancel_answer, has_key, interval, keeps, known, known_before, mask_where, settle_answer, take_answer, waits}
+use Rattle.event_log.specs.Answers.{attempts_max, cancel_answer, has_key, interval, keeps, known, known_before, mask_where, settle_answer, take_answer, waits_among}
 use Rattle.event_log.specs.inner.Legal.{IsSound}
 use Rattle.event_log.specs.Event as event
 use Rattle.event_log.specs.Event.{Event, Refusal, Reply, after, entry_of, next, run}
@@ -111,8 +111,8 @@ settle-moves aside h ticket outcome now after apart is =
           subst (λ x. is_queued h x ticket.number ≡ true) there (queued-live h ticket.number ticket.destination (InFlight flew.0) flew.1 refl);
     }
 
-cancel-moves : (aside : Aside) (h : History) (n mask : ℕ) → aside.messages n ≡ false → cancel_answer h n ≡ Ok mask → Moves aside h (Cancel n mask) n
-cancel-moves aside h n mask apart is = record {
+cancel-moves : (aside : Aside) (h : History) (n among mask : ℕ) → aside.messages n ≡ false → cancel_answer h n among ≡ Ok mask → Moves aside h (Cancel n among mask) n
+cancel-moves aside h n among mask apart is = record {
   brings = λ plan. refl;
   others = λ m d other. elim (eqb_tells n m) [ inl w ↦ absurd (other (sym w.1)) | inr w ↦ rw w.0 refl ];
   exists = message-exists h n (by (is_some (message_at h n)) is);
@@ -120,7 +120,7 @@ cancel-moves aside h n mask apart is = record {
   lived = λ d s leaves live. failed ((n == n) && (bit_at mask d == 1)) s leaves live;
 }
   where
-    by : (b : Bool) → cond b (cond (mask_where (waits h n) == 0) (Err NothingWaiting) (Ok (mask_where (waits h n)))) (Err NoSuchMessage) ≡ Ok mask → b ≡ true
+    by : (b : Bool) → cond b (cond (mask_where (waits_among h n among) == 0) (Err NothingWaiting) (Ok (mask_where (waits_among h n among)))) (Err NoSuchMessage) ≡ Ok mask → b ≡ true
     by true e = refl
     by false e = absurd cc
 
@@ -166,7 +166,7 @@ module _ (aside : Aside) (h k : History) (now_both : Both aside h k) where
       books (event.arrive conn channel raw) met told is = added-both (Arrival conn channel raw told) (λ n d. refl)
       books (event.take d now) met ticket is = moved-both (Take ticket now) ticket.number (take-moves aside h k now_both.alike d now ticket is)
       books (event.settle ticket outcome now) met state is = moved-both (Settle outcome ticket now state) ticket.number (settle-moves aside h ticket outcome now state met.apart is)
-      books (event.cancel n) met mask is = moved-both (Cancel n mask) n (cancel-moves aside h n mask met.apart is)
+      books (event.cancel n among) met mask is = moved-both (Cancel n among mask) n (cancel-moves aside h n among mask met.apart is)
       books (event.deploy plan) met done is = added-both (Deploy plan) (λ n d. refl)
 
 -- ---- every list of events

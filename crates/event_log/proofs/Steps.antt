@@ -15,7 +15,7 @@ use Rattle.event_log.specs.declared.entry.Told.TheVariants as told
 use Rattle.event_log.specs.declared.entry.Entry.{Entry}
 use Rattle.event_log.specs.declared.entry.Entry.TheVariants.{Arrival, Take, Settle, Cancel, Deploy}
 use Rattle.event_log.specs.History.{History, accepted, accepted_by, followed_by, is_for, message_count, next_place, plan_in_force, queue, slot, state}
-use Rattle.event_log.specs.Answers.{attempts_max, interval, keeps, known, mask_where, waits}
+use Rattle.event_log.specs.Answers.{attempts_max, interval, keeps, known, mask_where, waits_among}
 use Rattle.event_log.specs.Room.{is_in_flight, message_total, owed, own, slot_owed}
 use Rattle.event_log.specs.inner.Room.{in_flight}
 use Rattle.event_log.specs.inner.Legal.{IsSound}
@@ -54,20 +54,20 @@ pub record SettleStep (h : History) (ticket : Ticket) (outcome : Outcome) (now :
       ≡ owed h + slot_owed (attempts_max (plan_in_force h) ticket.destination) after
   pub in_flight : in_flight (followed_by h (Settle outcome ticket now after)) + 1 ≡ in_flight h
 
--- what the slots of a message that wait owe
-abbrev pub waiting_owed : History → ℕ → ℕ
-waiting_owed h n = message_total (λ d state. cond (is_waiting state) (slot_owed (attempts_max (plan_in_force h) d) state) 0) (slot h n)
+-- what the slots of a message that wait at the destinations of a mask owe
+abbrev pub waiting_owed : History → ℕ → ℕ → ℕ
+waiting_owed h n among = message_total (λ d state. cond ((bit_at among d == 1) && is_waiting state) (slot_owed (attempts_max (plan_in_force h) d) state) 0) (slot h n)
 
--- a cancellation: each slot of the message that waits has failed, and owes nothing any more
-pub record CancelStep (h : History) (number mask : ℕ) : Type 0 where
+-- a cancellation: each slot of the message that waits at one of these destinations has failed, and owes nothing any more
+pub record CancelStep (h : History) (number among mask : ℕ) : Type 0 where
   pub exists : number < message_count h
-  pub mask_is : mask ≡ mask_where (waits h number)
-  pub bits : (d : ℕ) → (bit_at mask d == 1) ≡ waits h number d
-  pub sound : IsSound (followed_by h (Cancel number mask))
-  pub nothing : BringsNothing h (Cancel number mask)
-  pub state : (n d : ℕ) → state (followed_by h (Cancel number mask)) n d ≡ cond ((number == n) && (bit_at mask d == 1)) (Failed Cancelled) (state h n d)
-  pub owed : owed (followed_by h (Cancel number mask)) + waiting_owed h number ≡ owed h
-  pub in_flight : in_flight (followed_by h (Cancel number mask)) ≡ in_flight h
+  pub mask_is : mask ≡ mask_where (waits_among h number among)
+  pub bits : (d : ℕ) → (bit_at mask d == 1) ≡ waits_among h number among d
+  pub sound : IsSound (followed_by h (Cancel number among mask))
+  pub nothing : BringsNothing h (Cancel number among mask)
+  pub state : (n d : ℕ) → state (followed_by h (Cancel number among mask)) n d ≡ cond ((number == n) && (bit_at mask d == 1)) (Failed Cancelled) (state h n d)
+  pub owed : owed (followed_by h (Cancel number among mask)) + waiting_owed h number among ≡ owed h
+  pub in_flight : in_flight (followed_by h (Cancel number among mask)) ≡ in_flight h
 
 -- a deployment: another plan is in force, and no slot and nothing owed changes
 pub record DeployStep (h : History) (plan : PlanEntry) : Type 0 where

@@ -53,7 +53,7 @@ abbrev pub IsApart : Aside → Event → Type 0
 IsApart aside (arrive conn channel raw) = aside.keys (key_of channel raw) ≡ false
 IsApart aside (take d now) = Unit {0}
 IsApart aside (settle ticket outcome now) = aside.messages ticket.number ≡ false
-IsApart aside (cancel number) = aside.messages number ≡ false
+IsApart aside (cancel number among) = aside.messages number ≡ false
 IsApart aside (deploy plan) = Unit {0}
 
 -- There is room for an event: for an arrival, and for a deployment that nothing else refuses. A take, a settlement and a
@@ -62,7 +62,7 @@ abbrev pub Fits : History → Event → Type 0
 Fits h (arrive conn channel raw) = is_full h channel raw ≡ false
 Fits h (take d now) = Unit {0}
 Fits h (settle ticket outcome now) = Unit {0}
-Fits h (cancel number) = Unit {0}
+Fits h (cancel number among) = Unit {0}
 Fits h (deploy plan) = deploy_answer h plan ≡ None → is_over_limit h 0 ≡ false
 
 -- an event that names nothing aside and for which both histories have room
@@ -83,7 +83,7 @@ abbrev pub TakesAlike : History → History → Event → Type 0
 TakesAlike h k (arrive conn channel raw) = Unit {0}
 TakesAlike h k (take d now) = IfOk (take_answer h d now) (SendsAlike h k)
 TakesAlike h k (settle ticket outcome now) = Unit {0}
-TakesAlike h k (cancel number) = Unit {0}
+TakesAlike h k (cancel number among) = Unit {0}
 TakesAlike h k (deploy plan) = Unit {0}
 
 -- both histories give the same reply to an event, or refuse it for the same reason, and a take sends the same

@@ -2,6 +2,7 @@
 use Rattle.std.specs.Prelude.{ℕ, ◌+◌, ◌^◌, Bool, true, false, ◌&&◌, ◌||◌, ◌==◌, nat_lt, if◌then◌else◌, List, find, sum_by, slice_get, Option, None, Some, is_some, Result, Ok, Err}
 use Rattle.std.specs.List.{list_any, position, range_with_len}
 use Rattle.std.specs.Option.{option_map, option_map_or}
+use Rattle.std.specs.Int.{bit_at}
 use Rattle.std.specs.Str.{bytes_eq}
 use Rattle.hl7_head.specs.declared.ack.Cause.TheVariants.{IdReused}
 use Rattle.plan_text.specs.Entries.{PlanEntry}
@@ -36,7 +37,7 @@ abbrev pub keeps : List ℕ → Entry → Bool
 keeps key (Arrival conn channel raw told) = is_kept told && bytes_eq key (key_of channel raw)
 keeps key (Take ticket now) = false
 keeps key (Settle outcome ticket now state) = false
-keeps key (Cancel number mask) = false
+keeps key (Cancel number among mask) = false
 keeps key (Deploy plan) = false
 
 -- whether a remembered arrival has this key
@@ -58,7 +59,7 @@ abbrev pub brings : List ℕ → Entry → Bool
 brings raw (Arrival conn channel came told) = bytes_eq raw came
 brings raw (Take ticket now) = false
 brings raw (Settle outcome ticket now state) = false
-brings raw (Cancel number mask) = false
+brings raw (Cancel number among mask) = false
 brings raw (Deploy plan) = false
 
 -- whether a remembered arrival had this index and these bytes
@@ -132,8 +133,12 @@ waits h n d = option_map_or is_waiting (slot h n d) false
 unfoldable pub mask_where : (ℕ → Bool) → ℕ
 mask_where test = sum_by (λ d. if test d then 2 ^ d else 0) (range_with_len 0 32)
 
--- the answer to a cancellation
-abbrev pub cancel_answer : History → ℕ → Result ℕ CancelRefusal
-cancel_answer h n =
-    if is_some (message_at h n) then (if mask_where (waits h n) == 0 then Err NothingWaiting else Ok (mask_where (waits h n)))
+-- whether message n waits at d, and a mask names d
+abbrev pub waits_among : History → ℕ → ℕ → ℕ → Bool
+waits_among h n among d = (bit_at among d == 1) && waits h n d
+
+-- the answer to a cancellation among the destinations of a mask: the mask of those at which the message waits
+abbrev pub cancel_answer : History → ℕ → ℕ → Result ℕ CancelRefusal
+cancel_answer h n among =
+    if is_some (message_at h n) then (if mask_where (waits_among h n among) == 0 then Err NothingWaiting else Ok (mask_where (waits_among h n among)))
     else Err NoSuchMessage

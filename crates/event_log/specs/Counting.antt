@@ -44,7 +44,7 @@ abbrev pub is_told : ℕ → (Told → Bool) → Entry → Bool
 is_told c so (Arrival conn channel raw told) = (channel == c) && so told
 is_told c so (Take ticket now) = false
 is_told c so (Settle outcome ticket now state) = false
-is_told c so (Cancel number mask) = false
+is_told c so (Cancel number among mask) = false
 is_told c so (Deploy plan) = false
 
 -- how many arrivals on the channel since the opening have such an answer
@@ -86,7 +86,7 @@ abbrev pub is_take_at : ℕ → Entry → Bool
 is_take_at d (Arrival conn channel raw told) = false
 is_take_at d (Take ticket now) = ticket.destination == d
 is_take_at d (Settle outcome ticket now state) = false
-is_take_at d (Cancel number mask) = false
+is_take_at d (Cancel number among mask) = false
 is_take_at d (Deploy plan) = false
 
 -- what was counted at the opening of a destination: the forgotten messages that it has and that failed there, and the attempts that were begun

@@ -22,12 +22,13 @@ use Rattle.event_log.specs.Deployment.{deploy_answer}
 use Rattle.event_log.specs.Room.{is_over_limit, is_full}
 
 -- What may happen: a text arrives over a connection on a channel; the first message of a destination's queue is taken at
--- a moment; an attempt is settled with its outcome at a moment; a message is cancelled; a plan is deployed.
+-- a moment; an attempt is settled with its outcome at a moment; a message is cancelled where it waits at one of the
+-- destinations of a mask, which has bit d for destination d (4294967295 for all of them); a plan is deployed.
 pub data Event : Type 0 where
   arrive : ℕ → ℕ → List ℕ → Event
   take : ℕ → ℕ → Event
   settle : Ticket → Outcome → ℕ → Event
-  cancel : ℕ → Event
+  cancel : ℕ → ℕ → Event
   deploy : PlanEntry → Event
 
 -- why an arrival isn't booked: it is no message, there is no room for it, it was judged by another plan than the one in
@@ -44,7 +45,7 @@ abbrev pub Reply : Event → Type 0
 Reply (arrive conn channel raw) = Told
 Reply (take d now) = Ticket
 Reply (settle ticket outcome now) = SlotState
-Reply (cancel number) = ℕ
+Reply (cancel number among) = ℕ
 Reply (deploy plan) = Unit {0}
 
 -- why an event is refused
@@ -52,7 +53,7 @@ abbrev pub Refusal : Event → Type 0
 Refusal (arrive conn channel raw) = ArriveRefusal
 Refusal (take d now) = TakeRefusal
 Refusal (settle ticket outcome now) = SettleRefusal
-Refusal (cancel number) = CancelRefusal
+Refusal (cancel number among) = CancelRefusal
 Refusal (deploy plan) = DeployRefusal
 
 -- the sequential engine: its reply to an event, or why it refuses it, from the history so far
@@ -61,7 +62,7 @@ answer h (arrive conn channel raw) =
     if is_full h channel raw then Err full else option_map_or (λ told. Ok told) (arrival_answer h channel raw) (Err no_message)
 answer h (take d now) = take_answer h d now
 answer h (settle ticket outcome now) = settle_answer h ticket outcome now
-answer h (cancel number) = cancel_answer h number
+answer h (cancel number among) = cancel_answer h number among
 answer h (deploy plan) =
     option_map_or (λ refusal. Err refusal) (deploy_answer h plan) (if is_over_limit h 0 then Err deploy_refusal.Full else Ok tt)
 
@@ -70,7 +71,7 @@ abbrev pub entry_of : (e : Event) → Reply e → Entry
 entry_of (arrive conn channel raw) told = entry.Arrival conn channel raw told
 entry_of (take d now) ticket = entry.Take ticket now
 entry_of (settle ticket outcome now) state = entry.Settle outcome ticket now state
-entry_of (cancel number) mask = entry.Cancel number mask
+entry_of (cancel number among) mask = entry.Cancel number among mask
 entry_of (deploy plan) done = entry.Deploy plan
 
 -- the history after a reply: with one more entry, or as it was where the event is refused
@@ -92,7 +93,7 @@ abbrev pub event_of : Entry → Event
 event_of (entry.Arrival conn channel raw told) = arrive conn channel raw
 event_of (entry.Take ticket now) = take ticket.destination now
 event_of (entry.Settle outcome ticket now state) = settle ticket outcome now
-event_of (entry.Cancel number mask) = cancel number
+event_of (entry.Cancel number among mask) = cancel number among
 event_of (entry.Deploy plan) = deploy plan
 
 -- the reply of an entry
@@ -100,7 +101,7 @@ abbrev pub reply_of : (x : Entry) → Reply (event_of x)
 reply_of (entry.Arrival conn channel raw told) = told
 reply_of (entry.Take ticket now) = ticket
 reply_of (entry.Settle outcome ticket now state) = state
-reply_of (entry.Cancel number mask) = mask
+reply_of (entry.Cancel number among mask) = mask
 reply_of (entry.Deploy plan) = tt
 
 -- an event that is possible: a text fits in a block, and what is deployed is a plan
@@ -108,7 +109,7 @@ abbrev pub IsPossible : Event → Type 0
 IsPossible (arrive conn channel raw) = IsBlockData raw
 IsPossible (take d now) = Unit {0}
 IsPossible (settle ticket outcome now) = Unit {0}
-IsPossible (cancel number) = Unit {0}
+IsPossible (cancel number among) = Unit {0}
 IsPossible (deploy plan) = IsPlan plan
 
 -- a refusal for lack of memory; a settlement needs none
@@ -116,7 +117,7 @@ abbrev pub IsOutOfMemory : (e : Event) → Refusal e → Type 0
 IsOutOfMemory (arrive conn channel raw) refusal = refusal ≡ no_memory
 IsOutOfMemory (take d now) refusal = refusal ≡ take_refusal.NoMemory
 IsOutOfMemory (settle ticket outcome now) refusal = ⊥
-IsOutOfMemory (cancel number) refusal = refusal ≡ cancel_refusal.NoMemory
+IsOutOfMemory (cancel number among) refusal = refusal ≡ cancel_refusal.NoMemory
 IsOutOfMemory (deploy plan) refusal = refusal ≡ deploy_refusal.NoMemory
 
 -- a refusal of a message that was judged by another plan than the one in force
@@ -124,7 +125,7 @@ abbrev pub IsOutdated : (e : Event) → Refusal e → Type 0
 IsOutdated (arrive conn channel raw) refusal = refusal ≡ plan_changed
 IsOutdated (take d now) refusal = ⊥
 IsOutdated (settle ticket outcome now) refusal = ⊥
-IsOutdated (cancel number) refusal = ⊥
+IsOutdated (cancel number among) refusal = ⊥
 IsOutdated (deploy plan) refusal = ⊥
 
 -- What a call makes of an event: the reply of the sequential engine and its entry behind all that was booked, or a refusal

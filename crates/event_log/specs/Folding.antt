@@ -50,7 +50,7 @@ abbrev pub recalled_from : History → ℕ → Entry → Option Remembered
 recalled_from h place (Arrival conn channel raw told) = if is_kept told then Some (recalled h place channel raw told) else None
 recalled_from h place (Take ticket now) = None
 recalled_from h place (Settle outcome ticket now state) = None
-recalled_from h place (Cancel number mask) = None
+recalled_from h place (Cancel number among mask) = None
 recalled_from h place (Deploy plan) = None
 
 -- all arrivals answered Accepted or Filtered that are not forgotten yet, in order of index: those remembered at the

@@ -74,7 +74,7 @@ abbrev pub deployed_by : Entry → Option PlanEntry
 deployed_by (Arrival conn channel raw told) = None
 deployed_by (Take ticket now) = None
 deployed_by (Settle outcome ticket now state) = None
-deployed_by (Cancel number mask) = None
+deployed_by (Cancel number among mask) = None
 deployed_by (Deploy plan) = Some plan
 
 -- the plan in force after an entry
@@ -115,7 +115,7 @@ accepted_by plan (Arrival conn channel raw (told.Refused cause)) = None
 accepted_by plan (Arrival conn channel raw (told.Repeat place)) = None
 accepted_by plan (Take ticket now) = None
 accepted_by plan (Settle outcome ticket now state) = None
-accepted_by plan (Cancel number mask) = None
+accepted_by plan (Cancel number among mask) = None
 accepted_by plan (Deploy next) = None
 
 -- the messages that entries bring, each by the plan that is in force when it comes, where this plan is in force before them
@@ -196,7 +196,7 @@ abbrev pub state_by : ℕ → ℕ → Entry → Option SlotState
 state_by n d (Arrival conn channel raw told) = None
 state_by n d (Take ticket now) = if is_for n d ticket then Some (InFlight ticket.attempt) else None
 state_by n d (Settle outcome ticket now state) = if is_for n d ticket then Some state else None
-state_by n d (Cancel number mask) = if (number == n) && (bit_at mask d == 1) then Some (Failed Cancelled) else None
+state_by n d (Cancel number among mask) = if (number == n) && (bit_at mask d == 1) then Some (Failed Cancelled) else None
 state_by n d (Deploy plan) = None
 
 -- the state of message n at d at the opening: as it is remembered, and else it waits for its first attempt

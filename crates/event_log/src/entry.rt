@@ -110,9 +110,11 @@ pub enum Entry {
         now: Moment,
         state: KeptState,
     },
-    /// A message was cancelled where it waited: bit d of the mask is set for each such destination d.
+    /// A message was cancelled among some destinations: bit d of `among` is set for each of these, and bit d of `mask` for
+    /// each of these at which it waited.
     Cancel {
         number: u32,
+        among: u32,
         mask: u32,
     },
     /// A plan was deployed: it is in force from then on.

@@ -38,8 +38,8 @@ pub fn history_rules()
     ensures settle_fits { (h : History) (ticket : Ticket) (outcome : Outcome) (now : ℕ) (state : SlotState) →
         IsSound h → settle_answer h ticket outcome now ≡ Ok state →
         let after = followed_by h (Settle outcome ticket now state) in next_place after + owed after ≤ next_place h + owed h }
-    ensures cancel_fits { (h : History) (number mask : ℕ) → IsSound h → cancel_answer h number ≡ Ok mask →
-        let after = followed_by h (Cancel number mask) in next_place after + owed after ≤ next_place h + owed h }
+    ensures cancel_fits { (h : History) (number among mask : ℕ) → IsSound h → cancel_answer h number among ≡ Ok mask →
+        let after = followed_by h (Cancel number among mask) in next_place after + owed after ≤ next_place h + owed h }
 
     // A key is known where it is remembered, else at the first entry that keeps it, and unknown where there is neither.
     ensures known_inside { (h : History) (key : List ℕ) (place : ℕ) → IsGoodOpening h.opening
@@ -67,7 +67,7 @@ pub fn event_rules()
     ensures taken { (h : History) (d now : ℕ) → answer h (take d now) ≡ take_answer h d now }
     ensures settled { (h : History) (ticket : Ticket) (outcome : Outcome) (now : ℕ) →
         answer h (settle ticket outcome now) ≡ settle_answer h ticket outcome now }
-    ensures cancelled { (h : History) (number : ℕ) → answer h (cancel number) ≡ cancel_answer h number }
+    ensures cancelled { (h : History) (number among : ℕ) → answer h (cancel number among) ≡ cancel_answer h number among }
     ensures deployed { (h : History) (plan : PlanEntry) →
         deploy_answer h plan ≡ None → is_over_limit h 0 ≡ false → answer h (deploy plan) ≡ Ok tt }
     ensures deployed_full { (h : History) (plan : PlanEntry) →

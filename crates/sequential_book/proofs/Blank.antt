@@ -1,5 +1,5 @@
 -- What a history says that goes on from a blank opening.
-use Rattle.std.proofs.Common.{◌≡◌, ◌≢◌, ℕ, ◌+◌, ◌-◌, ◌<◌, ◌≤◌, ◌==◌, Bool, true, false, nat_lt, List, [], ◌∷◌, length, Option, None, Some, Ok, Err, refl, sym, ◌∙◌, ap, arith, suc, zero}
+use Rattle.std.proofs.Common.{◌≡◌, ◌≢◌, ℕ, ◌+◌, ◌-◌, ◌<◌, ◌≤◌, ◌==◌, true, false, nat_lt, List, [], ◌∷◌, length, Option, None, Some, Ok, Err, refl, sym, ◌∙◌, ap, arith, suc, zero}
 use Rattle.std.specs.Prelude.{is_some, slice_get, if◌then◌else◌}
 use Rattle.std.specs.List.{position}
 use Rattle.std.specs.Option.{option_map, option_map_or}
@@ -9,7 +9,7 @@ use Rattle.event_log.specs.declared.entry.Entry.{Entry}
 use Rattle.event_log.specs.declared.refusal.CancelRefusal.TheVariants.{NoSuchMessage, NothingWaiting}
 use Rattle.event_log.specs.History.{History, accepted_from, deliveries, message_at, message_count}
 use Rattle.event_log.specs.inner.History.{history_of}
-use Rattle.event_log.specs.Answers.{brings, brings_at, cancel_answer, keeps, known, mask_where, told_again, waits}
+use Rattle.event_log.specs.Answers.{brings, brings_at, cancel_answer, keeps, known, mask_where, waits_among}
 use Rattle.event_log.proofs.Reading.{message-beyond}
 
 -- an item below the length of a list is there
@@ -52,18 +52,18 @@ module _ (plan : PlanEntry) (events_max : ℕ) (es : List Entry) where
   there-blank n below = ap is_some (message-blank n) ∙ get-inside (accepted_from plan es) n (omega (arith, count-blank))
 
 -- the answer where there is no such message
-pub cancel-beyond : (h : History) (n : ℕ) → message_count h ≤ n → cancel_answer h n ≡ Err NoSuchMessage
-cancel-beyond h n beyond = rw (message-beyond h n beyond) refl
+pub cancel-beyond : (h : History) (n among : ℕ) → message_count h ≤ n → cancel_answer h n among ≡ Err NoSuchMessage
+cancel-beyond h n among beyond = rw (message-beyond h n beyond) refl
 
-module _ (h : History) (n : ℕ) (there : is_some (message_at h n) ≡ true) (mask : ℕ) (is : mask ≡ mask_where (waits h n)) where
+module _ (h : History) (n among : ℕ) (there : is_some (message_at h n) ≡ true) (mask : ℕ) (is : mask ≡ mask_where (waits_among h n among)) where
   -- and where there is, by the mask of where it waits
-  cancel-there : cancel_answer h n ≡ (if mask == 0 then Err NothingWaiting else Ok mask)
+  cancel-there : cancel_answer h n among ≡ (if mask == 0 then Err NothingWaiting else Ok mask)
   cancel-there =
-      ap (λ b. if b then (if mask_where (waits h n) == 0 then Err NothingWaiting else Ok (mask_where (waits h n))) else Err NoSuchMessage) there
+      ap (λ b. if b then (if mask_where (waits_among h n among) == 0 then Err NothingWaiting else Ok (mask_where (waits_among h n among))) else Err NoSuchMessage) there
       ∙ ap (λ m. if m == 0 then Err NothingWaiting else Ok m) (sym is)
 
-  pub cancel-nothing : mask ≡ 0 → Err NothingWaiting ≡ cancel_answer h n
+  pub cancel-nothing : mask ≡ 0 → Err NothingWaiting ≡ cancel_answer h n among
   cancel-nothing none = sym (cancel-there ∙ rw none refl)
 
-  pub cancel-some : mask ≢ 0 → Ok mask ≡ cancel_answer h n
+  pub cancel-some : mask ≢ 0 → Ok mask ≡ cancel_answer h n among
   cancel-some some = sym (cancel-there ∙ (let differs : (mask == 0) ≡ false = grind (arith, nat_tests) in rw differs refl))

@@ -26,7 +26,7 @@ sound-followed_by : (h : History) → IsSound h → (e : Entry) → MayFollow h 
 sound-followed_by h sound (Arrival conn channel raw told) may = (arrival-step h sound conn channel raw told (arrivable h conn channel raw told may)).sound
 sound-followed_by h sound (Take ticket now) may = (take-step h sound ticket.destination now ticket may.replied).1.sound
 sound-followed_by h sound (Settle outcome ticket now state) may = (settle-step h sound ticket outcome now state may.replied).sound
-sound-followed_by h sound (Cancel number mask) may = (cancel-step h sound number mask may.replied).sound
+sound-followed_by h sound (Cancel number among mask) may = (cancel-step h sound number among mask may.replied).sound
 sound-followed_by h sound (Deploy plan) may = (deploy-step h sound plan (deployable h plan may)).sound
 
 -- what is kept true stays true
@@ -46,7 +46,7 @@ after-channels : (plan : PlanEntry) (e : Entry) → IsJudgeable (length plan.cha
 after-channels plan (Arrival conn channel raw told) judgeable = refl
 after-channels plan (Take ticket now) judgeable = refl
 after-channels plan (Settle outcome ticket now state) judgeable = refl
-after-channels plan (Cancel number mask) judgeable = refl
+after-channels plan (Cancel number among mask) judgeable = refl
 after-channels plan (Deploy next) judgeable = judgeable
 
 -- so do all of them

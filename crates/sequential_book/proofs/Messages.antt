@@ -21,7 +21,7 @@ brings-one plan (Arrival conn channel raw (told.Refused cause)) = inr (refl, ref
 brings-one plan (Arrival conn channel raw (told.Repeat place)) = inr (refl, refl)
 brings-one plan (Take ticket now) = inr (refl, refl)
 brings-one plan (Settle outcome ticket now state) = inr (refl, refl)
-brings-one plan (Cancel number mask) = inr (refl, refl)
+brings-one plan (Cancel number among mask) = inr (refl, refl)
 brings-one plan (Deploy next) = inr (refl, refl)
 
 -- there are as many accepted arrivals as accepted messages
@@ -75,7 +75,7 @@ deployments-counted es = sym (length-filter is_deployment es) ∙ by es
     by (Arrival conn channel raw told ∷ es) = by es
     by (Take ticket now ∷ es) = by es
     by (Settle outcome ticket now state ∷ es) = by es
-    by (Cancel number mask ∷ es) = by es
+    by (Cancel number among mask ∷ es) = by es
     by (Deploy plan ∷ es) = ap (λ n. suc n) (by es)
 
 -- what holds of each item holds of the one that is found

@@ -175,10 +175,27 @@ impl SequentialBook {
     /// `NoSuchMessage`, `NothingWaiting` where the message waits nowhere, and `NoMemory` where memory was refused.
     /// Nothing changes then.
     pub fn cancel(&mut self, number: u32) -> Result<u32, CancelRefusal>
-        ensures { Does (cancel number) self.old self.new result }
+        ensures { Does (cancel number 4294967295) self.old self.new result }
     {
-        let mask = self.cancel_answer(number)??;
-        self.book(Entry::Cancel { number, mask })?;
+        self.cancel_among(number, u32::MAX)
+    }
+
+    /// Cancels a message where it waits at one of the destinations of the mask `among`, which has bit d for destination d,
+    /// and answers as a mask where it did.
+    ///
+    /// # Errors
+    ///
+    /// `NoSuchMessage`, `NothingWaiting` where the message waits at none of these destinations, and `NoMemory` where memory
+    /// was refused. Nothing changes then.
+    pub fn cancel_among(&mut self, number: u32, among: u32) -> Result<u32, CancelRefusal>
+        ensures { Does (cancel number among) self.old self.new result }
+    {
+        let mask = self.cancel_answer(number, among)??;
+        self.book(Entry::Cancel {
+            number,
+            among,
+            mask,
+        })?;
         Ok(mask)
     }
 

@@ -28,7 +28,7 @@ fn is_for(ticket: &Ticket, number: u32, d: u32) -> bool
 }
 
 /// Whether bit d of a mask is set.
-fn has_bit(mask: u32, d: u32) -> bool
+pub(crate) fn has_bit(mask: u32, d: u32) -> bool
     ensures { result ≡ (bit_at mask d == 1) }
 {
     d < u32::BITS && mask >> d & 1 == 1
@@ -46,6 +46,7 @@ fn state_by(entry: &Entry, number: u32, d: u32) -> Option<SlotState>
         Entry::Cancel {
             number: cancelled,
             mask,
+            ..
         } if *cancelled == number && has_bit(*mask, d) => {
             Some(SlotState::Failed(FailCause::Cancelled))
         }

@@ -4,6 +4,7 @@ use Rattle.std.specs.List.{range_with_len}
 use Rattle.std.specs.Option.{option_map, option_map_or}
 use Rattle.std.specs.Str.{bytes_eq}
 use Rattle.dest_queue.specs.declared.SlotState.{SlotState}
+use Rattle.dest_queue.specs.declared.SlotState.TheVariants.{Failed}
 use Rattle.dest_queue.specs.States.{is_live}
 use Rattle.event_log.specs.declared.entry.Told.TheVariants.{Accepted as AcceptedAs}
 use Rattle.event_log.specs.declared.entry.Entry.TheVariants.{Arrival}
@@ -11,6 +12,7 @@ use Rattle.event_log.specs.Folding.{is_live_message}
 use Rattle.event_log.specs.History.{Accepted, History, control_id_of, entry_at, is_queued, message_at, message_count, numbers, queue, slot}
 use Rattle.event_log.specs.Room.{owed}
 use Rattle.book_core.specs.declared.letter.Outbound.{Outbound}
+use Rattle.book_core.specs.declared.questions.Failure.{Failure}
 use Rattle.book_core.specs.declared.questions.Front.{Front}
 
 -- ---- what is still to be delivered
@@ -34,6 +36,17 @@ queued_as h d n = option_and_then (λ state. if is_live state then Some (standin
 -- the front of queue d with its state there
 abbrev pub front_at : History → ℕ → Option Front
 front_at h d = option_and_then (λ n. option_map (standing n) (slot h n d)) (slice_get (queue h d) 0)
+
+-- ---- what failed
+
+-- message n with why it failed, where its state says that it did
+abbrev pub failure : ℕ → SlotState → Option Failure
+failure n (Failed cause) = Some (record { number = n; cause = cause })
+failure n _ = None
+
+-- message n with why it failed at destination d, where it did
+abbrev pub failed_as : History → ℕ → ℕ → Option Failure
+failed_as h d n = option_and_then (failure n) (slot h n d)
 
 -- ---- what can be forgotten
 

@@ -1,5 +1,5 @@
 -- What proofs use beside the page Sending.
-use Rattle.std.specs.Prelude.{◌≡◌, ◌<◌, ◌==◌, ℕ, Bool, true, false, if◌then◌else◌, List, [], ◌∷◌, ◌++◌, All, Option}
+use Rattle.std.specs.Prelude.{◌≡◌, ◌<◌, ◌==◌, ◌&&◌, ℕ, Bool, true, false, if◌then◌else◌, List, [], ◌∷◌, ◌++◌, All, Option}
 use Rattle.std.specs.Int.{bit_at}
 use Rattle.plan_text.specs.Entries.{PlanEntry}
 use Rattle.judge_core.specs.declared.delivery.Delivery.{Delivery}
@@ -77,6 +77,6 @@ HasRoomFor (gain.Message number header deliveries) rows = All (λ row. row.numbe
 HasRoomFor gain.Key rows = Unit {0}
 HasRoomFor gain.Nothing rows = Unit {0}
 
--- what slots owe where they wait
-abbrev pub owed_waiting : PlanEntry → (ℕ → Option SlotState) → ℕ
-owed_waiting plan slots = message_total (λ d state. if is_waiting state then slot_owed (attempts_max plan d) state else 0) slots
+-- what slots owe where they wait at a destination of the mask
+abbrev pub owed_waiting : PlanEntry → ℕ → (ℕ → Option SlotState) → ℕ
+owed_waiting plan among slots = message_total (λ d state. if (bit_at among d == 1) && is_waiting state then slot_owed (attempts_max plan d) state else 0) slots

@@ -1,5 +1,5 @@
 -- What proofs use beside the page Queues.
-use Rattle.std.specs.Prelude.{ℕ, ◌<◌, Bool, false, if◌then◌else◌, List, Option, option_and_then, filter, fold}
+use Rattle.std.specs.Prelude.{ℕ, ◌<◌, ◌&&◌, Bool, false, if◌then◌else◌, List, Option, option_and_then, filter, fold}
 use Rattle.std.specs.List.{range_with_len}
 use Rattle.std.specs.Option.{option_map, option_map_or}
 use Rattle.row_store.specs.declared.Row.{Row}
@@ -36,13 +36,13 @@ settle d state row = record (put d state row) { mask = if is_live state then row
 abbrev pub without_each : List ℕ → ℕ → ℕ
 without_each ds mask = fold (λ mask d. without d mask) mask ds
 
--- the destinations at which a message waits, in rising order
-unfoldable pub waiting_at : List Slot → List ℕ
-waiting_at slots = filter (λ d. waits_at d slots) (range_with_len 0 32)
+-- those of these destinations at which a message waits, in rising order
+unfoldable pub waiting_at : (ℕ → Bool) → List Slot → List ℕ
+waiting_at among slots = filter (λ d. among d && waits_at d slots) (range_with_len 0 32)
 
--- the row, each slot that waits cancelled, out of the queues where it waited
-abbrev pub cancel : {T : Type 0} → Row (Queued T) → Row (Queued T)
-cancel row = record row { item = record row.item { slots = cancelled row.item.slots }; mask = without_each (waiting_at row.item.slots) row.mask }
+-- the row, each slot cancelled that waits at one of these destinations, out of the queues where it waited
+abbrev pub cancel : {T : Type 0} → (ℕ → Bool) → Row (Queued T) → Row (Queued T)
+cancel among row = record row { item = record row.item { slots = cancelled among row.item.slots }; mask = without_each (waiting_at among row.item.slots) row.mask }
 
 -- whether that number waits at d
 abbrev pub waits_in : {T : Type 0} → ℕ → ℕ → List (Row (Queued T)) → Bool

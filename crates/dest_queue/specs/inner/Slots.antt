@@ -1,5 +1,6 @@
 -- What proofs use beside the page Slots.
-use Rattle.std.specs.Prelude.{ℕ, ◌&&◌, Bool, if◌then◌else◌, List, map}
+use Rattle.std.specs.Prelude.{ℕ, ◌==◌, ◌&&◌, Bool, true, if◌then◌else◌, List, map}
+use Rattle.std.specs.Int.{bit_at}
 use Rattle.std.specs.List.{list_any}
 use Rattle.dest_queue.specs.declared.SlotState.{SlotState}
 use Rattle.dest_queue.specs.declared.SlotState.TheVariants.{Waiting, Failed}
@@ -20,6 +21,14 @@ with_state d state slots = map (λ (slot : Slot). if is_at d slot then record sl
 abbrev pub waits_at : ℕ → List Slot → Bool
 waits_at d slots = list_any (λ (slot : Slot). is_at d slot && is_waiting slot.state) slots
 
--- the slots, those that wait cancelled
-abbrev pub cancelled : List Slot → List Slot
-cancelled slots = map (λ (slot : Slot). if is_waiting slot.state then record slot { state = Failed Cancelled } else slot) slots
+-- whether a mask names d: its bit d is set
+abbrev pub has_bit : ℕ → ℕ → Bool
+has_bit mask d = bit_at mask d == 1
+
+-- every destination
+abbrev pub everywhere : ℕ → Bool
+everywhere d = true
+
+-- the slots, those cancelled that wait at one of these destinations
+abbrev pub cancelled : (ℕ → Bool) → List Slot → List Slot
+cancelled among slots = map (λ (slot : Slot). if among slot.destination && is_waiting slot.state then record slot { state = Failed Cancelled } else slot) slots

@@ -13,7 +13,7 @@ abbrev pub step_of : Entry → Turn
 step_of (Arrival conn channel raw told) = chunk conn (block_bytes raw) 0
 step_of (Take ticket now) = event (take ticket.destination now)
 step_of (Settle outcome ticket now state) = event (settle ticket outcome now)
-step_of (Cancel number mask) = event (cancel number)
+step_of (Cancel number among mask) = event (cancel number among)
 step_of (Deploy plan) = event (deploy plan)
 
 -- the steps of a history, one an entry

@@ -8,7 +8,7 @@ use Rattle.mllp_frame.specs.inner.Framing.{open_end}
 use Rattle.engine_model.specs.inner.Handling.{IsCounted, said}
 use Rattle.engine_model.specs.declared.connection.Connected.{Connected}
 use Rattle.engine_model.specs.declared.step.Step.{Step}
-use Rattle.engine_model.specs.declared.step.Step.TheVariants.{Chunk, Take, Settle, Cancel, Deploy, Prune}
+use Rattle.engine_model.specs.declared.step.Step.TheVariants.{Chunk, Take, Settle, Cancel, CancelAmong, Deploy, Prune}
 use Rattle.engine_model.specs.Run.{Connection, Run}
 use Rattle.event_log.specs.Event.{cancel, deploy, settle, take}
 use Rattle.engine_model.specs.Turn.{Turn, chunk, event, prune}
@@ -37,7 +37,8 @@ abbrev pub turn_by : Step → Turn
 turn_by (Chunk conn bytes now) = chunk conn bytes.items now
 turn_by (Take d now) = event (take d now)
 turn_by (Settle ticket outcome now) = event (settle ticket outcome now)
-turn_by (Cancel number) = event (cancel number)
+turn_by (Cancel number) = event (cancel number 4294967295)
+turn_by (CancelAmong number among) = event (cancel number among)
 turn_by (Deploy plan) = event (deploy (arc_value plan))
 turn_by (Prune before) = prune before
 

@@ -9,5 +9,5 @@ abbrev pub is_acceptance : Entry → Bool
 is_acceptance (Arrival conn channel raw told) = is_accepted told
 is_acceptance (Take ticket now) = false
 is_acceptance (Settle outcome ticket now state) = false
-is_acceptance (Cancel number mask) = false
+is_acceptance (Cancel number among mask) = false
 is_acceptance (Deploy plan) = false

@@ -1,5 +1,5 @@
 -- What proofs use beside the page History.
-use Rattle.std.specs.Prelude.{ℕ, ◌-◌, Bool, false, List, [], count_by, Option}
+use Rattle.std.specs.Prelude.{ℕ, Bool, false, List, [], count_by, Option}
 use Rattle.std.specs.Option.{is_none}
 use Rattle.plan_text.specs.Entries.{PlanEntry}
 use Rattle.judge_core.specs.Delivering.{destinations_of}
@@ -34,7 +34,7 @@ abbrev pub is_arrival_of : ℕ → Entry → Bool
 is_arrival_of n (Arrival conn channel raw told) = is_numbered n told
 is_arrival_of n (Take ticket now) = false
 is_arrival_of n (Settle outcome ticket now state) = false
-is_arrival_of n (Cancel number mask) = false
+is_arrival_of n (Cancel number among mask) = false
 is_arrival_of n (Deploy plan) = false
 
 -- the number of an arrival, if it was accepted

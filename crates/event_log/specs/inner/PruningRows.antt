@@ -63,7 +63,7 @@ pub no_attempt : settle_answer (pruned 1 settled) (attempt 1) outcome.Delivered 
 unfolding verdict header_fault
 no_attempt = refl
 
-pub not_cancelled : cancel_answer (pruned 1 settled) 0 ≡ Err cancel_refusal.NoSuchMessage
+pub not_cancelled : cancel_answer (pruned 1 settled) 0 4294967295 ≡ Err cancel_refusal.NoSuchMessage
 unfolding verdict header_fault
 not_cancelled = refl
 

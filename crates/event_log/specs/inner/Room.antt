@@ -1,5 +1,5 @@
 -- What proofs use beside the page Room.
-use Rattle.std.specs.Prelude.{ℕ, ◌-◌, if◌then◌else◌}
+use Rattle.std.specs.Prelude.{ℕ, if◌then◌else◌}
 use Rattle.event_log.specs.History.{History}
 use Rattle.event_log.specs.Room.{total, is_in_flight}
 

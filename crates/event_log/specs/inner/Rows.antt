@@ -109,19 +109,28 @@ empty_queue = refl
 -- ---- cancellations
 
 -- a message that waits is cancelled at its destination, and an attempt under way is not
-pub cancelled : cancel_answer (history_of built_in 20 came) 0 ≡ Ok 1
+pub cancelled : cancel_answer (history_of built_in 20 came) 0 4294967295 ≡ Ok 1
 unfolding verdict header_fault mask_where
 cancelled = refl
 
-pub cancelled_slot : slot (history_of built_in 20 (came ++ Cancel 0 1 ∷ [])) 0 0 ≡ Some (Failed Cancelled)
+pub cancelled_slot : slot (history_of built_in 20 (came ++ Cancel 0 4294967295 1 ∷ [])) 0 0 ≡ Some (Failed Cancelled)
 unfolding verdict header_fault
 cancelled_slot = refl
 
-pub not_cancelled : cancel_answer (history_of built_in 20 taken) 0 ≡ Err NothingWaiting
+pub not_cancelled : cancel_answer (history_of built_in 20 taken) 0 4294967295 ≡ Err NothingWaiting
 unfolding verdict header_fault mask_where
 not_cancelled = refl
 
-pub no_message : cancel_answer (history_of built_in 20 came) 1 ≡ Err NoSuchMessage
+-- it is cancelled among some destinations where these name its own
+pub cancelled_among : cancel_answer (history_of built_in 20 came) 0 5 ≡ Ok 1
+unfolding verdict header_fault mask_where
+cancelled_among = refl
+
+pub elsewhere : cancel_answer (history_of built_in 20 came) 0 6 ≡ Err NothingWaiting
+unfolding verdict header_fault mask_where
+elsewhere = refl
+
+pub no_message : cancel_answer (history_of built_in 20 came) 1 4294967295 ≡ Err NoSuchMessage
 unfolding verdict header_fault mask_where
 no_message = refl
 

@@ -27,7 +27,7 @@ abbrev pub is_acceptance : Entry → Bool
 is_acceptance (Arrival conn channel raw told) = is_accepted told
 is_acceptance (Take ticket now) = false
 is_acceptance (Settle outcome ticket now state) = false
-is_acceptance (Cancel number mask) = false
+is_acceptance (Cancel number among mask) = false
 is_acceptance (Deploy plan) = false
 
 -- whether an entry is a deployment
@@ -35,7 +35,7 @@ abbrev pub is_deployment : Entry → Bool
 is_deployment (Arrival conn channel raw told) = false
 is_deployment (Take ticket now) = false
 is_deployment (Settle outcome ticket now state) = false
-is_deployment (Cancel number mask) = false
+is_deployment (Cancel number among mask) = false
 is_deployment (Deploy plan) = true
 
 -- an arrival whose text can be judged again: it arrived on one of that many channels, and a block can hold it; a
@@ -44,7 +44,7 @@ abbrev pub IsJudgeable : ℕ → Entry → Type 0
 IsJudgeable channels (Arrival conn channel raw told) = (channel < channels) × IsBlockData raw
 IsJudgeable channels (Take ticket now) = Unit {0}
 IsJudgeable channels (Settle outcome ticket now state) = Unit {0}
-IsJudgeable channels (Cancel number mask) = Unit {0}
+IsJudgeable channels (Cancel number among mask) = Unit {0}
 IsJudgeable channels (Deploy plan) = length plan.channels ≡ channels
 
 -- what the plain engine keeps true of its history

@@ -119,17 +119,18 @@ impl SequentialBook {
         })
     }
 
-    /// The answer to a cancellation.
+    /// The answer to a cancellation among the destinations of a mask.
     pub(crate) fn cancel_answer(
         &self,
         number: u32,
+        among: u32,
     ) -> Result<Result<u32, CancelRefusal>, AllocError>
-        ensures { IfOk result (λ answer. answer ≡ cancel_answer self.now number) }
+        ensures { IfOk result (λ answer. answer ≡ cancel_answer self.now number among) }
     {
         if number >= self.message_count() {
             return Ok(Err(CancelRefusal::NoSuchMessage));
         }
-        let mask = self.waiting_mask(number)?;
+        let mask = self.waiting_mask(number, among)?;
         Ok(if mask == 0 {
             Err(CancelRefusal::NothingWaiting)
         } else {

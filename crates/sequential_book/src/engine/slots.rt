@@ -4,12 +4,12 @@ ghost use Rattle.std.specs.Prelude.{◌≡◌, ◌<◌, ◌≤◌, ℕ, [], true
 ghost use Rattle.std.specs.Option.{option_map_or};
 ghost use Rattle.event_log.specs.Deployment.{deployments};
 ghost use Rattle.event_log.specs.History.{deliveries, is_queued, message_at, message_count, plan_in_force, queue, slot, state};
-ghost use Rattle.event_log.specs.Answers.{attempts_max, mask_where, waits};
+ghost use Rattle.event_log.specs.Answers.{attempts_max, mask_where, waits, waits_among};
 ghost use Rattle.event_log.specs.Room.{message_total, owed, slot_owed};
 ghost use Rattle.sequential_book.specs.inner.Reading.{IsPlain};
 
 use crate::engine::SequentialBook;
-use crate::entries::{acceptances, deliveries, deployments, names, state};
+use crate::entries::{acceptances, deliveries, deployments, has_bit, names, state};
 use dest_queue::SlotState;
 use event_log::{EVENTS_MAX, attempts_max, slot_owed};
 use judge_core::Deliveries;
@@ -93,13 +93,21 @@ impl SequentialBook {
         )
     }
 
-    /// The destinations where a message waits, as a mask.
-    pub(crate) fn waiting_mask(&self, number: u32) -> Result<u32, AllocError>
-        ensures { IfOk result (λ mask. mask ≡ mask_where (waits self.now number)) }
+    /// Whether a message waits at d, and the mask `among` names d.
+    fn waits_among(&self, number: u32, among: u32, d: u32) -> Result<bool, AllocError>
+        ensures { IfOk result (λ waiting. waiting ≡ waits_among self.now number among d) }
+    {
+        let waits = self.waits(number, d)?;
+        Ok(has_bit(among, d) && waits)
+    }
+
+    /// The destinations of the mask `among` where a message waits, as a mask.
+    pub(crate) fn waiting_mask(&self, number: u32, among: u32) -> Result<u32, AllocError>
+        ensures { IfOk result (λ mask. mask ≡ mask_where (waits_among self.now number among)) }
     {
         let mut mask = 0;
         for d in 0..u32::BITS {
-            if self.waits(number, d)? {
+            if self.waits_among(number, among, d)? {
                 mask |= 1 << d;
             }
         }

@@ -15,7 +15,7 @@ pub returns-clause-settled : goal.returns-clause-settled
 returns-clause-settled c = λ h ticket outcome now. refl
 
 pub returns-clause-cancelled : goal.returns-clause-cancelled
-returns-clause-cancelled c = λ h number. refl
+returns-clause-cancelled c = λ h number among. refl
 
 pub returns-clause-deployed : goal.returns-clause-deployed
 returns-clause-deployed c = deployment-answered
