@@ -18,7 +18,7 @@ use Rattle.ghost_log.specs.Seats.{Agrees}
 use Rattle.ghost_log.proofs.Counting.{all_added, all_back, all_counted, all_front, all_in_map, all_of_map, each_owned, own_added, own_few, own_shown, pairs_back, pairs_front, pairs_in_map, pairs_of_map}
 use Rattle.ghost_log.proofs.Numbers.{all_numbers}
 use Rattle.book_lock.specs.declared.log_entry.LogEntry.{LogEntry}
-use Rattle.book_lock.specs.declared.log_entry.LogEntry.TheVariants.{Booked, Pruned}
+use Rattle.book_lock.specs.declared.log_entry.LogEntry.TheVariants.{Booked, Pruned, Durable}
 use Rattle.book_lock.specs.Callers.{AreCallers, HasNumber, IsClosedBy}
 use Rattle.book_lock.specs.Log.{IsBookOf, Linearizes, Log, SeatView}
 use Rattle.book_lock.specs.Rises.{AddsUp, SharedBook, arrived, settled, taken}
@@ -66,6 +66,16 @@ folded_in h bound new counts first channels number log log' is to sound may open
     let t = same_count is_take log log' (number, Pruned bound) is refl in
     let s = same_count is_settlement log log' (number, Pruned bound) is refl in
     (n.0, subst (λ (w : ℕ × ℕ × ℕ). IsCounted (with_book h new) w.0 w.1 w.2) (λ i. (sym a i, sym t i, sym s i)) n.1)
+
+-- what is durable changes no count
+pub durable_in : (h : SharedBook) (number below : ℕ) (log log' : Log) → log' ≡ log ++ (number, Durable below) ∷ []
+    → IsCounted h (count_in is_arrival log) (count_in is_take log) (count_in is_settlement log)
+    → IsCounted h (count_in is_arrival log') (count_in is_take log') (count_in is_settlement log')
+durable_in h number below log log' is known =
+    let a = same_count is_arrival log log' (number, Durable below) is refl in
+    let t = same_count is_take log log' (number, Durable below) is refl in
+    let s = same_count is_settlement log log' (number, Durable below) is refl in
+    subst (λ (w : ℕ × ℕ × ℕ). IsCounted h w.0 w.1 w.2) (λ i. (sym a i, sym t i, sym s i)) known
 
 -- ---- who adds what
 

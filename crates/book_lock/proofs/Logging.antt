@@ -28,6 +28,7 @@ use Rattle.ghost_log.proofs.Seats.{rest_none}
 use Rattle.book_lock.specs.declared.log_entry.LogEntry.{LogEntry}
 use Rattle.book_lock.specs.declared.log_entry.LogEntry.TheVariants as log_entry
 use Rattle.book_lock.specs.Log.{Arrives, Calls, IsBookOf, IsJob, IsLegalLog, Log, MayComeNext, SeatView, Takes, after_log, book_at, own_entry, with_entry, IsCalled, IsPruned}
+use Rattle.book_lock.specs.inner.Arriving.{ArrivesHere}
 use Rattle.book_lock.specs.inner.Log.{new_seats}
 use Rattle.book_lock.specs.Shares.{DeskView, StationView, seats_of}
 
@@ -113,6 +114,17 @@ called_arrival h conn judged old new log log' book book' r was agreed does memor
       plan = subst (λ w. IsErrOf r not_booked.PlanChanged ↔ judged.plan ≢ plan_in_force w) moment plan;
       same_plan = subst (λ w. IsErrOf r not_booked.Full → judged.plan ≡ plan_in_force w) moment same_plan;
     }
+
+-- an arrival, as the seat of its desk sees it, at the moment of its book
+pub here_arrival : (h : History) (conn : ℕ) (judged : Judged) (old new : SeatView) (log log' : Log) (book book' : History) (r : Result Receipt NotBooked)
+    → IsBookOf h log book → Agrees old.number old.seen log → Does (arrive conn judged.channel judged.raw) book book' (arrival_reply r) → MemoryIsLast (arrive conn judged.channel judged.raw) book (arrival_reply r)
+    → IfOk r (IsReceipt (next_place book) conn judged.channel judged.raw) → IsErrOf r not_booked.PlanChanged ↔ judged.plan ≢ plan_in_force book → (IsErrOf r not_booked.Full → judged.plan ≡ plan_in_force book)
+    → log' ≡ log ++ own_entry old.number (arrive conn judged.channel judged.raw) (arrival_reply r) → new ≡ record { number = old.number; seen = log' } → ArrivesHere h conn judged book old new r
+unfolding called_arrival called
+here_arrival h conn judged old new log log' book book' r was agreed does memory receipt plan same_plan is seat = record {
+  arrives = called_arrival h conn judged old new log log' book book' r was agreed does memory receipt plan same_plan is seat;
+  moment = ap (after_log h) agreed.begins.1 ∙ sym was.is;
+}
 
 -- a take, as the seat of its station sees it
 pub called_take : (h : History) (d now : ℕ) (old new : SeatView) (log log' : Log) (book book' : History) (r : Result Job TakeRefusal)

@@ -61,7 +61,7 @@ receipt_names : (p : ℕ) (e : Entry) (r : Receipt) → receipt_at p e ≡ Some 
 receipt_names p (Arrival conn channel raw told) r is = cc
 receipt_names p (Take ticket now) r is = cc
 receipt_names p (Settle outcome ticket now state) r is = cc
-receipt_names p (Cancel number mask) r is = cc
+receipt_names p (Cancel number among mask) r is = cc
 receipt_names p (Deploy plan) r is = cc
 
 due_names : (o : Option Entry) (p : ℕ) (r : Receipt) → option_and_then (receipt_at p) o ≡ Some r → r.entry ≡ p

@@ -57,6 +57,7 @@ pruned_sound h bound is may =
 sound_next : (h : History) (x : LogEntry) → IsSoundBook h → MayComeNext h x → IsSoundBook (with_entry h x)
 sound_next h (log.Booked e) is may = record { sound = sound-followed_by h e is.sound may; few = is.few }
 sound_next h (log.Pruned before) is may = pruned_sound h before is may
+sound_next h (log.Durable below) is may = is
 
 -- ---- tests
 
@@ -148,6 +149,7 @@ came_next : (h : History) (x : LogEntry) → IsSound h → MayComeNext h x → (
 came_next h (log.Booked e) sound may n came =
     more_numbers n (message_count h) (message_count (followed_by h e)) (option_map_or (λ m. 1) (accepted_by (plan_in_force h) e) 0) (message_count-push h e) came
 came_next h (log.Pruned before) sound may n came = subst (λ c. n < c) (sym (same-count h sound before may)) came
+came_next h (log.Durable below) sound may n came = came
 
 -- one that is forgotten stays so
 gone_next : (h : History) (x : LogEntry) → IsSound h → MayComeNext h x → (n : ℕ) → n < message_count h → message_at h n ≡ None → message_at (with_entry h x) n ≡ None
@@ -159,14 +161,15 @@ gone_next h (log.Booked (Take ticket now)) sound may n came gone =
     message-same h (followed_by h (Take ticket now)) refl (take-step h sound ticket.destination now ticket may.replied).1.nothing.accepted n ∙ gone
 gone_next h (log.Booked (Settle outcome ticket now after)) sound may n came gone =
     message-same h (followed_by h (Settle outcome ticket now after)) refl (settle-step h sound ticket outcome now after may.replied).nothing.accepted n ∙ gone
-gone_next h (log.Booked (Cancel number mask)) sound may n came gone =
-    message-same h (followed_by h (Cancel number mask)) refl (cancel-step h sound number mask may.replied).nothing.accepted n ∙ gone
+gone_next h (log.Booked (Cancel number among mask)) sound may n came gone =
+    message-same h (followed_by h (Cancel number among mask)) refl (cancel-step h sound number among mask may.replied).nothing.accepted n ∙ gone
 gone_next h (log.Booked (Deploy plan)) sound may n came gone =
     message-same h (followed_by h (Deploy plan)) refl (deploy-step h sound plan (deployable h plan may)).nothing.accepted n ∙ gone
 gone_next h (log.Pruned before) sound may n came gone = elim (lt-tells n before) [
   | inl w ↦ message-gone h sound before may n w.1
   | inr w ↦ message-kept h sound before may n w.1 ∙ gone
 ]
+gone_next h (log.Durable below) sound may n came gone = gone
 
 -- a new message waits for its first attempt
 new_waits : (h : History) (x : LogEntry) → IsSound h → MayComeNext h x → (n d : ℕ) (s : SlotState) → message_count h ≤ n → slot (with_entry h x) n d ≡ Some s → s ≡ Waiting 0 0
@@ -181,10 +184,12 @@ new_waits h (log.Booked e) sound may n d s new there = by e may there
         sym (slot-state (followed_by h (Arrival conn channel raw reply)) n d s there).1 ∙ (step.state n d ∙ sound.to_come n d new)
     by (Take ticket now) may there = let gone = none (Take ticket now) (take-step h sound ticket.destination now ticket may.replied).1.nothing.accepted in absurd cc
     by (Settle outcome ticket now after) may there = let gone = none (Settle outcome ticket now after) (settle-step h sound ticket outcome now after may.replied).nothing.accepted in absurd cc
-    by (Cancel number mask) may there = let gone = none (Cancel number mask) (cancel-step h sound number mask may.replied).nothing.accepted in absurd cc
+    by (Cancel number among mask) may there = let gone = none (Cancel number among mask) (cancel-step h sound number among mask may.replied).nothing.accepted in absurd cc
     by (Deploy plan) may there = let gone = none (Deploy plan) (deploy-step h sound plan (deployable h plan may)).nothing.accepted in absurd cc
 new_waits h (log.Pruned before) sound may n d s new there =
     let gone = slot-beyond (pruned before h) n d (subst (λ c. c ≤ n) (sym (same-count h sound before may)) new) in absurd cc
+new_waits h (log.Durable below) sound may n d s new there =
+    let gone = slot-beyond h n d new in absurd cc
 
 -- What an entry makes of the slot of message n at d: nothing; its message is forgotten, which was not to be delivered to d
 -- any more; an attempt is taken, or settled; or it is cancelled.
@@ -231,15 +236,16 @@ slot_change h (log.Booked (Settle outcome ticket now after)) sound may n d came 
           step.after_is flew (slot_moved h k n d (InFlight ticket.attempt) after same moved flew)
       | inr other ↦ unmoved (slot_still h k n d same (step.state n d ∙ ap (λ b. cond b after (state h n d)) other))
     ]
-slot_change h (log.Booked (Cancel number mask)) sound may n d came =
-    let k = followed_by h (Cancel number mask) in
-    let step = cancel-step h sound number mask may.replied in
+slot_change h (log.Booked (Cancel number among mask)) sound may n d came =
+    let k = followed_by h (Cancel number among mask) in
+    let step = cancel-step h sound number among mask may.replied in
     let same = message-same h k refl step.nothing.accepted n in
     elim (true_or_false ((number == n) && (bit_at mask d == 1))) [
       | inl is ↦
           let both = both_true (number == n) (bit_at mask d == 1) is in
           let here : waits h number d ≡ waits h n d = ap (λ m. waits h m d) (eq_numbers number n both.0) in
-          let waiting = waits_so (slot h n d) (sym here ∙ (sym (step.bits d) ∙ both.1)) in
+          let waited = both_true (bit_at among d == 1) (waits h number d) (sym (step.bits d) ∙ both.1) in
+          let waiting = waits_so (slot h n d) (sym here ∙ waited.1) in
           let moved : state k n d ≡ Failed Cancelled = step.state n d ∙ ap (λ b. cond b (Failed Cancelled) (state h n d)) is in
           called_off waiting.attempts waiting.due waiting.is (slot_moved h k n d (Waiting waiting.attempts waiting.due) (Failed Cancelled) same moved waiting.is)
       | inr other ↦ unmoved (slot_still h k n d same (step.state n d ∙ ap (λ b. cond b (Failed Cancelled) (state h n d)) other))
@@ -252,6 +258,7 @@ slot_change h (log.Pruned before) sound may n d came = elim (lt-tells n before) 
   | inl w ↦ dropped (message-gone h sound before may n w.1) (quiet h sound before may n d w.1)
   | inr w ↦ unmoved (slot-kept h sound before may n d w.1)
 ]
+slot_change h (log.Durable below) sound may n d came = unmoved refl
 
 -- ---- one entry
 

@@ -25,11 +25,12 @@ goes_one : (h : History) (x : LogEntry) → Goes h (with_entry h x)
 goes_one h (log_entry.Booked (entry.Arrival conn channel raw told)) = kept h (entry.Arrival conn channel raw told) refl
 goes_one h (log_entry.Booked (entry.Take ticket now)) = kept h (entry.Take ticket now) refl
 goes_one h (log_entry.Booked (entry.Settle outcome ticket now state)) = kept h (entry.Settle outcome ticket now state) refl
-goes_one h (log_entry.Booked (entry.Cancel number mask)) = kept h (entry.Cancel number mask) refl
+goes_one h (log_entry.Booked (entry.Cancel number among mask)) = kept h (entry.Cancel number among mask) refl
 goes_one h (log_entry.Booked (entry.Deploy plan)) =
     let rise = deployments-more h plan in
     record { more = omega (arith, rise); stays = λ same. absurd (omega (arith, rise, same)) }
 goes_one h (log_entry.Pruned before) = record { more = omega arith; stays = λ _. refl }
+goes_one h (log_entry.Durable below) = record { more = omega arith; stays = λ _. refl }
 
 goes : (h : History) (log : Log) → Goes h (after_log h log)
 goes h [] = record { more = omega arith; stays = λ _. refl }
@@ -42,7 +43,7 @@ goes h (x ∷ xs) =
       stays = λ same. rest.stays (omega (arith, one.more, rest.more, same)) ∙ one.stays (omega (arith, one.more, rest.more, same));
     }
 
-after_both : (h : History) (xs ys : Log) → after_log h (xs ++ ys) ≡ after_log (after_log h xs) ys
+pub after_both : (h : History) (xs ys : Log) → after_log h (xs ++ ys) ≡ after_log (after_log h xs) ys
 after_both h [] ys = refl
 after_both h (x ∷ xs) ys = after_both (with_entry h x.1) xs ys
 

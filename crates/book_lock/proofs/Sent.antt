@@ -16,6 +16,8 @@ use Rattle.book_lock.specs.contracts.locked.Locked.TheInside as Behind
 use Rattle.book_lock.specs.declared.locked.Sharing as Sharing
 use Rattle.book_lock.specs.contracts.shared.Shared as Shared
 use Rattle.book_lock.specs.contracts.log_entry.LogEntry as LogEntry
+use Rattle.book_lock.specs.contracts.copied.Copied as Copied
+use Rattle.book_lock.specs.contracts.unread.UnreadChanges as UnreadChanges
 use Rattle.ghost_log.specs.declared.rule.Naming as Naming
 use Rattle.ghost_log.proofs.Sent as ghost_log
 use Rattle.std.proofs.sync.Mutex.TheSendSync as mutex
@@ -88,6 +90,12 @@ book_send S g s =
       (log_send, (s, (search (sendable, crosses) depth 60 fits 30000, (search (sendable, crosses) depth 60 fits 30000, (search (sendable, crosses) depth 20, tt))))),
     )))
 
+pub copied_send : IsSend Copied.the_row
+copied_send = search (sendable, crosses, deployed_send) depth 90 fits 30000
+
+pub unread_send : IsSend UnreadChanges.the_row
+unread_send = search (sendable, crosses, copied_send) depth 90 fits 30000
+
 module _ (A S : RattleType) (o : Sharing.Ghosts A.Denot) (n : Naming.Ghosts A.Denot)
     (g : RowStore.Ghosts S.Denot (Queued.Queued Outbound.Outbound)) where
   pub locked_send : IsSend S → IsSend (Locked.the_row A S o n g)
@@ -106,7 +114,13 @@ module _ (A S : RattleType) (o : Sharing.Ghosts A.Denot) (n : Naming.Ghosts A.De
                 ghost_log.log_send A LogEntry.the_row n,
                 (
                   ghost_log.seat_send A LogEntry.the_row n,
-                  (search (sendable, crosses) depth 20, tt),
+                  (
+                    search (sendable, crosses) depth 20,
+                    (
+                      search (sendable, crosses) depth 20,
+                      (search (sendable, crosses) depth 20, (search (sendable, crosses, unread_send) depth 60 fits 30000, tt)),
+                    ),
+                  ),
                 ),
               ),
             ),
@@ -119,5 +133,8 @@ module _ (A S : RattleType) (o : Sharing.Ghosts A.Denot) (n : Naming.Ghosts A.De
       recorded_sync (Shared.the_field A S o n g).row _ _ (Shared.the_type A S o n g).to_one
       (struct_sync (shape (Shared.the_type A S o n g)) (
         mutex.the_sync _ (locked_send s),
-        (search (sendable, crosses) depth 60 fits 30000, (search (sendable, crosses) depth 20, tt)),
+        (
+          search (sendable, crosses) depth 60 fits 30000,
+          (search (sendable, crosses) depth 20, (search (sendable, crosses) depth 60 fits 30000, tt)),
+        ),
       ))

@@ -5,10 +5,10 @@ use Rattle.event_log.specs.declared.refusal.PruneRefusal.{PruneRefusal}
 use Rattle.event_log.specs.declared.refusal.PruneRefusal.TheVariants.{NoMemory, TooMany}
 use Rattle.event_log.specs.Folding.{prune_answer, pruned}
 use Rattle.event_log.proofs.OneMore.{lt-tells}
-use Rattle.book_core.specs.inner.Questions.{is_tight, settled_before}
+use Rattle.book_core.specs.inner.Questions.{settled_before}
 use Rattle.book_lock.specs.Rises.{SharedBook}
 use Rattle.book_lock.specs.inner.Rises.{with_book}
-use Rattle.book_lock.specs.inner.Tidies.{IsSettledRefusal, IsTidying, left_by, tidying_of}
+use Rattle.book_lock.specs.inner.Tidies.{IsPruning, IsSettledRefusal, left_by, tidying_of}
 
 module _ (h : SharedBook) (b : ℕ) (answered : prune_answer h.book b ≡ cond (nat_lt h.book.opening.prunings 1000) None (Some TooMany)) where
   few : nat_lt h.book.opening.prunings 1000 ≡ true → prune_answer h.book b ≡ None
@@ -37,16 +37,16 @@ module _ (h : SharedBook) (b : ℕ) (answered : prune_answer h.book b ≡ cond (
   ]
 
 -- what comes of it
-pub tidied : (keep k : ℕ) (h : SharedBook) (answer : Result ℕ PruneRefusal) → (k ≡ keep) ⊎ (k ≡ 0) → is_tight h.book ≡ true
-    → IfOk answer (λ b. b ≡ settled_before k h.book) → IfErr answer (IsSettledRefusal h) → IsTidying keep h (tidying_of answer)
-tidied keep k h (Ok b) which tight before refused = (
-  tight,
+pub pruning_of : (keep k : ℕ) (h : SharedBook) (answer : Result ℕ PruneRefusal) → (k ≡ keep) ⊎ (k ≡ 0)
+    → IfOk answer (λ b. prune_answer h.book b ≡ None) → IfOk answer (λ b. b ≡ settled_before k h.book) → IfErr answer (IsSettledRefusal h) → IsPruning keep h (tidying_of answer)
+pruning_of keep k h (Ok b) which allowed before refused = (
+  allowed,
   elim which [
     | inl w ↦ inl (before ∙ ap (λ j. settled_before j h.book) w)
     | inr w ↦ inr (before ∙ ap (λ j. settled_before j h.book) w)
   ],
 )
-tidied keep k h (Err e) which tight before refused = (tight, refused)
+pruning_of keep k h (Err e) which allowed before refused = refused
 
 pub left : (h new : SharedBook) (answer : Result ℕ PruneRefusal) → IfOk answer (λ b. new ≡ with_book h (pruned b h.book)) → OnErr answer (new ≡ h)
     → new ≡ left_by h (tidying_of answer)

@@ -14,7 +14,7 @@ abbrev pub receipt_at : ℕ → Entry → Option Receipt
 receipt_at place (Arrival conn channel raw told) = Some (record { entry = place; conn = conn; channel = channel; raw = raw; told = told })
 receipt_at place (Take ticket now) = None
 receipt_at place (Settle outcome ticket now state) = None
-receipt_at place (Cancel number mask) = None
+receipt_at place (Cancel number among mask) = None
 receipt_at place (Deploy plan) = None
 
 -- the receipt that is due at an index of the history: that of its arrival

@@ -2,6 +2,9 @@ pub mod Log
 pub mod Outcomes
 pub mod Callers
 pub mod Shares
+pub mod Crowding
 pub mod Rises
 pub mod Auditing
+pub mod Journal
+pub mod Durable
 pub mod inner

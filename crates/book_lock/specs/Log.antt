@@ -1,6 +1,6 @@
 -- The log of a shared book: all that was done to it since it was shared, in order, each event with its reply and the number
 -- of the seat that made the call. Each seat has seen a prefix of the log, with all its own calls in it.
-use Rattle.std.specs.Prelude.{◌≡◌, ◌≢◌, ◌↔◌, ◌⊎◌, ℕ, ◌<◌, List, [], ◌∷◌, ◌++◌, None, Some, Result, Ok, Err, IfErr, IfOk, IsErrOf, OnOk, All, slice_get, take}
+use Rattle.std.specs.Prelude.{◌≡◌, ◌≢◌, ◌↔◌, ◌⊎◌, ℕ, ◌<◌, ◌≤◌, List, [], ◌∷◌, ◌++◌, None, Some, Result, Ok, Err, IfErr, IfOk, IsErrOf, OnOk, All, slice_get, take}
 use Rattle.judge_core.specs.declared.judged.Judged.{Judged}
 use Rattle.event_log.specs.History.{History, control_id, followed_by, next_place, payload, plan_in_force}
 use Rattle.event_log.specs.Event.{Does, Event, MemoryIsLast, Refusal, Reply, arrive, entry_of, result_map}
@@ -37,16 +37,18 @@ pub record SeatView : Type 0 where
 abbrev pub with_entry : History → LogEntry → History
 with_entry h (log.Booked e) = followed_by h e
 with_entry h (log.Pruned before) = pruned before h
+with_entry h (log.Durable below) = h
 
 -- a book after a log
 abbrev pub after_log : History → Log → History
 after_log h [] = h
 after_log h (x ∷ xs) = after_log (with_entry h x.1) xs
 
--- an entry is legal after a book: its reply is the sequential engine's, or the pruning is allowed
+-- an entry is legal after a book: its reply is the sequential engine's, the pruning is allowed, or what is durable was booked
 abbrev pub MayComeNext : History → LogEntry → Type 0
 MayComeNext h (log.Booked e) = MayFollow h e
 MayComeNext h (log.Pruned before) = prune_answer h before ≡ None
+MayComeNext h (log.Durable below) = below ≤ next_place h
 
 -- each entry of a log is legal after those before it
 pub record IsLegalLog (opening : History) (entries : Log) : Type 0 where

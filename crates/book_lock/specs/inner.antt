@@ -4,6 +4,7 @@ pub mod Auditing
 pub mod Closing
 pub mod Coding
 pub mod Counts
+pub mod Durable
 pub mod Log
 pub mod Planning
 pub mod Reading
@@ -12,4 +13,5 @@ pub mod Shares
 pub mod Showing
 pub mod Sound
 pub mod Tidies
+pub mod Unread
 pub mod Windows

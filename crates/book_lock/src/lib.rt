@@ -3,7 +3,11 @@
 #![tactic(auto)]
 
 mod arrival;
+mod copied;
+mod crowding;
 mod desks;
+mod durable;
+mod journal;
 mod locked;
 mod log_entry;
 mod message;
@@ -12,9 +16,14 @@ mod shared;
 mod status;
 mod sums;
 mod tidying;
+mod unread;
 mod windows;
 
+pub use copied::Copied;
+pub use crowding::{Crowded, Load, owed_by_queue};
 pub use desks::{Desk, Station};
+pub use durable::{DurableStore, NotDurable, TakeDurableRefusal};
+pub use journal::{CopyRefusal, JournalReader};
 pub use locked::{Closed, Locked, Sharing, add_up};
 pub use log_entry::LogEntry;
 pub use message::{Found, Message};

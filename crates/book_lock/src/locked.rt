@@ -15,6 +15,7 @@ ghost use Rattle.book_lock.specs.inner.Reading.{IsLogged};
 ghost use Rattle.book_lock.specs.inner.Rises.{with_book};
 ghost use Rattle.book_lock.specs.Log.{Calls, Linearizes, Looks, Takes, IsCalled, IsPruneRefused, IsPruned};
 ghost use Rattle.book_lock.specs.Callers.{IsClosedBy};
+ghost use Rattle.book_lock.specs.Durable.{HasCommitted};
 ghost use Rattle.book_lock.specs.inner.Planning.{WasInForce};
 ghost use Rattle.book_lock.specs.inner.Shares.{with_settlement, with_take};
 ghost use Rattle.book_lock.specs.Shares.{seats_of};
@@ -22,6 +23,8 @@ ghost use Rattle.book_lock.specs.inner.Showing.{IsGauge, IsStatus};
 ghost use Rattle.book_lock.specs.inner.Tidies.{IsSettledRefusal};
 
 mod arrivals;
+mod copying;
+mod durable;
 
 use crate::desks::{
     Desk, Station, compare_desks, compare_stations, hand_in_desks, hand_in_stations, made_by,
@@ -30,6 +33,7 @@ use crate::desks::{
 use crate::log_entry::LogEntry;
 use crate::status::{Gauge, Status};
 use crate::sums::{arrivals, settlements, takes};
+use crate::unread::{Position, UnreadChanges, with_pruning};
 use book_core::{
     Book, BookRows, CancelRefusal, DeployRefusal, Front, Job, PruneRefusal, TakeRefusal, Ticket,
     three_sums,
@@ -47,9 +51,10 @@ use std::sync::Arc;
 /// How a book is shared: the log of all that is done to it, what it had at that moment, and how many desks and stations it
 /// is shared among.
 pub trait Sharing: Naming {
-    ghost use Rattle.std.specs.Prelude.{ℕ};
+    ghost use Rattle.std.specs.Prelude.{ℕ, List};
     ghost use Rattle.stat_count.specs.Statistics.{Statistics};
     ghost use Rattle.event_log.specs.History.{History};
+    ghost use Rattle.book_lock.specs.declared.log_entry.LogEntry.{LogEntry};
 
     /// Its history.
     ghost opening: { History };
@@ -68,6 +73,10 @@ pub trait Sharing: Naming {
 
     /// The number of its stations. Their seats have the numbers after those of the desks.
     ghost stations: { ℕ };
+
+    /// The changes since the book was shared, in order, that were committed to a store. Nothing is published as durable
+    /// without such a commit; where there is no journal this holds of no list.
+    ghost committed: { List LogEntry → Type 0 };
 }
 
 impl Sharing for Brand {
@@ -86,6 +95,8 @@ impl Sharing for Brand {
     ghost desks = { 0 };
 
     ghost stations = { 0 };
+
+    ghost committed = { λ _. ⊥ };
 }
 
 /// The book, with the log of all that was done to it since it was shared. What is done to it for no desk or station is
@@ -99,6 +110,12 @@ pub struct Locked<A: Sharing, S: BookRows> {
     log: GhostLog<A, LogEntry>,
     seat: Seat<A, LogEntry>,
     rung: u32,
+    /// All entries below this index are durable: they survive a crash.
+    durable: usize,
+    /// Whether no further entry becomes durable.
+    journal_failed: bool,
+    /// Copies of changes for the reader of a journal, once it has copied: what a pruning folds is kept here.
+    unread: Option<UnreadChanges>,
 }
 
 impl<A: Sharing, S: BookRows> Model for Locked<A, S> {
@@ -108,6 +125,7 @@ impl<A: Sharing, S: BookRows> Model for Locked<A, S> {
     ghost use Rattle.book_lock.specs.inner.Rises.{IsCountedIn, IsOpened, shared};
     ghost use Rattle.book_lock.specs.inner.Sound.{IsSoundBook};
     ghost use Rattle.book_lock.specs.inner.Counts.{IsManned};
+    ghost use Rattle.book_lock.specs.inner.Durable.{IsJournaled};
     ghost use Rattle.book_lock.specs.inner.Coding.{held_code};
 
     ghost Value = { SharedBook };
@@ -122,7 +140,8 @@ impl<A: Sharing, S: BookRows> Model for Locked<A, S> {
         × IsBookOf A.opening l.log.0 l.book
         × (l.log.1 ≡ A.desks + A.stations + 1)
         × IsSoundBook A.opening
-        × IsManned A.desks A.stations l.log.0 };
+        × IsManned A.desks A.stations l.log.0
+        × IsJournaled A.opening A.committed l.log.0 l.durable l.unread };
 }
 
 /// A book out of its lock.
@@ -209,6 +228,9 @@ impl<A: Sharing, S: BookRows> Locked<A, S> {
             log,
             seat,
             rung: 0,
+            durable: first,
+            journal_failed: false,
+            unread: None,
         }
     }
 
@@ -339,17 +361,31 @@ impl<A: Sharing, S: BookRows> Locked<A, S> {
     ///
     /// The book's, in its order. A refusal leaves the book as it was.
     pub fn cancel(&mut self, number: u32) -> Result<u32, CancelRefusal>
-        ensures does { Does (cancel number) self.old.book self.new.book result }
-        ensures memory { MemoryIsLast (cancel number) self.old.book result }
+        ensures does { Does (cancel number 4294967295) self.old.book self.new.book result }
+        ensures memory { MemoryIsLast (cancel number 4294967295) self.old.book result }
         ensures book { self.new ≡ with_book self.old self.new.book }
-        ensures call { IsCalled A.opening (cancel number) result }
+        ensures call { IsCalled A.opening (cancel number 4294967295) result }
+    {
+        self.cancel_among(number, u32::MAX)
+    }
+
+    /// Cancels a message where it waits at one of the destinations of a mask, as the book does: no share rises.
+    ///
+    /// # Errors
+    ///
+    /// The book's, in its order. A refusal leaves the book as it was.
+    pub fn cancel_among(&mut self, number: u32, among: u32) -> Result<u32, CancelRefusal>
+        ensures does { Does (cancel number among) self.old.book self.new.book result }
+        ensures memory { MemoryIsLast (cancel number among) self.old.book result }
+        ensures book { self.new ≡ with_book self.old self.new.book }
+        ensures call { IsCalled A.opening (cancel number among) result }
     {
         three_sums();
         self.book.rules();
         self.log.observe(&mut self.seat);
-        let mask = self.book.cancel(number)?;
+        let mask = self.book.cancel_among(number, among)?;
         self.log
-            .push::<(u32, u32), Brand>(&mut self.seat, &(number, mask));
+            .push::<(u32, u32, u32), Brand>(&mut self.seat, &(number, among, mask));
         Ok(mask)
     }
 
@@ -375,6 +411,7 @@ impl<A: Sharing, S: BookRows> Locked<A, S> {
     }
 
     /// Forgets messages and folds all entries, as the book does: no share rises, and the statistics keep what is forgotten.
+    /// The reader of a journal that has not copied all before is refused from then on.
     ///
     /// # Errors
     ///
@@ -389,8 +426,14 @@ impl<A: Sharing, S: BookRows> Locked<A, S> {
         ensures err { OnErr result (self.new ≡ self.old) }
     {
         self.book.rules();
+        let at = Position {
+            next: self.book.len(),
+            prunings: self.book.prunings(),
+        };
         self.book.prune(before)?;
         self.log.push::<u32, Brand>(&mut self.seat, &before);
+        let kept = self.unread.take();
+        self.unread = with_pruning(kept, at, before, self.book.prunings());
         Ok(())
     }
 
@@ -411,13 +454,14 @@ impl<A: Sharing, S: BookRows> Locked<A, S> {
     ///
     /// # Errors
     ///
-    /// `TooMany` where `PRUNINGS_MAX` prunings were made, and then `NoMemory` where a growth was refused. A refusal leaves
-    /// the book as it was.
+    /// `TooMany` where `PRUNINGS_MAX` prunings were made, and then `NoMemory` where a growth was refused, or the copies for a
+    /// journal of what it has not copied. A refusal leaves the book as it was.
     pub fn prune_settled(&mut self, keep: u32) -> Result<u32, PruneRefusal>
         ensures before { IfOk result (λ before. before ≡ settled_before keep self.old.book) }
         ensures folded { IfOk result (λ before. self.new ≡ with_book self.old (pruned before self.old.book)) }
         ensures kept { IfOk result (λ before. before ≤ message_count self.old.book - keep) }
         ensures settled { IfOk result (λ before. (n : ℕ) → n < before → is_live_message self.old.book n ≡ false) }
+        ensures allowed { IfOk result (λ before. prune_answer self.old.book before ≡ None) }
         ensures left { OnOk result (self.old.book.opening.prunings < 1000) }
         ensures refused { IfErr result (IsSettledRefusal self.old) }
         ensures call { IfOk result (λ before. IsPruned A.opening before (Ok tt)) }
@@ -425,7 +469,7 @@ impl<A: Sharing, S: BookRows> Locked<A, S> {
         ensures err { OnErr result (self.new ≡ self.old) }
     {
         let before = self.settled_before(keep);
-        self.prune(before)?;
+        self.prune_keeping(before)?;
         Ok(before)
     }
 
@@ -562,6 +606,9 @@ impl<A: Sharing, S: BookRows> Locked<A, S> {
             log,
             seat,
             rung,
+            durable,
+            journal_failed,
+            unread,
         } = self;
         let mut roll = Roll::of(log);
         compare_desks(&mut roll, desks);
@@ -574,6 +621,9 @@ impl<A: Sharing, S: BookRows> Locked<A, S> {
             log: roll.into_log(),
             seat,
             rung,
+            durable,
+            journal_failed,
+            unread,
         }
     }
 
@@ -584,6 +634,8 @@ impl<A: Sharing, S: BookRows> Locked<A, S> {
         ensures same { result ≡ self }
         ensures opening { (result.opening ≡ A.counts) × (result.first ≡ A.first) }
         ensures one_history { Linearizes A.opening (A.desks + A.stations + 1)
+            (seats_of desks.items stations.items) result.book }
+        ensures committed { HasCommitted A.opening A.committed (A.desks + A.stations + 1)
             (seats_of desks.items stations.items) result.book }
         ensures closed { AddsUp self desks.items stations.items →
             IsClosedBy A.opening (A.desks + A.stations + 1) desks.items stations.items result.book }

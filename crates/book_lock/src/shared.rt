@@ -10,16 +10,21 @@ ghost use Rattle.book_lock.specs.declared.message.Found.TheVariants as Found;
 ghost use Rattle.event_log.specs.Counting.{counted};
 ghost use Rattle.event_log.specs.Event.{cancel, deploy, settle};
 ghost use Rattle.book_lock.specs.inner.Closing.{HandsBack};
+ghost use Rattle.book_lock.specs.Durable.{HasCommitted};
 ghost use Rattle.book_lock.specs.Rises.{AddsUp};
-ghost use Rattle.book_lock.specs.Log.{Arrives, Calls, Linearizes, Looks, Takes, IsCalled, IsPruneRefused, IsPruned, IsTidiedInLog};
+ghost use Rattle.book_lock.specs.Log.{Arrives, Calls, Linearizes, Looks, Takes, IsCalled, IsPruneRefused, IsPruned};
 ghost use Rattle.book_lock.specs.Callers.{IsClosedBy};
 ghost use Rattle.book_lock.specs.inner.Arriving.{ArrivesAtDesk};
 ghost use Rattle.book_lock.specs.inner.Log.{new_seats};
 ghost use Rattle.book_lock.specs.inner.Planning.{WasInForce};
-ghost use Rattle.book_lock.specs.inner.Reading.{IsFound, IsGaugeOf, IsReadOf, IsStatusOf, first_live_at, found_among, waiting_among};
+ghost use Rattle.book_lock.specs.inner.Reading.{IsFound, IsGaugeOf, IsReadOf, IsStatusOf, failed_among, first_live_at, found_among, waiting_among};
 ghost use Rattle.book_lock.specs.inner.Shares.{no_calls, with_settlement, with_take};
 ghost use Rattle.book_lock.specs.Shares.{seats_of};
+ghost use Rattle.book_lock.specs.inner.Tidies.{ArrivesAtTidied, IsHeldBackAt};
 
+mod journal;
+
+use crate::crowding::Crowded;
 use crate::desks::{Desk, Station, open_desks, open_stations};
 use crate::locked::{Closed, Locked, Sharing, add_up};
 use crate::log_entry::LogEntry;
@@ -27,8 +32,8 @@ use crate::message::{Found, Message};
 use crate::status::{Gauge, Status};
 use crate::tidying::Tidied;
 use book_core::{
-    Book, BookRows, CancelRefusal, DeployRefusal, Front, Job, NotBooked, PruneRefusal, Receipt,
-    TakeRefusal, Ticket, Told,
+    Book, BookRows, CancelRefusal, DeployRefusal, Failure, Front, Job, NotBooked, PruneRefusal,
+    Receipt, TakeRefusal, Ticket, Told,
 };
 use dest_queue::{Outcome, SettleRefusal, SlotState};
 use ghost_log::{BlankLog, GhostLog};
@@ -52,6 +57,8 @@ pub struct Shared<A: Sharing, S: BookRows> {
     locked: Mutex<Locked<A, S>>,
     bells: Vec<Condvar>,
     finished: AtomicBool,
+    /// Signalled when further entries become durable, and when the journal fails.
+    became_durable: Condvar,
 }
 
 /// A book that was shared just now, with those among whom it is shared.
@@ -85,10 +92,15 @@ fn waits_at(told: Told, verdict: &Verdict) -> u32 {
 }
 
 /// The destinations at which an arrival begins to wait, as a mask; none where it is not booked.
-fn waits_where(tidied: &Tidied, verdict: &Verdict) -> u32 {
-    match &tidied.receipt {
-        Ok(receipt) => waits_at(receipt.told, verdict),
-        Err(_) => 0,
+fn waits_where(tidied: &Result<Tidied, Crowded>, verdict: &Verdict) -> u32 {
+    match tidied {
+        Ok(
+            Tidied {
+                receipt: Ok(receipt),
+                ..
+            },
+        ) => waits_at(receipt.told, verdict),
+        _ => 0,
     }
 }
 
@@ -184,6 +196,7 @@ impl<A: Sharing, S: BookRows> Shared<A, S> {
             locked: Mutex::new(locked),
             bells,
             finished: AtomicBool::new(false),
+            became_durable: Condvar::new(),
         };
         Ok(Opened {
             shared,
@@ -327,10 +340,28 @@ impl<A: Sharing, S: BookRows> Shared<A, S> {
     /// The book's.
     pub fn cancel<H: Wait>(&self, rt: &H, number: u32) -> Result<u32, CancelRefusal>
         ensures somewhere { IfOk result (λ mask. 0 < mask) }
-        ensures call { IsCalled A.opening (cancel number) result }
+        ensures call { IsCalled A.opening (cancel number 4294967295) result }
+    {
+        self.cancel_among(rt, number, u32::MAX)
+    }
+
+    /// Cancels a message where it waits at one of the destinations of the mask `among`, which has bit d for destination d,
+    /// and answers as a mask where it did.
+    ///
+    /// # Errors
+    ///
+    /// The book's.
+    pub fn cancel_among<H: Wait>(
+        &self,
+        rt: &H,
+        number: u32,
+        among: u32,
+    ) -> Result<u32, CancelRefusal>
+        ensures somewhere { IfOk result (λ mask. 0 < mask) }
+        ensures call { IsCalled A.opening (cancel number among) result }
     {
         let mut locked = self.locked.lock(rt);
-        let mask = locked.cancel(number)?;
+        let mask = locked.cancel_among(number, among)?;
         self.ring(locked, mask);
         Ok(mask)
     }
@@ -375,12 +406,14 @@ impl<A: Sharing, S: BookRows> Shared<A, S> {
         self.locked.lock(rt).prune_settled(keep)
     }
 
-    /// Books an arrival as `arrive` does, and counts it for the desk. A book that is tight is pruned before that, under the
-    /// same lock, as `prune_settled` does, and once more with `keep` 0 where memory was refused for it. The workers of its
-    /// destinations are woken.
+    /// Books an arrival as `arrive` does, and counts it for the desk, unless its channel has a route to a crowded destination. A
+    /// book that is tight is pruned before that, under the same lock, as `prune_settled` does, and so is one that has no room
+    /// for the arrival, where at least a sixty-fourth of its bound is entries; where memory is refused for that, once more with
+    /// `keep` 0. The workers of its destinations are woken.
     ///
     /// # Errors
     ///
+    /// `Crowded` of the first crowded destination that the channel has a route to: nothing is booked, and the desk is as it was.
     /// The receipt's are the book's. A refusal leaves the desk's count as it was, and its seat has seen the moment of it.
     pub fn arrive_tidy<H: Wait>(
         &self,
@@ -389,29 +422,26 @@ impl<A: Sharing, S: BookRows> Shared<A, S> {
         conn: u32,
         judged: &Judged,
         keep: u32,
-    ) -> Tidied
+    ) -> Result<Tidied, Crowded>
         requires { IsTrue (is_bookable judged.now.raw) }
-        ensures conn { IfOk result.receipt (λ receipt. receipt.conn ≡ conn) }
-        ensures channel { IfOk result.receipt (λ receipt. receipt.channel ≡ judged.now.channel) }
-        ensures raw { IfOk result.receipt (λ receipt. receipt.raw ≡ judged.now.raw) }
-        ensures tidying { IsTidiedInLog A.opening result.tidying }
-        ensures call { Arrives A.opening conn judged.now
-            desk.old.seat desk.new.seat result.receipt }
-        ensures counted { OnOk result.receipt (desk.new.made ≡ desk.old.made + 1) }
-        ensures refused { OnErr result.receipt (desk.new.made ≡ desk.old.made) }
+        ensures arrives { IfOk result
+            (ArrivesAtTidied A.opening conn judged.now desk.old desk.new) }
+        ensures crowded { IfErr result (IsHeldBackAt A.opening judged.now.channel) }
+        ensures same_desk { OnErr result (desk.new ≡ desk.old) }
     {
         let mut locked = self.locked.lock(rt);
         let tidied = locked.arrive_tidy(desk, conn, judged, keep);
+        locked.book_is_logged();
         self.ring(locked, waits_where(&tidied, judged.verdict()));
         tidied
     }
 
-    /// Books an arrival that was judged by the plan that the desk was given, as `arrive_judged` does, after a pruning of
-    /// a tight book under the same lock, as `arrive_tidy` makes it. The workers of its destinations are woken.
+    /// Books an arrival that was judged by the plan that the desk was given, as `arrive_judged` does, where `arrive_tidy` would
+    /// book it, and after what that does. The workers of its destinations are woken.
     ///
     /// # Errors
     ///
-    /// The receipt's are the book's. A refusal leaves the desk's count as it was, and its seat has seen the moment of it.
+    /// Those of `arrive_tidy`.
     pub fn arrive_tidy_judged<H: Wait>(
         &self,
         rt: &H,
@@ -419,15 +449,18 @@ impl<A: Sharing, S: BookRows> Shared<A, S> {
         conn: u32,
         judged: &Judged,
         keep: u32,
-    ) -> Tidied
+    ) -> Result<Tidied, Crowded>
         requires bookable { IsTrue (is_bookable judged.now.raw) }
         requires by_plan { WasInForce A.opening
             desk.old.seat.seen desk.old.deployed judged.now.plan }
-        ensures tidying { IsTidiedInLog A.opening result.tidying }
-        ensures at_desk { ArrivesAtDesk A.opening conn judged.now desk.old desk.new result.receipt }
+        ensures arrives { IfOk result
+            (ArrivesAtTidied A.opening conn judged.now desk.old desk.new) }
+        ensures crowded { IfErr result (IsHeldBackAt A.opening judged.now.channel) }
+        ensures same_desk { OnErr result (desk.new ≡ desk.old) }
     {
         let mut locked = self.locked.lock(rt);
         let tidied = locked.arrive_tidy_judged(desk, conn, judged, keep);
+        locked.book_is_logged();
         self.ring(locked, waits_where(&tidied, judged.verdict()));
         tidied
     }
@@ -533,6 +566,28 @@ impl<A: Sharing, S: BookRows> Shared<A, S> {
         book.queued_among(d, from, end_of(book, from, most))
     }
 
+    /// The messages that failed at destination `d`, of the `most` numbers from `from` on, in order, with why. It looks at no
+    /// other message.
+    ///
+    /// # Errors
+    ///
+    /// Where memory for the answer is refused.
+    pub fn failed<H: Wait>(
+        &self,
+        rt: &H,
+        d: u32,
+        from: u32,
+        most: u32,
+    ) -> Result<Vec<Failure>, AllocError>
+        ensures { IfOk result (λ found. IsReadOf A.opening
+            (λ book. found.items ≡ failed_among book d from most)) }
+    {
+        let locked = self.locked.lock(rt);
+        locked.book_is_logged();
+        let book = locked.book();
+        book.failed_among(d, from, end_of(book, from, most))
+    }
+
     /// The numbers of the remembered messages with this control id (MSH-10, raw), of the `most` numbers from `from` on, in
     /// order. It looks at no other message.
     ///
@@ -629,6 +684,9 @@ impl<A: Sharing, S: BookRows> Shared<A, S> {
         ensures one_history { IfOk result (λ closed.
             Linearizes A.opening (A.desks + A.stations + 1)
             (seats_of desks.items stations.items) closed.book) }
+        ensures committed { IfOk result (λ closed.
+            HasCommitted A.opening A.committed (A.desks + A.stations + 1)
+            (seats_of desks.items stations.items) closed.book) }
         ensures closed { IfOk result (λ closed.
             IsClosedBy A.opening (A.desks + A.stations + 1) desks.items stations.items closed.book) }
         ensures back { IfErr result (HandsBack self desks.items stations.items) }
@@ -637,6 +695,7 @@ impl<A: Sharing, S: BookRows> Shared<A, S> {
             locked,
             bells,
             finished,
+            became_durable,
         } = self;
         let locked = locked.into_inner();
         if add_up(&locked, &desks, &stations) {
@@ -648,6 +707,7 @@ impl<A: Sharing, S: BookRows> Shared<A, S> {
                 locked: Mutex::new(locked),
                 bells,
                 finished,
+                became_durable,
             },
             desks,
             stations,

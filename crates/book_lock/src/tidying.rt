@@ -1,6 +1,6 @@
 //! What an arrival does about a tight book.
 
-ghost use Rattle.std.specs.Prelude.{◌≡◌};
+ghost use Rattle.std.specs.Prelude.{◌≡◌, ◌↔◌, IsTrue};
 ghost use Rattle.book_lock.specs.inner.Tidies.{tidying_of};
 
 use book_core::{NotBooked, PruneRefusal, Receipt};
@@ -17,6 +17,13 @@ pub enum Tidying {
 }
 
 impl Tidying {
+    /// Whether nothing was done.
+    pub fn is_nothing(self) -> bool
+        ensures { IsTrue result ↔ (self ≡ Tidying.NotTight) }
+    {
+        matches!(self, Tidying::NotTight)
+    }
+
     /// The outcome of a pruning.
     pub fn of(answer: Result<u32, PruneRefusal>) -> Tidying
         ensures { result ≡ tidying_of answer }

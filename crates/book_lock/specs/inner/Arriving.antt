@@ -7,7 +7,7 @@ use Rattle.book_core.specs.Receiving.{IsReceipt, arrival_reply}
 use Rattle.book_core.specs.declared.receipt.NotBooked.{NotBooked}
 use Rattle.book_core.specs.declared.receipt.NotBooked.TheVariants as not_booked
 use Rattle.book_core.specs.declared.receipt.Receipt.{Receipt}
-use Rattle.book_lock.specs.Log.{Arrives}
+use Rattle.book_lock.specs.Log.{Arrives, SeatView, book_at}
 use Rattle.book_lock.specs.Rises.{SharedBook}
 use Rattle.book_lock.specs.Shares.{DeskView}
 use Rattle.book_lock.specs.inner.Rises.{with_book}
@@ -21,6 +21,12 @@ pub record ArrivesAtBook (conn : ℕ) (judged : Judged) (old new : SharedBook)
   pub receipt : IfOk result (IsReceipt (next_place old.book) conn judged.channel judged.raw)
   pub plan : IsErrOf result not_booked.PlanChanged ↔ judged.plan ≢ plan_in_force old.book
   pub same_plan : IsErrOf result not_booked.Full → judged.plan ≡ plan_in_force old.book
+
+-- an arrival, as a seat sees it: the call is made at the moment of this book
+pub record ArrivesHere (opening : History) (conn : ℕ) (judged : Judged) (book : History) (old new : SeatView)
+    (result : Result Receipt NotBooked) : Type 0 where
+  pub arrives : Arrives opening conn judged old new result
+  pub moment : book_at opening old arrives.call.others ≡ book
 
 -- an arrival at a desk: the receipt says what arrived, and the desk counts it
 pub record ArrivesAtDesk (opening : History) (connection : ℕ) (judged : Judged) (old new : DeskView)

@@ -7,7 +7,7 @@ use Rattle.event_log.specs.declared.entry.Ticket.{Ticket}
 use Rattle.book_core.specs.declared.receipt.Receipt.{Receipt}
 use Rattle.ghost_log.specs.Seats.{entries_of}
 use Rattle.book_lock.specs.declared.log_entry.LogEntry.{LogEntry}
-use Rattle.book_lock.specs.declared.log_entry.LogEntry.TheVariants.{Booked, Pruned}
+use Rattle.book_lock.specs.declared.log_entry.LogEntry.TheVariants.{Booked, Pruned, Durable}
 use Rattle.book_lock.specs.Log.{Log}
 
 -- ---- entries
@@ -29,27 +29,30 @@ abbrev pub is_arrival : LogEntry → Bool
 is_arrival (Booked (Arrival conn channel raw told)) = true
 is_arrival (Booked (Take ticket now)) = false
 is_arrival (Booked (Settle outcome ticket now state)) = false
-is_arrival (Booked (Cancel number mask)) = false
+is_arrival (Booked (Cancel number among mask)) = false
 is_arrival (Booked (Deploy plan)) = false
 is_arrival (Pruned before) = false
+is_arrival (Durable below) = false
 
 -- whether it is a take
 abbrev pub is_take : LogEntry → Bool
 is_take (Booked (Arrival conn channel raw told)) = false
 is_take (Booked (Take ticket now)) = true
 is_take (Booked (Settle outcome ticket now state)) = false
-is_take (Booked (Cancel number mask)) = false
+is_take (Booked (Cancel number among mask)) = false
 is_take (Booked (Deploy plan)) = false
 is_take (Pruned before) = false
+is_take (Durable below) = false
 
 -- whether it is a settlement
 abbrev pub is_settlement : LogEntry → Bool
 is_settlement (Booked (Arrival conn channel raw told)) = false
 is_settlement (Booked (Take ticket now)) = false
 is_settlement (Booked (Settle outcome ticket now state)) = true
-is_settlement (Booked (Cancel number mask)) = false
+is_settlement (Booked (Cancel number among mask)) = false
 is_settlement (Booked (Deploy plan)) = false
 is_settlement (Pruned before) = false
+is_settlement (Durable below) = false
 
 -- ---- counts
 

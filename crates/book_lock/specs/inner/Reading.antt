@@ -4,8 +4,9 @@ use Rattle.std.specs.List.{filter_map, range_with_len}
 use Rattle.std.specs.Option.{option_map}
 use Rattle.event_log.specs.History.{History, message_at, message_count, plan_in_force, slot}
 use Rattle.plan_text.specs.Entries.{PlanEntry}
+use Rattle.book_core.specs.declared.questions.Failure.{Failure}
 use Rattle.book_core.specs.declared.questions.Front.{Front}
-use Rattle.book_core.specs.inner.Questions.{CameBy, first_live, has_control_id, live_at, queued_as}
+use Rattle.book_core.specs.inner.Questions.{CameBy, failed_as, first_live, has_control_id, live_at, queued_as}
 use Rattle.book_lock.specs.Log.{IsBookOf, Log}
 use Rattle.book_lock.specs.declared.message.Found.{Found}
 use Rattle.book_lock.specs.declared.message.Found.TheVariants.{ToCome, Forgotten, Kept}
@@ -50,6 +51,10 @@ window h from most = range_with_len from (min (message_count h) (from + most) - 
 -- the messages among these that are still to be delivered to destination d, with their states there
 abbrev pub waiting_among : History → ℕ → ℕ → ℕ → List Front
 waiting_among h d from most = filter_map (queued_as h d) (window h from most)
+
+-- the messages among these that failed at destination d, with why
+abbrev pub failed_among : History → ℕ → ℕ → ℕ → List Failure
+failed_among h d from most = filter_map (failed_as h d) (window h from most)
 
 -- the remembered messages among these whose control id (MSH-10, raw) is this one
 abbrev pub found_among : History → List ℕ → ℕ → ℕ → List ℕ

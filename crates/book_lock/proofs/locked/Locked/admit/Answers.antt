@@ -8,4 +8,4 @@ invariant_of-self g c =
     let h : SharedBook = record { book = c.self.inside.book; opening = c.self.inside.opening; first = c.self.inside.first; admitted = c.self.inside.admitted } in
     let n = admitting h _ g.A.Sharing.counts g.A.Sharing.first g.A.Sharing.channels
     (count_in is_arrival c.self.inside.log.0) (count_in is_take c.self.inside.log.0) (count_in is_settlement c.self.inside.log.0) c.self.invariant.0 c.self.invariant.1 in
-    (n.0, n.1, c.self.invariant.2, c.self.invariant.3, c.self.invariant.4, c.self.invariant.5)
+    (n.0, n.1, c.self.invariant.2, c.self.invariant.3, c.self.invariant.4, c.self.invariant.5, c.self.invariant.6)

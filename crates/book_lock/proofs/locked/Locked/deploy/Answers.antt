@@ -13,6 +13,7 @@ use Rattle.book_lock.specs.declared.log_entry.LogEntry.TheVariants.{Booked}
 use Rattle.book_lock.specs.Log.{Log}
 use Rattle.book_lock.proofs.Logging.{book_called, called_own, own_none}
 use Rattle.book_lock.proofs.HandedIn.{counted_next, manned_none}
+use Rattle.book_lock.proofs.Durability.{durable_more}
 use Rattle.book_lock.proofs.locked.Locked.deploy.Goals as goal
 
 pub invariant_of-self-2 : goal.invariant_of-self-2
@@ -26,7 +27,7 @@ invariant_of-self-2 g c =
     (ap (λ (l : Log × ℕ). l.0) c.push.ensures.log ∙ ((λ i. c.observe.new.self.0 ++ (c.observe.new.seat.0, Booked (Deploy ((c.plan.ensures ∙ (ap plan_in_force c.in_ok-deploy.ensures.does.booked ∙ plan-followed_by c.self.inside.book (Deploy (arc_value c.args.plan)))) i))) ∷ []) ∙ ap (λ (l : Log × ℕ). l.0 ++ (c.observe.new.seat.0, Booked (Deploy plan)) ∷ []) c.observe.ensures.same)) in
     let n = counted_next h (Deploy plan) c.deploy.new.self g.A.Sharing.counts g.A.Sharing.first g.A.Sharing.channels c.observe.new.seat.0 c.self.inside.log.0 c.push.new.self.0
     c.in_ok-deploy.ensures.does.booked same c.self.invariant.0 c.self.invariant.1 rise added in
-    (n.0, n.1, book_called g.A.Sharing.opening c.self.inside.log.0 c.push.new.self.0 c.observe.new.seat.0 (deploy plan) c.self.inside.book c.deploy.new.self (Ok tt) c.self.invariant.2 c.in_ok-deploy.ensures.does added, ap (λ (l : Log × ℕ). l.1) c.push.ensures.log ∙ (ap (λ (l : Log × ℕ). l.1) c.observe.ensures.same ∙ c.self.invariant.3), c.self.invariant.4, manned_none g.A.Sharing.desks g.A.Sharing.stations c.self.inside.log.0 c.push.new.self.0 (c.observe.new.seat.0, Booked (Deploy plan)) c.self.invariant.5 added (refl, refl, refl))
+    (n.0, n.1, book_called g.A.Sharing.opening c.self.inside.log.0 c.push.new.self.0 c.observe.new.seat.0 (deploy plan) c.self.inside.book c.deploy.new.self (Ok tt) c.self.invariant.2 c.in_ok-deploy.ensures.does added, ap (λ (l : Log × ℕ). l.1) c.push.ensures.log ∙ (ap (λ (l : Log × ℕ). l.1) c.observe.ensures.same ∙ c.self.invariant.3), c.self.invariant.4, manned_none g.A.Sharing.desks g.A.Sharing.stations c.self.inside.log.0 c.push.new.self.0 (c.observe.new.seat.0, Booked (Deploy plan)) c.self.invariant.5 added (refl, refl, refl), durable_more g.A.Sharing.opening g.A.Sharing.committed c.self.inside.log.0 c.push.new.self.0 (c.observe.new.seat.0, Booked (Deploy plan)) c.self.inside.durable c.self.inside.unread c.self.invariant.6 refl added)
 
 pub returns-clause-channels : goal.returns-clause-channels
 returns-clause-channels g c = channels-same c.self.inside.book (arc_value c.args.plan) (deployable c.self.inside.book (arc_value c.args.plan) (does-follow (deploy (arc_value c.args.plan)) c.self.inside.book c.deploy.new.self tt c.in_ok-deploy.ensures.does)) ∙ c.self.invariant.0.channels_are

@@ -12,7 +12,7 @@ invariant_of-self g c =
     let n = unchanged h c.first_live.new.self g.A.Sharing.counts g.A.Sharing.first g.A.Sharing.channels
     (count_in is_arrival c.self.inside.log.0) (count_in is_take c.self.inside.log.0) (count_in is_settlement c.self.inside.log.0)
     c.first_live.ensures.unchanged c.self.invariant.0 c.self.invariant.1 in
-    (n.0, n.1, book_same g.A.Sharing.opening c.self.inside.log.0 c.self.inside.log.0 c.self.inside.book c.first_live.new.self c.self.invariant.2 refl c.first_live.ensures.unchanged, c.self.invariant.3, c.self.invariant.4, c.self.invariant.5)
+    (n.0, n.1, book_same g.A.Sharing.opening c.self.inside.log.0 c.self.inside.log.0 c.self.inside.book c.first_live.new.self c.self.invariant.2 refl c.first_live.ensures.unchanged, c.self.invariant.3, c.self.invariant.4, c.self.invariant.5, c.self.invariant.6)
 
 pub returns-clause-first : goal.returns-clause-first
 returns-clause-first g c = c.first_live.ensures.first ∙ ap (λ (h : SharedBook). first_live h.book) c.self.view_is

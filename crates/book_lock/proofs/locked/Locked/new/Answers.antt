@@ -6,6 +6,7 @@ use Rattle.book_lock.proofs.Logging.{book_opened}
 use Rattle.book_lock.proofs.Following.{opened_now}
 use Rattle.book_lock.proofs.HandedIn.{manned_at_first}
 use Rattle.book_lock.specs.inner.Counts.{count_in, is_arrival, is_settlement, is_take}
+use Rattle.book_lock.proofs.Durability.{durable_at_first}
 use Rattle.book_lock.proofs.locked.Locked.new.Goals as goal
 
 pub invariant_of-result : goal.invariant_of-result
@@ -21,6 +22,7 @@ invariant_of-result g c =
       ap (λ (l : Log × ℕ). l.1) c.issue-seat.ensures.log ∙ ap (λ n. n + 1) c.requires.log.1,
       subst (λ (h : History). IsSoundBook h) c.requires.opening (record { sound = c.rules.ensures.sound; few = c.rules.ensures.few }),
       manned_at_first g.A.Sharing.desks g.A.Sharing.stations c.issue-seat.new.self.0 none,
+      durable_at_first g.A.Sharing.opening c.args.book g.A.Sharing.committed c.issue-seat.new.self.0 c.len-first.result c.requires.opening c.len-first.ensures none,
     )
 
 pub returns : goal.returns

@@ -9,6 +9,7 @@ use Rattle.book_lock.specs.declared.log_entry.LogEntry.TheVariants.{Booked}
 use Rattle.book_lock.proofs.Logging.{book_called, called, no_memory, pushed}
 use Rattle.book_lock.specs.inner.Counts.{count_in, is_arrival, is_settlement, is_take}
 use Rattle.book_lock.proofs.HandedIn.{counted_next, manned_more}
+use Rattle.book_lock.proofs.Durability.{durable_more}
 use Rattle.book_lock.proofs.locked.Locked.settle.Goals as goal
 
 pub add_settlement-requires : goal.add_settlement-requires
@@ -29,7 +30,7 @@ invariant_of-self-2 g c =
     c.observe.ensures.seat refl (ap (λ (l : Log × ℕ). l.0) c.observe.ensures.log) (ap (λ (l : Log × ℕ). l.0) c.add_settlement.ensures.log) c.add_settlement.ensures.seat in
     let n = counted_next h (Settle c.args.outcome ticket c.args.now state) c.settle-settled.new.self g.A.Sharing.counts g.A.Sharing.first g.A.Sharing.channels c.args.station.now.seat.number c.self.inside.log.0 c.add_settlement.new.log.0
     settled.does.booked (still h (Settle c.args.outcome ticket c.args.now state) refl) c.self.invariant.0 c.self.invariant.1 rise p.0 in
-    (n.0, n.1, book_called g.A.Sharing.opening c.self.inside.log.0 c.add_settlement.new.log.0 c.args.station.now.seat.number (settle ticket c.args.outcome c.args.now) c.self.inside.book c.settle-settled.new.self (Ok state) c.self.invariant.2 settled.does p.0, ap (λ (l : Log × ℕ). l.1) c.add_settlement.ensures.log ∙ (ap (λ (l : Log × ℕ). l.1) c.observe.ensures.log ∙ c.self.invariant.3), c.self.invariant.4, manned_more g.A.Sharing.desks g.A.Sharing.stations c.self.inside.log.0 c.add_settlement.new.log.0 (c.args.station.now.seat.number, Booked (Settle c.args.outcome ticket c.args.now state)) c.self.invariant.5 p.0 (λ e. absurd cc) (λ e. absurd cc) (λ _. c.observe.ensures.number))
+    (n.0, n.1, book_called g.A.Sharing.opening c.self.inside.log.0 c.add_settlement.new.log.0 c.args.station.now.seat.number (settle ticket c.args.outcome c.args.now) c.self.inside.book c.settle-settled.new.self (Ok state) c.self.invariant.2 settled.does p.0, ap (λ (l : Log × ℕ). l.1) c.add_settlement.ensures.log ∙ (ap (λ (l : Log × ℕ). l.1) c.observe.ensures.log ∙ c.self.invariant.3), c.self.invariant.4, manned_more g.A.Sharing.desks g.A.Sharing.stations c.self.inside.log.0 c.add_settlement.new.log.0 (c.args.station.now.seat.number, Booked (Settle c.args.outcome ticket c.args.now state)) c.self.invariant.5 p.0 (λ e. absurd cc) (λ e. absurd cc) (λ _. c.observe.ensures.number), durable_more g.A.Sharing.opening g.A.Sharing.committed c.self.inside.log.0 c.add_settlement.new.log.0 (c.args.station.now.seat.number, Booked (Settle c.args.outcome ticket c.args.now state)) c.self.inside.durable c.self.inside.unread c.self.invariant.6 refl p.0)
 
 pub returns-clause-call : goal.returns-clause-call
 returns-clause-call g c =

@@ -10,6 +10,7 @@ use Rattle.book_lock.specs.declared.log_entry.LogEntry.TheVariants.{Booked}
 use Rattle.book_lock.proofs.Logging.{book_called, called_take, pushed}
 use Rattle.book_lock.specs.inner.Counts.{count_in, is_arrival, is_settlement, is_take}
 use Rattle.book_lock.proofs.HandedIn.{counted_next, manned_more}
+use Rattle.book_lock.proofs.Durability.{durable_more}
 use Rattle.book_lock.proofs.locked.Locked.take.Goals as goal
 
 pub add_take-requires : goal.add_take-requires
@@ -28,7 +29,7 @@ invariant_of-self-2 g c =
     c.observe.ensures.seat refl (ap (λ (l : Log × ℕ). l.0) c.observe.ensures.log) (ap (λ (l : Log × ℕ). l.0) c.add_take.ensures.log) c.add_take.ensures.seat in
     let n = counted_next h (Take c.in-Ok.job.ticket c.args.now) c.take-taken.new.self g.A.Sharing.counts g.A.Sharing.first g.A.Sharing.channels c.args.station.now.seat.number c.self.inside.log.0 c.add_take.new.log.0
     taken.does.booked (still h (Take c.in-Ok.job.ticket c.args.now) refl) c.self.invariant.0 c.self.invariant.1 rise p.0 in
-    (n.0, n.1, book_called g.A.Sharing.opening c.self.inside.log.0 c.add_take.new.log.0 c.args.station.now.seat.number (take c.args.d c.args.now) c.self.inside.book c.take-taken.new.self (Ok c.in-Ok.job.ticket) c.self.invariant.2 taken.does p.0, ap (λ (l : Log × ℕ). l.1) c.add_take.ensures.log ∙ (ap (λ (l : Log × ℕ). l.1) c.observe.ensures.log ∙ c.self.invariant.3), c.self.invariant.4, manned_more g.A.Sharing.desks g.A.Sharing.stations c.self.inside.log.0 c.add_take.new.log.0 (c.args.station.now.seat.number, Booked (Take c.in-Ok.job.ticket c.args.now)) c.self.invariant.5 p.0 (λ e. absurd cc) (λ _. c.observe.ensures.number) (λ e. absurd cc))
+    (n.0, n.1, book_called g.A.Sharing.opening c.self.inside.log.0 c.add_take.new.log.0 c.args.station.now.seat.number (take c.args.d c.args.now) c.self.inside.book c.take-taken.new.self (Ok c.in-Ok.job.ticket) c.self.invariant.2 taken.does p.0, ap (λ (l : Log × ℕ). l.1) c.add_take.ensures.log ∙ (ap (λ (l : Log × ℕ). l.1) c.observe.ensures.log ∙ c.self.invariant.3), c.self.invariant.4, manned_more g.A.Sharing.desks g.A.Sharing.stations c.self.inside.log.0 c.add_take.new.log.0 (c.args.station.now.seat.number, Booked (Take c.in-Ok.job.ticket c.args.now)) c.self.invariant.5 p.0 (λ e. absurd cc) (λ _. c.observe.ensures.number) (λ e. absurd cc), durable_more g.A.Sharing.opening g.A.Sharing.committed c.self.inside.log.0 c.add_take.new.log.0 (c.args.station.now.seat.number, Booked (Take c.in-Ok.job.ticket c.args.now)) c.self.inside.durable c.self.inside.unread c.self.invariant.6 refl p.0)
 
 pub returns-clause-control_id : goal.returns-clause-control_id
 returns-clause-control_id g c =
