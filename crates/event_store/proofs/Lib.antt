@@ -1,0 +1,3 @@
+pub mod RecordLemmas
+pub mod ReadLemmas
+pub mod FailureLemmas
