@@ -1,0 +1,4 @@
+pub mod Steps
+pub mod Arrivals
+pub mod Runs
+pub mod Reasons

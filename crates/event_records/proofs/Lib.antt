@@ -1,0 +1,4 @@
+pub mod Fields
+pub mod Loop
+pub mod Back
+pub mod Only
