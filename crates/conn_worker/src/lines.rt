@@ -14,38 +14,24 @@ use memchr::memchr;
 use mllp_frame::Break;
 use plan_text::{Channel, Plan};
 use std::alloc::{AllocError, Global};
-use std::fmt;
 use stopped_step::{StoppedStep, stop_of};
 
-/// A step that can't be applied, as a line shows it. Steps are counted from 1.
-#[derive(Clone, Copy)]
-struct ShownStop<'p> {
-    plan: &'p Plan,
-    channel: &'p Channel,
-    stop: StoppedStep,
-}
-
-impl ShownStop<'_> {
-    /// The name of the destination that the route leads to; none for a step of the channel itself.
-    fn route_name(&self) -> Option<&str> {
-        let index = self.stop.route?;
-        let route = self.channel.routes().get(index)?;
-        let destination = self.plan.destination(route.to())?;
-        Some(destination.name())
+/// Why a step can't be applied, in words.
+fn reason(cause: StopCause) -> &'static str {
+    match cause {
+        StopCause::NoSuchSegment => "the message has no such segment",
+        StopCause::NotInTable => "the value is not in the table, and there is no default",
     }
 }
 
-impl fmt::Display for ShownStop<'_> {
-    fn fmt<W: fmt::Write>(&self, f: &mut fmt::Formatter<W>) -> fmt::Result {
-        let step = self.stop.step.saturating_add(1);
-        let why = match self.stop.cause {
-            StopCause::NoSuchSegment => "the message has no such segment",
-            StopCause::NotInTable => "the value is not in the table, and there is no default",
-        };
-        match self.route_name() {
-            Some(name) => write!(f, "step {step} of the route to {name}: {why}"),
-            None => write!(f, "step {step} of the channel: {why}"),
-        }
+/// The name of the destination to which a route of a channel leads, by the route's index; empty where there is none.
+fn route_name<'p>(plan: &'p Plan, channel: &Channel, index: usize) -> &'p str {
+    match channel.routes().get(index) {
+        Some(route) => match plan.destination(route.to()) {
+            Some(destination) => destination.name(),
+            None => "",
+        },
+        None => "",
     }
 }
 
@@ -78,10 +64,31 @@ fn stop_in(alloc: Global, judged: &Judged) -> Result<Option<StoppedStep>, AllocE
     }
 }
 
+/// Logs that a message was refused for a step: which one, counted from 1, and of which route.
+fn log_stopped<H: Log>(
+    rt: &H,
+    conn: u32,
+    judged: &Judged,
+    channel: &Channel,
+    cause: Cause,
+    stop: StoppedStep,
+) {
+    let (name, id) = (channel.name(), control_id(judged));
+    let (step, why) = (stop.step.saturating_add(1), reason(stop.cause));
+    match stop.route {
+        Some(index) => {
+            let route = route_name(judged.plan(), channel, index);
+            warn!(rt; channel = name, connection = conn, control_id:% = id, route, step; "message refused: {cause:?}, {why}");
+        }
+        None => {
+            warn!(rt; channel = name, connection = conn, control_id:% = id, step; "message refused: {cause:?}, {why}");
+        }
+    }
+}
+
 /// Logs that a message was refused, with the cause, and the step where a step is the cause.
 fn log_refused<H: Log>(rt: &H, alloc: Global, conn: u32, judged: &Judged, cause: Cause) {
     let plan = judged.plan();
-    let (name, id) = (channel_name(plan, judged.channel()), control_id(judged));
     let by_step = matches!(cause, Cause::SourceTransform | Cause::RouteTransform);
     let stop = if by_step {
         stop_in(alloc, judged)
@@ -89,15 +96,9 @@ fn log_refused<H: Log>(rt: &H, alloc: Global, conn: u32, judged: &Judged, cause:
         Ok(None)
     };
     match (stop, plan.channel(judged.channel())) {
-        (Ok(Some(stop)), Some(channel)) => {
-            let stop = ShownStop {
-                plan,
-                channel,
-                stop,
-            };
-            warn!(rt; channel = name, connection = conn, control_id:% = id; "message refused: {cause:?}, {stop}");
-        }
+        (Ok(Some(stop)), Some(channel)) => log_stopped(rt, conn, judged, channel, cause, stop),
         _ => {
+            let (name, id) = (channel_name(plan, judged.channel()), control_id(judged));
             warn!(rt; channel = name, connection = conn, control_id:% = id; "message refused: {cause:?}");
         }
     }
@@ -159,6 +160,15 @@ pub fn log_arrival<H: Log>(
     }
 }
 
+/// Logs a message that is not booked since its connection was reset before.
+pub fn log_cut<H: Log>(rt: &H, conn: u32, judged: &Judged) {
+    let (name, id) = (
+        channel_name(judged.plan(), judged.channel()),
+        control_id(judged),
+    );
+    info!(rt; channel = name, connection = conn, control_id:% = id; "message dropped: its connection was reset before it was booked");
+}
+
 /// Logs a block that is no message, with the reason, or an acknowledgment that nothing waits for.
 pub fn log_passed_over<H: Log>(rt: &H, alloc: Global, conn: u32, judged: &Judged) {
     let name = channel_name(judged.plan(), judged.channel());
@@ -170,6 +180,9 @@ pub fn log_passed_over<H: Log>(rt: &H, alloc: Global, conn: u32, judged: &Judged
     match Message::parse(alloc, judged.raw().as_slice()) {
         Err(Refusal::NoMemory) => {
             warn!(rt; channel = name, connection = conn; "text unreadable");
+        }
+        Err(Refusal::BadSegmentName(segment)) => {
+            warn!(rt; channel = name, connection = conn, segment; "text unreadable: a segment has a bad name");
         }
         Err(refusal) => {
             warn!(rt; channel = name, connection = conn; "text unreadable: {refusal}");

@@ -2,5 +2,6 @@
 pub mod Answers
 pub mod Calls
 pub mod Delivering
+pub mod Lately
 pub mod Stream
 pub mod Works

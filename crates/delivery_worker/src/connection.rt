@@ -313,7 +313,7 @@ impl Connection {
         Ok(decision.outcome)
     }
 
-    /// Sends a message over the connection that is open, and is still so by a look at it.
+    /// Sends a message over the connection that is open, where by a look at it that can still be used for this message.
     ///
     /// # Errors
     ///
@@ -334,7 +334,7 @@ impl Connection {
             Some(framer) => framer,
             None => return Err(Unanswered { receives: 0 }),
         };
-        if !link.is_open() {
+        if !link.is_open_for(job) {
             return Err(Unanswered { receives: 0 });
         }
         match self.exchange(link, framer, job, RECEIVES_MAX) {
@@ -360,8 +360,8 @@ impl Connection {
         }
     }
 
-    /// Sends a message, and reads the answers where the destination acknowledges. Where the connection that was kept
-    /// has ended before a byte of an answer was received, the message is sent over a new one, in the same attempt.
+    /// Sends a message, and reads the answers where the destination acknowledges. Where the connection that was kept can't be
+    /// used for it, or has ended before a byte of an answer was received, the message is sent over a new one, in the same attempt.
     /// After a fault of the link, the end of its input, too many receives or a refusal for memory the next attempt
     /// connects anew.
     pub fn attempt<L: Link>(&mut self, link: &mut L, job: &Job) -> Outcome

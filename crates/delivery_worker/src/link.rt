@@ -48,6 +48,17 @@ pub trait Link {
         true
     }
 
+    /// Looks, without waiting, whether the connection can still be used for this message. A link may want a new one for it: a
+    /// message with its control id was sent over the open one, and what still answers that would be taken for an answer to this.
+    fn is_open_for(&mut self, _job: &Job) -> bool
+        ensures faults { fault_count self.new ≡ fault_count self.old }
+        ensures sent { Keeps (sent self.old) (sent self.new) }
+        ensures received { Keeps (received self.old) (received self.new) }
+        ensures receives { CallsMore (receives self.old) (receives self.new) 0 }
+    {
+        self.is_open()
+    }
+
     /// Whether the last call met the end of the connection, by its peer. A timeout is no such end.
     fn was_ended(&self) -> bool {
         false
@@ -76,7 +87,7 @@ pub trait Link {
         ensures receives { CallsMore (receives self.old) (receives self.new) 0 }
     {}
 
-    /// Opens a new connection, and drops what was left of an earlier one.
+    /// Opens a new connection, and drops what was left of an earlier one, and what has arrived on the new one already.
     ///
     /// # Errors
     ///

@@ -74,6 +74,11 @@ impl<'a, R: Net<Stream = TcpStream> + Log + Clock, W: Way> TcpLink<'a, R, W> {
         warn!(self.rt; destination = self.name(), message = job.ticket.number, control_id:% = ControlId(job.control_id.as_slice()), attempt = job.ticket.attempt, attempts = self.attempts(); "{failure}");
     }
 
+    /// Logs a message that was sent a second time within its attempt.
+    pub(crate) fn tell_sent_again(&self, job: &Job) {
+        warn!(self.rt; destination = self.name(), message = job.ticket.number, control_id:% = ControlId(job.control_id.as_slice()), attempt = job.ticket.attempt; "sent once more within the attempt, over a new connection: the destination closed the kept one before an answer, and may have received the message");
+    }
+
     /// Logs a message that failed for good, and why its last attempt failed.
     pub(crate) fn tell_failure(&self, job: &Job, reply: Reply, cause: FailCause) {
         let words = match cause {
@@ -85,7 +90,12 @@ impl<'a, R: Net<Stream = TcpStream> + Log + Clock, W: Way> TcpLink<'a, R, W> {
             reply,
             cause: self.cause.as_ref(),
         };
-        warn!(self.rt; target: "always", destination = self.name(), message = job.ticket.number, control_id:% = ControlId(job.control_id.as_slice()), attempts = job.ticket.attempt; "{words} ({last})");
+        let doubt = if cause == FailCause::Exhausted && self.sendings.is_doubted(job) {
+            "; it may have been received, or be received late"
+        } else {
+            ""
+        };
+        warn!(self.rt; target: "always", destination = self.name(), message = job.ticket.number, control_id:% = ControlId(job.control_id.as_slice()), attempts = job.ticket.attempt; "{words} ({last}){doubt}");
     }
 
     /// Logs a message whose last attempt was cut off by a halt: it failed, and may have been delivered.

@@ -1,13 +1,14 @@
 //! A link over TCP.
 
 ghost use Rattle.std.specs.Prelude.{◌≡◌, ◌≤◌, true, length, IfOk};
-ghost use Rattle.std.specs.Iterator.{IsFinite};
 ghost use Rattle.conn_worker.specs.Faults.{with_fault};
 
 use crate::answers::Reply;
 use crate::link::{Link, LinkFault};
 use crate::link_log::LoggedState;
-use crate::socket::{drop_input, is_end, is_own_lack, wait_for};
+use crate::sendings::Sendings;
+use crate::socket::{drop_input, is_end, wait_for};
+use crate::watching::next_watch;
 use crate::way::Way;
 use crate::words::Cause;
 use book_core::Job;
@@ -15,11 +16,12 @@ use dest_queue::{FailCause, Outcome, SlotState};
 use fixed_numbers::RECEIVES_MAX;
 use log::{Log, warn};
 use plan_text::Await;
-use socket_options::{Spare, keep_alive};
+use socket_options::{Spare, reset};
+use std::alloc::Global;
 use std::io;
 use std::io::{ErrorKind, Read, Write};
 use std::marker::Model;
-use std::net::{Net, Shutdown, SocketAddr, TcpStream, ToSocketAddrs};
+use std::net::{Net, Shutdown, TcpStream};
 use std::time::{Clock, Duration};
 
 /// How often one call may be interrupted before that is a fault.
@@ -34,14 +36,8 @@ const FREE_WAITS: u32 = 9;
 /// The most seconds that the end of a connection may last.
 const END_SECONDS_MAX: u64 = 10;
 
-/// The milliseconds that a link waits where the system lacks something for a connection, before it tries again.
-const LACK_WAIT: u64 = 100;
-
 /// The milliseconds that a write waits for room where the destination sends nothing more and its answers are not awaited.
 const ENDED_WAIT: u64 = 10;
-
-/// How often it waits at most: for ten times the longest timeout of a plan.
-const WAITS_MAX: u32 = 360_000;
 
 /// How many writes one block may take.
 const WRITES_MAX: u32 = 10_000_000;
@@ -50,17 +46,17 @@ const WRITES_MAX: u32 = 10_000_000;
 const PIECES_MAX: u32 = 10_000_000;
 
 /// The most seconds that connecting to one address may last while no attempt is under way.
-const PREPARE_SECONDS_MAX: u64 = 10;
+pub(crate) const PREPARE_SECONDS_MAX: u64 = 10;
 
 /// How long one wait may last that can be halted, in milliseconds.
-const SLICE: u64 = 250;
+pub(crate) const SLICE: u64 = 250;
 
 /// How many such waits there may be for one read.
-const SLICES_MAX: u32 = 100_000;
+pub(crate) const SLICES_MAX: u32 = 100_000;
 
 /// The calls of a link.
 #[derive(Clone, Copy)]
-enum Call {
+pub(crate) enum Call {
     /// To connect while no attempt is under way.
     Prepare,
     Connect,
@@ -82,34 +78,41 @@ enum Call {
 /// made there before the destination's interval is over.
 ///
 /// A proxy accepts connections also while the destination behind it is down, and closes them. So after an attempt whose
-/// connection was closed before an answer, a new connection has to stay open for a while before a message is taken for it:
-/// for the timeout or ten seconds, whichever is less. One that is closed before then counts as a connect that failed.
+/// connection was closed before an answer, a new connection has to stay open for a while before a message is taken for it: at
+/// first for the timeout or ten seconds, whichever is less, and then for longer each time, up to a minute. One that is closed
+/// before then counts as a connect that failed.
+///
+/// A connection that is given up since an answer or room for a message was waited for too long is reset, so that its peer is less
+/// likely to take what it has not read yet. Where answers are dropped it is not: what was sent before is counted as delivered.
 #[derive(Drop)]
 pub struct TcpLink<'a, R, W> {
     pub(crate) rt: &'a R,
     pub(crate) way: W,
     pub(crate) stream: Option<TcpStream>,
-    spare: Spare,
+    pub(crate) spare: Spare,
     faults: u64,
     /// Why the last connection failed, since it was opened or the attempt at hand began.
     pub(crate) cause: Option<Cause>,
     /// How many receives the attempt at hand has made.
     receives: u32,
     /// Whether the last call met the end of the connection.
-    ended: bool,
+    pub(crate) ended: bool,
     /// How many attempts have begun over the connection, that at hand included.
-    attempts_over: u32,
-    /// Whether the connection of the last attempt was closed before an answer.
-    was_cut: bool,
+    pub(crate) attempts_over: u32,
+    /// For how many seconds a new connection is watched before a message is taken for it: 0 unless the connection of the last
+    /// attempt was closed before an answer.
+    pub(crate) watch: u32,
+    /// What was sent.
+    pub(crate) sendings: Sendings,
     /// When the attempt at hand ends, or the wait for what the system lacks between attempts, by the monotonic clock, where that
     /// can be read.
     deadline: Option<Duration>,
     /// How many waits of the attempt at hand may still last a whole timeout each, whatever the clock says.
-    free_waits: u32,
+    pub(crate) free_waits: u32,
     /// The limit on each read that the stream has.
-    read_limit: Duration,
+    pub(crate) read_limit: Duration,
     /// The limit on each write that the stream has.
-    write_limit: Duration,
+    pub(crate) write_limit: Duration,
     pub(crate) logged: LoggedState,
     /// The moment, by the monotonic clock, before which no connect is made between attempts.
     retry_at: Option<Duration>,
@@ -151,13 +154,25 @@ impl<'a, R: Net<Stream = TcpStream> + Log + Clock, W: Way> TcpLink<'a, R, W> {
             receives: 0,
             ended: false,
             attempts_over: 0,
-            was_cut: false,
+            watch: 0,
+            sendings: Sendings::new(),
             deadline: None,
             free_waits: 0,
             read_limit: Duration::ZERO,
             write_limit: Duration::ZERO,
             logged: LoggedState::Nothing,
             retry_at: None,
+        }
+    }
+
+    /// A link over which a message goes over a new connection where one of the last 100 messages that were sent over the open one
+    /// has its control id (MSH-10), and the destination acknowledges.
+    pub fn parting(self, alloc: Global) -> Self
+        ensures { result ≡ self.entry }
+    {
+        TcpLink {
+            sendings: Sendings::parting(alloc),
+            ..self
         }
     }
 
@@ -202,12 +217,12 @@ impl<'a, R: Net<Stream = TcpStream> + Log + Clock, W: Way> TcpLink<'a, R, W> {
     }
 
     /// The destination's timeout.
-    fn timeout(&self) -> Duration {
+    pub(crate) fn timeout(&self) -> Duration {
         Duration::from_secs(u64::from(self.seconds()))
     }
 
     /// Whether the destination's answers are not awaited.
-    fn drops_answers(&self) -> bool {
+    pub(crate) fn drops_answers(&self) -> bool {
         match self.way.destination() {
             Some(destination) => destination.wait() == Await::None,
             None => false,
@@ -224,12 +239,12 @@ impl<'a, R: Net<Stream = TcpStream> + Log + Clock, W: Way> TcpLink<'a, R, W> {
     }
 
     /// The moment, by the monotonic clock, that is `time` from now; none where the clock can't be read.
-    fn after(&self, time: Duration) -> Option<Duration> {
+    pub(crate) fn after(&self, time: Duration) -> Option<Duration> {
         self.rt.monotonic().ok()?.checked_add(time)
     }
 
     /// How long one call may last: the timeout, or what is left of the attempt. Nothing is left once it is halted.
-    fn limit(&self) -> io::Result<Duration> {
+    pub(crate) fn limit(&self) -> io::Result<Duration> {
         if self.way.is_halted() {
             return Err(io::Error::from(ErrorKind::TimedOut));
         }
@@ -242,17 +257,6 @@ impl<'a, R: Net<Stream = TcpStream> + Log + Clock, W: Way> TcpLink<'a, R, W> {
             return Err(io::Error::from(ErrorKind::TimedOut));
         }
         Ok(timeout.min(left))
-    }
-
-    /// How long connecting to one address may last. Between attempts each address has the timeout, ten seconds at most, so that
-    /// one that doesn't answer takes nothing from those after it.
-    fn connect_limit(&self, call: Call) -> io::Result<Duration> {
-        match call {
-            Call::Prepare if !self.way.is_halted() => Ok(
-                self.timeout().min(Duration::from_secs(PREPARE_SECONDS_MAX)),
-            ),
-            _ => self.limit(),
-        }
     }
 
     /// How long the next wait of an attempt may last. It exists for speed: the first nine waits over a connection that was
@@ -268,89 +272,11 @@ impl<'a, R: Net<Stream = TcpStream> + Log + Clock, W: Way> TcpLink<'a, R, W> {
     }
 
     /// Closes the stream, and holds a descriptor back for the next one.
-    fn close(&mut self)
+    pub(crate) fn close(&mut self)
         ensures { self.new ≡ self.old }
     {
         self.stream = None;
         self.spare.take_back();
-    }
-
-    /// Opens a stream to the first of these addresses that answers. Where none does, the error is the first that is no lack
-    /// of the system's own, if there is one.
-    fn open_first<I: Iterator<Item = SocketAddr>>(
-        &self,
-        call: Call,
-        addresses: I,
-    ) -> io::Result<TcpStream>
-        requires { I.can_next addresses × IsFinite (I.remaining addresses) }
-    {
-        let mut first = io::Error::from(ErrorKind::AddrNotAvailable);
-        let mut is_first = true;
-        for address in addresses {
-            match TcpStream::connect_timeout(self.rt, &address, self.connect_limit(call)?) {
-                Ok(stream) => return Ok(stream),
-                Err(error) => {
-                    if is_first || is_own_lack(&first) {
-                        first = error;
-                    }
-                    is_first = false;
-                }
-            }
-        }
-        Err(first)
-    }
-
-    /// Opens a stream to the destination once.
-    fn open_once(&mut self, call: Call) -> io::Result<TcpStream>
-        ensures { self.new ≡ self.old }
-    {
-        let mut addresses = self.address().to_socket_addrs(self.rt);
-        if addresses.is_err() && !Spare::new().is_held() {
-            // No descriptor is left to look the name up by, but for the one that is held back.
-            self.spare.give_up();
-            addresses = self.address().to_socket_addrs(self.rt);
-        }
-        let addresses = addresses?;
-        self.spare.give_up();
-        self.open_first(call, addresses)
-    }
-
-    /// A stream to the destination. Where the system lacks something for it, it is tried again until the attempt has to end.
-    fn open_patiently(&mut self, call: Call) -> io::Result<TcpStream>
-        ensures { self.new ≡ self.old }
-    {
-        let mut is_waiting = false;
-        'waits: for _ in 0..WAITS_MAX {
-            let error = match self.open_once(call) {
-                Ok(stream) => return Ok(stream),
-                Err(error) => error,
-            };
-            if !is_own_lack(&error) || self.limit().is_err() {
-                return Err(error);
-            }
-            if !is_waiting {
-                warn!(self.rt; destination = self.name(); "can't connect yet: {error}");
-                is_waiting = true;
-            }
-            self.rt.sleep(Duration::from_millis(LACK_WAIT));
-        }
-        Err(io::Error::from(ErrorKind::TimedOut))
-    }
-
-    /// A stream to the destination, with its options. Blocks are sent as soon as they are written.
-    fn open(&mut self, call: Call) -> io::Result<TcpStream>
-        ensures { self.new ≡ self.old }
-    {
-        let stream = self.open_patiently(call)?;
-        let timeout = self.timeout();
-        stream.set_read_timeout(Some(timeout))?;
-        stream.set_write_timeout(Some(timeout))?;
-        if self.drops_answers() {
-            stream.set_nonblocking(true)?;
-        }
-        stream.set_nodelay(true)?;
-        keep_alive(&stream)?;
-        Ok(stream)
     }
 
     /// Writes bytes. Where answers are not awaited, what is received meanwhile is dropped.
@@ -506,75 +432,44 @@ impl<'a, R: Net<Stream = TcpStream> + Log + Clock, W: Way> TcpLink<'a, R, W> {
         }
     }
 
-    /// Counts a fault, and closes the connection.
+    /// Resets the connection where it is given up since something was waited for too long, so that what its peer has not read yet
+    /// is less likely to be taken. Where answers are dropped, what was sent before is counted as delivered, so it isn't reset.
+    fn reset_late(&self) {
+        let is_late = matches!(
+            self.cause,
+            Some(Cause::NoAnswer(_) | Cause::NoProgress(_) | Cause::TimeSpent(_))
+        );
+        if let (Some(stream), true) = (&self.stream, is_late && !self.drops_answers()) {
+            // Where that is refused, the connection is closed in order.
+            let _ = reset(stream);
+        }
+    }
+
+    /// Counts a fault, and ends the connection.
     fn fault(&mut self, call: Call, error: io::Error) -> LinkFault
         ensures { self.new ≡ with_fault true self.old }
     {
         self.ended = is_end(&error);
         self.cause = Some(self.cause_of(call, error));
+        self.reset_late();
         self.close();
         self.faults = self.faults.saturating_add(1);
         LinkFault
     }
 
-    /// Opens a new connection, and drops what was left of an earlier one.
-    fn reopen(&mut self, call: Call) -> io::Result<()>
+    /// Notes what the next attempts need of one that is settled. Where memory is refused for that, the connection is closed.
+    fn note_attempt(&mut self, job: &Job, reply: Reply)
         ensures { self.new ≡ self.old }
     {
-        self.close();
-        self.ended = false;
-        self.cause = None;
-        // To connect may take longer than its limit, where a name is looked up.
-        self.free_waits = 0;
-        let stream = self.open(call)?;
-        self.read_limit = self.timeout();
-        self.write_limit = self.timeout();
-        self.stream = Some(stream);
-        self.attempts_over = 0;
-        Ok(())
-    }
-
-    /// Waits for a while whether a new connection stays open, where the last one was closed before an answer.
-    ///
-    /// # Errors
-    ///
-    /// `ConnectionAborted` where it is closed before then, `TimedOut` where delivering is halted.
-    fn stay_open(&self) -> io::Result<()> {
-        let (Some(stream), true) = (&self.stream, self.was_cut) else {
-            return Ok(());
+        let is_cut = reply == Reply::Nothing && matches!(self.cause, Some(Cause::Closed));
+        self.watch = if is_cut {
+            next_watch(self.watch, self.seconds())
+        } else {
+            0
         };
-        let longest = Duration::from_secs(PREPARE_SECONDS_MAX);
-        let Some(deadline) = self.after(self.timeout().min(longest)) else {
-            return Ok(());
-        };
-        for _ in 0..SLICES_MAX {
-            if self.way.is_halted() {
-                return Err(io::Error::from(ErrorKind::TimedOut));
-            }
-            let left = deadline.saturating_sub(self.rt.monotonic()?);
-            if left < Duration::from_millis(1) {
-                return Ok(());
-            }
-            let ready = wait_for(stream, false, left.min(Duration::from_millis(SLICE)));
-            if ready.is_ended() {
-                return Err(io::Error::from(ErrorKind::ConnectionAborted));
-            }
-            if ready.is_readable() {
-                // What it sends unasked is dropped once a message is to be sent.
-                return Ok(());
-            }
+        if self.sendings.settle(job, reply).is_err() {
+            self.close();
         }
-        Ok(())
-    }
-
-    /// Opens a connection between attempts, and waits whether it stays open where the last one didn't.
-    fn open_ahead(&mut self) -> io::Result<()>
-        ensures { self.new ≡ self.old }
-    {
-        self.reopen(Call::Prepare)?;
-        self.stay_open()?;
-        self.tell_connected();
-        Ok(())
     }
 
     /// Ends the connection in order where its answers are dropped, and closes it.
@@ -602,7 +497,7 @@ impl<'a, R: Net<Stream = TcpStream> + Log + Clock, W: Way> TcpLink<'a, R, W> {
             self.end(drops);
             self.logged = LoggedState::Nothing;
             self.retry_at = None;
-            self.was_cut = false;
+            self.watch = 0;
         }
     }
 
@@ -650,6 +545,7 @@ impl<R: Net<Stream = TcpStream> + Log + Clock, W: Way> Link for TcpLink<'_, R, W
         self.free_waits = FREE_WAITS;
         self.cause = None;
         self.receives = 0;
+        self.sendings.begin();
         self.attempts_over = self.attempts_over.saturating_add(1);
     }
 
@@ -666,6 +562,13 @@ impl<R: Net<Stream = TcpStream> + Log + Clock, W: Way> Link for TcpLink<'_, R, W
         is_open
     }
 
+    fn is_open_for(&mut self, job: &Job) -> bool {
+        if self.sendings.is_repeated(job) {
+            self.close();
+        }
+        self.is_open()
+    }
+
     /// Whether the last call met the end of a connection over which an earlier attempt was made. One that is ended in the first
     /// attempt over it was not ended for being idle, so nothing is sent once more for that.
     fn was_ended(&self) -> bool {
@@ -678,7 +581,11 @@ impl<R: Net<Stream = TcpStream> + Log + Clock, W: Way> Link for TcpLink<'_, R, W
 
     fn settled(&mut self, job: &Job, reply: Reply, outcome: Outcome, state: Option<SlotState>) {
         self.way.note(outcome);
-        self.was_cut = reply == Reply::Nothing && matches!(self.cause, Some(Cause::Closed));
+        self.note_attempt(job, reply);
+        if self.sendings.is_sent_again() {
+            self.way.note_sent_again();
+            self.tell_sent_again(job);
+        }
         let is_halted = matches!(self.cause, Some(Cause::Halted));
         if outcome != Outcome::Delivered && !is_halted {
             self.tell_attempt(job, reply);
@@ -701,6 +608,7 @@ impl<R: Net<Stream = TcpStream> + Log + Clock, W: Way> Link for TcpLink<'_, R, W
         match self.reopen(Call::Connect) {
             Ok(()) => {
                 self.attempts_over = 1;
+                self.drop_unasked();
                 self.tell_connected();
                 Ok(())
             }
@@ -730,7 +638,10 @@ impl<R: Net<Stream = TcpStream> + Log + Clock, W: Way> Link for TcpLink<'_, R, W
 
     fn send(&mut self, bytes: &[u8]) -> Result<(), LinkFault> {
         match self.write(bytes) {
-            Ok(()) => Ok(()),
+            Ok(()) => {
+                self.sendings.count();
+                Ok(())
+            }
             Err(error) => Err(self.fault(Call::Send, error)),
         }
     }

@@ -26,6 +26,9 @@ pub trait Way {
     /// Is called with the outcome of an attempt, once it is settled.
     fn note(&mut self, _outcome: Outcome) {}
 
+    /// Is called once a message is settled that was sent a second time within its attempt.
+    fn note_sent_again(&mut self) {}
+
     /// Is called for a message that failed since its last attempt was cut off by a halt.
     fn note_cut(&mut self) {}
 }
