@@ -1,6 +1,6 @@
 //! The runtime that writes a line for each record.
 
-use crate::outbox::Outbox;
+use crate::outbox::{Outbox, Rank};
 use crate::repeats::{KINDS_MAX, Repeats, Summary};
 use crate::text::{Line, Part};
 use jiff::Timestamp;
@@ -93,6 +93,14 @@ fn level_name(level: Level) -> &'static str {
     }
 }
 
+/// What a record of a level is worth where not all of them can be kept.
+fn rank_of(level: Level) -> Rank {
+    match level {
+        Level::Error | Level::Warn => Rank::Warning,
+        _ => Rank::Info,
+    }
+}
+
 /// A number for the kind of a record.
 fn kind_of(head: &str) -> u64 {
     let mut hash = HASH_START;
@@ -131,7 +139,7 @@ impl<'a, R: Clock + Wait + Eprint> Journal<'a, R> {
     }
 
     /// Writes a line, or puts it into the outbox.
-    fn put<D: Display + Drop>(&self, text: D) {
+    fn put<D: Display + Drop>(&self, rank: Rank, text: D) {
         match self.outbox {
             None => {
                 let _ = self.rt.eprintln(text);
@@ -139,20 +147,20 @@ impl<'a, R: Clock + Wait + Eprint> Journal<'a, R> {
             Some(outbox) => {
                 let mut line = Line::new();
                 let _ = write!(line, "{text}");
-                outbox.put(&self.rt, line);
+                outbox.put(&self.rt, rank, line);
             }
         }
     }
 
     /// Writes a line, with the time before it.
-    fn write(&self, text: &str) {
+    fn write(&self, rank: Rank, text: &str) {
         let seconds = match self.rt.since_1970() {
             Ok(since) => i64::try_from(since.as_secs()).unwrap_or(0),
             Err(_) => 0,
         };
         match Timestamp::from_second(seconds) {
-            Ok(time) => self.put(format_args!("{time} {text}")),
-            Err(_) => self.put(text),
+            Ok(time) => self.put(rank, format_args!("{time} {text}")),
+            Err(_) => self.put(rank, text),
         }
     }
 
@@ -173,7 +181,7 @@ impl<'a, R: Clock + Wait + Eprint> Journal<'a, R> {
                 "{head} repeated={hidden} first_control_id={first} last_control_id={last}"
             )
         };
-        self.write(line.as_str());
+        self.write(Rank::Repeats, line.as_str());
     }
 
     /// Writes what is due of the records that were not shown.
@@ -230,7 +238,7 @@ impl<R: Clock + Wait + Eprint> Log for Journal<'_, R> {
         if self.shows(record, head.as_str(), control_id) {
             let mut line = Line::new();
             let _ = write!(line, "{level} {text}{all}");
-            self.write(line.as_str());
+            self.write(rank_of(record.level()), line.as_str());
         }
     }
 

@@ -23,17 +23,40 @@ const LAST_LOOKS: u32 = 10;
 /// How many milliseconds the writer waits for a line at most.
 const NAP: u64 = 250;
 
+/// What a line is worth where not all of them can be kept.
+#[derive(Clone, Copy, Debug, PartialEq, Eq)]
+pub(crate) enum Rank {
+    /// It is of level info.
+    Info,
+    /// It counts repeated records.
+    Repeats,
+    /// It is a warning, as that a message failed, was refused or was not booked.
+    Warning,
+}
+
+/// A line, with its number in the order of all lines.
+#[derive(Clone, Copy)]
+struct Numbered {
+    number: u64,
+    line: Line,
+}
+
 /// What waits to be written.
 #[derive(Drop)]
 struct Waiting {
-    lines: VecDeque<Line>,
-    /// How many lines found no room since the last one that was written.
+    infos: VecDeque<Numbered>,
+    repeats: VecDeque<Numbered>,
+    warnings: VecDeque<Numbered>,
+    /// How many lines were put in.
+    count: u64,
+    /// How many lines were dropped since the last one that was written.
     dropped: u64,
     is_ended: bool,
 }
 
 /// Lines that wait to be written to standard error by a thread of its own: where its reader doesn't read, nobody else is
-/// stopped. What finds no room is dropped and counted.
+/// stopped. Where there is no room, lines of level info are dropped first, then those that count repeated records, the oldest
+/// of them first, and then warnings, the latest first. What is dropped is counted.
 #[derive(Drop)]
 pub struct Outbox {
     waiting: Mutex<Waiting>,
@@ -51,18 +74,82 @@ enum Next {
     End,
 }
 
+/// The number of the line that a queue begins with, if it has one.
+fn first_number(queue: &VecDeque<Numbered>) -> Option<u64> {
+    Some(queue.front()?.number)
+}
+
+/// Whether a number is the smaller one, where there are both.
+fn is_before(number: Option<u64>, other: Option<u64>) -> bool {
+    match (number, other) {
+        (Some(number), Some(other)) => number < other,
+        (number, _) => number.is_some(),
+    }
+}
+
 impl Waiting {
-    /// Adds a line, if there is room.
-    fn put(&mut self, line: Line) {
-        if self.lines.len() >= LINES_MAX || self.lines.push_back(line).is_err() {
+    /// How many lines wait.
+    fn len(&self) -> usize {
+        self.infos
+            .len()
+            .saturating_add(self.repeats.len())
+            .saturating_add(self.warnings.len())
+    }
+
+    /// Drops the oldest line that is worth less than one of this rank. Whether there was one.
+    fn drop_lesser(&mut self, rank: Rank) -> bool {
+        let dropped = match rank {
+            Rank::Info => None,
+            Rank::Repeats => self.infos.pop_front(),
+            Rank::Warning => match self.infos.pop_front() {
+                None => self.repeats.pop_front(),
+                line => line,
+            },
+        };
+        dropped.is_some()
+    }
+
+    /// Adds a line, if there is room or a line that is worth less.
+    fn put(&mut self, rank: Rank, line: Line) {
+        if self.len() >= LINES_MAX {
             self.dropped = self.dropped.saturating_add(1);
+            if !self.drop_lesser(rank) {
+                return;
+            }
+        }
+        self.count = self.count.saturating_add(1);
+        let numbered = Numbered {
+            number: self.count,
+            line,
+        };
+        let queue = match rank {
+            Rank::Info => &mut self.infos,
+            Rank::Repeats => &mut self.repeats,
+            Rank::Warning => &mut self.warnings,
+        };
+        let _ = queue.push_back(numbered);
+    }
+
+    /// Takes the oldest line.
+    fn take_oldest(&mut self) -> Option<Numbered> {
+        let (info, repeats, warning) = (
+            first_number(&self.infos),
+            first_number(&self.repeats),
+            first_number(&self.warnings),
+        );
+        if is_before(info, repeats) && is_before(info, warning) {
+            self.infos.pop_front()
+        } else if is_before(repeats, warning) {
+            self.repeats.pop_front()
+        } else {
+            self.warnings.pop_front()
         }
     }
 
     /// What is to be done next.
     fn next(&mut self) -> Next {
-        match self.lines.pop_front() {
-            Some(line) => {
+        match self.take_oldest() {
+            Some(Numbered { line, .. }) => {
                 let dropped = self.dropped;
                 self.dropped = 0;
                 Next::Write(line, dropped)
@@ -92,7 +179,10 @@ impl Outbox {
     pub fn new(alloc: Global) -> Result<Self, AllocError> {
         Ok(Outbox {
             waiting: Mutex::new(Waiting {
-                lines: VecDeque::with_capacity(alloc, LINES_MAX)?,
+                infos: VecDeque::with_capacity(alloc, LINES_MAX)?,
+                repeats: VecDeque::with_capacity(alloc, LINES_MAX)?,
+                warnings: VecDeque::with_capacity(alloc, LINES_MAX)?,
+                count: 0,
                 dropped: 0,
                 is_ended: false,
             }),
@@ -100,9 +190,9 @@ impl Outbox {
         })
     }
 
-    /// Adds a line. Where too many wait already, it is dropped and counted.
-    pub(crate) fn put<H: Wait>(&self, rt: &H, line: Line) {
-        self.waiting.lock(rt).put(line);
+    /// Adds a line. Where too many wait already, a line that is worth less is dropped, or this one, and counted.
+    pub(crate) fn put<H: Wait>(&self, rt: &H, rank: Rank, line: Line) {
+        self.waiting.lock(rt).put(rank, line);
         self.bell.notify_one();
     }
 
@@ -172,18 +262,23 @@ impl Outbox {
 
 #[cfg(test)]
 mod tests {
-    use super::{LINES_MAX, Next, Outbox};
+    use super::{LINES_MAX, Next, Outbox, Rank};
     use crate::text::Line;
     use std::alloc::AllocError;
     use std::fmt::Write;
+
+    /// A line with a number.
+    fn numbered(number: usize) -> Line {
+        let mut line = Line::new();
+        let _ = write!(line, "{number}");
+        line
+    }
 
     #[test]
     fn a_line_without_room_is_counted(rt: HostRuntime) -> Result<(), AllocError> {
         let outbox = Outbox::new(rt.alloc())?;
         for number in 0..LINES_MAX + 3 {
-            let mut line = Line::new();
-            let _ = write!(line, "{number}");
-            outbox.put(&rt, line);
+            outbox.put(&rt, Rank::Warning, numbered(number));
         }
         let Next::Write(first, dropped) = outbox.next(&rt) else {
             panic!(rt; "nothing waits");
@@ -198,6 +293,31 @@ mod tests {
             let _line = outbox.next(&rt);
         }
         assert!(rt; matches!(outbox.next(&rt), Next::End));
+        Ok(())
+    }
+
+    #[test]
+    fn warnings_are_kept_before_others(rt: HostRuntime) -> Result<(), AllocError> {
+        let outbox = Outbox::new(rt.alloc())?;
+        for number in 0..LINES_MAX {
+            let rank = match number {
+                0 => Rank::Warning,
+                1 => Rank::Repeats,
+                _ => Rank::Info,
+            };
+            outbox.put(&rt, rank, numbered(number));
+        }
+        for number in LINES_MAX..2 * LINES_MAX {
+            outbox.put(&rt, Rank::Warning, numbered(number));
+        }
+        let Next::Write(first, dropped) = outbox.next(&rt) else {
+            panic!(rt; "nothing waits");
+        };
+        assert_eq!(rt; (first.as_str(), dropped), ("0", LINES_MAX as u64));
+        let Next::Write(second, _) = outbox.next(&rt) else {
+            panic!(rt; "nothing waits");
+        };
+        assert_eq!(rt; second.as_str(), "1024");
         Ok(())
     }
 }

@@ -1,7 +1,7 @@
 //! Which records repeat one that was shown a short while ago.
 
 ghost use Rattle.std.specs.Prelude.{◌≡◌, ◌-◌, nat_lt, not};
-ghost use Rattle.engine_journal.specs.inner.Repeating.{hides, is_repetition};
+ghost use Rattle.engine_journal.specs.inner.Repeating.{has_room, has_stale, hides, is_hidden, is_known, is_quiet, is_repetition, is_stale, is_too_soon};
 
 use crate::text::Part;
 use std::alloc::{AllocError, Global};
@@ -9,8 +9,11 @@ use std::alloc::{AllocError, Global};
 /// How many seconds after a record was shown others of its kind are counted and not shown.
 pub const QUIET_SECONDS: u64 = 60;
 
-/// The most kinds of records that are distinguished. A record of a further kind is shown each time.
+/// The most kinds of records that are distinguished within a minute. Records of further kinds are all of one more kind.
 pub const KINDS_MAX: usize = 64;
+
+/// What the records say for which no kind is left, as their number is written.
+const FURTHER: &str = "WARN records of further kinds";
 
 /// The records of one kind: those with one text, at one channel, destination or peer.
 #[derive(Clone, Copy)]
@@ -30,9 +33,16 @@ pub struct Kind {
 impl Kind {
     /// Whether one of its records, or the number of those not shown, was written less than a minute ago.
     fn is_quiet(&self, now: u64) -> bool
-        ensures { result ≡ nat_lt (now - self.now.since) 60 }
+        ensures { result ≡ is_quiet now self.now }
     {
         now.saturating_sub(self.since) < QUIET_SECONDS
+    }
+
+    /// Whether its entry may be given to another kind: nothing of it was written in the last minute, and none is hidden.
+    fn is_stale(&self, now: u64) -> bool
+        ensures { result ≡ is_stale now self.now }
+    {
+        self.hidden == 0 && !self.is_quiet(now)
     }
 
     /// Whether a record with this key is one of its kind and comes too soon.
@@ -47,12 +57,38 @@ impl Kind {
         self.hidden > 0 && (at_the_end || !self.is_quiet(now))
     }
 
+    /// Counts one of its records that is not shown.
     fn hide(&mut self, control_id: Part) {
         if self.hidden == 0 {
             self.first = control_id;
         }
         self.last = control_id;
         self.hidden = self.hidden.saturating_add(1);
+    }
+
+    /// A kind of which a record is shown now.
+    fn shown_now(key: u64, now: u64, head: Part) -> Kind {
+        Kind {
+            key,
+            since: now,
+            hidden: 0,
+            head,
+            first: Part::of(""),
+            last: Part::of(""),
+        }
+    }
+
+    /// How many of its records were not shown, which is written now.
+    fn summary(&mut self, now: u64) -> Summary {
+        let summary = Summary {
+            head: self.head,
+            hidden: self.hidden,
+            first: self.first,
+            last: self.last,
+        };
+        self.hidden = 0;
+        self.since = now;
+        summary
     }
 }
 
@@ -69,6 +105,8 @@ pub struct Summary {
 #[derive(Drop)]
 pub struct Repeats {
     kinds: Vec<Kind>,
+    /// The records for which no kind was left, where there were some.
+    further: Option<Kind>,
 }
 
 impl Repeats {
@@ -80,23 +118,42 @@ impl Repeats {
     pub fn new(alloc: Global) -> Result<Self, AllocError> {
         Ok(Repeats {
             kinds: Vec::with_capacity(alloc, KINDS_MAX)?,
+            further: None,
         })
     }
 
-    /// The kind that makes room for a new one: the one shown longest ago of those that hide nothing.
-    fn stale(&mut self) -> Option<&mut Kind> {
-        self.kinds
-            .iter_mut()
-            .filter(|kind| kind.hidden == 0)
-            .min_by_key(|kind| kind.since)
+    /// Whether the table has an entry for a kind.
+    fn is_known(&self, key: u64) -> bool
+        ensures { result ≡ is_known key self.now.kinds.items }
+    {
+        self.kinds.iter().any(|kind| kind.key == key)
     }
 
-    /// Remembers a record of a new kind, if there is room.
+    /// Whether an entry may be given to another kind.
+    fn has_stale(&self, now: u64) -> bool
+        ensures { result ≡ has_stale now self.now.kinds.items }
+    {
+        self.kinds.iter().any(|kind| kind.is_stale(now))
+    }
+
+    /// Whether a kind that has no entry gets one now.
+    fn has_room(&self, now: u64) -> bool
+        ensures { result ≡ has_room now self.now.kinds.items }
+    {
+        self.kinds.len() < KINDS_MAX || self.has_stale(now)
+    }
+
+    /// Enters a kind of which a record is shown now, where there is room.
     fn remember(&mut self, kind: Kind) {
         if self.kinds.len() < KINDS_MAX {
             let _ = self.kinds.push(kind);
-        } else if let Some(stale) = self.stale() {
-            *stale = kind;
+            return;
+        }
+        for known in &mut self.kinds {
+            if known.is_stale(kind.since) {
+                *known = kind;
+                return;
+            }
         }
     }
 
@@ -125,51 +182,63 @@ impl Repeats {
                 return;
             }
         }
-        self.remember(Kind {
-            key,
-            since: now,
-            hidden: 0,
-            head: *head,
-            first: Part::of(""),
-            last: Part::of(""),
-        });
+        self.remember(Kind::shown_now(key, now, *head));
     }
 
-    /// Whether a record is shown. One that repeats a record shown less than a minute ago is counted and not shown, every other
-    /// one is shown. `now` is in seconds of the monotonic clock.
+    /// Whether a record is shown for which no kind is left: one in a minute is.
+    fn shows_further(&mut self, now: u64, control_id: Part) -> bool
+        ensures { result ≡ not (is_too_soon now self.old.further) }
+    {
+        match &mut self.further {
+            Some(kind) if kind.is_quiet(now) => {
+                kind.hide(control_id);
+                false
+            }
+            Some(kind) => {
+                kind.since = now;
+                true
+            }
+            None => {
+                self.further = Some(Kind::shown_now(0, now, Part::of(FURTHER)));
+                true
+            }
+        }
+    }
+
+    /// Whether a record is shown. One that repeats a record shown less than a minute ago is counted and not shown, and so is one
+    /// for which no kind is left where another such one was shown less than a minute ago. Every other one is shown. `now` is in
+    /// seconds of the monotonic clock.
     pub fn shows(&mut self, key: u64, now: u64, head: &Part, control_id: Part) -> bool
-        ensures { result ≡ not (is_repetition key now self.old.kinds.items) }
+        ensures { result ≡ not (is_hidden key now self.old.kinds.items self.old.further) }
     {
         if self.is_repetition(key, now) {
             self.hide(key, now, control_id);
             return false;
         }
-        self.note_shown(key, now, head);
-        true
+        if self.is_known(key) || self.has_room(now) {
+            self.note_shown(key, now, head);
+            return true;
+        }
+        self.shows_further(now, control_id)
     }
 
     /// The next kind of which it is time to say how many were not shown; at the end, each of which some were not.
     pub fn due(&mut self, now: u64, at_the_end: bool) -> Option<Summary> {
         for kind in &mut self.kinds {
             if kind.is_due(now, at_the_end) {
-                let summary = Summary {
-                    head: kind.head,
-                    hidden: kind.hidden,
-                    first: kind.first,
-                    last: kind.last,
-                };
-                kind.hidden = 0;
-                kind.since = now;
-                return Some(summary);
+                return Some(kind.summary(now));
             }
         }
-        None
+        match &mut self.further {
+            Some(kind) if kind.is_due(now, at_the_end) => Some(kind.summary(now)),
+            _ => None,
+        }
     }
 }
 
 #[cfg(test)]
 mod tests {
-    use super::Repeats;
+    use super::{KINDS_MAX, Repeats};
     use crate::text::Part;
 
     #[test]
@@ -198,6 +267,24 @@ mod tests {
         assert!(rt; !repeats.shows(1, 219, &full, Part::of("E")));
         assert!(rt; repeats.shows(2, 160, &other, Part::of("F")));
         assert!(rt; repeats.due(219, true).is_some());
+        Ok(())
+    }
+
+    #[test]
+    fn further_kinds_are_one_line_a_minute(rt: HostRuntime) -> Result<(), std::alloc::AllocError> {
+        let (mut repeats, head, id) = (Repeats::new(rt.alloc())?, Part::of("H"), Part::of("A"));
+        let mut shown = 0u32;
+        for key in 0..1_000 {
+            if repeats.shows(key, 100, &head, id) {
+                shown = shown.saturating_add(1);
+            }
+        }
+        let hidden = repeats.due(160, false).map(|due| due.hidden);
+        let again = repeats.shows(2_000, 160, &head, id);
+        assert_eq!(rt;
+            (shown, hidden, again),
+            (KINDS_MAX as u32 + 1, Some(1_000 - 65), true)
+        );
         Ok(())
     }
 }

@@ -1,6 +1,6 @@
 //! Doing what the command line requests.
 
-ghost use Rattle.engine_words.specs.Request.{IsWithinLimits};
+ghost use Rattle.engine_report.specs.Request.{IsWithinLimits};
 
 mod answer;
 mod check;
@@ -12,8 +12,7 @@ use answer::answer;
 use book_core::{Book, Outbound};
 use check::check;
 use dest_queue::Queued;
-use engine_report::{Fault, read_plan, warned_plan};
-use engine_words::Request;
+use engine_report::{Fault, Request, read_plan, warned_plan};
 use plan_text::Plan;
 use record_list::RecordList;
 use run::run;

@@ -10,8 +10,7 @@ mod commands;
 mod handle;
 
 use commands::execute;
-use engine_report::{Fault, open_standard};
-use engine_words::parse_args;
+use engine_report::{Fault, open_standard, parse_args};
 use handle::Handle;
 use std::env;
 use std::io::ErrorKind;

@@ -3,8 +3,11 @@
 
 use std::fmt;
 
-/// The most bytes of a control id that a line of the log shows.
+/// The most bytes of a control id that are shown.
 const SHOWN_MAX: usize = 64;
+
+/// The most bytes that the log shows of what should be a control id and can't be one.
+const BEGINNING_MAX: usize = 8;
 
 /// Whether a byte is shown as it is: a printing ASCII character other than a space, a quotation mark and the backslash.
 fn is_plain(byte: u8) -> bool {
@@ -20,14 +23,14 @@ fn write_byte<W: fmt::Write>(f: &mut fmt::Formatter<W>, byte: u8) -> fmt::Result
     }
 }
 
-/// A message control id, MSH-10 (HL7 v2.5.1, 2.15.9.10), as the log shows it: its first 64 bytes, each byte that is no
-/// printing ASCII character as `\xHH`, and `..` behind them where it has more.
+/// Bytes of a message as an answer to an operator shows them: the first 64, each byte that is no printing ASCII character, a
+/// space, a quotation mark or a backslash as `\xHH`, and `..` behind them where there are more.
 #[derive(Clone, Copy)]
-pub struct ControlId<'a>(pub &'a [u8]);
+pub struct Shown<'a>(pub &'a [u8]);
 
-impl fmt::Display for ControlId<'_> {
+impl fmt::Display for Shown<'_> {
     fn fmt<W: fmt::Write>(&self, f: &mut fmt::Formatter<W>) -> fmt::Result {
-        let ControlId(bytes) = self;
+        let Shown(bytes) = self;
         for byte in bytes.iter().take(SHOWN_MAX) {
             write_byte(f, *byte)?;
         }
@@ -35,6 +38,32 @@ impl fmt::Display for ControlId<'_> {
             f.write_str("..")?;
         }
         Ok(())
+    }
+}
+
+/// Whether a byte may be one of a control id: a printing ASCII character that is no space, no quotation mark and none of the
+/// separators that HL7 recommends (HL7 v2.5.1, 2.5.4).
+fn is_of_id(byte: u8) -> bool {
+    is_plain(byte) && !matches!(byte, b'|' | b'^' | b'~' | b'&')
+}
+
+/// A message control id, MSH-10 (HL7 v2.5.1, 2.15.9.10), as the log shows it: its first 64 bytes, and `..` behind them where it
+/// has more. A value with a byte that no control id has may be something else, as a patient's name where a header lost its
+/// carriage return. Of that only the bytes before the first such byte are shown, at most eight, and its length: `ADT..(31)`.
+#[derive(Clone, Copy)]
+pub struct ControlId<'a>(pub &'a [u8]);
+
+impl fmt::Display for ControlId<'_> {
+    fn fmt<W: fmt::Write>(&self, f: &mut fmt::Formatter<W>) -> fmt::Result {
+        let ControlId(bytes) = self;
+        let allowed = bytes.iter().take_while(|byte| is_of_id(**byte)).count();
+        if allowed == bytes.len() {
+            return write!(f, "{}", Shown(bytes));
+        }
+        for byte in bytes.iter().take(allowed.min(BEGINNING_MAX)) {
+            write_byte(f, *byte)?;
+        }
+        write!(f, "..({})", bytes.len())
     }
 }
 
@@ -59,14 +88,29 @@ impl fmt::Display for Escaped<'_> {
 
 #[cfg(test)]
 mod tests {
-    use super::{ControlId, Escaped};
+    use super::{ControlId, Escaped, Shown};
 
     #[test]
     fn bytes_are_shown_escaped(rt: HostRuntime) -> Result<(), std::alloc::AllocError> {
-        let shown = format!(in rt.alloc(); "{} {}", ControlId(b"A 1\r\\x"), Escaped("a b\x1b[1m"))?;
+        let shown = format!(in rt.alloc(); "{} {}", Shown(b"A 1\r\\x"), Escaped("a b\x1b[1m"))?;
         assert_eq!(rt; shown.as_str(), "A\\x201\\x0D\\x5Cx a b\\x1B[1m");
         let long = format!(in rt.alloc(); "{}", ControlId(&[b'a'; 65]))?;
         assert_eq!(rt; long.len(), 66);
+        Ok(())
+    }
+
+    #[test]
+    fn only_the_beginning_of_what_is_no_id_is_shown(
+        rt: HostRuntime,
+    ) -> Result<(), std::alloc::AllocError> {
+        let ids = format!(in rt.alloc();
+            "{} {} {} {}",
+            ControlId(b"MSG00001-a/b.2"),
+            ControlId(b"M1PID^1^77^DOE^JANE"),
+            ControlId(b"MSG0000123\rPID"),
+            ControlId(b"")
+        )?;
+        assert_eq!(rt; ids.as_str(), "MSG00001-a/b.2 M1PID..(19) MSG00001..(14) ");
         Ok(())
     }
 }

@@ -126,6 +126,18 @@ pub fn file_note(alloc: Global, path: &str, reason: &io::Error) -> Result<Vec<Li
     )
 }
 
+/// The note that a file has more bytes than a plan may have.
+///
+/// # Errors
+///
+/// Where memory is refused.
+pub fn long_file_note(alloc: Global, path: &str, most: u64) -> Result<Vec<Line>, AllocError> {
+    one_note(
+        alloc,
+        &format!(in alloc; "{} has more than {most} bytes", Quoted(path))?,
+    )
+}
+
 /// The note of why a channel can't listen at its address.
 ///
 /// # Errors

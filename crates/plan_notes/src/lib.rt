@@ -1,5 +1,5 @@
-//! What is said of a plan beside its specified lines: notes that explain a fault, and warnings of what a plan that can be read
-//! is unlikely to mean.
+//! What is said of a plan beside its specified lines: notes that explain a fault, warnings of what a plan that can be read is
+//! unlikely to mean, and a table of which messages go where.
 #![tactic(auto)]
 
 mod address;
@@ -15,13 +15,15 @@ mod path_notes;
 mod plan_warnings;
 mod position;
 mod room;
+mod route_table;
 mod shown;
 mod spot;
 mod tables;
 mod value_notes;
 
-pub use explain::{fault_notes, file_note, listen_note};
+pub use explain::{fault_notes, file_note, listen_note, long_file_note};
 pub use line::Line;
 pub use plan_warnings::warnings;
-pub use room::room_notes;
+pub use room::{held_back_notes, room_notes};
+pub use route_table::plan_table;
 pub use shown::ShownFault;

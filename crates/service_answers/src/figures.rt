@@ -27,6 +27,10 @@ pub struct Dropped {
 pub struct Figures {
     /// When the service started, in seconds since 1970.
     pub started: u64,
+    /// The moment of the look, in seconds since 1970.
+    pub now: u64,
+    /// How many of the last messages a pruning keeps.
+    pub keep: u32,
     /// How many connections are open.
     pub open: u32,
     /// How many connections were closed because no number or no memory was left for them.
@@ -37,16 +41,44 @@ pub struct Figures {
     pub dropped: Dropped,
     /// The channels that are not read at this time, as a mask.
     pub paused: u64,
+    /// How many connections of each channel are open, by index.
+    pub open_by_channel: [u64; 64],
+    /// How many connections of each channel can be served at once, by index.
+    pub places: [u64; 64],
     /// When the last message of each channel was accepted or filtered, by index, in seconds since 1970; 0: none was.
     pub received: [u64; 64],
     /// When the last message was delivered to each destination, by index, in seconds since 1970; 0: none was.
     pub delivered: [u64; 32],
+    /// How many messages were sent to each destination a second time within one attempt, by index.
+    pub sent_again: [u64; 32],
 }
 
 impl Figures {
+    /// For how many hours what is left of something will last, where `made` of it were used since the start; none where none was.
+    pub fn hours_left(&self, made: u32, left: u32) -> Option<u64> {
+        let uptime = self.now.saturating_sub(self.started);
+        let lasts = u64::from(left)
+            .saturating_mul(uptime)
+            .checked_div(u64::from(made))?;
+        Some(lasts / 3_600)
+    }
+
     /// Whether the channel at this index is not read at this time.
     pub fn is_paused(&self, channel: u32) -> bool {
         self.paused.checked_shr(channel).unwrap_or(0) % 2 == 1
+    }
+
+    /// How many connections of a channel are open.
+    pub fn channel_open(&self, channel: u32) -> u64 {
+        self.open_by_channel
+            .get(channel as usize)
+            .copied()
+            .unwrap_or(0)
+    }
+
+    /// How many connections of a channel can be served at once.
+    pub fn channel_places(&self, channel: u32) -> u64 {
+        self.places.get(channel as usize).copied().unwrap_or(0)
     }
 
     /// When the last message of a channel was accepted or filtered, in seconds since 1970; 0: none was.
@@ -57,6 +89,14 @@ impl Figures {
     /// When the last message was delivered to a destination, in seconds since 1970; 0: none was.
     pub fn delivered(&self, destination: u32) -> u64 {
         self.delivered
+            .get(destination as usize)
+            .copied()
+            .unwrap_or(0)
+    }
+
+    /// How many messages were sent to a destination a second time within one attempt.
+    pub fn sent_again(&self, destination: u32) -> u64 {
+        self.sent_again
             .get(destination as usize)
             .copied()
             .unwrap_or(0)

@@ -3,8 +3,10 @@
 #![tactic(auto)]
 
 mod cancellations;
+mod echoes;
 mod figures;
 mod ids;
+mod live;
 mod messages;
 mod metrics;
 mod plans;
@@ -13,16 +15,24 @@ mod renames;
 mod status;
 mod time;
 
-pub use cancellations::{Places, cancelled_text, control_id_of, not_cancelled_text};
+pub use cancellations::{
+    Places, Series, cancellable_text, cancelled_text, control_id_of, not_cancelled_at_text,
+    not_cancelled_text, series_cancelled_text, several_text,
+};
+pub use echoes::echo_text;
 pub use figures::{Dropped, Figures, Unbooked};
 pub use ids::unescaped;
-pub use messages::{Listed, SHOWN_MAX, found_text, left_behind, message_text, waiting_text};
+pub use live::{Live, live_of, state_at};
+pub use messages::{
+    Listed, ListedFailure, SHOWN_MAX, failed_text, found_text, left_behind, message_text,
+    waiting_text,
+};
 pub use metrics::metrics_text;
 pub use plans::{
-    add_listener, bad_plan_text, deployed_text, no_file_text, no_regular_file_text,
+    add_listener, bad_plan_text, deployed_text, long_file_text, no_file_text, no_regular_file_text,
     refused_plan_text,
 };
-pub use prunings::{pruned_text, unpruned_text};
+pub use prunings::{few_prunings_text, frees_little_text, pruned_text, unpruned_text};
 pub use renames::{Rename, rename_at};
 pub use status::status_text;
 pub use time::Utc;

@@ -1,12 +1,13 @@
 //! What is kept of messages.
 
+use crate::cancellations::control_id_of;
 use crate::time::Utc;
-use book_core::Front;
+use book_core::{Failure, Front};
 use book_lock::{Found, Message};
 use dest_queue::{FailCause, SlotState};
 use er7_tree::{Message as Tree, Refusal};
 use hl7_head::Header;
-use log_text::ControlId;
+use log_text::Shown;
 use plan_text::Plan;
 use std::alloc::{AllocError, Global};
 
@@ -46,16 +47,13 @@ pub(crate) fn header_of(alloc: Global, raw: &[u8]) -> Result<Option<Header>, All
 
 /// Adds what a header says of the sender, the message's type and its control id: MSH-3, MSH-4, MSH-9 and MSH-10.
 fn add_header(text: &mut String, header: &Header) -> Result<(), AllocError> {
-    let application = ControlId(header.sending_application());
-    let facility = ControlId(header.sending_facility());
-    let (code, event) = (
-        ControlId(header.message_code()),
-        ControlId(header.trigger_event()),
-    );
+    let application = Shown(header.sending_application());
+    let facility = Shown(header.sending_facility());
+    let (code, event) = (Shown(header.message_code()), Shown(header.trigger_event()));
     writeln!(text, "sending_application {application}")?;
     writeln!(text, "sending_facility {facility}")?;
     writeln!(text, "message_type {code}^{event}")?;
-    writeln!(text, "control_id {}", ControlId(header.control_id()))
+    writeln!(text, "control_id {}", Shown(header.control_id()))
 }
 
 /// Adds where a message was received, and what its header says.
@@ -138,15 +136,15 @@ pub struct Listed {
     pub found: Found,
 }
 
+/// Adds a message's number and its control id (MSH-10).
+pub(crate) fn add_id(text: &mut String, number: u32, id: &[u8]) -> Result<(), AllocError> {
+    write!(text, "message {number} control_id {}", Shown(id))
+}
+
 /// Adds a message's number, its control id (MSH-10) as received, and its state at a destination.
 fn add_listed(alloc: Global, text: &mut String, listed: &Listed) -> Result<(), AllocError> {
     let Front { number, state } = listed.front;
-    write!(text, "message {number} control_id ")?;
-    if let Found::Kept(message) = &listed.found
-        && let Some(header) = header_of(alloc, message.raw.as_slice())?
-    {
-        write!(text, "{}", ControlId(header.control_id()))?;
-    }
+    add_id(&mut *text, number, &control_id_of(alloc, &listed.found)?)?;
     write!(text, " ")?;
     add_state(&mut *text, state)
 }
@@ -164,6 +162,42 @@ pub fn waiting_text(alloc: Global, listed: &[Listed], all: u64) -> Result<String
     }
     writeln!(text, "waiting {all}")?;
     writeln!(text, "")?;
+    Ok(text)
+}
+
+/// A message that failed at a destination.
+#[derive(Drop)]
+pub struct ListedFailure {
+    /// Its number, and why it failed.
+    pub failure: Failure,
+    /// What the book says of it.
+    pub found: Found,
+}
+
+/// Messages that failed at a destination, in the order given, and how many failed there in all, of which `remembered` are remembered.
+///
+/// # Errors
+///
+/// Where memory is refused.
+pub fn failed_text(
+    alloc: Global,
+    listed: &[ListedFailure],
+    remembered: u64,
+    all: u64,
+) -> Result<String, AllocError> {
+    let mut text = String::new(alloc);
+    for message in listed {
+        let Failure { number, cause } = message.failure;
+        add_id(&mut text, number, &control_id_of(alloc, &message.found)?)?;
+        write!(text, " ")?;
+        add_state(&mut text, SlotState::Failed(cause))?;
+        writeln!(text, "")?;
+    }
+    write!(text, "failed {all}")?;
+    if remembered < all {
+        write!(text, ", of which {remembered} are remembered")?;
+    }
+    writeln!(text, "\n")?;
     Ok(text)
 }
 

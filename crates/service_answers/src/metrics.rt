@@ -220,6 +220,26 @@ fn add_destinations(text: &mut String, plan: &Plan, counts: &Counts) -> Result<(
     )
 }
 
+/// Adds how many connections of each channel are open, and how many can be.
+fn add_places(text: &mut String, plan: &Plan, figures: &Figures) -> Result<(), AllocError> {
+    add_by_channel(
+        &mut *text,
+        plan,
+        "hl7_channel_open_connections",
+        Kind::Gauge,
+        "Connections of senders that are open.",
+        |index| figures.channel_open(index),
+    )?;
+    add_by_channel(
+        &mut *text,
+        plan,
+        "hl7_channel_max_connections",
+        Kind::Gauge,
+        "Connections that can be served at once.",
+        |index| figures.channel_places(index),
+    )
+}
+
 /// Adds when channels and destinations were last used, and which channels are not read at this time.
 fn add_moments(text: &mut String, plan: &Plan, figures: &Figures) -> Result<(), AllocError> {
     add_by_channel(
@@ -248,6 +268,18 @@ fn add_moments(text: &mut String, plan: &Plan, figures: &Figures) -> Result<(), 
     )
 }
 
+/// Adds how many messages were sent to each destination a second time within one attempt.
+fn add_sent_again(text: &mut String, plan: &Plan, figures: &Figures) -> Result<(), AllocError> {
+    add_by_destination(
+        &mut *text,
+        plan,
+        "hl7_destination_sent_again_total",
+        Kind::Counter,
+        "Messages sent a second time within one attempt.",
+        |index| figures.sent_again(index),
+    )
+}
+
 /// Adds the entries of the book: those that it holds, those that it owes, and the most that it may have.
 fn add_entries(text: &mut String, gauge: Gauge) -> Result<(), AllocError> {
     add_one(
@@ -273,8 +305,8 @@ fn add_entries(text: &mut String, gauge: Gauge) -> Result<(), AllocError> {
     )
 }
 
-/// Adds how many messages the book has accepted, and how many of them it remembers.
-fn add_messages(text: &mut String, gauge: Gauge) -> Result<(), AllocError> {
+/// Adds how many messages the book has accepted, how many of them it remembers, and from how many on no channel is read.
+fn add_messages(text: &mut String, gauge: Gauge, keep: u32) -> Result<(), AllocError> {
     add_one(
         &mut *text,
         "hl7_book_messages_total",
@@ -288,6 +320,13 @@ fn add_messages(text: &mut String, gauge: Gauge) -> Result<(), AllocError> {
         Kind::Gauge,
         "Messages accepted and not forgotten.",
         u64::from(gauge.remembered()),
+    )?;
+    add_one(
+        &mut *text,
+        "hl7_book_remembered_max",
+        Kind::Gauge,
+        "Messages remembered from which on no channel is read.",
+        u64::from(keep).saturating_add(u64::from(gauge.events_max)),
     )
 }
 
@@ -395,9 +434,11 @@ pub fn metrics_text(
     )?;
     add_channels(&mut text, plan, &status.counts)?;
     add_destinations(&mut text, plan, &status.counts)?;
+    add_places(&mut text, plan, figures)?;
     add_moments(&mut text, plan, figures)?;
+    add_sent_again(&mut text, plan, figures)?;
     add_entries(&mut text, status.gauge)?;
-    add_messages(&mut text, status.gauge)?;
+    add_messages(&mut text, status.gauge, figures.keep)?;
     add_left(&mut text, status.gauge)?;
     add_connections(&mut text, status.gauge.admitted, figures)?;
     add_unbooked(&mut text, figures.unbooked)?;

@@ -66,6 +66,16 @@ pub fn no_regular_file_text(alloc: Global, path: &str) -> Result<String, AllocEr
     format!(in alloc; "refused: file {path}: it is no regular file\n\n")
 }
 
+/// The answer to a file with more bytes than a plan may have.
+///
+/// # Errors
+///
+/// Where memory is refused.
+pub fn long_file_text(alloc: Global, path: &str, most: u64) -> Result<String, AllocError> {
+    let path = Escaped(path);
+    format!(in alloc; "refused: file {path}: it has more than {most} bytes\n\n")
+}
+
 /// The answer to a plan with a fault.
 ///
 /// # Errors

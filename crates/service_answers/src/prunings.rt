@@ -44,3 +44,24 @@ pub fn unpruned_text(alloc: Global, keep: u32, live: Option<u32>) -> Result<Stri
     add_kept(&mut text, keep, live)?;
     Ok(text)
 }
+
+/// The answer where a pruning by hand is not made since fewer than 100 are left.
+///
+/// # Errors
+///
+/// Where memory is refused.
+pub fn few_prunings_text(alloc: Global) -> Result<String, AllocError> {
+    format!(in alloc; "refused: fewer than 100 prunings are left, which arrivals may need\n\n")
+}
+
+/// The answer where a pruning by hand is not made since it would free little of a book of `events_max` entries.
+///
+/// # Errors
+///
+/// Where memory is refused.
+pub fn frees_little_text(alloc: Global, events_max: u32) -> Result<String, AllocError> {
+    let worth = events_max / 100;
+    format!(in alloc;
+        "refused: it would free fewer than {worth} entries and forget fewer than {worth} messages, a hundredth of the bound of entries\n\n"
+    )
+}

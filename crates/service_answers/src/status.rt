@@ -10,8 +10,21 @@ use fixed_numbers::{DEPLOYMENTS_MAX, PRUNINGS_MAX};
 use plan_text::Plan;
 use std::alloc::{AllocError, Global};
 
+/// Adds how many prunings were made, how many are left, and for how many hours these last at the rate since the start.
+fn add_prunings(
+    text: &mut String,
+    figures: &Figures,
+    made: u32,
+    left: u32,
+) -> Result<(), AllocError> {
+    match figures.hours_left(made, left) {
+        Some(hours) => writeln!(text, "prunings {made} left {left} for {hours} hours"),
+        None => writeln!(text, "prunings {made} left {left}"),
+    }
+}
+
 /// Adds the lines of the book: its entries, its messages, and the prunings and deployments.
-fn add_book(text: &mut String, gauge: Gauge) -> Result<(), AllocError> {
+fn add_book(text: &mut String, gauge: Gauge, figures: &Figures) -> Result<(), AllocError> {
     let Gauge {
         held,
         owed,
@@ -31,7 +44,7 @@ fn add_book(text: &mut String, gauge: Gauge) -> Result<(), AllocError> {
         text,
         "book held {held} owed {owed} left {left} messages {messages} remembered {remembered}"
     )?;
-    writeln!(text, "prunings {prunings} left {prunings_left}")?;
+    add_prunings(&mut *text, figures, prunings, prunings_left)?;
     writeln!(text, "deployments {deployments} left {deployments_left}")
 }
 
@@ -77,11 +90,14 @@ fn add_moment(text: &mut String, moment: u64) -> Result<(), AllocError> {
     }
 }
 
-/// Adds a line for each channel: when its last message was accepted or filtered, and whether it is read at this time.
+/// Adds lines for each channel: how many connections are open, of how many; when its last message was accepted or filtered, and
+/// whether it is read at this time.
 fn add_channels(text: &mut String, plan: &Plan, figures: &Figures) -> Result<(), AllocError> {
     for index in 0..plan.channels() {
         if let Some(channel) = plan.channel(index) {
             let name = channel.name();
+            let (open, places) = (figures.channel_open(index), figures.channel_places(index));
+            writeln!(text, "connections {name} open {open} of {places}")?;
             write!(text, "last received {name} ")?;
             add_moment(&mut *text, figures.received(index))?;
             if figures.is_paused(index) {
@@ -104,7 +120,16 @@ fn add_front(text: &mut String, front: Option<Front>) -> Result<(), AllocError> 
     }
 }
 
-/// Adds two lines for each destination: when the last message was delivered, and the front of its queue.
+/// Adds how many messages were sent to a destination a second time within one attempt, where there were any.
+fn add_sent_again(text: &mut String, name: &str, count: u64) -> Result<(), AllocError> {
+    if count == 0 {
+        return Ok(());
+    }
+    writeln!(text, "sent again {name} {count}")
+}
+
+/// Adds lines for each destination: when the last message was delivered, how many were sent a second time within one attempt,
+/// where there were any, and the front of its queue.
 fn add_destinations(
     text: &mut String,
     plan: &Plan,
@@ -116,6 +141,7 @@ fn add_destinations(
             let name = destination.name();
             write!(text, "last delivered {name} ")?;
             add_moment(&mut *text, figures.delivered(index))?;
+            add_sent_again(&mut *text, name, figures.sent_again(index))?;
             write!(text, "front {name} ")?;
             add_front(&mut *text, *front)?;
         }
@@ -136,7 +162,7 @@ pub fn status_text(
     figures: &Figures,
 ) -> Result<String, AllocError> {
     let mut text = statistics_text(alloc, plan, &status.counts)?;
-    add_book(&mut text, status.gauge)?;
+    add_book(&mut text, status.gauge, figures)?;
     add_connections(&mut text, status.gauge.admitted, figures)?;
     add_channels(&mut text, plan, figures)?;
     add_destinations(&mut text, plan, status, figures)?;

@@ -4,7 +4,7 @@ use std::fmt;
 
 /// The answer to a line that is no command: the commands there are.
 pub const UNKNOWN: &str = "\
-unknown: status, metrics, message N, find ID, waiting NAME, deploy PATH, prune, cancel N, stop, stop now, help
+unknown: status, metrics, message N, find ID, waiting NAME, failed NAME, deploy PATH, prune, cancel N, cancel N NAME, cancel N all, cancel waiting NAME, stop, stop now, help
 
 ";
 
@@ -15,9 +15,14 @@ metrics       the same numbers in Prometheus' text format
 message N     where message N is
 find ID       the numbers of the messages with this control id (MSH-10), as received or as the log shows it
 waiting NAME  the first messages in the queue of destination NAME
+failed NAME   the last messages that failed at destination NAME, newest first, and why
 deploy PATH   puts the plan in the file PATH in force
 prune         forgets what is settled
-cancel N      message N is not delivered where it still waits
+cancel N      message N is not delivered at the destination where it waits; where it waits at several it is refused
+cancel N NAME message N is not delivered at destination NAME
+cancel N all  message N is not delivered wherever it waits
+cancel waiting NAME            changes nothing: how many messages wait at destination NAME, and the line that cancels them
+cancel waiting NAME through N  the messages up to N that wait at destination NAME are not delivered there
 stop          ends once nothing waits for delivery
 stop now      ends without waiting for deliveries
 help          this list

@@ -1,7 +1,8 @@
 //! The commands, and the one that a line is.
 
-ghost use Rattle.std.specs.Prelude.{◌≡◌, option_map};
-ghost use Rattle.service_commands.specs.inner.Commands.{argument, command_of, named, numbered, number_of, seen, single, trimmed, with_digit, without_return};
+ghost use Rattle.std.specs.Prelude.{◌≡◌, ◌≤◌, ◌<◌, ◌==◌, IfSome, length, option_map};
+ghost use Rattle.std.specs.List.{position};
+ghost use Rattle.service_commands.specs.inner.Commands.{argument, cancel_of, cancel_waiting_of, cancelling, command_of, named, numbered, number_of, seen, single, trimmed, with_digit, without_return, word_len};
 
 /// The command that a line is. Texts are of type `T`, the bytes as they are in the line.
 #[derive(Clone, Copy, Debug, PartialEq, Eq)]
@@ -20,8 +21,18 @@ pub enum Command<T> {
     Deploy(T),
     /// Forgetting what is settled.
     Prune,
-    /// The message of this number is not delivered where it still waits.
+    /// The messages that failed at the destination of this name, at least one byte.
+    Failed(T),
+    /// The message of this number is not delivered at the one destination where it waits.
     Cancel(u32),
+    /// The message of this number is not delivered wherever it waits.
+    CancelAll(u32),
+    /// The message of this number is not delivered at the destination of this name, at least one byte.
+    CancelAt(u32, T),
+    /// What waits at the destination of this name, at least one byte, and the command that cancels it.
+    CancelWaiting(T),
+    /// The messages that wait at the destination of this name, at least one byte, up to this number, are not delivered there.
+    CancelThrough(T, u32),
     /// The end, once nothing waits for delivery.
     Stop,
     /// The end, without waiting for deliveries.
@@ -76,6 +87,72 @@ fn without_return(line: &[u8]) -> &[u8]
     }
 }
 
+/// The index of the first space of a text.
+fn first_space(text: &[u8]) -> Option<usize>
+    ensures at { result ≡ position (λ b. b == 32) text.now }
+    ensures within { IfSome result (λ at. at < length text.now) }
+{
+    text.iter().position(|byte| *byte == b' ')
+}
+
+/// How many bytes there are before the first space of a text, or in all of it.
+fn word_len(text: &[u8]) -> usize
+    ensures len { result ≡ word_len text.now }
+    ensures within { result ≤ length text.now }
+{
+    match first_space(text) {
+        Some(at) => at,
+        None => text.len(),
+    }
+}
+
+/// The command that cancels a message, by what follows its number: nothing, ` all`, or a space and a destination's name.
+fn cancel_of(number: u32, rest: &[u8]) -> Command<&[u8]>
+    ensures { seen result ≡ cancel_of number rest.now }
+{
+    if rest.is_empty() {
+        Command::Cancel(number)
+    } else if rest == b" all".as_slice() {
+        Command::CancelAll(number)
+    } else if let Some(name) = argument(rest, b" ") {
+        Command::CancelAt(number, name)
+    } else {
+        Command::Unknown
+    }
+}
+
+/// The command about what waits at a destination, by its name and what follows it: nothing, or ` through ` and a number.
+fn cancel_waiting_of<'a>(name: &'a [u8], rest: &[u8]) -> Command<&'a [u8]>
+    ensures { seen result ≡ cancel_waiting_of name.now rest.now }
+{
+    if name.is_empty() {
+        Command::Unknown
+    } else if rest.is_empty() {
+        Command::CancelWaiting(name)
+    } else if let Some(text) = argument(rest, b" through ")
+        && let Some(number) = number_of(text)
+    {
+        Command::CancelThrough(name, number)
+    } else {
+        Command::Unknown
+    }
+}
+
+/// The command of a line behind `cancel `.
+fn cancelling(text: &[u8]) -> Command<&[u8]>
+    ensures { seen result ≡ cancelling text.now }
+{
+    if let Some(rest) = argument(text, b"waiting ") {
+        let (name, rest) = rest.split_at(word_len(rest));
+        return cancel_waiting_of(name, rest);
+    }
+    let (word, rest) = text.split_at(word_len(text));
+    match number_of(word) {
+        Some(number) => cancel_of(number, rest),
+        None => Command::Unknown,
+    }
+}
+
 /// The command of a line that begins with none of the words that a text follows.
 fn numbered(line: &[u8]) -> Command<&[u8]>
     ensures { seen result ≡ numbered line.now }
@@ -87,10 +164,7 @@ fn numbered(line: &[u8]) -> Command<&[u8]>
         };
     }
     if let Some(text) = argument(line, b"cancel ") {
-        return match number_of(text) {
-            Some(number) => Command::Cancel(number),
-            None => Command::Unknown,
-        };
+        return cancelling(text);
     }
     Command::Unknown
 }
@@ -120,6 +194,8 @@ fn single(line: &[u8]) -> Command<&[u8]>
         Command::Help
     } else if let Some(text) = argument(line, b"waiting ") {
         Command::Waiting(text)
+    } else if let Some(text) = argument(line, b"failed ") {
+        Command::Failed(text)
     } else {
         numbered(line)
     }
@@ -169,10 +245,50 @@ mod tests {
             Command::Deploy(b"/etc/a b.toml".as_slice())
         );
         assert_eq!(rt; read_command(b"prune"), Command::Prune);
+        assert_eq!(rt;
+            read_command(b"failed LAB"),
+            Command::Failed(b"LAB".as_slice())
+        );
         assert_eq!(rt; read_command(b"cancel 0"), Command::Cancel(0));
         assert_eq!(rt; read_command(b"stop"), Command::Stop);
         assert_eq!(rt; read_command(b"stop now"), Command::StopNow);
         assert_eq!(rt; read_command(b"help"), Command::Help);
+    }
+
+    #[test]
+    fn cancellations_are_read_by_their_words(rt: HostRuntime) {
+        let (lab, all) = (b"LAB".as_slice(), b"all".as_slice());
+        assert_eq!(rt; read_command(b"cancel 7 "), Command::Cancel(7));
+        assert_eq!(rt; read_command(b"cancel 7 all"), Command::CancelAll(7));
+        assert_eq!(rt; read_command(b"cancel 7 LAB\r"), Command::CancelAt(7, lab));
+        assert_eq!(rt;
+            read_command(b"cancel 7 waiting"),
+            Command::CancelAt(7, b"waiting".as_slice())
+        );
+        assert_eq!(rt;
+            read_command(b"cancel waiting LAB"),
+            Command::CancelWaiting(lab)
+        );
+        assert_eq!(rt;
+            read_command(b"cancel waiting all"),
+            Command::CancelWaiting(all)
+        );
+        assert_eq!(rt;
+            read_command(b"cancel waiting LAB through 12"),
+            Command::CancelThrough(lab, 12)
+        );
+        for line in [
+            b"cancel LAB".as_slice(),
+            b"cancel all",
+            b"cancel waiting",
+            b"cancel waiting  LAB",
+            b"cancel waiting LAB 12",
+            b"cancel waiting LAB through",
+            b"cancel waiting LAB through 1 2",
+            b"cancel waiting LAB through 4294967296",
+        ] {
+            assert_eq!(rt; read_command(line), Command::Unknown);
+        }
     }
 
     #[test]

@@ -1,9 +1,9 @@
 //! `check`: whether a plan can be read, its size, and which messages go where.
 
-use crate::ended::{Ended, Trouble};
-use engine_report::{Fault, PlanSize, warned_plan};
+use engine_report::{Ended, Fault, PlanSize, Trouble, bounded_file, warned_service_plan};
 use fixed_numbers::EVENTS_MAX;
-use plan_table::plan_table;
+use plan_notes::plan_table;
+use service_run::PLAN_BYTES;
 
 /// Prints the size of the plan in a file and, where `verbose`, a table of which messages go where. What the plan is unlikely to
 /// mean, and how many messages the largest book takes, is said on standard error.
@@ -16,7 +16,8 @@ pub(crate) fn check<'a>(
     path: &'a str,
     verbose: bool,
 ) -> Result<Ended, Trouble<'a>> {
-    let plan = warned_plan(rt, path, EVENTS_MAX)?;
+    bounded_file(rt, path, PLAN_BYTES)?;
+    let plan = warned_service_plan(rt, path, EVENTS_MAX)?;
     let mut text = format!(in rt.alloc(); "{}\n", PlanSize::of(&plan))?;
     if verbose {
         text.push_str(&plan_table(rt.alloc(), &plan)?)?;

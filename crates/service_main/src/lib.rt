@@ -2,9 +2,8 @@
 #![tactic(auto)]
 
 mod check;
-mod ended;
 mod trying;
 mod words;
 
-pub use ended::{Ended, Trouble};
+pub use engine_report::{Ended, Trouble};
 pub use words::{Sockets, finish, perform, words_given};

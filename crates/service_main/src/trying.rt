@@ -2,11 +2,11 @@
 
 ghost use Rattle.std.specs.Prelude.{◌≡◌, ◌<◌, IfOk, IfSome, length};
 
-use crate::ended::{Ended, Trouble};
 use dry_run::{Trial, TryFault, try_input};
-use engine_report::{Fault, read_plan};
+use engine_report::{Ended, Fault, Trouble, bounded_file, read_plan};
 use hl7_head::Moment;
 use plan_text::Plan;
+use service_run::PLAN_BYTES;
 use std::alloc::{AllocError, Global};
 use std::io::{ErrorKind, Read};
 use std::sync::Arc;
@@ -90,6 +90,7 @@ pub(crate) fn try_messages<'a>(
     channel: Option<&'a str>,
 ) -> Result<Ended, Trouble<'a>> {
     let alloc = rt.alloc();
+    bounded_file(rt, path, PLAN_BYTES)?;
     let plan = Arc::new(alloc, read_plan(rt, path)?).map_err(AllocError::from)?;
     let channel = channel_of(alloc, &plan, channel)?;
     let input = read_input(rt)?;

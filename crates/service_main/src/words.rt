@@ -2,13 +2,12 @@
 
 ghost use Rattle.std.specs.Prelude.{◌≡◌, IfErr, IfOk};
 ghost use Rattle.std.specs.Process.{exit_status};
-ghost use Rattle.service_main.specs.inner.Ending.{ended_status, trouble_status};
+ghost use Rattle.engine_report.specs.inner.Ended.{ended_status, trouble_status};
 
 use crate::check::check;
-use crate::ended::{Ended, Trouble};
 use crate::trying::try_messages;
-use engine_report::{Fault, warned_plan};
-use service_run::{RunEnd, Settings, run};
+use engine_report::{Ended, Fault, Trouble, bounded_file, warned_service_plan};
+use service_run::{PLAN_BYTES, RunEnd, Settings, run};
 use service_words::{Request, parse_args};
 use service_workers::Crew;
 use std::env;
@@ -55,7 +54,8 @@ fn serve<'a, H: Crew + Threads + Eprint + Copy + Sync>(
     path: &'a str,
     settings: &Settings,
 ) -> Result<Ended, Trouble<'a>> {
-    let plan = warned_plan(rt, path, settings.events)?;
+    bounded_file(rt, path, PLAN_BYTES)?;
+    let plan = warned_service_plan(rt, path, settings.events)?;
     match run(rt, handle, path, plan, settings)? {
         RunEnd::Drained => Ok(Ended::Done),
         RunEnd::Undelivered => Ok(Ended::Undelivered),

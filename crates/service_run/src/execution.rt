@@ -1,15 +1,20 @@
 //! The commands on standard input.
 
+use crate::cancelling::{
+    ask_cancel_waiting, do_cancel, do_cancel_all, do_cancel_at, do_cancel_through,
+};
 use crate::output::{answer, say};
 use crate::questions::{
-    ask_find, ask_message, ask_metrics, ask_status, ask_waiting, do_cancel, do_deploy, do_prune,
+    ask_failed, ask_find, ask_message, ask_metrics, ask_status, ask_waiting, do_deploy, do_prune,
 };
 use crate::settings::Settings;
 use crate::workers::Workers;
 use book_lock::Sharing;
 use log::{Log, info};
+use service_answers::echo_text;
 use service_commands::{Command, HELP, Input, UNKNOWN, read_command, read_line};
 use service_workers::{Crew, Gate, Site, Stage, StandardInput, StopMode, has_ended, stop};
+use std::alloc::AllocError;
 use std::str;
 use std::time::Duration;
 
@@ -18,6 +23,17 @@ const LINE_BYTES: usize = 4_096;
 
 /// How many milliseconds one look at the workers waits, once no command can follow.
 const LOOK_MILLIS: u64 = 100;
+
+/// The line before the answer to a command that can't be shown.
+const UNSHOWN: &str = "> ..\n";
+
+/// Writes the line before an answer, which repeats the command.
+fn echo<A: Sharing, H: Crew>(rt: &HostRuntime, site: &Site<'_, A, H>, line: &[u8]) {
+    match echo_text(site.alloc, line) {
+        Ok(text) => say(rt, &text),
+        Err(AllocError) => say(rt, UNSHOWN),
+    }
+}
 
 /// Puts the plan in a file in force, where the path is text, and prints the result.
 fn deploy<A: Sharing, H: Crew>(
@@ -49,7 +65,12 @@ fn execute<A: Sharing, H: Crew>(
         Command::Waiting(name) => answer(rt, ask_waiting(site, name)),
         Command::Deploy(path) => deploy(rt, site, &workers.gates, path),
         Command::Prune => answer(rt, do_prune(site)),
+        Command::Failed(name) => answer(rt, ask_failed(site, name)),
         Command::Cancel(number) => answer(rt, do_cancel(site, number)),
+        Command::CancelAll(number) => answer(rt, do_cancel_all(site, number)),
+        Command::CancelAt(number, name) => answer(rt, do_cancel_at(site, number, name)),
+        Command::CancelWaiting(name) => answer(rt, ask_cancel_waiting(site, name)),
+        Command::CancelThrough(name, number) => answer(rt, do_cancel_through(site, name, number)),
         Command::Stop => begin_stop(rt, site, workers, StopMode::Drain, settings.grace),
         Command::StopNow => begin_stop(rt, site, workers, StopMode::Now, settings.grace),
         Command::Help => say(rt, HELP),
@@ -98,10 +119,14 @@ pub(crate) fn execute_all<A: Sharing, H: Crew>(
     for _ in site.rt.forever() {
         match read_line(&mut reader, &mut line) {
             Ok(Input::Line(len)) => {
+                echo(rt, site, &line[..len]);
                 let command = read_command(&line[..len]);
                 execute(rt, site, workers, settings, started, command);
             }
-            Ok(Input::TooLong) => say(rt, UNKNOWN),
+            Ok(Input::TooLong) => {
+                say(rt, UNSHOWN);
+                say(rt, UNKNOWN);
+            }
             Ok(Input::End) | Err(_) => return wait_for_end(site),
         }
     }

@@ -15,8 +15,21 @@ pub(crate) fn figures_of<A: Sharing, H: Crew>(site: &Site<'_, A, H>, started: u6
     for (moment, destination) in delivered.iter_mut().zip(0..u32::MAX) {
         *moment = site.last_delivered(destination);
     }
+    let (mut open_by_channel, mut places) = ([0; 64], [0; 64]);
+    for (count, channel) in open_by_channel.iter_mut().zip(0..u32::MAX) {
+        *count = site.channel_open(channel);
+    }
+    for (count, channel) in places.iter_mut().zip(0..u32::MAX) {
+        *count = site.channel_places(channel);
+    }
+    let mut sent_again = [0; 32];
+    for (count, destination) in sent_again.iter_mut().zip(0..u32::MAX) {
+        *count = site.sent_again(destination);
+    }
     Figures {
         started,
+        now: site.seconds(),
+        keep: site.keep,
         open: site.open(),
         refused: site.refused(),
         unbooked: Unbooked {
@@ -30,7 +43,10 @@ pub(crate) fn figures_of<A: Sharing, H: Crew>(site: &Site<'_, A, H>, started: u6
             broken: dropped.broken,
         },
         paused: site.paused(),
+        open_by_channel,
+        places,
         received,
         delivered,
+        sent_again,
     }
 }

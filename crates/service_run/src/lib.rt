@@ -1,6 +1,7 @@
 //! A running service: its listeners, its threads, the commands that it obeys, and its end.
 #![tactic(auto)]
 
+mod cancelling;
 mod ending;
 mod execution;
 mod figures;
@@ -12,5 +13,6 @@ mod settings;
 mod threads;
 mod workers;
 
+pub use questions::PLAN_BYTES;
 pub use service::{RunEnd, run};
 pub use settings::Settings;

@@ -1,25 +1,30 @@
 //! The commands that ask the book something, and those that change it.
 
+ghost use Rattle.std.specs.Prelude.{◌<◌, IfSome};
+
 use crate::figures::figures_of;
-use book_core::Front;
+use book_core::{Failure, Front};
 use book_lock::{Gauge, Sharing, Status};
 use log::{Log, info, warn};
-use log_text::{ControlId, Escaped};
+use log_text::Escaped;
 use plan_notes::{Line, warnings};
 use plan_text::Plan;
 use service_answers::{
-    Listed, Places, Rename, SHOWN_MAX, add_listener, bad_plan_text, cancelled_text, control_id_of,
-    deployed_text, found_text, message_text, metrics_text, no_file_text, no_regular_file_text,
-    not_cancelled_text, pruned_text, refused_plan_text, rename_at, status_text, unescaped,
-    unpruned_text, waiting_text,
+    Listed, ListedFailure, Rename, SHOWN_MAX, add_listener, bad_plan_text, deployed_text,
+    failed_text, few_prunings_text, found_text, frees_little_text, long_file_text, message_text,
+    metrics_text, no_file_text, no_regular_file_text, pruned_text, refused_plan_text, rename_at,
+    status_text, unescaped, unpruned_text, waiting_text,
 };
 use service_commands::Refused;
-use service_workers::{Crew, Gate, Site};
+use service_workers::{Crew, Gate, PruneRefusal, Site, prune_refusal};
 use stat_count::{Counts, DESTINATIONS, DestinationCounts};
-use std::alloc::AllocError;
+use std::alloc::{AllocError, Global};
 use std::fs;
 use std::io::ErrorKind;
 use std::sync::Arc;
+
+/// The most bytes of a file that is read as a plan.
+pub const PLAN_BYTES: u64 = 4_194_304;
 
 /// How many message numbers are looked at while the book's lock is held.
 pub const SLICE: u32 = 4_096;
@@ -128,22 +133,28 @@ pub(crate) fn queued<A: Sharing, H: Crew>(
     Ok(fronts)
 }
 
-/// The index of the destination of a name, and the messages that wait for it or are in flight there.
-fn destination_named(plan: &Plan, counts: &Counts, name: &[u8]) -> Option<(u32, u64)> {
+/// The index of the destination of a name.
+pub(crate) fn destination_named(plan: &Plan, name: &[u8]) -> Option<u32>
+    ensures { IfSome result (λ index. index < 32) }
+{
     plan.rules();
     for index in 0..plan.destinations() {
         if let Some(destination) = plan.destination(index)
             && destination.name().as_bytes() == name
         {
-            let DestinationCounts {
-                waiting,
-                inflight,
-                ..
-            } = counts.destination(index);
-            return Some((index, waiting.saturating_add(inflight)));
+            return Some(index);
         }
     }
     None
+}
+
+/// The answer to a command about a destination that the plan doesn't have.
+///
+/// # Errors
+///
+/// Where memory is refused.
+pub(crate) fn no_destination_text(alloc: Global) -> Result<String, AllocError> {
+    format!(in alloc; "{}", Refused("the plan has no destination of that name"))
 }
 
 /// What waits for the destination of a name.
@@ -156,15 +167,76 @@ pub(crate) fn ask_waiting<A: Sharing, H: Crew>(
     name: &[u8],
 ) -> Result<String, AllocError> {
     let (status, plan) = site.shared.status(site.rt)?;
-    let Some((destination, all)) = destination_named(&plan, &status.counts, name) else {
-        return format!(in site.alloc; "{}", Refused("the plan has no destination of that name"));
+    let Some(destination) = destination_named(&plan, name) else {
+        return no_destination_text(site.alloc);
     };
+    let DestinationCounts {
+        waiting,
+        inflight,
+        ..
+    } = status.counts.destination(destination);
     let mut listed = Vec::new(site.alloc);
     for front in queued(site, destination, SHOWN_MAX)? {
         let found = site.shared.message(site.rt, front.number)?;
         listed.push(Listed { front, found })?;
     }
-    waiting_text(site.alloc, &listed, all)
+    waiting_text(site.alloc, &listed, waiting.saturating_add(inflight))
+}
+
+/// The messages that failed at a destination.
+#[derive(Drop)]
+struct Failures {
+    /// The last of them, newest first, as many as an answer shows.
+    newest: Vec<Failure>,
+    /// How many are remembered.
+    remembered: u64,
+}
+
+/// The remembered messages that failed at a destination, looked for a slice at a time, the newest slice first.
+fn failures_at<A: Sharing, H: Crew>(
+    site: &Site<'_, A, H>,
+    destination: u32,
+) -> Result<Failures, AllocError> {
+    let gauge = site.shared.gauge(site.rt);
+    let span = gauge.messages.saturating_sub(gauge.first);
+    let (mut newest, mut remembered) = (Vec::new(site.alloc), 0u64);
+    for back in (0..span).step_by(SLICE as usize) {
+        let most = SLICE.min(span.saturating_sub(back));
+        let from = gauge.messages.saturating_sub(back).saturating_sub(most);
+        let found = site.shared.failed(site.rt, destination, from, most)?;
+        remembered = remembered.saturating_add(found.len() as u64);
+        for failure in found.iter().rev() {
+            if newest.len() < SHOWN_MAX {
+                newest.push(*failure)?;
+            }
+        }
+    }
+    Ok(Failures { newest, remembered })
+}
+
+/// What failed at the destination of a name: the last messages that are remembered, newest first, and how many there are. They are
+/// counted behind the search, so the count has what failed meanwhile.
+///
+/// # Errors
+///
+/// Where memory is refused, or the plan has more owners than can be counted.
+pub(crate) fn ask_failed<A: Sharing, H: Crew>(
+    site: &Site<'_, A, H>,
+    name: &[u8],
+) -> Result<String, AllocError> {
+    let plan = site.shared.plan(site.rt)?;
+    let Some(destination) = destination_named(&plan, name) else {
+        return no_destination_text(site.alloc);
+    };
+    let Failures { newest, remembered } = failures_at(site, destination)?;
+    let mut listed = Vec::new(site.alloc);
+    for failure in newest {
+        let found = site.shared.message(site.rt, failure.number)?;
+        listed.push(ListedFailure { failure, found })?;
+    }
+    let (status, _plan) = site.shared.status(site.rt)?;
+    let all = status.counts.destination(destination).failed;
+    failed_text(site.alloc, &listed, remembered, all)
 }
 
 /// Whether a pruning that keeps the last `keep` messages would change nothing: the book holds no entry that it would fold, as those
@@ -182,8 +254,8 @@ fn is_pruned(status: &Status, keep: u32) -> bool {
     held == 0 && before <= first
 }
 
-/// Forgets what is settled, and says what was forgotten, what stays and why. Where nothing would change, no pruning is made, since
-/// their number is limited.
+/// Forgets what is settled, and says what was forgotten, what stays and why. Where nothing or little would change, or few are left,
+/// no pruning is made, since their number is limited.
 ///
 /// # Errors
 ///
@@ -192,6 +264,13 @@ pub(crate) fn do_prune<A: Sharing, H: Crew>(site: &Site<'_, A, H>) -> Result<Str
     let (status, _plan) = site.shared.status(site.rt)?;
     if is_pruned(&status, site.keep) {
         return unpruned_text(site.alloc, site.keep, status.first_live);
+    }
+    match prune_refusal(&status, site.keep) {
+        Some(PruneRefusal::FewLeft) => return few_prunings_text(site.alloc),
+        Some(PruneRefusal::FreesLittle) => {
+            return frees_little_text(site.alloc, status.gauge.events_max);
+        }
+        None => {}
     }
     match site.shared.prune_settled(site.rt, site.keep) {
         Ok(before) => {
@@ -208,32 +287,9 @@ pub(crate) fn do_prune<A: Sharing, H: Crew>(site: &Site<'_, A, H>) -> Result<Str
     }
 }
 
-/// Cancels a message, and says at which destinations, or why not.
-///
-/// # Errors
-///
-/// Where memory is refused, or the plan has more owners than can be counted.
-pub(crate) fn do_cancel<A: Sharing, H: Crew>(
-    site: &Site<'_, A, H>,
-    number: u32,
-) -> Result<String, AllocError> {
-    let plan = site.shared.plan(site.rt)?;
-    let id = control_id_of(site.alloc, &site.shared.message(site.rt, number)?)?;
-    match site.shared.cancel(site.rt, number) {
-        Ok(mask) => {
-            let destinations = Places { plan: &plan, mask };
-            info!(site.rt; target: "always", message = number, control_id:% = ControlId(&id), destinations:% = destinations; "message cancelled");
-            cancelled_text(site.alloc, &plan, mask)
-        }
-        Err(refusal) => {
-            let found = site.shared.message(site.rt, number)?;
-            not_cancelled_text(site.alloc, &plan, number, &found, refusal)
-        }
-    }
-}
-
 /// The bytes of a file, or the answer that says why they can't be read. What is no regular file is not opened: opening a FIFO that
-/// nobody writes to has no end, and neither has reading some devices.
+/// nobody writes to has no end, and neither has reading some devices. A file of more than 4 MiB is not opened either: while it was
+/// read, no command would be obeyed.
 fn read_file<A: Sharing, H: Crew>(
     rt: &HostRuntime,
     site: &Site<'_, A, H>,
@@ -242,6 +298,9 @@ fn read_file<A: Sharing, H: Crew>(
     let read = match fs::metadata(rt, path) {
         Ok(found) if !found.is_file() => {
             return Ok(Err(no_regular_file_text(site.alloc, path)?));
+        }
+        Ok(found) if found.len() > PLAN_BYTES => {
+            return Ok(Err(long_file_text(site.alloc, path, PLAN_BYTES)?));
         }
         Ok(_) => fs::read(rt, path),
         Err(error) => Err(error),

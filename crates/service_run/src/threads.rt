@@ -53,12 +53,12 @@ fn start_places<'s, 'x: 's, E: 's, A: Sharing + Send + Sync + 's, H: Crew + Sync
         let Some(gate) = gate_of(gates, index) else {
             break;
         };
-        site.begin_place();
+        site.begin_place(gate.channel());
         let started = Builder::new()
             .stack_size(STACK_BYTES)
             .spawn_scoped(scope, move || work_place(site, gate, place));
         if started.is_err() {
-            site.end_place();
+            site.lose_place(gate.channel());
             refused = refused.saturating_add(1);
         }
     }

@@ -23,9 +23,14 @@ line. The end of standard input ends nothing.
   message N      where message N is
   find ID        the numbers of the messages with this control id (MSH-10), at most 100
   waiting NAME   the first 100 messages in a destination's queue
+  failed NAME    the last 100 messages that failed at a destination, newest first, and why
   deploy PATH    takes the plan in this file in place of the one in force
   prune          forgets what is settled, but for the last messages that are kept
-  cancel N       delivers message N nowhere any more
+  cancel N       does not deliver message N where it waits, if that is one destination
+  cancel N NAME  does not deliver message N at this destination
+  cancel N all   does not deliver message N wherever it waits
+  cancel waiting NAME            changes nothing: how many wait at this destination, and the line that cancels them
+  cancel waiting NAME through N  does not deliver the messages up to N that wait at this destination
   stop           reads no further block, delivers what waits, and ends
   stop now       ends without waiting for deliveries
 

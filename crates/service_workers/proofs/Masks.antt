@@ -1,5 +1,5 @@
 -- A mask whose bits are set one after another.
-use Rattle.std.proofs.Common.{◌≡◌, ◌≢◌, ◌==◌, ℕ, ◌+◌, ◌*◌, ◌%◌, ◌^◌, ◌<◌, ◌≤◌, Bool, true, false, length, ap, bit_or, w64, sym, ◌∙◌, inl, inr, arith, subst}
+use Rattle.std.proofs.Common.{◌≡◌, ◌≢◌, ◌==◌, ℕ, ◌+◌, ◌*◌, ◌%◌, ◌^◌, ◌<◌, ◌≤◌, Bool, true, false, is_some, length, ap, bit_or, w64, sym, ◌∙◌, inl, inr, arith, subst}
 use Rattle.std.specs.Int.{bit_at}
 use Rattle.std.specs.Option.{option_map_or}
 use Rattle.std.proofs.lemmas.Nat.Bits.{bit_at-zero, bit_at_set_same, bit_at_set_other}
@@ -7,7 +7,7 @@ use Rattle.std.proofs.lemmas.Option.{slice_get_past}
 use Rattle.event_log.proofs.OneMore.{lt-tells}
 use Rattle.book_lock.specs.declared.status.Status.{Status}
 use Rattle.plan_text.specs.Entries.{PlanEntry}
-use Rattle.service_workers.specs.inner.Pauses.{pauses, pauses_at}
+use Rattle.service_workers.specs.inner.Pauses.{held_back_at, held_back_route, pauses, pauses_at}
 
 -- a bit that is set, and the others
 pub set_here : (mask channel : ℕ) (is_set : Bool) → channel < 64 → is_set ≡ true
@@ -46,4 +46,12 @@ mask_all p s keep before mask is c = elim (lt-tells c (length p.channels)) [
   | inl w ↦ is.below c w.1
   | inr w ↦
       ap (λ b. b == 1) (is.above c w.1) ∙ sym (ap (λ x. option_map_or (pauses p s keep (bit_at before c == 1)) x false) (slice_get_past p.channels c w.1))
+]
+
+pub mask_all_held_back : (p : PlanEntry) (s : Status) (mask : ℕ) → IsMask (held_back_at p s) (length p.channels) mask
+    → (c : ℕ) → (bit_at mask c == 1) ≡ held_back_at p s c
+mask_all_held_back p s mask is c = elim (lt-tells c (length p.channels)) [
+  | inl w ↦ is.below c w.1
+  | inr w ↦
+      ap (λ b. b == 1) (is.above c w.1) ∙ sym (ap (λ x. option_map_or (λ e. is_some (held_back_route p s e)) x false) (slice_get_past p.channels c w.1))
 ]

@@ -1,31 +1,39 @@
 //! A desk of a shared book that prunes itself, at which the messages of a channel are booked.
 
-ghost use Rattle.std.specs.Prelude.{◌≡◌, ◌↔◌, IfSome, IsErrOf, IsTrue};
+ghost use Rattle.std.specs.Prelude.{◌≡◌, ◌↔◌, Err, IfErr, IfOk, IfSome, IsErrOf, IsNone, IsTrue, OnErr};
+ghost use Rattle.judge_core.specs.Judging.{is_bookable};
+ghost use Rattle.book_lock.specs.inner.Arriving.{ArrivesAtDesk};
+ghost use Rattle.book_lock.specs.inner.Planning.{WasInForce};
 
 use crate::pauses::paused_by;
 use crate::site::{Crew, Site};
 use book_core::{NotBooked, Receipt};
-use book_lock::{Desk, Sharing, Tidied, Tidying};
+use book_lock::{Crowded, Desk, Sharing, Tidied, Tidying};
 use conn_core::Booking;
-use conn_worker::{log_arrival, log_break, log_fill, log_passed_over};
+use conn_worker::{log_arrival, log_break, log_cut, log_fill, log_passed_over};
 use event_log::Told;
 use judge_core::{Judged, judge};
 use log::{Log, info, warn};
 use mllp_frame::Break;
 use plan_text::Plan;
+use socket_options::is_broken;
 use std::alloc::AllocError;
+use std::net::TcpStream;
 use std::sync::Arc;
 
 /// An arrival looks at how full the book is, for the log and for pausing, where the index of its entry is a multiple of this.
 const FILL_STEP: usize = 16;
 
-/// A desk of a shared book. An arrival that finds the book tight first forgets what is settled, but for the last messages
-/// that the site keeps. A call holds the book's lock for a moment; one that forgets messages holds it in proportion to what is
-/// remembered. What is not booked is counted at once.
+/// A desk of a shared book. An arrival that finds the book tight, or without room for it, first forgets what is settled, but
+/// for the last messages that the site keeps. One whose channel has a route to a crowded destination waits, and what its sender
+/// sends next isn't read meanwhile. A call holds the book's lock for a moment; one that forgets messages holds it in proportion
+/// to what is remembered. What is not booked is counted at once.
 #[derive(Drop)]
 pub struct AtPlace<'a, 'x, A: Sharing, H> {
     pub site: &'a Site<'x, A, H>,
     pub desk: &'a mut Desk<A>,
+    /// The connection over which the messages are received.
+    pub stream: &'a TcpStream,
 }
 
 /// Logs what was done about a tight book.
@@ -42,6 +50,65 @@ fn is_plan_changed(receipt: &Result<Receipt, NotBooked>) -> bool
     ensures { IsTrue result ↔ IsErrOf receipt.now NotBooked.PlanChanged }
 {
     matches!(receipt, Err(NotBooked::PlanChanged))
+}
+
+/// Books an arrival, unless its channel has a route to a crowded destination. `by_desk` says that the message was judged by the
+/// plan that the desk was given.
+fn book_tidied<A: Sharing, H: Crew>(
+    site: &Site<'_, A, H>,
+    desk: &mut Desk<A>,
+    conn: u32,
+    judged: &Judged,
+    by_desk: bool,
+) -> Result<Tidied, Crowded>
+    requires bookable { IsTrue (is_bookable judged.now.raw) }
+    requires by_plan { IsTrue by_desk → WasInForce A.opening
+        desk.old.seat.seen desk.old.deployed judged.now.plan }
+    ensures at_desk { IfOk result (λ tidied.
+        ArrivesAtDesk A.opening conn judged.now desk.old desk.new tidied.receipt) }
+    ensures same { OnErr result (desk.new ≡ desk.old) }
+{
+    if by_desk {
+        return site
+            .shared
+            .arrive_tidy_judged(site.rt, desk, conn, judged, site.keep);
+    }
+    site.shared
+        .arrive_tidy(site.rt, desk, conn, judged, site.keep)
+}
+
+/// Books an arrival once its channel has no route to a crowded destination. Nothing is booked where the service stops before
+/// that, or the connection was reset: its sender has to send again what was not acknowledged.
+fn book_when_free<A: Sharing, H: Crew>(
+    site: &Site<'_, A, H>,
+    stream: &TcpStream,
+    desk: &mut Desk<A>,
+    conn: u32,
+    judged: &Judged,
+    by_desk: bool,
+) -> Option<Tidied>
+    requires bookable { IsTrue (is_bookable judged.now.raw) }
+    requires by_plan { IsTrue by_desk → WasInForce A.opening
+        desk.old.seat.seen desk.old.deployed judged.now.plan }
+    ensures at_desk { IfSome result (λ tidied.
+        ArrivesAtDesk A.opening conn judged.now desk.old desk.new tidied.receipt) }
+    ensures same { IsNone result → desk.new ≡ desk.old }
+{
+    let channel = judged.channel();
+    'tries: for _ in site.rt.forever() {
+        if is_broken(stream) {
+            return None;
+        }
+        match book_tidied(site, desk, conn, judged, by_desk) {
+            Ok(tidied) => return Some(tidied),
+            Err(crowded) => log_tidying(site.rt, crowded.tidying),
+        }
+        site.hold_back_also(channel);
+        if !site.wait_for_room(channel, stream) {
+            return None;
+        }
+    }
+    None
 }
 
 /// Has reading pause at the channels that the book has no room for, at once: many messages may be received before the warden
@@ -79,6 +146,21 @@ impl<'a, 'x, A: Sharing, H: Crew> AtPlace<'a, 'x, A, H> {
         receipt
     }
 
+    /// Logs and counts an arrival that is not booked: the service stops while a destination of its channel is crowded, or the
+    /// connection was reset. It is answered as one for which there is no room; over a connection that was reset nobody reads that.
+    fn note_stop(&self, conn: u32, judged: &Judged) -> Result<Receipt, NotBooked>
+        ensures { result ≡ Err NotBooked.Full }
+    {
+        let refused = Err(NotBooked::Full);
+        if is_broken(self.stream) {
+            log_cut(self.site.rt, conn, judged);
+            return refused;
+        }
+        log_arrival(self.site.rt, self.site.alloc, conn, judged, &refused);
+        self.site.count_unbooked(NotBooked::Full);
+        refused
+    }
+
     /// A message judged once more, by the plan that is in force now. Nothing where memory is refused for that, or the plan
     /// doesn't have the message's channel.
     fn judged_anew(&self, judged: &Judged) -> Option<Judged>
@@ -98,7 +180,6 @@ impl<'a, 'x, A: Sharing, H: Crew> AtPlace<'a, 'x, A, H> {
 
 impl<'a, 'x, A: Sharing, H: Crew> Booking for AtPlace<'a, 'x, A, H> {
     ghost use Rattle.std.specs.Prelude.{refl, ⊤};
-    ghost use Rattle.book_lock.specs.inner.Planning.{WasInForce};
     ghost use Rattle.conn_worker.specs.inner.Arriving.{BooksAtDesk, desk_after, desk_nothing};
 
     /// The arrivals of these receipts were booked at the desk, in this order, and nothing else was. It is the same desk.
@@ -121,20 +202,19 @@ impl<'a, 'x, A: Sharing, H: Crew> Booking for AtPlace<'a, 'x, A, H> {
     }
 
     fn arrive(&mut self, conn: u32, judged: &Judged) -> Result<Receipt, NotBooked> {
-        let tidied = self
-            .site
-            .shared
-            .arrive_tidy(self.site.rt, self.desk, conn, judged, self.site.keep);
-        self.note_arrival(conn, judged, tidied)
+        match book_when_free(self.site, self.stream, self.desk, conn, judged, false) {
+            Some(tidied) => self.note_arrival(conn, judged, tidied),
+            None => self.note_stop(conn, judged),
+        }
     }
 
     /// A message for which another plan was deployed since it was judged is judged once more. Where another one is
     /// deployed at that moment too, or memory is refused, it is not booked.
     fn arrive_judged(&mut self, conn: u32, judged: &Judged) -> Result<Receipt, NotBooked> {
-        let tidied = self
-            .site
-            .shared
-            .arrive_tidy_judged(self.site.rt, self.desk, conn, judged, self.site.keep);
+        let booked = book_when_free(self.site, self.stream, self.desk, conn, judged, true);
+        let Some(tidied) = booked else {
+            return self.note_stop(conn, judged);
+        };
         if is_plan_changed(&tidied.receipt)
             && let Some(anew) = self.judged_anew(judged)
         {

@@ -1,9 +1,10 @@
 //! The halves of a connection.
 
-ghost use Rattle.std.specs.Io.{WritesAtMost};
+ghost use Rattle.std.specs.Io.{ReadsAtMost, WritesAtMost};
 
 use crate::stage::Stage;
 use log::{Log, warn};
+use socket_options::is_broken;
 use std::io::{ErrorKind, Read, Write};
 use std::net::{Shutdown, SocketAddr, TcpStream};
 use std::sync::atomic::{AtomicU32, AtomicU64, Ordering};
@@ -18,7 +19,7 @@ const WRITE_WAIT: u64 = 5;
 const WRITE_WAITS: u32 = 12;
 
 /// How many milliseconds pass between two looks whether the reading of a channel goes on.
-const PAUSE_STEP: u64 = 50;
+pub(crate) const PAUSE_STEP: u64 = 50;
 
 /// How many milliseconds one wait for further bytes takes at most, once a connection is to be ended.
 const DRAIN_WAIT: u64 = 100;
@@ -39,7 +40,9 @@ pub struct Label<'a> {
 
 /// One of the two halves of a connection: what is read by, or what is written by. Each failure is one line of the log.
 ///
-/// A read waits while the reading of the channel pauses. Once the service closes, reads find the end of the input.
+/// A read waits while the reading of the channel pauses. Once the service closes, reads find the end of the input. Once the
+/// connection is reset by its sender, nothing more is read, also of what was received before: a sender that resets a connection
+/// sends over another one what was not acknowledged, and the rest of the first one would come behind that.
 #[derive(Drop)]
 pub struct Half<'a, H> {
     rt: &'a H,
@@ -82,6 +85,18 @@ fn write_some(mut stream: &TcpStream, buf: &[u8]) -> io::Result<usize>
         }
     }
     Err(io::Error::from(ErrorKind::TimedOut))
+}
+
+/// Reads what was received, unless the connection is broken.
+fn read_unbroken(mut stream: &TcpStream, buf: &mut [u8]) -> io::Result<usize>
+    ensures { ReadsAtMost result buf.new }
+{
+    let answer = stream.read(buf);
+    // What was received before is read first, whatever came after it.
+    if answer.is_ok() && is_broken(stream) {
+        return Err(io::Error::from_raw_os_error(libc::ECONNRESET));
+    }
+    answer
 }
 
 /// Reads and drops what is received, in one read. Returns whether more may be received.
@@ -150,10 +165,10 @@ impl<'a, H: Log + Clock + Wait> Half<'a, H> {
         channels.checked_shr(self.channel).unwrap_or(0) % 2 == 1
     }
 
-    /// Waits while the reading of the channel pauses and the service doesn't close.
+    /// Waits while the reading of the channel pauses, the service doesn't close and the connection isn't broken.
     fn wait_for_room(&self) {
         for _ in self.rt.forever() {
-            if !self.is_paused() || self.is_closing() {
+            if !self.is_paused() || self.is_closing() || is_broken(&self.stream) {
                 return;
             }
             thread::sleep(self.rt, Duration::from_millis(PAUSE_STEP));
@@ -199,8 +214,7 @@ impl<'a, H: Log + Clock + Wait> Read for Half<'a, H> {
         if self.is_closing() {
             return Ok(0);
         }
-        let mut stream: &TcpStream = &self.stream;
-        let answer = stream.read(buf);
+        let answer = read_unbroken(&self.stream, buf);
         self.log(
             "reading from the sender",
             &answer,

@@ -92,6 +92,7 @@ fn serve_stream<A: Sharing, H: Crew>(
     let stream = Arc::new(site.alloc, stream).map_err(AllocError::from)?;
     let mut reader = Counted::new(site.half(Arc::try_clone(&stream)?, channel, label));
     let mut writer = Counted::new(site.half(Arc::try_clone(&stream)?, channel, label));
+    let link = Arc::try_clone(&stream)?;
     hold.put(site.rt, Some(stream));
     // A stop that began before the stream was put there didn't find it.
     if site.stage() != Stage::Open {
@@ -106,6 +107,7 @@ fn serve_stream<A: Sharing, H: Crew>(
     let mut book = AtPlace {
         site,
         desk: &mut *desk,
+        stream: &link,
     };
     let report = serve_within(
         &line,
@@ -215,9 +217,9 @@ fn serve_accepted<A: Sharing, H: Crew>(
         connection,
         peer,
     };
-    site.count_opened();
+    site.count_opened(gate.channel());
     let served = serve_stream(site, gate.channel(), hold, desk, stream, label);
-    site.count_ended();
+    site.count_ended(gate.channel());
     if log_end(site, label, served) {
         site.count_refused();
         thread::sleep(site.rt, Duration::from_millis(RETRY_MILLIS));

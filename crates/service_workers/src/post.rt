@@ -81,7 +81,7 @@ fn deliver_all<A: Sharing, H: Crew>(site: &Site<'_, A, H>, work: PostWork<A>) ->
         mut station,
         ..
     } = work;
-    let mut link = TcpLink::new(site.rt, PlanWay::new(site, destination));
+    let mut link = TcpLink::new(site.rt, PlanWay::new(site, destination)).parting(site.alloc);
     let report = deliver_until(
         site.rt,
         site.alloc,

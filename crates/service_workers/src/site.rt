@@ -1,6 +1,6 @@
 //! What all workers of a service share.
 
-use crate::half::{Half, Label};
+use crate::half::{Half, Label, PAUSE_STEP};
 use crate::stage::Stage;
 use crate::tallies::{Dropped, Tallies, Unbooked};
 use book_core::{NotBooked, Outbound};
@@ -9,11 +9,13 @@ use dest_queue::Queued;
 use judge_core::Judged;
 use log::Log;
 use record_list::RecordList;
+use socket_options::is_broken;
 use std::alloc::Global;
 use std::net::{Net, TcpListener, TcpStream};
 use std::sync::atomic::{AtomicU32, AtomicU64, Ordering};
 use std::sync::{Arc, Wait};
-use std::time::Clock;
+use std::thread;
+use std::time::{Clock, Duration};
 
 /// The store of a book's rows: linked nodes.
 pub type ServiceRows = RecordList<Queued<Outbound>>;
@@ -46,6 +48,8 @@ pub struct Site<'x, A: Sharing, H> {
     stage: AtomicU32,
     /// The channels whose reading pauses, one bit each.
     paused: AtomicU64,
+    /// The channels whose arrivals are held back, one bit each.
+    held_back: AtomicU64,
     tallies: Tallies,
 }
 
@@ -69,6 +73,7 @@ impl<'x, A: Sharing, H: Crew> Site<'x, A, H> {
             posts: AtomicU32::new(0),
             stage: AtomicU32::new(0),
             paused: AtomicU64::new(0),
+            held_back: AtomicU64::new(0),
             tallies: Tallies::new(),
         }
     }
@@ -108,19 +113,63 @@ impl<'x, A: Sharing, H: Crew> Site<'x, A, H> {
         self.paused.fetch_or(channels, Ordering::SeqCst);
     }
 
+    /// Notes that the arrivals of the channels of this mask are held back, and of no other.
+    pub(crate) fn hold_back(&self, channels: u64) {
+        self.held_back.store(channels, Ordering::SeqCst);
+    }
+
+    /// Notes that the arrivals of the channel at this index are held back too.
+    pub(crate) fn hold_back_also(&self, channel: u32) {
+        let here = 1_u64.checked_shl(channel).unwrap_or(0);
+        self.held_back.fetch_or(here, Ordering::SeqCst);
+    }
+
+    /// Whether the arrivals of the channel at this index are held back.
+    fn is_held_back(&self, channel: u32) -> bool {
+        let channels = self.held_back.load(Ordering::SeqCst);
+        channels.checked_shr(channel).unwrap_or(0) % 2 == 1
+    }
+
+    /// Waits while the arrivals of the channel at this index are held back. Returns whether the service is open and the connection
+    /// is not broken.
+    pub(crate) fn wait_for_room(&self, channel: u32, stream: &TcpStream) -> bool {
+        for _ in self.rt.forever() {
+            if self.stage() != Stage::Open || is_broken(stream) {
+                return false;
+            }
+            if !self.is_held_back(channel) {
+                return true;
+            }
+            thread::sleep(self.rt, Duration::from_millis(PAUSE_STEP));
+        }
+        false
+    }
+
     /// How many connections are open.
     pub fn open(&self) -> u32 {
         self.open.load(Ordering::SeqCst)
     }
 
-    /// Counts a connection that was opened.
-    pub(crate) fn count_opened(&self) {
+    /// Counts a connection of the channel at this index that was opened.
+    pub(crate) fn count_opened(&self, channel: u32) {
         self.open.fetch_add(1, Ordering::SeqCst);
+        self.tallies.count_opened(channel);
     }
 
-    /// Counts a connection that ended.
-    pub(crate) fn count_ended(&self) {
+    /// Counts a connection of the channel at this index that ended.
+    pub(crate) fn count_ended(&self, channel: u32) {
         self.open.fetch_sub(1, Ordering::SeqCst);
+        self.tallies.count_ended(channel);
+    }
+
+    /// How many connections of the channel at this index are open.
+    pub fn channel_open(&self, channel: u32) -> u64 {
+        self.tallies.open(channel)
+    }
+
+    /// How many connections of the channel at this index can be served at once.
+    pub fn channel_places(&self, channel: u32) -> u64 {
+        self.tallies.places(channel)
     }
 
     /// Counts a connection that was closed because no number was left for it or memory was refused.
@@ -141,6 +190,16 @@ impl<'x, A: Sharing, H: Crew> Site<'x, A, H> {
     /// How many messages failed since their last attempt was cut off by the stop. Each was named in the log.
     pub fn cut(&self) -> u64 {
         self.tallies.cut()
+    }
+
+    /// Counts a message that was sent to the destination at this index a second time within one attempt.
+    pub(crate) fn count_sent_again(&self, destination: u32) {
+        self.tallies.count_sent_again(destination);
+    }
+
+    /// How many messages were sent to the destination at this index a second time within one attempt. Each was named in the log.
+    pub fn sent_again(&self, destination: u32) -> u64 {
+        self.tallies.sent_again(destination)
     }
 
     /// Counts a message that was not booked.
@@ -172,7 +231,7 @@ impl<'x, A: Sharing, H: Crew> Site<'x, A, H> {
     }
 
     /// The time by the system's clock in seconds since 1970; 0 where it can't be read.
-    fn seconds(&self) -> u64 {
+    pub fn seconds(&self) -> u64 {
         match self.rt.since_1970() {
             Ok(time) => time.as_secs(),
             Err(_) => 0,
@@ -204,9 +263,16 @@ impl<'x, A: Sharing, H: Crew> Site<'x, A, H> {
         self.places.load(Ordering::SeqCst)
     }
 
-    /// Counts a place that begins to work.
-    pub fn begin_place(&self) {
+    /// Counts a place of the channel at this index that begins to work.
+    pub fn begin_place(&self, channel: u32) {
         self.places.fetch_add(1, Ordering::SeqCst);
+        self.tallies.count_place(channel);
+    }
+
+    /// Notes that a place of the channel at this index can't work, since no thread was started for it.
+    pub fn lose_place(&self, channel: u32) {
+        self.end_place();
+        self.tallies.lose_place(channel);
     }
 
     /// Counts a place that ended.

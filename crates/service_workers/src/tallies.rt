@@ -51,10 +51,16 @@ pub struct Tallies {
     broken: AtomicU64,
     refused: AtomicU64,
     cut: AtomicU64,
+    /// How many connections of each channel are open, by index.
+    open: [AtomicU64; CHANNELS as usize],
+    /// How many connections of each channel can be served at once, by index.
+    places: [AtomicU64; CHANNELS as usize],
     /// When the last message of each channel was accepted or filtered, by index, in seconds since 1970; 0 where none was.
     received: [AtomicU64; CHANNELS as usize],
     /// When the last message was delivered to each destination, by index, in seconds since 1970; 0 where none was.
     delivered: [AtomicU64; DESTINATIONS as usize],
+    /// How many messages were sent to each destination a second time within one attempt, by index.
+    sent_again: [AtomicU64; DESTINATIONS as usize],
 }
 
 /// The value of a counter of these, or 0 where there is none at this index.
@@ -72,6 +78,20 @@ fn set_at(counters: &[AtomicU64], index: u32, value: u64) {
     }
 }
 
+/// Adds one to the counter at an index of these, if there is one.
+fn raise_at(counters: &[AtomicU64], index: u32) {
+    if let Some(counter) = counters.get(index as usize) {
+        counter.fetch_add(1, Ordering::SeqCst);
+    }
+}
+
+/// Takes one from the counter at an index of these, if there is one.
+fn lower_at(counters: &[AtomicU64], index: u32) {
+    if let Some(counter) = counters.get(index as usize) {
+        counter.fetch_sub(1, Ordering::SeqCst);
+    }
+}
+
 impl Tallies {
     /// The counters of a service that has done nothing yet.
     pub fn new() -> Self {
@@ -84,8 +104,11 @@ impl Tallies {
             broken: AtomicU64::new(0),
             refused: AtomicU64::new(0),
             cut: AtomicU64::new(0),
+            open: array::from_fn(|_| AtomicU64::new(0)),
+            places: array::from_fn(|_| AtomicU64::new(0)),
             received: array::from_fn(|_| AtomicU64::new(0)),
             delivered: array::from_fn(|_| AtomicU64::new(0)),
+            sent_again: array::from_fn(|_| AtomicU64::new(0)),
         }
     }
 
@@ -150,6 +173,48 @@ impl Tallies {
     /// How many messages failed since their last attempt was cut off by the stop.
     pub fn cut(&self) -> u64 {
         self.cut.load(Ordering::SeqCst)
+    }
+
+    /// Counts a connection of a channel that was opened.
+    pub fn count_opened(&self, channel: u32) {
+        raise_at(&self.open, channel);
+    }
+
+    /// Counts a connection of a channel that ended.
+    pub fn count_ended(&self, channel: u32) {
+        lower_at(&self.open, channel);
+    }
+
+    /// How many connections of a channel are open.
+    pub fn open(&self, channel: u32) -> u64 {
+        value_at(&self.open, channel)
+    }
+
+    /// Counts a connection that a channel can serve beside its others.
+    pub fn count_place(&self, channel: u32) {
+        raise_at(&self.places, channel);
+    }
+
+    /// Counts one connection less that a channel can serve.
+    pub fn lose_place(&self, channel: u32) {
+        lower_at(&self.places, channel);
+    }
+
+    /// How many connections a channel can serve at once.
+    pub fn places(&self, channel: u32) -> u64 {
+        value_at(&self.places, channel)
+    }
+
+    /// Counts a message that was sent to a destination a second time within one attempt.
+    pub fn count_sent_again(&self, destination: u32) {
+        if let Some(counter) = self.sent_again.get(destination as usize) {
+            counter.fetch_add(1, Ordering::SeqCst);
+        }
+    }
+
+    /// How many messages were sent to a destination a second time within one attempt.
+    pub fn sent_again(&self, destination: u32) -> u64 {
+        value_at(&self.sent_again, destination)
     }
 
     /// Notes when a message was received on a channel.

@@ -74,6 +74,10 @@ impl<A: Sharing, H: Crew> Way for PlanWay<'_, '_, A, H> {
         }
     }
 
+    fn note_sent_again(&mut self) {
+        self.site.count_sent_again(self.index);
+    }
+
     fn note_cut(&mut self) {
         self.site.count_cut();
     }

@@ -1,12 +1,12 @@
 -- The command that a line of the service's standard input is.
-use Rattle.std.specs.Prelude.{ℕ, ◌+◌, ◌*◌, ◌-◌, ◌&&◌, ◌==◌, nat_lt, nat_le, if◌then◌else◌, List, [], ◌∷◌, length, take, drop, Option, None, Some, codes}
+use Rattle.std.specs.Prelude.{ℕ, ◌+◌, ◌*◌, ◌-◌, ◌&&◌, ◌==◌, nat_lt, nat_le, if◌then◌else◌, List, [], ◌∷◌, length, take, drop, Option, None, Some, codes, option_and_then}
 use Rattle.std.specs.Borrow.{Bor}
 use Rattle.std.specs.Option.{option_map_or}
 use Rattle.std.specs.Char.{is_ascii_whitespace}
-use Rattle.std.specs.List.{suffix_len}
+use Rattle.std.specs.List.{position, suffix_len}
 use Rattle.std.specs.Str.{bytes_eq}
 use Rattle.service_commands.specs.declared.command.Command.{Command}
-use Rattle.service_commands.specs.declared.command.Command.TheVariants.{Status, Metrics, Message, Find, Waiting, Deploy, Prune, Cancel, Stop, StopNow, Help, Unknown}
+use Rattle.service_commands.specs.declared.command.Command.TheVariants.{Status, Metrics, Message, Find, Waiting, Deploy, Prune, Failed, Cancel, CancelAll, CancelAt, CancelWaiting, CancelThrough, Stop, StopNow, Help, Unknown}
 
 -- a command by the bytes of its text
 abbrev pub seen : Command (Bor (List ℕ)) → Command (List ℕ)
@@ -17,7 +17,12 @@ seen (Find text) = Find text.now
 seen (Waiting text) = Waiting text.now
 seen (Deploy text) = Deploy text.now
 seen Prune = Prune
+seen (Failed text) = Failed text.now
 seen (Cancel n) = Cancel n
+seen (CancelAll n) = CancelAll n
+seen (CancelAt n text) = CancelAt n text.now
+seen (CancelWaiting text) = CancelWaiting text.now
+seen (CancelThrough text n) = CancelThrough text.now n
 seen Stop = Stop
 seen StopNow = StopNow
 seen Help = Help
@@ -45,11 +50,36 @@ number_after n (b ∷ bs) = option_map_or (λ m. number_after m bs) (with_digit 
 abbrev pub number_of : List ℕ → Option ℕ
 number_of text = if length text == 0 then None else number_after 0 text
 
--- message N, cancel N
+-- how many bytes there are before the first space of a text, or in all of it
+abbrev pub word_len : List ℕ → ℕ
+word_len text = option_map_or (λ at. at) (position (λ b. b == 32) text) (length text)
+
+-- cancel N, cancel N all, cancel N NAME, by what follows the number
+abbrev pub cancel_of : ℕ → List ℕ → Command (List ℕ)
+cancel_of n rest =
+    if length rest == 0 then Cancel n
+    else (if bytes_eq rest (codes " all") then CancelAll n
+    else option_map_or (λ name. CancelAt n name) (argument (codes " ") rest) Unknown)
+
+-- cancel waiting NAME, cancel waiting NAME through N, by the name and what follows it
+abbrev pub cancel_waiting_of : List ℕ → List ℕ → Command (List ℕ)
+cancel_waiting_of name rest =
+    if length name == 0 then Unknown
+    else (if length rest == 0 then CancelWaiting name
+    else option_map_or (λ n. CancelThrough name n) (option_and_then number_of (argument (codes " through ") rest)) Unknown)
+
+-- what follows the word cancel
+abbrev pub cancelling : List ℕ → Command (List ℕ)
+cancelling text =
+    option_map_or (λ rest. cancel_waiting_of (take (word_len rest) rest) (drop (word_len rest) rest))
+    (argument (codes "waiting ") text)
+    (option_map_or (λ n. cancel_of n (drop (word_len text) text)) (number_of (take (word_len text) text)) Unknown)
+
+-- message N, and what begins with cancel
 abbrev pub numbered : List ℕ → Command (List ℕ)
 numbered line =
     option_map_or (λ text. option_map_or (λ n. Message n) (number_of text) Unknown) (argument (codes "message ") line)
-    (option_map_or (λ text. option_map_or (λ n. Cancel n) (number_of text) Unknown) (argument (codes "cancel ") line) Unknown)
+    (option_map_or (λ text. cancelling text) (argument (codes "cancel ") line) Unknown)
 
 -- a line without the carriage return at its end
 abbrev pub without_return : List ℕ → List ℕ
@@ -68,7 +98,8 @@ single line =
     else (if bytes_eq line (codes "stop") then Stop
     else (if bytes_eq line (codes "stop now") then StopNow
     else (if bytes_eq line (codes "help") then Help
-    else option_map_or (λ text. Waiting text) (argument (codes "waiting ") line) (numbered line))))))
+    else option_map_or (λ text. Waiting text) (argument (codes "waiting ") line)
+    (option_map_or (λ text. Failed text) (argument (codes "failed ") line) (numbered line)))))))
 
 -- find ID, deploy PATH, with all that follows the word; of any other command white space at its end is dropped
 abbrev pub named : List ℕ → Command (List ℕ)

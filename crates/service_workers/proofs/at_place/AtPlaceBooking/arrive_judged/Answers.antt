@@ -3,7 +3,7 @@ use Rattle.event_log.specs.History.{History}
 use Rattle.book_core.specs.declared.receipt.NotBooked.{NotBooked}
 use Rattle.book_core.specs.declared.receipt.Receipt.{Receipt}
 use Rattle.book_lock.specs.Shares.{DeskView}
-use Rattle.conn_worker.specs.inner.Arriving.{BooksAtDesk, desk_after, desk_booked, desk_refused}
+use Rattle.conn_worker.specs.inner.Arriving.{BooksAtDesk, desk_after, desk_booked, desk_nothing, desk_refused}
 use Rattle.service_workers.proofs.at_place.AtPlaceBooking.arrive_judged.Goals as goal
 
 -- a message that is booked after nothing was
@@ -20,20 +20,20 @@ refused_later h x y z a b d (Err refusal) none refused = desk_after h x y z [] [
 
 pub returns-clause-channel : goal.returns-clause-channel
 returns-clause-channel g c =
-    let same = subst (λ o. IfSome o (λ anew. anew.channel ≡ c.args.judged.now.channel)) c.in-Some.is c.judged_anew.ensures.channel in
+    let same = subst (λ o. IfSome o (λ anew. anew.channel ≡ c.args.judged.now.channel)) c.in-Some-judged_anew.is c.judged_anew.ensures.channel in
     subst (λ k. IfOk c.arrive.result (λ receipt. receipt.channel ≡ k)) same c.arrive.ensures.channel
 
 pub returns-clause-raw : goal.returns-clause-raw
 returns-clause-raw g c =
-    let same = subst (λ o. IfSome o (λ anew. anew.raw ≡ c.args.judged.now.raw)) c.in-Some.is c.judged_anew.ensures.raw in
+    let same = subst (λ o. IfSome o (λ anew. anew.raw ≡ c.args.judged.now.raw)) c.in-Some-judged_anew.is c.judged_anew.ensures.raw in
     subst (λ k. IfOk c.arrive.result (λ receipt. receipt.raw ≡ k)) same c.arrive.ensures.raw
 
 pub returns-clause-booked : goal.returns-clause-booked
 returns-clause-booked g c =
     let h = g.A.Sharing.opening in
     let desk = c.args.self.now.desk in
-    let tidied = c.arrive_tidy_judged-tidied in
-    let none = desk_refused h c.args.conn c.args.judged.now desk.now tidied.new.desk desk.ghost_name desk.ghost_name tidied.result.receipt tidied.ensures.at_desk.call tidied.ensures.at_desk.refused refl in
+    let tidied = c.book_when_free-booked in
+    let none = desk_refused h c.args.conn c.args.judged.now desk.now tidied.new.desk desk.ghost_name desk.ghost_name c.in-Some.tidied.receipt c.in-Some.ensures.at_desk.call c.in-Some.ensures.at_desk.refused refl in
     booked_later h desk.now tidied.new.desk _ desk.ghost_name desk.ghost_name _ c.arrive.result
     (subst (λ (r : Result Receipt NotBooked). OnErr r (BooksAtDesk h desk.now tidied.new.desk [] desk.ghost_name desk.ghost_name)) (c.is_plan_changed.ensures.0 c.if-is_plan_changed.true) none)
     c.arrive.ensures.booked
@@ -42,8 +42,8 @@ pub returns-clause-err : goal.returns-clause-err
 returns-clause-err g c =
     let h = g.A.Sharing.opening in
     let desk = c.args.self.now.desk in
-    let tidied = c.arrive_tidy_judged-tidied in
-    let none = desk_refused h c.args.conn c.args.judged.now desk.now tidied.new.desk desk.ghost_name desk.ghost_name tidied.result.receipt tidied.ensures.at_desk.call tidied.ensures.at_desk.refused refl in
+    let tidied = c.book_when_free-booked in
+    let none = desk_refused h c.args.conn c.args.judged.now desk.now tidied.new.desk desk.ghost_name desk.ghost_name c.in-Some.tidied.receipt c.in-Some.ensures.at_desk.call c.in-Some.ensures.at_desk.refused refl in
     refused_later h desk.now tidied.new.desk _ desk.ghost_name desk.ghost_name _ c.arrive.result
     (subst (λ (r : Result Receipt NotBooked). OnErr r (BooksAtDesk h desk.now tidied.new.desk [] desk.ghost_name desk.ghost_name)) (c.is_plan_changed.ensures.0 c.if-is_plan_changed.true) none)
     c.arrive.ensures.err
@@ -52,14 +52,22 @@ pub returns-2-clause-booked : goal.returns-2-clause-booked
 returns-2-clause-booked g c =
     let h = g.A.Sharing.opening in
     let desk = c.args.self.now.desk in
-    let tidied = c.arrive_tidy_judged-tidied in
+    let tidied = c.book_when_free-booked in
     subst (λ (r : Result Receipt NotBooked). IfOk r (λ receipt. BooksAtDesk h desk.now tidied.new.desk (receipt ∷ []) desk.ghost_name desk.ghost_name)) (sym c.note_arrival.ensures)
-    (desk_booked h c.args.conn c.args.judged.now desk.now tidied.new.desk desk.ghost_name desk.ghost_name tidied.result.receipt tidied.ensures.at_desk.call tidied.ensures.at_desk.counted refl)
+    (desk_booked h c.args.conn c.args.judged.now desk.now tidied.new.desk desk.ghost_name desk.ghost_name c.in-Some.tidied.receipt c.in-Some.ensures.at_desk.call c.in-Some.ensures.at_desk.counted refl)
 
 pub returns-2-clause-err : goal.returns-2-clause-err
 returns-2-clause-err g c =
     let h = g.A.Sharing.opening in
     let desk = c.args.self.now.desk in
-    let tidied = c.arrive_tidy_judged-tidied in
+    let tidied = c.book_when_free-booked in
     subst (λ (r : Result Receipt NotBooked). OnErr r (BooksAtDesk h desk.now tidied.new.desk [] desk.ghost_name desk.ghost_name)) (sym c.note_arrival.ensures)
-    (desk_refused h c.args.conn c.args.judged.now desk.now tidied.new.desk desk.ghost_name desk.ghost_name tidied.result.receipt tidied.ensures.at_desk.call tidied.ensures.at_desk.refused refl)
+    (desk_refused h c.args.conn c.args.judged.now desk.now tidied.new.desk desk.ghost_name desk.ghost_name c.in-Some.tidied.receipt c.in-Some.ensures.at_desk.call c.in-Some.ensures.at_desk.refused refl)
+
+pub returns-in_default-clause-err : goal.returns-in_default-clause-err
+returns-in_default-clause-err g c =
+    let h = g.A.Sharing.opening in
+    let desk = c.args.self.now.desk in
+    let tidied = c.book_when_free-booked in
+    subst (λ (r : Result Receipt NotBooked). OnErr r (BooksAtDesk h desk.now tidied.new.desk [] desk.ghost_name desk.ghost_name)) (sym c.note_stop.ensures)
+    (subst (λ (d : DeskView). BooksAtDesk h desk.now d [] desk.ghost_name desk.ghost_name) (sym (c.in_default.ensures.same refl)) (desk_nothing h desk.now desk.ghost_name))

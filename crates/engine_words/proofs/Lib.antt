@@ -1,3 +1,0 @@
-pub mod Asking
-mod AskingRows
-pub mod Commands

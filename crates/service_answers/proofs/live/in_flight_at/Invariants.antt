@@ -1,0 +1,6 @@
+use Rattle.service_answers.specs.inner.Live.{flies_at}
+use Rattle.service_answers.proofs.Masks.{IsMask}
+use Rattle.service_answers.proofs.live.in_flight_at.Given as goal
+
+abbrev pub invariant-loop-destination : goal.invariant-loop-destination
+invariant-loop-destination l = IsMask (flies_at l.found) l.destination l.mask
