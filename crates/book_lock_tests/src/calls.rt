@@ -23,6 +23,8 @@ enum Call {
     Settle(Ticket, Outcome, u64, Result<SlotState, SettleRefusal>),
     /// The number of a message that is cancelled.
     Cancel(u32, Result<u32, CancelRefusal>),
+    /// The number of a message that is cancelled, and the mask of the destinations among which it is.
+    CancelAmong(u32, u32, Result<u32, CancelRefusal>),
 }
 
 /// Calls of a book, and the slots of message 0 at the four first destinations after them.
@@ -75,7 +77,7 @@ const SECOND: Ticket = Ticket {
 
 const CANCELLED: Option<SlotState> = Some(SlotState::Failed(FailCause::Cancelled));
 
-const CASES: [Case; 3] = [
+const CASES: [Case; 4] = [
     // delivered and rejected
     Case {
         four: false,
@@ -171,6 +173,21 @@ const CASES: [Case; 3] = [
         ],
         slots: [None, Some(SlotState::Delivered), CANCELLED, CANCELLED],
     },
+    // cancelled among some destinations
+    Case {
+        four: true,
+        messages: &[UPDATE],
+        calls: &[
+            Call::CancelAmong(0, 4, Ok(4)),
+            Call::CancelAmong(0, 4, Err(CancelRefusal::NothingWaiting)),
+            Call::Take(1, 0, Ok(TO_B)),
+            Call::CancelAmong(0, 7, Err(CancelRefusal::NothingWaiting)),
+            Call::CancelAmong(0, 10, Ok(8)),
+            Call::CancelAmong(9, 2, Err(CancelRefusal::NoSuchMessage)),
+            Call::Settle(TO_B, Outcome::Delivered, 0, Ok(SlotState::Delivered)),
+        ],
+        slots: [None, Some(SlotState::Delivered), CANCELLED, CANCELLED],
+    },
 ];
 
 /// Whether a take returns a job with this control id and this text.
@@ -222,6 +239,7 @@ fn is_met<A: Sharing, S: BookRows, H: Wait + Log>(
             shared.settle(rt, station, &ticket, outcome, nearest(now)) == due
         }
         Call::Cancel(number, due) => shared.cancel(rt, number) == due,
+        Call::CancelAmong(number, among, due) => shared.cancel_among(rt, number, among) == due,
     }
 }
 

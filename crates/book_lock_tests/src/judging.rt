@@ -57,7 +57,8 @@ fn booked<A: Sharing, S: BookRows, H: Wait + Log>(
         shared.deploy(rt, plan).ok()?;
     }
     if is_tidied {
-        return Some(shared.arrive_tidy_judged(rt, desk, 1, &judged, 0).receipt);
+        let tidied = shared.arrive_tidy_judged(rt, desk, 1, &judged, 0).ok()?;
+        return Some(tidied.receipt);
     }
     Some(shared.arrive_judged(rt, desk, 1, &judged))
 }

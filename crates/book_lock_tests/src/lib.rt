@@ -9,6 +9,8 @@ mod calls;
 #[cfg(test)]
 mod changes;
 #[cfg(test)]
+mod crowding;
+#[cfg(test)]
 mod deploys;
 #[cfg(test)]
 mod devices;

@@ -188,7 +188,7 @@ fn bring_tidy<A: Sharing, S: BookRows, H: Wait + Log>(
     text: &str,
 ) -> Option<Tidied> {
     let judged = judged_now(rt, alloc, shared, text)?;
-    Some(shared.arrive_tidy(rt, desk, 7, &judged, 1))
+    shared.arrive_tidy(rt, desk, 7, &judged, 1).ok()
 }
 
 impl Task for Filling {

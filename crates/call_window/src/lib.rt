@@ -1,5 +1,12 @@
-//! The lines around a call whose requests for memory may be refused, and how its answer is written.
+//! What the programs share that play calls whose requests for memory may be refused: the lines around such a call, how its answer
+//! is written, how a script is played, the words of a line, and all that a book shows of itself.
 #![tactic(auto)]
+
+pub mod answers;
+pub mod book_state;
+pub mod plans;
+pub mod script;
+pub mod words;
 
 use play_script::shown;
 use std::alloc::{AllocError, Global};

@@ -89,12 +89,26 @@ pub(crate) fn is_same(one: &Entry, other: &Entry) -> bool {
             now,
             state,
         } => is_settlement(other, (*outcome, *ticket, *now, state.get())),
-        Entry::Cancel { number, mask } => {
-            matches!(other, Entry::Cancel { number: of, mask: at } if number == of && mask == at)
-        }
+        Entry::Cancel {
+            number,
+            among,
+            mask,
+        } => is_cancellation(other, (*number, *among, *mask)),
         Entry::Deploy { plan } => {
             matches!(other, Entry::Deploy { plan: due } if plan.plan().same(due.plan()))
         }
+    }
+}
+
+/// Whether an entry is the cancellation of this message, among these destinations and at these.
+fn is_cancellation(entry: &Entry, due: (u32, u32, u32)) -> bool {
+    match entry {
+        Entry::Cancel {
+            number,
+            among,
+            mask,
+        } => (*number, *among, *mask) == due,
+        _ => false,
     }
 }
 

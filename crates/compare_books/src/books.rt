@@ -238,16 +238,17 @@ impl Books {
         Ok(answer.is_ok())
     }
 
-    /// Whether all cancel a message; a forgotten message isn't there.
+    /// Whether all cancel a message among the same destinations; a forgotten message isn't there.
     ///
     /// # Errors
     ///
     /// Where they cancel it at other destinations, refuse it for two reasons, or memory is refused.
     pub fn cancel(&mut self, dice: &mut Dice) -> Result<bool> {
         let number = self.number(dice);
-        let mask = self.book.cancel(number);
+        let among = dice.among();
+        let mask = self.book.cancel_among(number, among);
         let other = match &mut self.other {
-            Some(other) => other.cancel(number),
+            Some(other) => other.cancel_among(number, among),
             None => mask,
         };
         let due = if number < self.forgotten {
@@ -255,7 +256,7 @@ impl Books {
         } else {
             mask
         };
-        if self.pruned.cancel(number) != due || other != mask {
+        if self.pruned.cancel_among(number, among) != due || other != mask {
             bail!("a cancellation has two answers");
         }
         Ok(mask.is_ok())

@@ -119,6 +119,15 @@ impl Dice {
         }
     }
 
+    /// The mask of the destinations among which a message is cancelled: every second time all 32, else some of the first four,
+    /// or none.
+    pub fn among(&mut self) -> u32 {
+        if self.roll(2) == 0 {
+            return u32::MAX;
+        }
+        self.roll(16)
+    }
+
     /// An outcome, mostly one after which the message is delivered or sent again.
     pub fn outcome(&mut self) -> Outcome {
         match self.roll(8) {

@@ -222,11 +222,15 @@ impl Worlds {
         Ok(())
     }
 
-    /// A message is cancelled.
+    /// A message is cancelled, among all destinations or some.
     pub fn cancel(&mut self, dice: &mut Dice) {
         let number = self.number(dice);
-        let _ = self.other.cancel(number);
-        self.step(Step::Cancel { number });
+        let among = dice.among();
+        let _ = self.other.cancel_among(number, among);
+        self.step(match among {
+            u32::MAX => Step::Cancel { number },
+            _ => Step::CancelAmong { number, among },
+        });
     }
 
     /// A plan is deployed.

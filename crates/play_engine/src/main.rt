@@ -1,39 +1,36 @@
-//! Plays a script of connections that are served from a book: a line of standard input is a call, and standard output
-//! has that line and its result. Empty lines and those that begin with `#` are written as they are. They are answered as
-//! the program's `answer` does, by `answer_stream`; where a script sets a bound of reads and events, by `serve_within`.
+//! Plays a script of the engine on one thread. A line `== NAME` names the player of the lines below it, and is written as
+//! it is. Each player begins anew:
+//!
+//! - `connections`: connections that are served from a book.
+//! - `worlds`: a world: the whole engine, step by step.
 #![tactic(auto)]
 
-mod exchange;
-mod pieces;
-mod script;
-mod shown;
+mod connections;
+mod plans;
+mod worlds;
 
 use anyhow::{Result, bail};
-use exchange::Exchange;
-use script::call_of;
+use play_script::{Part, read_parts};
 
-/// Writes a line, and what comes of its call.
-fn play_line(rt: &HostRuntime, exchange: &mut Exchange, line: &str) -> Result<()> {
-    println!(rt; "{line}")?;
-    if line.is_empty() || line.starts_with('#') {
-        return Ok(());
+/// Plays the lines of one player.
+fn play_part(rt: &HostRuntime, part: &Part) -> Result<()> {
+    println!(rt; "== {}", part.player)?;
+    match part.player.as_str() {
+        "connections" => connections::play(rt, &part.lines),
+        "worlds" => worlds::play(rt, &part.lines),
+        player => bail!("{player} is no player"),
     }
-    let Some(call) = call_of(line) else {
-        bail!("it is no call");
-    };
-    print!(rt; "{}", exchange.play(rt, call)?)?;
-    Ok(())
 }
 
-/// Plays all lines of standard input.
-fn play_all(rt: &HostRuntime, exchange: &mut Exchange) -> Result<()> {
-    for line in rt.lines(rt.alloc()) {
-        play_line(rt, exchange, line?.as_str())?;
+/// Plays parts, one after another.
+fn play_all(rt: &HostRuntime, parts: &[Part]) -> Result<()> {
+    for part in parts {
+        play_part(rt, part)?;
     }
     Ok(())
 }
 
 fn main(rt: HostRuntime) -> Result<()> {
-    let mut exchange = Exchange::new(&rt, "built-in")?;
-    play_all(&rt, &mut exchange)
+    let parts = read_parts(&rt)?;
+    play_all(&rt, &parts)
 }

@@ -1,5 +1,5 @@
-//! How the scripts that programs play write bytes: words are between spaces, bytes that aren't seen have names, as `<CR>`,
-//! and `<>` is the empty text.
+//! How the scripts that programs play are written: a line `== NAME` names the player of the lines below it, words are between
+//! spaces, bytes that aren't seen have names, as `<CR>`, and `<>` is the empty text.
 #![tactic(auto)]
 
 ghost use Rattle.std.specs.Prelude.{◌≡◌, ◌==◌, ◌++◌, IfOk, OnOk, option_map, string_bytes};
@@ -7,6 +7,49 @@ ghost use Rattle.std.specs.List.{before_first, after_first, flat_map};
 ghost use Rattle.play_script.specs.inner.Script.{name_of, shown_byte, shown};
 
 use std::alloc::{AllocError, Global};
+use std::io::{self, BufRead};
+
+/// The lines of a script that one player plays.
+#[derive(Drop)]
+pub struct Part {
+    /// The name of the player.
+    pub player: String,
+    /// The lines, without the line feeds that end them.
+    pub lines: Vec<Vec<u8>>,
+}
+
+/// Adds a line of a script: it begins the part of another player, or it is one of the last part. A line before all parts is
+/// left out.
+fn push_line(parts: &mut Vec<Part>, line: Vec<u8>) -> Result<(), AllocError> {
+    let alloc = *parts.allocator();
+    if let [b'=', b'=', b' ', name @ ..] = line.as_slice() {
+        let player = String::from_utf8_lossy(alloc, name)?;
+        let lines = Vec::new(alloc);
+        Ok(parts.push(Part { player, lines })?)
+    } else if let Some(part) = parts.last_mut() {
+        Ok(part.lines.push(line)?)
+    } else {
+        Ok(())
+    }
+}
+
+/// Reads standard input: a script, part by part.
+///
+/// # Errors
+///
+/// Where it can't be read, or memory is refused.
+pub fn read_parts(rt: &HostRuntime) -> io::Result<Vec<Part>> {
+    let mut parts = Vec::new(rt.alloc());
+    for line in rt.reader().split(rt.alloc(), b'\n') {
+        push_line(&mut parts, line?)?;
+    }
+    Ok(parts)
+}
+
+/// Whether a line is a call: it isn't empty, and doesn't begin with `#`.
+pub fn is_call(line: &str) -> bool {
+    !line.is_empty() && !line.starts_with('#')
+}
 
 /// The bytes that have a name.
 const NAMED: [u8; 6] = [b'\r', b'\n', 0x0B, 0x1C, b'\t', b' '];

@@ -4,7 +4,7 @@ use Rattle.event_log.specs.History.{next_place, plan_in_force}
 use Rattle.book_lock_tests.proofs.handed_back.noted.Given as goal
 
 abbrev pub ghosts-noted_after_close-A-Sharing : goal.ghosts-noted_after_close-A-Sharing
-ghosts-noted_after_close-A-Sharing g a = record { opening = a.book; counts = counted a.book; first = next_place a.book; channels = length (plan_in_force a.book).channels; desks = 1; stations = 0 }
+ghosts-noted_after_close-A-Sharing g a = record { opening = a.book; counts = counted a.book; first = next_place a.book; channels = length (plan_in_force a.book).channels; desks = 1; stations = 0; committed = λ _. ⊥ }
 
 abbrev pub ghosts-noted_after_close-A-Naming : goal.ghosts-noted_after_close-A-Naming
 ghosts-noted_after_close-A-Naming g a = record { table = a.log.table.shared.table_id }

@@ -4,7 +4,7 @@ use Rattle.event_log.specs.History.{next_place, plan_in_force}
 use Rattle.book_lock_tests.proofs.stage.share.Given as goal
 
 abbrev pub ghosts-share_and_close-A-Sharing : goal.ghosts-share_and_close-A-Sharing
-ghosts-share_and_close-A-Sharing g a = record { opening = a.book; counts = counted a.book; first = next_place a.book; channels = length (plan_in_force a.book).channels; desks = 1; stations = 1 }
+ghosts-share_and_close-A-Sharing g a = record { opening = a.book; counts = counted a.book; first = next_place a.book; channels = length (plan_in_force a.book).channels; desks = 1; stations = 1; committed = λ _. ⊥ }
 
 abbrev pub ghosts-share_and_close-A-Naming : goal.ghosts-share_and_close-A-Naming
 ghosts-share_and_close-A-Naming g a = record { table = a.log.table.shared.table_id }

@@ -1,5 +1,0 @@
-use Rattle.play_rows.proofs.Below.{AreBelow}
-use Rattle.play_rows.proofs.main.Given as goal
-
-abbrev pub invariant-loop-line : goal.invariant-loop-line
-invariant-loop-line l = AreBelow l.next l.plain.0 × AreBelow l.next l.linked.rows

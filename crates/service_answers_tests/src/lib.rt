@@ -1,5 +1,0 @@
-//! Tests of the answers to commands.
-#![tactic(auto)]
-
-#[cfg(test)]
-mod answers;

@@ -1,0 +1,16 @@
+//! Tests of single crates, each over the crates below it alone: the notes on a plan, the answers to commands, what the workers of
+//! a service decide without a socket, the engine on one thread where memory is refused, and the items of linked rows.
+#![tactic(auto)]
+
+#[cfg(test)]
+mod answers;
+#[cfg(test)]
+mod cancelling;
+#[cfg(test)]
+mod decisions;
+#[cfg(test)]
+mod dropped;
+#[cfg(test)]
+mod notes;
+#[cfg(test)]
+mod refused;
