@@ -35,7 +35,7 @@ PROGRAM = os.path.join(TOP, 'crates', 'hl7_service', 'out', 'hl7_service')
 PAGES = ['../README.md', 'GUIDE.md', 'EXAMPLES.md', 'OPERATIONS.md']
 BLOCK = re.compile(r'(?:<!-- (file|printed by|typed) ?([^\n]*?) ?-->\n)?```(\w*)\n(.*?)```\n', re.S)
 PORT = re.compile(r'\b66[6-9]\d\b')
-OBEYED = re.compile(r'(status|metrics|message|find|waiting|deploy|prune|cancel|stop)\b')
+OBEYED = re.compile(r'(status|metrics|message|find|waiting|failed|deploy|prune|cancel|stop)\b')
 MACHINE = re.compile(r'(?<![\w.])/(?=(usr/local|etc|run|var)/)')
 LIMIT = 60
 # A systemctl that runs the commands of a unit, and does nothing else.

@@ -15,7 +15,7 @@ def admission(control_id, **more):
 
 
 def refusals():
-    """The texts to send, each with the control id and the words that its log line has to contain."""
+    """The texts to send, each with the control id, the words that its log line has to contain, and the fields."""
     first = admission(b'L-FIRST')
     return [
         (first, b'', ''),
@@ -27,11 +27,11 @@ def refusals():
         (admission(b''), b'', 'message refused: MissingControlId'),
         (admission(b'L-LONG' + b'x' * 200), b'L-LONG' + b'x' * 58 + b'..', 'message refused: BadControlId'),
         (admission(b'L-STEP').replace(b'\rPV1|1|I', b'', 1), b'L-STEP',
-         'message refused: SourceTransform, step 1 of the channel: the message has no such segment'),
+         'message refused: SourceTransform, the message has no such segment', 'step=1'),
         (admission(b'L-ROUTE', ward=b'X'), b'L-ROUTE',
-         'message refused: RouteTransform, step 2 of the route to LAB: the value is not in the table'),
+         'message refused: RouteTransform, the value is not in the table, and there is no default', 'route=LAB', 'step=2'),
         (b'PID|1||' + PATIENT + b'\r', None, 'text unreadable: the text has no header segment'),
-        (admission(b'L-SEG') + b'pid|2\r', None, 'text unreadable: segment 4 has a bad name'),
+        (admission(b'L-SEG') + b'pid|2\r', None, 'text unreadable: a segment has a bad name', 'segment=4'),
         (answer(first, b'AA'), b'L-FIRST', 'acknowledgment received and dropped'),
         (admission(b'L-FEED').replace(b'\r', b'\n'), b'L-FEED', 'MSH holds a line feed'),
     ]
@@ -44,10 +44,10 @@ def broken():
             (block(b'x' * TOO_LONG), 'block broken: more than 1048576 bytes of data')]
 
 
-def is_logged(lines, control_id, words):
-    """Whether one of the lines contains these words and the control id, if one is given."""
-    key = '' if control_id is None else f'control_id={control_id.decode()}'
-    return any(words in line and (key in line.split(' ') or not key) for line in lines)
+def is_logged(lines, control_id, words, *fields):
+    """Whether one of the lines contains these words, these fields, and the control id, if one is given."""
+    keys = list(fields) if control_id is None else [f'control_id={control_id.decode()}', *fields]
+    return any(words in line and all(key in line.split(' ') for key in keys) for line in lines)
 
 
 def refused_messages(program, folder):
@@ -61,7 +61,7 @@ def refused_messages(program, folder):
     cases = refusals()
     with Engine(program, text, 1, folder) as engine:
         with socket.create_connection(('127.0.0.1', ports[0]), timeout=30) as connection:
-            for data, _, _ in cases:
+            for data, *_ in cases:
                 connection.sendall(block(data))
             for data, _ in broken():
                 connection.sendall(data)
@@ -70,8 +70,8 @@ def refused_messages(program, folder):
                 pass
         status, _ = engine.ended(30)
     lab.close()
-    lines = [f'no line says {words!r} of {control_id}' for _, control_id, words in cases
-             if words and not is_logged(engine.log, control_id, words)]
+    lines = [f'no line says {words!r} of {control_id}' for _, control_id, words, *fields in cases
+             if words and not is_logged(engine.log, control_id, words, *fields)]
     lines += [f'no line says {words!r}' for _, words in broken() if not is_logged(engine.log, None, words)]
     if status != 0:
         lines.append(f'refused messages: status {status}')

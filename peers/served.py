@@ -41,7 +41,8 @@ class Service:
         self.ready.set()
 
     def ask(self, command, limit=LIMIT):
-        """Sends a command, and returns its answer: the lines up to the empty one, or None if there is no answer in time."""
+        """Sends a command, and returns its answer: the lines behind the one that repeats the command up to the empty one, or None if
+        there is no answer in time, or one to another command."""
         self.process.stdin.write(command.encode() + b'\n')
         self.process.stdin.flush()
         held, deadline = b'', time.monotonic() + limit
@@ -51,7 +52,8 @@ class Service:
                 if not piece:
                     break
                 held += piece
-        return held.decode(errors='replace').rstrip('\n').split('\n') if held.endswith(b'\n\n') else None
+        first, *answer = held.decode(errors='replace').rstrip('\n').split('\n')
+        return answer if held.endswith(b'\n\n') and first in ('> ' + command.rstrip('\r'), '> ..') else None
 
     def ended(self, limit=LIMIT):
         """Its exit status and its last lines of output; None and no lines if it doesn't end in time."""

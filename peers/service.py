@@ -19,9 +19,13 @@ import tempfile
 import threading
 import time
 
+from cancels import CANCELS
 from engine import checks_accesses, one_channel, plan
 from mllp import SILENCE, Destination, Sender, block, field, free_ports, message
+from operators import OPERATORS
 from outages import OUTAGES
+from room import ROOM
+from sendings import SENDINGS
 from served import LIMIT, Service, exchange, wait_received
 
 PROGRAM = os.path.join(os.path.dirname(os.path.abspath(__file__)), '..', 'crates', 'hl7_service', 'out', 'hl7_service')
@@ -281,7 +285,7 @@ def until(holds, limit=LIMIT):
 def questions(program, folder):
     """Messages are found by number, control id and queue, and the metrics are there for Prometheus."""
     ports = free_ports(2)
-    with Service(program, one_channel(ports[0], [('LAB', ports[1], ['interval = 1'])]), folder) as service:
+    with Service(program, one_channel(ports[0], [('LAB', ports[1], ['interval = 1'])]), folder, '--events', '400') as service:
         exchange(ports[0], [message(b'A%d' % n) for n in range(3)] + [message(b'A1', ward=b'O')])
         found = []
         for command, wanted in [
@@ -638,7 +642,8 @@ SCENES = [('connections are accepted again', taken_again), ('commands', commands
           ('a destination closes', closing), ('a destination comes back', comes_back), ('unasked answers', unasked),
           ('a destination that sends all the time', chatting), ('the book forgets', forgets), ('reading pauses', pauses),
           ('a crowd', crowd), ('killed receivers', killed), ('nobody reads', unread), ('output that fails', unwritten),
-          ('stop now', stopped_now), ('few descriptors', few_descriptors), *OUTAGES, ('tools', tools), ('words', words)]
+          ('stop now', stopped_now), ('few descriptors', few_descriptors), *OUTAGES, *SENDINGS, *OPERATORS, *ROOM, *CANCELS,
+          ('tools', tools), ('words', words)]
 
 
 def main():

@@ -20,8 +20,9 @@ import time
 
 from engine import one_channel
 from mllp import answer, block, blocks, field, free_ports, message
-from service import PROGRAM, Service, wait_received
+from service import PROGRAM, Service, until, wait_received
 from mllp import Destination
+from outages import Silent
 
 EXAMPLES = os.path.join(os.path.dirname(os.path.abspath(__file__)), '..', 'examples', 'tls')
 LIMIT = 20
@@ -199,9 +200,29 @@ def by_haproxy(program, folder):
     return found
 
 
+def switched_off(program, folder):
+    """While the machine of a destination behind HAProxy is switched off, so that it answers no connect, a message costs one attempt,
+    and waits."""
+    port_of = ports()
+    lab = Silent('127.0.0.1', port_of[2577])
+    more = ['attempts = 3', 'interval = 1', 'timeout = 20']
+    with Service(program, one_channel(port_of[6660], [('LAB', port_of[6661], more)]), folder) as service, \
+            Proxy(shutil.which('haproxy'), 'haproxy.cfg', folder, port_of):
+        code = sent_plain(port_of[6660], message(b'H1'))
+        is_watched = until(lambda: sum('right after it was connected' in line for line in service.log) > 0)
+        time.sleep(10)
+        status = service.ask('status')
+        service.ask('stop now')
+    lab.close()
+    fronts = [line for line in status or [] if line.startswith('front LAB')]
+    if (code, is_watched) != (b'CA', True) or not fronts or 'waiting attempts 1' not in fronts[0]:
+        return [f'switched off behind haproxy: {code}, {fronts}, {service.log[-5:]}']
+    return []
+
+
 def main():
     program, lines = os.path.abspath(sys.argv[1] if len(sys.argv) > 1 else PROGRAM), []
-    for tool, scene in (('stunnel', by_stunnel), ('haproxy', by_haproxy)):
+    for tool, scene in (('stunnel', by_stunnel), ('haproxy', by_haproxy), ('haproxy', switched_off)):
         if not shutil.which(tool) or not shutil.which('openssl'):
             print(f'{tool}: not played, {tool} or openssl is not installed')
             continue

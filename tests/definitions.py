@@ -40,9 +40,13 @@ ORDER = (
     ('One history for all threads', 'ghost_log.Seats book_lock.Log book_lock.Outcomes book_lock.Shares book_lock.Callers '
      'conn_worker.Arriving delivery_worker.Turns delivery_worker.Sent'),
     ('Counts and audit', 'book_lock.Rises book_lock.Auditing'),
+    ('What is durable', 'book_lock.Durable book_lock.Journal'),
+    ('Arrivals that are held back', 'book_lock.Crowding'),
+    ('The history as a journal', 'book_replay.Replay restart_laws.Restart'),
     ('Every order of steps', 'engine_model.Turn engine_model.Run engine_model.Steps engine_model.Promise '
      'engine_model.Converse'),
-    ('The program', 'engine_words.Request engine_words.Words engine_report.Lines engine_report.Findings '
+    ('The store', 'event_store.Records event_file.Found'),
+    ('The program', 'engine_report.Request engine_report.Words engine_report.Lines engine_report.Findings '
      'engine_report.Ending'),
 )
 # The claims of the promise, from the bytes of a sender to those of a destination.
@@ -86,6 +90,14 @@ BESIDE = (
     ('What a run counts, and its receipts', 'the clauses of `close` and `audit`: what adds up, which receipts are due, which fault is '
      'first',
      ['book_lock.Rises.AddsUp', 'book_lock.Auditing.receipts_due', 'book_lock.Auditing.unfolded', 'book_lock.Auditing.IsFirstFault']),
+    ('What is durable', 'the clauses `copies` of `copy_entries`, `durable` and `committed` of `wait_durable`, `durable` of '
+     '`take_durable` and `committed` of `close`: `Copies`, `AreArrivalsDurable`, `AreCommitted`, `IsDurableMessage` and '
+     '`HasCommitted`, on top of one history for all threads',
+     ['book_lock.Journal.Copies', 'book_lock.Durable.AreArrivalsDurable', 'book_lock.Durable.AreCommitted',
+      'book_lock.Durable.IsDurableMessage', 'book_lock.Durable.HasCommitted']),
+    ('Which arrivals are held back', 'the clauses `arrives` and `crowded` of `arrive_tidy` and `arrive_tidy_judged`: `crowded_route`, on '
+     'top of what a history is',
+     ['book_lock.Crowding.*']),
     ('The end of a run', 'the clauses of `conclude`, `find`, `listen_faults` and `statistics_of`: `Concludes`, `IsFinding`, '
      '`failed_channels` and `lines_of_closed`, on top of a shared book',
      ['engine_report.Findings.Concludes', 'engine_report.Findings.IsFinding', 'engine_report.Findings.failed_channels',
@@ -96,11 +108,19 @@ BESIDE = (
     ('What a pruned history still says', 'the law `folding_rules`: `prune_answer`, `pruned`, `IsAlike` and `AllReplyAlike`, on top of what a '
      'history is; event_log PruningRows has worked examples',
      ['event_log.Folding.prune_answer', 'event_log.Folding.pruned', 'event_log.Alike.*']),
+    ('The store', 'the clauses of `EventStore` (event_store) and of `open` and `open_at` (event_file): `AddsRecord`, `AreDurable`, '
+     '`IsAppendFailure`, its invariants, and what is read: `contents_of`, `AreHeldBy` and `AreHeldIn`. What a disk, pages and trees '
+     "are is defined by the kit's crates sqlite_disk, sqlite_pool, sqlite_store and sqlite_trees",
+     ['event_store.Records.*', 'event_file.Found.*']),
+    ('The history as a journal', 'the clauses of `replay`, and the laws `replay_rules` and `restart_rules`: `after_records`, `AreReplayed`, '
+     '`IsStopped` and `AreRecordsOf`, on top of a call on a book and of one history for all threads',
+     ['book_replay.Replay.after_records', 'book_replay.Replay.AreReplayed', 'book_replay.Replay.IsStopped',
+      'book_replay.Replay.IsBooked', 'restart_laws.Restart.AreRecordsOf']),
     ('Reading a plan', 'the clause `text` of `Plan::read`: `plan_in`. What a TOML document says is the definition of the '
      "kit's crate toml",
      ['plan_text.Document.plan_in']),
     ('The command line', "`Asks` and how the program ends, over the definitions of the kit's crate clap",
-     ['engine_words.Words.Asks', 'engine_words.Request.*', 'engine_report.Ending.*']),
+     ['engine_report.Words.Asks', 'engine_report.Request.*', 'engine_report.Ending.*']),
 )
 HEAD = re.compile(r'(?:infix[lr]? \d+ )?(?:unfoldable |abbrev )*(?:pub )?(?:(record|data) )?([\w\-]+|◌\S+◌)(?=[\s:])')
 WORD = re.compile(r'[A-Za-z_][\w\-]*(?:\.[A-Za-z_][\w]*)?')
@@ -122,11 +142,13 @@ class Module:
                     self.bring(line[4:])
                 if not line or line.startswith(('use ', '--', 'pub mod ', 'infix', 'unfolding ')):
                     continue
-                if line in ('mutual', 'abbrev mutual'):
+                if line in ('mutual', 'abbrev mutual') or line.startswith('module '):
                     mutual = True
                     continue
                 if line[0] != ' ':
                     mutual = False
+                if mutual and line.strip().startswith('--'):
+                    continue
                 begins = line[0] != ' ' or (mutual and line.startswith('  ') and line[2] != ' ')
                 head = HEAD.match(line.strip()) if begins else None
                 if head and ' >>= ' in line.partition(' = ')[0]:

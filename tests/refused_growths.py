@@ -3,14 +3,14 @@
 
 Usage: tests/refused_growths.py [WORD]
 
-In the scripts of the programs refuse_calls, refuse_books, refuse_rows, refuse_shared and refuse_worlds, some calls follow 'try '.
-For each of these the built program makes the calls before it, and then that call with a small C library, tests/refuse.c, which
-refuses the Nth memory request of the call. A call that is refused memory reports it and changes nothing that can be observed, and
-when it is repeated it answers as if it had never been refused; or it continues without that memory, and answers as it does with
-it. When a connection is served, it ends or its message is acknowledged with NoMemory, and a delivery makes at most one further
-attempt. Then the program hl7_engine answers a stream while each of its own requests is refused in turn. With a WORD, only lines
-that contain it are tried. If there is no C compiler, the script says so and tries nothing. The exit status is 0 if all of this
-holds. Plain Python 3, no packages.
+In the scripts of the programs refuse_books and refuse_worlds, each of which has parts that begin with a line '=== NAME', some calls
+follow 'try '. For each of these the built program makes the calls of its part before it, and then that call with a small C
+library, tests/refuse.c, which refuses the Nth memory request of the call. A call that is refused memory reports it and changes
+nothing that can be observed, and when it is repeated it answers as if it had never been refused; or it continues without that
+memory, and answers as it does with it. When a connection is served, it ends or its message is acknowledged with NoMemory, and a
+delivery makes at most one further attempt. Then the program hl7_engine answers a stream while each of its own requests is refused
+in turn. With a WORD, only lines that contain it are tried. If there is no C compiler, the script says so and tries nothing. The exit
+status is 0 if all of this holds. Plain Python 3, no packages.
 """
 import os
 import re
@@ -22,9 +22,11 @@ import tempfile
 HERE = os.path.dirname(os.path.abspath(__file__))
 CRATES = os.path.join(HERE, '..', 'crates')
 NO_MEMORY = 'out of memory'
-PROGRAMS = ('refuse_calls', 'refuse_books', 'refuse_rows', 'refuse_shared', 'refuse_worlds')
-# What a program prints after its last answer.
-ENDINGS = {'refuse_shared': ['closed']}
+PROGRAMS = ('refuse_books', 'refuse_worlds')
+# What a line begins with that begins a part of a script.
+PART = '=== '
+# What a program prints after the last answer of a part.
+ENDINGS = {'shared': ['closed']}
 # More requests than any call makes.
 MOST = 5_000
 
@@ -58,7 +60,7 @@ def answers(lines, calls):
 
 def plain(call, library, name, before, ending=None):
     """A call that changes nothing if it is refused memory. The calls of 'ending' follow those that are compared."""
-    last_answers = ENDINGS.get(name, [])
+    last_answers = ENDINGS.get(part_of(before), [])
     further = ending or []
     calls = ['state', f'try {call}', 'state', call, 'state', *further]
     was, due, became, *_ = answers(ran(name, before + calls, library)[0], calls + last_answers)
@@ -217,9 +219,14 @@ def step(call, library, name, before):
     return look
 
 
-def kind(name, call):
-    """The function that checks a call."""
-    if name == 'refuse_worlds':
+def part_of(before):
+    """The name of a part, by its lines."""
+    return before[0].removeprefix(PART)
+
+
+def kind(part, call):
+    """The function that checks a call of a part."""
+    if part == 'worlds':
         return {'chunk': chunk, 'steps': plain}.get(call.split()[0], step)
     return {'feed': feed, 'push': row, 'serve': serving, 'deliver': delivery}.get(call.split()[0], plain)
 
@@ -239,12 +246,15 @@ def each_in_turn(look):
 
 
 def tries(name):
-    """Yields each call of a program's script that is tried, with the lines before it."""
+    """Yields each call of a program's script that is tried, with the lines of its part before it."""
     with open(os.path.join(CRATES, name, 'stdin'), encoding='utf-8') as script:
         lines = script.read().splitlines()
+    first = 0
     for index, line in enumerate(lines):
+        if line.startswith(PART):
+            first = index
         if line.startswith('try '):
-            yield line[4:], [before.removeprefix('try ') for before in lines[:index]]
+            yield line[4:], [before.removeprefix('try ') for before in lines[first:index]]
 
 
 def message(number):
@@ -287,7 +297,8 @@ def main():
     with tempfile.TemporaryDirectory() as folder:
         library = os.path.join(folder, 'refuse.so')
         subprocess.run([compiler, '-shared', '-fPIC', '-O1', '-o', library, os.path.join(HERE, 'refuse.c')], check=True)
-        looks = [(name, call, lambda name=name, call=call, before=before: kind(name, call)(call, library, name, before))
+        looks = [(f'{name} {part_of(before)}', call,
+                  lambda name=name, call=call, before=before: kind(part_of(before), call)(call, library, name, before))
                  for name in PROGRAMS
                  for call, before in tries(name)]
         looks.append(('hl7_engine', 'answer', lambda: answering(library)))

@@ -25,7 +25,7 @@ TESTS = [
     ('delivery_worker_tests', 'refused_delivering::holds_where_memory_is_refused',
      'refused_delivering::all_is_done_with_memory_to_spare'),
     ('book_lock_tests', 'refused_calls::holds_where_memory_is_refused', 'refused_calls::all_is_done_with_memory_to_spare'),
-    ('record_list_tests', 'dropped::each_item_is_dropped_once', 13),
+    ('unit_tests', 'dropped::each_item_is_dropped_once', 13),
 ]
 
 

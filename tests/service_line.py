@@ -90,7 +90,7 @@ def versions(program):
             if (found := set(LOGIC.findall(file.read()))) != {logic}:
                 lines.append(f'{name}: {found}, and the program says {logic}')
     with open(os.path.join(TOP, 'CHANGELOG.md'), encoding='utf-8') as file:
-        if re.search(r'^## (\S+)', file.read(), re.M)[1] != VERSION.split()[1]:
+        if re.search(r'^## (\d\S*)', file.read(), re.M)[1] != VERSION.split()[1]:
             lines.append(f'CHANGELOG.md: its last version is not {VERSION.split()[1]}')
     return lines
 
