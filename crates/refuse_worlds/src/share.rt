@@ -53,13 +53,19 @@ fn tell_closed(host: &HostRuntime, closed: &Closed<Rows>, receipts: &[Receipt]) 
     Ok(())
 }
 
+/// The lines that are played.
+#[derive(Clone, Copy)]
+struct Script<'a> {
+    lines: &'a str,
+}
+
 /// Shares a book between a desk and a station, plays all lines on it, and closes it.
 fn play_and_close<A: Sharing, H: Wait + Clock + Log>(
     rt: &H,
     host: &HostRuntime,
     book: Book<Rows>,
     log: BlankLog<LogEntry>,
-    lines: &str,
+    script: &Script<'_>,
 ) -> Result<()>
     requires opening { book ≡ A.opening }
     requires log { log.table.shared.table_id ≡ A.table }
@@ -80,7 +86,7 @@ fn play_and_close<A: Sharing, H: Wait + Clock + Log>(
         bail!("the book was not shared");
     };
     shared.finish(rt);
-    let receipts = play_at(rt, host, &shared, &mut desks, &mut stations, lines)?;
+    let receipts = play_at(rt, host, &shared, &mut desks, &mut stations, script.lines)?;
     let Ok(closed) = shared.close(desks, stations) else {
         bail!("a share is missing");
     };
@@ -95,7 +101,8 @@ fn play_on<H: Wait + Clock + Log>(
     lines: &str,
 ) -> Result<()> {
     let log = BlankLog::new(host.alloc())?;
-    play_and_close::<Brand, H>(rt, host, book, log, lines)
+    let script = Script { lines };
+    play_and_close::<Brand, H>(rt, host, book, log, &script)
 }
 
 /// Plays all lines on an empty book that is shared.
