@@ -27,8 +27,8 @@ fn files_at<S: Start>(
     prepare(rt.alloc(), files, seed)
 }
 
-/// Opens the file at a path, and its log `PATH-wal`, and reads exactly the records that they hold. `S` stands for what
-/// the two held, whatever a crash made of them; `first` is the number of the first record, and `seed` a random number.
+/// Opens the file at a path, and its log `PATH-wal`, and reads exactly the records that they hold. `S` is what the two
+/// held, whatever a crash made of them; `first` is the number of the first record, and `seed` a random number.
 ///
 /// # Errors
 ///

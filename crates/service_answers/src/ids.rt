@@ -25,7 +25,7 @@ fn escape(text: &[u8]) -> Option<(u8, &[u8])> {
 }
 
 /// The control id that the log, `waiting` and `message` show so: `\xHH` is the byte of these hexadecimal digits, and two backslashes
-/// are one. All else is as it stands.
+/// are one. All other bytes are their own.
 ///
 /// # Errors
 ///
