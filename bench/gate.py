@@ -6,7 +6,7 @@ system (setsid) aren't counted, so two gates can be measured side by side. For t
 functions whose proofs took longest, by the times at which the prover wrote each checked part: these are seconds on the clock,
 not of a processor, and only approximate if a check has several processes. The same is printed for the files of each crate, the
 slowest first, and for everything that is derived or dropped. An interruption (SIGINT, SIGTERM) ends the command, and the times
-seen until then are printed.
+seen until then are printed. What the command wrote to the file that GATE_LAST names in its environment is printed last.
 
 Usage: bench/gate.py [COMMAND WORD..]
 """
@@ -17,6 +17,7 @@ import re
 import signal
 import subprocess
 import sys
+import tempfile
 import time
 
 ROUND = 1.0  # seconds between two readings
@@ -112,13 +113,18 @@ def main():
     """Runs the command and measures it."""
     taken, checks, parts = {}, {}, collections.defaultdict(dict)
     begun = time.monotonic()
-    command = subprocess.Popen(sys.argv[1:] or ['rt', 'ci'], stdin=subprocess.DEVNULL)
+    handle, last = tempfile.mkstemp(prefix='gate-last-')
+    os.close(handle)
+    command = subprocess.Popen(sys.argv[1:] or ['rt', 'ci'], stdin=subprocess.DEVNULL, env={**os.environ, 'GATE_LAST': last})
     for stop in (signal.SIGINT, signal.SIGTERM):
         signal.signal(stop, lambda *_: command.terminate())
     while command.poll() is None:
         look(taken, checks, parts)
         time.sleep(ROUND)
     report(taken, parts, (time.monotonic() - begun) / 60)
+    with open(last, encoding='utf-8') as it:
+        print(it.read(), flush=True)
+    os.remove(last)
     return command.returncode
 
 

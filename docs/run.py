@@ -13,8 +13,9 @@ A block of kind 'console' has commands, each on a line that begins with '$ ', an
 first if it prints there too. A line '..' matches any number of lines.
 
 All commands of a page run in one folder. It contains the repository's examples and peers, a './build' that prints PROGRAM, and a
-folder that replaces the machine's /usr/local, /etc, /run and /var, with a 'systemctl' that runs the unit's commands. Ports 6660 to
-6699 are replaced by free ones.
+folder that replaces the machine's /usr/local, /etc, /run and /var, with a 'systemctl' that runs the unit's commands and makes the
+unit's folders, and a 'systemd-sysusers' that does nothing. Ports 6660 to 6699 are replaced by free ones. A store that a page begins
+is in that folder, and is removed with it.
 Plain Python 3, no packages, bounded in time. The exit status is 0 if everything is as the pages say, else 1.
 """
 import os
@@ -32,19 +33,20 @@ import time
 HERE = os.path.dirname(os.path.abspath(__file__))
 TOP = os.path.join(HERE, '..')
 PROGRAM = os.path.join(TOP, 'crates', 'hl7_service', 'out', 'hl7_service')
-PAGES = ['../README.md', 'GUIDE.md', 'EXAMPLES.md', 'OPERATIONS.md']
+PAGES = ['../README.md', 'GUIDE.md', 'EXAMPLES.md', 'OPERATIONS.md', 'FROM_MIRTH.md']
 BLOCK = re.compile(r'(?:<!-- (file|printed by|typed) ?([^\n]*?) ?-->\n)?```(\w*)\n(.*?)```\n', re.S)
 PORT = re.compile(r'\b66[6-9]\d\b')
-OBEYED = re.compile(r'(status|metrics|message|find|waiting|failed|deploy|prune|cancel|stop)\b')
+OBEYED = re.compile(r'(status|metrics|message|show|export|plan|find|waiting|failed|deploy|prune|cancel|stop)\b')
 MACHINE = re.compile(r'(?<![\w.])/(?=(usr/local|etc|run|var)/)')
 LIMIT = 60
 # A systemctl that runs the commands of a unit, and does nothing else.
 SYSTEMCTL = r'''#!/bin/sh
 unit=$MACHINE/etc/systemd/system/hl7-service.service
-lines() { sed -n "s,^$1=,,p" "$unit" | sed -E "s,/(usr/local|etc|run)/,$MACHINE&,g"; }
+lines() { sed -n "s,^$1=,,p" "$unit" | sed -E "s,/(usr/local|etc|run|var)/,$MACHINE&,g"; }
 case "$1" in
     enable)
         mkdir "$MACHINE/run/hl7-service"
+        mkdir -p "$MACHINE/var/lib/$(lines StateDirectory)"
         lines ExecStartPre | sh -e || exit 1
         sh -c "exec $(lines ExecStart)" & echo $! > "$MACHINE/pid" ;;
     stop)
@@ -97,6 +99,7 @@ class Page:
         os.mkdir(tools)
         os.symlink(os.path.abspath(program), os.path.join(tools, 'hl7_service'))
         self.script(os.path.join(tools, 'systemctl'), SYSTEMCTL)
+        self.script(os.path.join(tools, 'systemd-sysusers'), '#!/bin/sh\n')
         self.script(os.path.join(folder, 'build'), f'#!/bin/sh\necho {os.path.abspath(program)}\n')
         self.around = dict(os.environ, MACHINE=self.machine, HL7_SERVICE_DIR=os.path.join(self.machine, 'run', 'hl7-service'),
                            PATH=os.pathsep.join([os.path.join(self.machine, 'usr', 'local', 'bin'), tools, os.environ['PATH']]))

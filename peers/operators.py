@@ -1,12 +1,15 @@
 """Scenes of the built service at the edges of what an operator meets: a slow reader of the log, taken connections, commands at the
 end of standard input, files that are too large, prunings by hand, interrupted commands."""
+import calendar
+import hashlib
 import os
 import socket
+import stat
 import subprocess
 import time
 
 from engine import one_channel, plan
-from mllp import Destination, Sender, block, field, free_ports, message
+from mllp import SILENCE, Destination, Sender, block, field, free_ports, message
 from served import LIMIT, Service, exchange, wait_received
 
 HERE = os.path.dirname(os.path.abspath(__file__))
@@ -28,7 +31,7 @@ def last_line(program, folder):
     path = os.path.join(folder, 'plan.toml')
     with open(path, 'w', encoding='utf-8') as file:
         file.write(one_channel(port, [('LAB', free_ports(1)[0], [])]))
-    done = subprocess.run([program, 'run', path], input=b'status\nstop', capture_output=True, timeout=LIMIT, check=False)
+    done = subprocess.run([program, 'run', path, '--memory'], input=b'status\nstop', capture_output=True, timeout=LIMIT, check=False)
     return [] if done.returncode == 0 and b'> stop\nstopping\n' in done.stdout else [f'last line: {done}']
 
 
@@ -43,7 +46,7 @@ def large_file(program, folder):
         answer = service.ask(f'deploy {large}')
         if answer != [f'refused: file {large}: it has more than 4194304 bytes'] or not service.ask('status'):
             found.append(f'large file: {answer}')
-    for words in (['run', large], ['check', large], ['try', large]):
+    for words in (['run', large, '--memory'], ['check', large], ['try', large]):
         done = subprocess.run([program, *words], stdin=subprocess.DEVNULL, capture_output=True, timeout=LIMIT, check=False)
         if done.returncode != 3 or b'has more than 4194304 bytes' not in done.stderr:
             found.append(f'large file: {words}: {done}')
@@ -106,7 +109,7 @@ def slow_log(program, folder):
     path = os.path.join(folder, 'plan.toml')
     with open(path, 'w', encoding='utf-8') as file:
         file.write(one_channel(port, [('LAB', lab.port, [])]))
-    process = subprocess.Popen([program, 'run', path], stdin=subprocess.PIPE, stdout=subprocess.PIPE, stderr=subprocess.PIPE)
+    process = subprocess.Popen([program, 'run', path, '--memory'], stdin=subprocess.PIPE, stdout=subprocess.PIPE, stderr=subprocess.PIPE)
     try:
         while b'the service is ready' not in process.stderr.readline():
             pass
@@ -159,7 +162,7 @@ def interrupted(program, folder):
     with open(plan_path, 'w', encoding='utf-8') as file:
         file.write(one_channel(free_ports(1)[0], [('LAB', free_ports(1)[0], [])]))
     opened = [os.open(fifos[name], os.O_RDWR) for name in ('commands', 'answers')]
-    process = subprocess.Popen(['bash', '-c', 'sleep 1; exec "$0" run "$1"', program, plan_path], stdin=opened[0], stdout=opened[1],
+    process = subprocess.Popen(['bash', '-c', 'sleep 1; exec "$0" run "$1" --memory', program, plan_path], stdin=opened[0], stdout=opened[1],
                                stderr=subprocess.DEVNULL)
     control = os.path.join(HERE, '..', 'examples', 'service', 'hl7ctl')
     try:
@@ -197,6 +200,86 @@ def held_up(program, folder):
     return []
 
 
-OPERATORS = [('a last line without a break', last_line), ('a plan that is too large', large_file),
+def shown(program, folder):
+    """`show` prints a message as it was received, a segment a line, with nothing that a terminal would act on; `export` writes its
+    bytes to a new file that only its owner may read. Both are logged, without a word of the message; with --show off both are
+    refused."""
+    port, lab, found = free_ports(1)[0], Destination(lambda text, before: b'AA'), []
+    text, path = message(b'A0', patient=b'77\x1b[31m^\xc3\x9c^\\X0D\\^DOE'), os.path.join(folder, 'a b.hl7')
+    plan_text = one_channel(port, [('LAB', lab.port, [])])
+    with Service(program, plan_text, folder) as service:
+        exchange(port, [text])
+        wait_received(lab, 1)
+        answers = [service.ask(command) for command in (
+            'show 0', 'show 1', f'export 0 {path}', f'export 0 {path}', f'export 1 {path}.1', f'export 0 {folder}/no/such')]
+        is_logged = logged(service, 'INFO message shown', 'message=0', 'control_id=A0') \
+            and logged(service, 'INFO message exported', 'message=0', 'control_id=A0', f'path={path}')
+        lines = [line for line in service.log if 'DOE' in line or '1 message' in line]
+    wanted = [['  MSH|^~\\&|REG|HOSP|ENG|HUB|20231114221300||ADT^A01^ADT_A01|A0|P|2.5.1|||AL|NE',
+               '  PID|1||77\\x1B[31m^\\xC3\\x9C^\\X0D\\^DOE', '  PV1|1|I'], ['no such message'],
+              [f'exported {len(text)} bytes to {path}'], [f'refused: file {path}: File exists (os error 17)'], ['no such message'],
+              [f'refused: file {folder}/no/such: No such file or directory (os error 2)']]
+    if answers != wanted or not is_logged or lines or os.path.exists(path + '.1'):
+        found.append(f'shown: {answers}, logged {is_logged}, {lines}')
+    with open(path, 'rb') as file:
+        if file.read() != text or stat.S_IMODE(os.stat(path).st_mode) != 0o600:
+            found.append(f'shown: the file differs, or has the mode {os.stat(path).st_mode:o}')
+    with Service(program, plan_text, folder, '--show', 'off') as service:
+        exchange(port, [text])
+        answers = [service.ask(command) for command in ('show 0', f'export 0 {path}.2')]
+    lab.close()
+    if answers != [['refused: the service was started with --show off']] * 2 or os.path.exists(path + '.2'):
+        found.append(f'shown: off: {answers}')
+    return found
+
+
+def plans(program, folder):
+    """`plan` says which file the plan in force was read from, since when it is in force and what its SHA-256 is; `plan text` prints
+    it. A plan that is refused changes neither."""
+    port, found = free_ports(1)[0], []
+    texts = [f'# Plan {letter}\n' + one_channel(port, [('LAB', port + 1, [])]) for letter in 'AB\u00dc']
+    paths = [os.path.join(folder, f'{number}.toml') for number in range(3)]
+    for path, text in zip(paths, texts):
+        with open(path, 'w', encoding='utf-8') as file:
+            file.write(text)
+    with Service(program, texts[0], folder) as service:
+        before = int(time.time())
+        for path, text, number in [(service.path, texts[0], 0), (paths[1], texts[1], 1), (paths[2], texts[2], 2)]:
+            if number:
+                service.ask(f'deploy {path}')
+            service.ask(f'deploy {folder}/none.toml')
+            answer = service.ask('plan')
+            digest = hashlib.sha256(text.encode()).hexdigest()
+            since = time.strptime(answer[1], 'in force since %Y-%m-%dT%H:%M:%SZ')
+            passed = calendar.timegm(since) - before
+            if [answer[0], *answer[2:]] != [f'path {path}', f'sha256 {digest}', f'deployments {number} left {1_000 - number}'] \
+                    or not -LIMIT < passed < LIMIT:
+                found.append(f'plans: {answer}, {passed} seconds')
+            if service.ask('plan text') != [f'  {line}' for line in text.removesuffix('\n').split('\n')]:
+                found.append(f'plans: {service.ask("plan text")}')
+    return found
+
+
+def drained(program, folder):
+    """While `stop` waits, the log says at once and then every ten seconds what it waits for."""
+    ports, lab = free_ports(2), Destination(lambda text, before: SILENCE)
+    text = one_channel(ports[0], [('LAB', lab.port, ['timeout = 60']), ('RAD', ports[1], [])])
+    with Service(program, text, folder, '--grace', '1') as service:
+        exchange(ports[0], [message(b'A%d' % number) for number in range(3)])
+        wait_received(lab, 1)
+        service.ask('cancel 2 RAD')
+        service.ask('stop')
+        is_logged = logged(service, 'INFO stopping: messages wait for delivery, or are in flight', 'messages=LAB:3,RAD:2')
+        service.ask('cancel 1 RAD')
+        is_later = logged(service, 'INFO stopping: messages wait for delivery, or are in flight', 'messages=LAB:3,RAD:1', limit=15)
+        service.ask('stop now')
+        service.ended()
+        lines = [line for line in service.log if 'INFO stopping: messages' in line]
+    lab.close()
+    return [] if is_logged and is_later and len(lines) == 2 else [f'drained: {is_logged} {is_later} {lines}']
+
+
+OPERATORS = [('the text of a message', shown), ('where the plan comes from', plans), ('what a stop waits for', drained),
+             ('a last line without a break', last_line), ('a plan that is too large', large_file),
              ('all connections are taken', connections_taken), ('a control id that is none', no_id), ('kinds of lines', kinds),
              ('a log that is read slowly', slow_log), ('prunings by hand', prunings), ('a message that holds up forgetting', held_up), ('an interrupted command', interrupted)]

@@ -11,13 +11,15 @@ LIMIT = 30
 
 
 class Service:
-    """The program started with `run`, once it listens on all channels. Leaving the context kills it."""
+    """The program started with `run`, once it listens on all channels. Its history is in the folder `store`, or in memory alone where
+    that is left out. Leaving the context kills it."""
 
-    def __init__(self, program, text, folder, *words):
+    def __init__(self, program, text, folder, *words, store=None):
         self.path = os.path.join(folder, 'plan.toml')
         with open(self.path, 'w', encoding='utf-8') as file:
             file.write(text)
-        self.process = subprocess.Popen([program, 'run', self.path, *words], stdin=subprocess.PIPE,
+        keeping = ['--store', store] if store else ['--memory']
+        self.process = subprocess.Popen([program, 'run', self.path, *keeping, *words], stdin=subprocess.PIPE,
                                         stdout=subprocess.PIPE, stderr=subprocess.PIPE)
         self.log, self.channels = [], text.count('[[channel]]')
         self.ready = threading.Event()

@@ -507,7 +507,7 @@ def unread(program, folder):
     path = os.path.join(folder, 'plan.toml')
     with open(path, 'w', encoding='utf-8') as file:
         file.write(one_channel(port, [('LAB', lab.port, [])]))
-    process = subprocess.Popen([program, 'run', path], stdin=subprocess.PIPE, stdout=subprocess.PIPE, stderr=subprocess.PIPE)
+    process = subprocess.Popen([program, 'run', path, '--memory'], stdin=subprocess.PIPE, stdout=subprocess.PIPE, stderr=subprocess.PIPE)
     try:
         until(lambda: not socket.socket().connect_ex(('127.0.0.1', port)))
         for n in range(60):
@@ -534,7 +534,7 @@ def unwritten(program, folder):
         with open(path, 'w', encoding='utf-8') as file:
             file.write(one_channel(ports[0], [('LAB', ports[1], [])]))
         reader, writer = (None, os.open('/dev/full', os.O_WRONLY)) if is_full else os.pipe()
-        process = subprocess.Popen([program, 'run', path], stdin=subprocess.PIPE, stdout=writer, stderr=subprocess.PIPE)
+        process = subprocess.Popen([program, 'run', path, '--memory'], stdin=subprocess.PIPE, stdout=writer, stderr=subprocess.PIPE)
         for one in (writer, reader):
             if one is not None:
                 os.close(one)
@@ -554,7 +554,7 @@ def unwritten(program, folder):
 
 
 def tools(program, folder):
-    """Prometheus' own tool accepts the metrics and the alert rules, systemd accepts the unit, and hl7ctl sends commands through the
+    """Prometheus' own tool accepts the metrics and the alert rules, and the rules say of made-up series what tests/alerts.yml has; systemd accepts the unit, and hl7ctl sends commands through the
     FIFOs. Each is tried only if it is installed."""
     here, found = os.path.dirname(os.path.abspath(__file__)), []
     examples = os.path.join(here, '..', 'examples', 'service')
@@ -565,12 +565,13 @@ def tools(program, folder):
         done = subprocess.run(['promtool', 'check', 'metrics'], input=text.encode(), capture_output=True, timeout=LIMIT, check=False)
         if done.returncode or done.stdout or done.stderr:
             found.append(f'tools: promtool: {done}')
-        done = subprocess.run(['promtool', 'check', 'rules', os.path.join(examples, 'alerts.yml')], capture_output=True, timeout=LIMIT,
-                              check=False)
-        if done.returncode:
-            found.append(f'tools: promtool: {done}')
+        for words in (['check', 'rules', os.path.join(examples, 'alerts.yml')],
+                      ['test', 'rules', os.path.join(here, '..', 'tests', 'alerts.yml')]):
+            done = subprocess.run(['promtool', *words], capture_output=True, timeout=LIMIT, check=False)
+            if done.returncode:
+                found.append(f'tools: promtool: {done}')
     else:
-        print('tools: promtool is not installed: metrics and alert rules are not checked by it')
+        print('tools: promtool is not installed: metrics and alert rules are not checked or tested by it')
     if shutil.which('systemd-analyze'):
         with open(os.path.join(examples, 'hl7-service.service'), encoding='utf-8') as file:
             text = file.read().replace('/usr/local/bin/hl7_service', program).replace('/usr/local/bin/hl7ctl', control)
@@ -597,7 +598,7 @@ def controlled(program, folder, control):
     with open(plan_path, 'w', encoding='utf-8') as file:
         file.write(one_channel(free_ports(1)[0], [('LAB', free_ports(1)[0], [])]))
     opened = [os.open(fifos[name], os.O_RDWR) for name in ('commands', 'answers')]
-    process = subprocess.Popen([program, 'run', plan_path], stdin=opened[0], stdout=opened[1], stderr=subprocess.DEVNULL)
+    process = subprocess.Popen([program, 'run', plan_path, '--memory'], stdin=opened[0], stdout=opened[1], stderr=subprocess.DEVNULL)
     around, answers = dict(os.environ, HL7_SERVICE_DIR=folder), []
     try:
         for words in (['status'], ['nothing'], ['--wait', str(process.pid), 'stop']):
@@ -620,12 +621,12 @@ def words(program, folder):
     with socket.create_server(('127.0.0.1', port)):
         for text, given, status, expected in [
                 ('', ['--version'], 0, 'hl7_service 0.2.0 (toolchain logic dac8208d650f15bf)'),
-                ('', ['run', 'no/such.toml'], 3, 'file: no/such.toml'),
-                ('x', ['run', 'plan.toml'], 1, 'plan: NotToml'),
-                (many, ['run', 'plan.toml', '--connections', '1000'], 2, 'limit: connections'),
-                (one_channel(port, [('LAB', port, [])]), ['run', 'plan.toml'], 3, 'device: listen ADT'),
-                ('', ['run', 'plan.toml', '--connections', '0'], 2, "For more information, try '--help'."),
-                ('', ['run', 'plan.toml', '--keep', '1000001'], 2, "For more information, try '--help'."),
+                ('', ['run', 'no/such.toml', '--memory'], 3, 'file: no/such.toml'),
+                ('x', ['run', 'plan.toml', '--memory'], 1, 'plan: NotToml'),
+                (many, ['run', 'plan.toml', '--memory', '--connections', '1000'], 2, 'limit: connections'),
+                (one_channel(port, [('LAB', port, [])]), ['run', 'plan.toml', '--memory'], 3, 'device: listen ADT'),
+                ('', ['run', 'plan.toml', '--memory', '--connections', '0'], 2, "For more information, try '--help'."),
+                ('', ['run', 'plan.toml', '--memory', '--keep', '1000001'], 2, "For more information, try '--help'."),
                 ('', ['run'], 2, "For more information, try '--help'.")]:
             with open(os.path.join(folder, 'plan.toml'), 'w', encoding='utf-8') as file:
                 file.write(text)

@@ -40,9 +40,10 @@ ORDER = (
     ('One history for all threads', 'ghost_log.Seats book_lock.Log book_lock.Outcomes book_lock.Shares book_lock.Callers '
      'conn_worker.Arriving delivery_worker.Turns delivery_worker.Sent'),
     ('Counts and audit', 'book_lock.Rises book_lock.Auditing'),
-    ('What is durable', 'book_lock.Durable book_lock.Journal'),
+    ('What is durable', 'book_lock.Durable book_lock.Journal delivery_worker.Taking'),
     ('Arrivals that are held back', 'book_lock.Crowding'),
     ('The history as a journal', 'book_replay.Replay restart_laws.Restart'),
+    ('A start', 'book_recovery.Seen book_recovery.Interrupting book_recovery.Adopted'),
     ('Every order of steps', 'engine_model.Turn engine_model.Run engine_model.Steps engine_model.Promise '
      'engine_model.Converse'),
     ('The store', 'event_store.Records event_file.Found'),
@@ -91,10 +92,12 @@ BESIDE = (
      'first',
      ['book_lock.Rises.AddsUp', 'book_lock.Auditing.receipts_due', 'book_lock.Auditing.unfolded', 'book_lock.Auditing.IsFirstFault']),
     ('What is durable', 'the clauses `copies` of `copy_entries`, `durable` and `committed` of `wait_durable`, `durable` of '
-     '`take_durable` and `committed` of `close`: `Copies`, `AreArrivalsDurable`, `AreCommitted`, `IsDurableMessage` and '
+     '`take_durable`, `committed` of `close` and `by_rule` of `deliver_until`: `Copies`, `AreArrivalsDurable`, `AreCommitted`, '
+     '`IsDurableMessage`, `IsNotTaken`, `TakesByRule` and '
      '`HasCommitted`, on top of one history for all threads',
      ['book_lock.Journal.Copies', 'book_lock.Durable.AreArrivalsDurable', 'book_lock.Durable.AreCommitted',
-      'book_lock.Durable.IsDurableMessage', 'book_lock.Durable.HasCommitted']),
+      'book_lock.Durable.IsDurableMessage', 'book_lock.Durable.IsNotTaken', 'book_lock.Durable.HasCommitted',
+      'delivery_worker.Taking.TakesByRule']),
     ('Which arrivals are held back', 'the clauses `arrives` and `crowded` of `arrive_tidy` and `arrive_tidy_judged`: `crowded_route`, on '
      'top of what a history is',
      ['book_lock.Crowding.*']),
@@ -116,6 +119,9 @@ BESIDE = (
      '`IsStopped` and `AreRecordsOf`, on top of a call on a book and of one history for all threads',
      ['book_replay.Replay.after_records', 'book_replay.Replay.AreReplayed', 'book_replay.Replay.IsStopped',
       'book_replay.Replay.IsBooked', 'restart_laws.Restart.AreRecordsOf']),
+    ('A start', 'the clauses of `recover`, `settle_interrupted` and `adopt_plan` (book_recovery): what the records say beside the book, '
+     'which messages have no attempt left, and which plan is in force then',
+     ['book_recovery.Seen.*', 'book_recovery.Interrupting.*', 'book_recovery.Adopted.*']),
     ('Reading a plan', 'the clause `text` of `Plan::read`: `plan_in`. What a TOML document says is the definition of the '
      "kit's crate toml",
      ['plan_text.Document.plan_in']),

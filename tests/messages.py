@@ -1,11 +1,13 @@
 #!/usr/bin/env python3
 """Tries each message of examples/messages against examples/hospital.toml, and compares its verdict, its destinations and some of
-their fields with the table of examples/messages/README.md. Plain Python 3, no packages.
+their fields with the table of examples/messages/README.md; then tries messages of each kind, tests/try/messages by the plan
+beside it, and compares all that is printed with tests/try/printed. Plain Python 3, no packages.
 
 Usage: tests/messages.py [PROGRAM]
 
 PROGRAM is the built service, by default crates/hl7_service/out/hl7_service ('rt run' in crates/hl7_service builds it).
-The exit status is 0 if everything is as in the table, else 1.
+The second is tried by the program as Rattle's own compiler built it, too, where PROGRAM.by-rattle is there. The exit status is 0
+if everything is as in the table and in that file, else 1.
 """
 import os
 import subprocess
@@ -70,12 +72,28 @@ def wrong(program, row):
     return ''
 
 
+def tried(program):
+    """How what a program prints of tests/try differs from what it should print, or an empty string."""
+    folder = os.path.join(HERE, 'try')
+    with open(os.path.join(folder, 'messages'), 'rb') as given, open(os.path.join(folder, 'printed'), 'rb') as expected:
+        done = subprocess.run([program, 'try', 'plan.toml'], cwd=folder, stdin=given, capture_output=True, timeout=60, check=False)
+        if done.returncode != 1:
+            return f'tests/try: {os.path.basename(program)} ended with status {done.returncode}, and not 1'
+        for number, (got, line) in enumerate(zip(done.stdout.split(b'\n'), expected.read().split(b'\n')), 1):
+            if got != line:
+                return f'tests/try: {os.path.basename(program)} prints {got} in line {number}, and not {line}'
+        expected.seek(0)
+        return '' if done.stdout == expected.read() else f'tests/try: {os.path.basename(program)} prints more or fewer lines'
+
+
 def main():
     program, table = os.path.abspath(sys.argv[1] if len(sys.argv) > 1 else PROGRAM), rows()
     lines = [line for row in table if (line := wrong(program, row))]
     files = {name for name in os.listdir(os.path.join(EXAMPLES, 'messages')) if name.endswith('.hl7')}
     if files != {row[0] for row in table}:
         lines.append(f'not in both the folder and the table: {files ^ {row[0] for row in table}}')
+    built = [it for it in (program, f'{program}.by-rattle') if os.path.exists(it)]
+    lines += filter(None, map(tried, built))
     for line in lines:
         print(line)
     print(f'examples/messages: {len(table)} messages, {"as the table says" if not lines else "WRONG"}')

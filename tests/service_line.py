@@ -20,9 +20,9 @@ VERSION = 'hl7_service 0.2.0 (toolchain logic dac8208d650f15bf)\n'
 LOGIC = re.compile(r'logic `?([0-9a-f]{16})')
 # The arguments, and what the help has to contain beside the usage.
 HELP = [
-    (['--help'], ['run ', 'try ', 'check ', 'The exit status:', *(f'\n  {status}  ' for status in range(6)), 'Example: hl7_service run']),
-    (['run', '--help'], ['--connections <N>', '[default: 64]', '[default: 1000000]', '[default: 0]', '[default: 5]', 'a quarter of --events]',
-                         'deploy PATH', 'stop now', 'Example: hl7_service run']),
+    (['--help'], ['run ', 'try ', 'check ', 'The exit status:', *(f'\n  {status}  ' for status in range(9)), 'Example: hl7_service run']),
+    (['run', '--help'], ['--store <FOLDER>', '--memory', '--connections <N>', '[default: 64]', '[default: 1000000]', '[default: 0]',
+                         '[default: 5]', '[default: on]', 'a quarter of --events]', 'deploy PATH', 'stop now', 'Example: hl7_service run']),
     (['try', '--help'], ['--channel <NAME>', "[default: the plan's first]", 'The status is 1', 'Example: hl7_service try']),
     (['check', '--help'], ['--verbose', 'plan ok: N channels, M destinations', 'plan: NAME at PATH', 'Example: hl7_service check']),
     (['help', 'check'], ['<PLAN>']),
@@ -95,9 +95,20 @@ def versions(program):
     return lines
 
 
+def places(program):
+    """The failures of `run` where no place for its history is given, or two are, one line each: both forms are named."""
+    plan, lines = os.path.join(TOP, 'examples', 'two_channels.toml'), []
+    forms = ['hl7_service run <PLAN> --store <FOLDER>', 'hl7_service run <PLAN> --memory']
+    for words in (['run', plan], ['run', plan, '--store', 'no/such', '--memory'], ['run', '--memory', '--store=no/such', plan]):
+        status, out, err = called(program, words)
+        if (status, out) != (2, '') or 'exactly one of' not in err or any(form not in err for form in forms):
+            lines.append(f'{words}: {(status, out, err)}, and not both forms')
+    return lines
+
+
 def wrong(program):
     """The runs that are not as expected, one line each."""
-    lines = versions(program)
+    lines = versions(program) + places(program)
     for words, contents in HELP:
         status, out, err = called(program, words)
         if (status, err) != (0, '') or any(text not in out for text in ['Usage: hl7_service', *contents]):

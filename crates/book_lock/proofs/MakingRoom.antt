@@ -18,7 +18,7 @@ use Rattle.book_core.specs.declared.receipt.NotBooked.TheVariants.{Full}
 use Rattle.book_core.specs.declared.receipt.Receipt.{Receipt}
 use Rattle.book_core.specs.inner.Questions.{is_tight}
 use Rattle.book_lock.specs.Crowding.{crowded_route}
-use Rattle.book_lock.specs.Log.{Arrives, IsTidiedInLog}
+use Rattle.book_lock.specs.Log.{Arrives, IsTidiedInLog, IsLogged}
 use Rattle.book_lock.specs.Rises.{SharedBook}
 use Rattle.book_lock.specs.Shares.{DeskView}
 use Rattle.book_lock.specs.declared.crowding.Crowded.{Crowded}
@@ -28,7 +28,6 @@ use Rattle.book_lock.specs.declared.tidying.Tidying.TheVariants.{NotTight, Prune
 use Rattle.book_lock.specs.inner.Arriving.{ArrivesAtBook, ArrivesAtDesk, ArrivesHere}
 use Rattle.book_lock.specs.inner.Rises.{with_book}
 use Rattle.book_lock.specs.inner.Tidies.{ArrivesAtTidied, ArrivesTidied, CallsForPruning, IsHeldBack, IsHeldBackAt, IsOutOfRoom, IsPruning, IsTidying, IsTidyingFor, is_worth_pruning, left_by}
-use Rattle.book_lock.specs.inner.Reading.{IsLogged}
 use Rattle.book_lock.proofs.Freeing.{free_after}
 use Rattle.book_lock.proofs.Retrying.{full_then}
 

@@ -118,7 +118,10 @@ module _ (A S : RattleType) (o : Sharing.Ghosts A.Denot) (n : Naming.Ghosts A.De
                     search (sendable, crosses) depth 20,
                     (
                       search (sendable, crosses) depth 20,
-                      (search (sendable, crosses) depth 20, (search (sendable, crosses, unread_send) depth 60 fits 30000, tt)),
+                      (
+                        search (sendable, crosses) depth 20,
+                        (search (sendable, crosses) depth 20, (search (sendable, crosses, unread_send) depth 60 fits 30000, tt)),
+                      ),
                     ),
                   ),
                 ),
@@ -135,6 +138,9 @@ module _ (A S : RattleType) (o : Sharing.Ghosts A.Denot) (n : Naming.Ghosts A.De
         mutex.the_sync _ (locked_send s),
         (
           search (sendable, crosses) depth 60 fits 30000,
-          (search (sendable, crosses) depth 20, (search (sendable, crosses) depth 60 fits 30000, tt)),
+          (
+            search (sendable, crosses) depth 20,
+            (search (sendable, crosses) depth 60 fits 30000, (search (sendable, crosses) depth 60 fits 30000, tt)),
+          ),
         ),
       ))

@@ -1,13 +1,15 @@
 -- What of a shared book is durable, by its log: which entries survive a crash. `Durable below` in a log says that all entries
 -- of the history below that index do.
-use Rattle.std.specs.Prelude.{◌≡◌, ◌⊎◌, ℕ, ◌<◌, ◌≤◌, List, [], ◌∷◌, ◌++◌, Some}
+use Rattle.std.specs.Prelude.{◌≡◌, ◌⊎◌, ℕ, ◌<◌, ◌≤◌, List, [], ◌∷◌, ◌++◌, Some, Err}
 use Rattle.event_log.specs.declared.entry.Entry.TheVariants.{Arrival}
 use Rattle.event_log.specs.declared.entry.Told.{Told}
 use Rattle.event_log.specs.declared.entry.Told.TheVariants.{Accepted}
 use Rattle.event_log.specs.History.{History, entry_at, next_place}
 use Rattle.book_lock.specs.declared.log_entry.LogEntry.{LogEntry}
+use Rattle.book_lock.specs.declared.durable.TakeDurableRefusal.{TakeDurableRefusal}
+use Rattle.book_lock.specs.declared.durable.TakeDurableRefusal.TheVariants.{NotDurable, Refused}
 use Rattle.book_lock.specs.declared.log_entry.LogEntry.TheVariants as log
-use Rattle.book_lock.specs.Log.{Linearizes, Log, SeatView, after_log}
+use Rattle.book_lock.specs.Log.{Linearizes, Log, Looks, SeatView, Takes, after_log}
 
 -- what was booked or pruned, in order: what a log says of durability changes no book
 abbrev pub changes_of : Log → List LogEntry
@@ -82,3 +84,10 @@ pub record IsDurableMessage (opening h : History) (entries : Log) (n : ℕ) : Ty
   pub below : ℕ
   pub arrived : ArrivedBelow h n below
   pub durable : IsDurableBelow opening entries below
+
+-- The first message of queue d was not taken: its seat looked at the book, and where the message is durable, the book refused
+-- the take after that look.
+abbrev pub IsNotTaken : History → ℕ → ℕ → SeatView → SeatView → TakeDurableRefusal → Type 0
+IsNotTaken opening d now old new NotDurable = Looks opening old new
+IsNotTaken opening d now old new (Refused refusal) =
+    (between : SeatView) × Looks opening old between × Takes opening d now between new (Err refusal)

@@ -149,3 +149,16 @@ pub record Linearizes (opening : History) (seats : ℕ) (seen : List SeatView) (
   pub is_book : IsBookOf opening entries book
   pub agreed : All (λ s. Agrees s.number s.seen entries) seen
   pub within : All (λ x. x.0 < seats) entries
+
+-- ---- what is read
+
+-- a book is what some legal log makes of the opening
+pub record IsLogged (opening book : History) : Type 0 where
+  pub entries : Log
+  pub is_book : IsBookOf opening entries book
+
+-- What was read holds of the book as it was at one moment: the book that a legal log makes of the opening.
+pub record IsReadOf (opening : History) (Holds : History → Type 0) : Type 0 where
+  pub book : History
+  pub logged : IsLogged opening book
+  pub holds : Holds book

@@ -11,9 +11,8 @@ ghost use Rattle.book_core.specs.Headline.{KeepsItsPromise};
 ghost use Rattle.book_core.specs.inner.Questions.{first_live, front_at, settled_before};
 ghost use Rattle.book_core.specs.Sending.{awaits_ack};
 ghost use Rattle.book_lock.specs.Rises.{AddsUp, arrivals_rise, settlements_rise, takes_rise};
-ghost use Rattle.book_lock.specs.inner.Reading.{IsLogged};
 ghost use Rattle.book_lock.specs.inner.Rises.{with_book};
-ghost use Rattle.book_lock.specs.Log.{Calls, Linearizes, Looks, Takes, IsCalled, IsPruneRefused, IsPruned};
+ghost use Rattle.book_lock.specs.Log.{Calls, Linearizes, Looks, Takes, IsCalled, IsPruneRefused, IsPruned, IsLogged};
 ghost use Rattle.book_lock.specs.Callers.{IsClosedBy};
 ghost use Rattle.book_lock.specs.Durable.{HasCommitted};
 ghost use Rattle.book_lock.specs.inner.Planning.{WasInForce};
@@ -114,6 +113,8 @@ pub struct Locked<A: Sharing, S: BookRows> {
     durable: usize,
     /// Whether no further entry becomes durable.
     journal_failed: bool,
+    /// Whether a thread has begun to wait for entries to become durable since the journal last copied.
+    journal_wanted: bool,
     /// Copies of changes for the reader of a journal, once it has copied: what a pruning folds is kept here.
     unread: Option<UnreadChanges>,
 }
@@ -230,6 +231,7 @@ impl<A: Sharing, S: BookRows> Locked<A, S> {
             rung: 0,
             durable: first,
             journal_failed: false,
+            journal_wanted: false,
             unread: None,
         }
     }
@@ -608,6 +610,7 @@ impl<A: Sharing, S: BookRows> Locked<A, S> {
             rung,
             durable,
             journal_failed,
+            journal_wanted,
             unread,
         } = self;
         let mut roll = Roll::of(log);
@@ -623,6 +626,7 @@ impl<A: Sharing, S: BookRows> Locked<A, S> {
             rung,
             durable,
             journal_failed,
+            journal_wanted,
             unread,
         }
     }

@@ -12,12 +12,12 @@ ghost use Rattle.event_log.specs.Event.{cancel, deploy, settle};
 ghost use Rattle.book_lock.specs.inner.Closing.{HandsBack};
 ghost use Rattle.book_lock.specs.Durable.{HasCommitted};
 ghost use Rattle.book_lock.specs.Rises.{AddsUp};
-ghost use Rattle.book_lock.specs.Log.{Arrives, Calls, Linearizes, Looks, Takes, IsCalled, IsPruneRefused, IsPruned};
+ghost use Rattle.book_lock.specs.Log.{Arrives, Calls, Linearizes, Looks, Takes, IsCalled, IsPruneRefused, IsPruned, IsReadOf};
 ghost use Rattle.book_lock.specs.Callers.{IsClosedBy};
 ghost use Rattle.book_lock.specs.inner.Arriving.{ArrivesAtDesk};
 ghost use Rattle.book_lock.specs.inner.Log.{new_seats};
 ghost use Rattle.book_lock.specs.inner.Planning.{WasInForce};
-ghost use Rattle.book_lock.specs.inner.Reading.{IsFound, IsGaugeOf, IsReadOf, IsStatusOf, failed_among, first_live_at, found_among, waiting_among};
+ghost use Rattle.book_lock.specs.inner.Reading.{IsFound, IsGaugeOf, IsStatusOf, failed_among, first_live_at, found_among, waiting_among};
 ghost use Rattle.book_lock.specs.inner.Shares.{no_calls, with_settlement, with_take};
 ghost use Rattle.book_lock.specs.Shares.{seats_of};
 ghost use Rattle.book_lock.specs.inner.Tidies.{ArrivesAtTidied, IsHeldBackAt};
@@ -59,6 +59,8 @@ pub struct Shared<A: Sharing, S: BookRows> {
     finished: AtomicBool,
     /// Signalled when further entries become durable, and when the journal fails.
     became_durable: Condvar,
+    /// Signalled when a thread begins to wait for entries to become durable.
+    journal_bell: Condvar,
 }
 
 /// A book that was shared just now, with those among whom it is shared.
@@ -197,6 +199,7 @@ impl<A: Sharing, S: BookRows> Shared<A, S> {
             bells,
             finished: AtomicBool::new(false),
             became_durable: Condvar::new(),
+            journal_bell: Condvar::new(),
         };
         Ok(Opened {
             shared,
@@ -696,6 +699,7 @@ impl<A: Sharing, S: BookRows> Shared<A, S> {
             bells,
             finished,
             became_durable,
+            journal_bell,
         } = self;
         let locked = locked.into_inner();
         if add_up(&locked, &desks, &stations) {
@@ -708,6 +712,7 @@ impl<A: Sharing, S: BookRows> Shared<A, S> {
                 bells,
                 finished,
                 became_durable,
+                journal_bell,
             },
             desks,
             stations,

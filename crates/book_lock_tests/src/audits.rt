@@ -4,8 +4,8 @@ ghost use Rattle.std.specs.Prelude.{◌≡◌, ◌+◌, length};
 ghost use Rattle.event_log.specs.History.{next_place, plan_in_force};
 ghost use Rattle.event_log.specs.Counting.{counted};
 
-use crate::stage::{M1, M2, Rows, bring, waiting};
-use book_core::{Book, BookRows, EVENTS_MAX, Receipt, Told};
+use crate::stage::{EMPTY, M1, M2, Rows, bring, filled};
+use book_core::{Book, BookRows, Receipt, Told};
 use book_lock::{
     AuditFault, Closed, Desk, LogEntry, NotClosed, Opened, Shared, Sharing, Station, audit, rising,
 };
@@ -14,6 +14,7 @@ use ghost_log::BlankLog;
 use judge_core::Text;
 use log::Log;
 use std::alloc::Global;
+use std::hash::RandomState;
 use std::marker::Brand;
 use std::sync::Wait;
 use std::test::Fail;
@@ -281,15 +282,20 @@ fn work_and_keep<A: Sharing, S: BookRows, H: Wait + Log>(
     keep(given, handed, kept)
 }
 
-/// Works at the first desk and the station, and closes the book, a second time with all shares where the first close was
-/// refused.
+/// Works at the first desk and the station of a book that was just shared, and closes it, a second time with all shares where the
+/// first close was refused.
 fn end_with<A: Sharing, S: BookRows + Drop, H: Wait + Log>(
     rt: &H,
     alloc: Global,
-    shared: Shared<A, S>,
-    mut handed: Shares<A>,
+    opened: Opened<A, S>,
     given: &Given,
 ) -> Result<Day<S>, Fail> {
+    let Opened {
+        shared,
+        desks,
+        stations,
+    } = opened;
+    let mut handed = (desks, stations);
     let mut kept = (Vec::new(alloc), Vec::new(alloc));
     work_and_keep(rt, alloc, &shared, given, &mut handed, &mut kept)?;
     close_twice(shared, handed, &mut kept)
@@ -310,41 +316,44 @@ fn end_day<A: Sharing, S: BookRows + Drop, H: Wait + Log>(
     requires channels { length (plan_in_force book).channels ≡ A.channels }
     requires seats { (A.desks ≡ 2) × (A.stations ≡ 1) }
 {
-    let opened = Shared::<A, S>::new(alloc, book, 2, 1, log);
-    match opened {
-        Ok(
-            Opened {
-                shared,
-                desks,
-                stations,
-            },
-        ) => end_with(rt, alloc, shared, (desks, stations), given),
+    match Shared::<A, S>::new(alloc, book, 2, 1, log) {
+        Ok(opened) => end_with(rt, alloc, opened, given),
         Err(_) => Err("memory".into()),
     }
+}
+
+/// The receipt of a slip.
+fn receipt(alloc: Global, slip: Slip) -> Result<Receipt, Fail> {
+    let bytes = Vec::from_slice(alloc, slip.text.as_bytes())?;
+    Ok(Receipt {
+        entry: slip.entry,
+        conn: slip.conn,
+        channel: 0,
+        raw: Text::new(alloc, bytes)?,
+        told: Told::Accepted(slip.number),
+    })
 }
 
 /// The receipts of these slips.
 fn receipts(alloc: Global, slips: &[Slip]) -> Result<Vec<Receipt>, Fail> {
     let mut receipts = Vec::new(alloc);
     for slip in slips {
-        let bytes = Vec::from_slice(alloc, slip.text.as_bytes())?;
-        receipts.push(Receipt {
-            entry: slip.entry,
-            conn: slip.conn,
-            channel: 0,
-            raw: Text::new(alloc, bytes)?,
-            told: Told::Accepted(slip.number),
-        })?;
+        receipts.push(receipt(alloc, *slip)?)?;
     }
     Ok(receipts)
+}
+
+/// Whether an audit comes out as it is to.
+fn is_met<S: BookRows>(alloc: Global, closed: &Closed<S>, case: &Audit) -> Result<bool, Fail> {
+    let receipts = receipts(alloc, case.slips)?;
+    let answer = audit(closed, receipts.as_slice());
+    Ok(answer == case.answer && rising(receipts.as_slice()) == case.rises)
 }
 
 /// The first audit that comes out otherwise than it is to.
 fn unmet<S: BookRows>(alloc: Global, closed: &Closed<S>) -> Result<Option<usize>, Fail> {
     for (place, case) in AUDITS.iter().enumerate() {
-        let receipts = receipts(alloc, case.slips)?;
-        let answer = audit(closed, receipts.as_slice());
-        if answer != case.answer || rising(receipts.as_slice()) != case.rises {
+        if !is_met(alloc, closed, case)? {
             return Ok(Some(place));
         }
     }
@@ -378,13 +387,24 @@ fn comes_out<S: BookRows + Drop, H: Wait + Log>(
     is_right(alloc, given, &day)
 }
 
+/// Whether a day at an empty book comes out as it is to.
+fn day_comes_out<H: Wait + Log>(
+    rt: &H,
+    alloc: Global,
+    hasher: RandomState,
+    given: &Given,
+) -> Result<bool, Fail> {
+    let book = filled::<Rows>(alloc, hasher, &EMPTY)?;
+    comes_out(rt, alloc, book, given)
+}
+
 /// A close is refused where a share is missing at which something was made. Where it is refused, all comes back, and the
 /// next close with all shares is done. Each audit comes out as it is to.
 #[test]
 fn cases(rt: HostRuntime) -> Result<(), Fail> {
+    let hasher = RandomState::new(&rt)?;
     for (place, given) in GIVEN.iter().enumerate() {
-        let book: Book<Rows> = waiting(&rt, false, EVENTS_MAX, &[])?;
-        let right = comes_out(&rt, rt.alloc(), book, given)?;
+        let right = day_comes_out(&rt, rt.alloc(), hasher, given)?;
         assert!(rt; right, "case {place}");
     }
     Ok(())

@@ -1,7 +1,7 @@
 //! Calls of a shared book answer as the book's do.
 
-use crate::stage::{Done, M1, M2, Rows, Task, UPDATE, comes_out, waiting};
-use book_core::{Book, BookRows, CancelRefusal, EVENTS_MAX, TakeRefusal, Ticket};
+use crate::stage::{Done, M1, M2, Task, UPDATE, Waiting, comes_out};
+use book_core::{BookRows, CancelRefusal, EVENTS_MAX, TakeRefusal, Ticket};
 use book_lock::{Desk, Shared, Sharing, Station};
 use conn_worker::nearest;
 use dest_queue::{FailCause, Outcome, SettleRefusal, SlotState};
@@ -9,6 +9,7 @@ use log::Log;
 use plan_text::Plan;
 use stat_count::Counts;
 use std::alloc::Global;
+use std::hash::RandomState;
 use std::sync::{Arc, Wait};
 use std::test::Fail;
 
@@ -303,9 +304,14 @@ impl Task for Case {
 /// Each case comes out as it is to.
 #[test]
 fn cases(rt: HostRuntime) -> Result<(), Fail> {
+    let hasher = RandomState::new(&rt)?;
     for (place, case) in CASES.iter().enumerate() {
-        let book: Book<Rows> = waiting(&rt, case.four, EVENTS_MAX, case.messages)?;
-        let right = comes_out(&rt, rt.alloc(), book, case);
+        let due = Waiting {
+            four: case.four,
+            room: EVENTS_MAX,
+            messages: case.messages,
+        };
+        let right = comes_out(&rt, rt.alloc(), hasher, &due, case)?;
         assert!(rt; right, "case {place}");
     }
     Ok(())

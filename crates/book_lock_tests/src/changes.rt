@@ -1,12 +1,13 @@
 //! Plans and prunings that a shared book refuses, and messages that come after a deployment.
 
-use crate::stage::{Done, M1, M2, Rows, Task, bring, comes_out, plan_of, waiting};
-use book_core::{Book, BookRows, DeployRefusal, EVENTS_MAX, PruneRefusal, Told};
+use crate::stage::{Done, M1, M2, Task, Waiting, bring, comes_out, plan_of};
+use book_core::{BookRows, DeployRefusal, EVENTS_MAX, PruneRefusal, Told};
 use book_lock::{Desk, Shared, Sharing, Station};
 use hl7_head::Cause;
 use log::Log;
 use plan_text::Plan;
 use std::alloc::Global;
+use std::hash::RandomState;
 use std::sync::{Arc, Wait};
 use std::test::Fail;
 
@@ -241,13 +242,25 @@ fn first_unmet<A: Sharing, S: BookRows, H: Wait + Log>(
     None
 }
 
-/// What the calls of a case answered, the plan that was in force after them, and the one that should be.
+/// Whether this plan is in force.
+fn is_in_force<A: Sharing, S: BookRows, H: Wait + Log>(
+    rt: &H,
+    shared: &Shared<A, S>,
+    due: &Plan,
+) -> bool {
+    match shared.plan(rt) {
+        Ok(plan) => plan.same(due),
+        Err(_) => false,
+    }
+}
+
+/// What the calls of a case answered, the plan that should be in force after them, and whether it was.
 #[derive(Drop)]
 struct Answers {
     /// The first call that was answered otherwise.
     unmet: Option<usize>,
-    plan: Arc<Plan>,
     due: Arc<Plan>,
+    in_force: bool,
 }
 
 impl Task for Case {
@@ -262,10 +275,13 @@ impl Task for Case {
         _: &mut [Station<A>],
     ) -> Option<Answers> {
         let desk = desks.first_mut()?;
+        let unmet = first_unmet(rt, alloc, shared, desk, self.calls);
+        let due = plan_said(alloc, self.plan)?;
+        let in_force = is_in_force(rt, shared, &due);
         Some(Answers {
-            unmet: first_unmet(rt, alloc, shared, desk, self.calls),
-            plan: shared.plan(rt).ok()?,
-            due: plan_said(alloc, self.plan)?,
+            unmet,
+            due,
+            in_force,
         })
     }
 
@@ -273,7 +289,7 @@ impl Task for Case {
     fn is_right<S: BookRows>(&self, done: &Done<Answers, S>) -> bool {
         let (answers, book) = (&done.answer, done.closed.book());
         answers.unmet.is_none()
-            && answers.plan.same(&answers.due)
+            && answers.in_force
             && book.plan().same(&answers.due)
             && book.len() == self.len
     }
@@ -282,9 +298,14 @@ impl Task for Case {
 /// Each case comes out as it is to.
 #[test]
 fn cases(rt: HostRuntime) -> Result<(), Fail> {
+    let hasher = RandomState::new(&rt)?;
     for (index, case) in CASES.iter().enumerate() {
-        let book: Book<Rows> = waiting(&rt, false, case.room, case.messages)?;
-        let right = comes_out(&rt, rt.alloc(), book, case);
+        let due = Waiting {
+            four: false,
+            room: case.room,
+            messages: case.messages,
+        };
+        let right = comes_out(&rt, rt.alloc(), hasher, &due, case)?;
         assert!(rt; right, "case {index}");
     }
     Ok(())

@@ -1,42 +1,26 @@
 //! Arrivals that are held back since their destination is crowded, and a book that is pruned where it has no room.
 
-use crate::stage::{Done, M1, M2, Rows, Task, comes_out, judged_now, waiting};
-use book_core::{Book, BookRows, Told};
-use book_lock::{Crowded, Desk, Shared, Sharing, Station, Tidied, Tidying};
+use crate::stage::{Came, Done, M1, M2, Task, Waiting, bring_tidy, comes_out};
+use book_core::{BookRows, Told};
+use book_lock::{Crowded, Desk, Shared, Sharing, Station, Tidying};
 use conn_worker::nearest;
 use dest_queue::Outcome;
 use log::Log;
 use std::alloc::Global;
+use std::hash::RandomState;
 use std::sync::Wait;
 use std::test::Fail;
 
-/// Books a message by connection 7, with the last message kept where the book is pruned. None where memory is refused.
-fn bring<A: Sharing, S: BookRows, H: Wait + Log>(
-    rt: &H,
-    alloc: Global,
-    shared: &Shared<A, S>,
-    desk: &mut Desk<A>,
-    text: &str,
-) -> Option<Result<Tidied, Crowded>> {
-    let judged = judged_now(rt, alloc, shared, text)?;
-    Some(shared.arrive_tidy(rt, desk, 7, &judged, 1))
-}
-
 /// What an arrival was answered, if it was booked.
-fn told(arrived: &Result<Tidied, Crowded>) -> Option<Told> {
+fn told(arrived: &Result<Came, Crowded>) -> Option<Told> {
     match arrived {
-        Ok(
-            Tidied {
-                receipt: Ok(receipt),
-                ..
-            },
-        ) => Some(receipt.told),
-        _ => None,
+        Ok(came) => came.told,
+        Err(_) => None,
     }
 }
 
 /// Whether an arrival was held back for the first destination, and nothing was done about the book.
-fn is_held_back(arrived: &Result<Tidied, Crowded>) -> bool {
+fn is_held_back(arrived: &Result<Came, Crowded>) -> bool {
     matches!(
         arrived,
         Err(Crowded {
@@ -64,7 +48,7 @@ fn deliver<A: Sharing, S: BookRows, H: Wait + Log>(
 struct Crowding;
 
 impl Task for Crowding {
-    type Answer = [Result<Tidied, Crowded>; 3];
+    type Answer = [Result<Came, Crowded>; 3];
 
     fn work<A: Sharing, S: BookRows, H: Wait + Log>(
         &self,
@@ -73,16 +57,16 @@ impl Task for Crowding {
         shared: &Shared<A, S>,
         desks: &mut [Desk<A>],
         stations: &mut [Station<A>],
-    ) -> Option<[Result<Tidied, Crowded>; 3]> {
+    ) -> Option<[Result<Came, Crowded>; 3]> {
         let desk = desks.first_mut()?;
-        let second = bring(rt, alloc, shared, desk, M2)?;
-        let early = bring(rt, alloc, shared, desk, M1)?;
+        let second = bring_tidy(rt, alloc, shared, desk, M2)?;
+        let early = bring_tidy(rt, alloc, shared, desk, M1)?;
         deliver(rt, shared, stations.first_mut()?)?;
-        let late = bring(rt, alloc, shared, desk, M1)?;
+        let late = bring_tidy(rt, alloc, shared, desk, M1)?;
         Some([second, early, late])
     }
 
-    fn is_right<S: BookRows>(&self, done: &Done<[Result<Tidied, Crowded>; 3], S>) -> bool {
+    fn is_right<S: BookRows>(&self, done: &Done<[Result<Came, Crowded>; 3], S>) -> bool {
         let [second, early, late] = &done.answer;
         told(second) == Some(Told::Accepted(1))
             && is_held_back(early)
@@ -91,11 +75,17 @@ impl Task for Crowding {
     }
 }
 
+/// A message waits in a book with room for twenty entries.
+const ONE: Waiting = Waiting {
+    four: false,
+    room: 20,
+    messages: &[M1],
+};
+
 /// Two messages with three attempts each owe 14 entries of 20: what comes then is held back, until one is delivered.
 #[test]
 fn a_crowded_destination_waits(rt: HostRuntime) -> Result<(), Fail> {
-    let book: Book<Rows> = waiting(&rt, false, 20, &[M1])?;
-    let right = comes_out(&rt, rt.alloc(), book, &Crowding);
+    let right = comes_out(&rt, rt.alloc(), RandomState::new(&rt)?, &ONE, &Crowding)?;
     assert!(rt; right);
     Ok(())
 }
@@ -104,7 +94,7 @@ fn a_crowded_destination_waits(rt: HostRuntime) -> Result<(), Fail> {
 struct Lacking;
 
 impl Task for Lacking {
-    type Answer = Tidied;
+    type Answer = Came;
 
     fn work<A: Sharing, S: BookRows, H: Wait + Log>(
         &self,
@@ -113,17 +103,17 @@ impl Task for Lacking {
         shared: &Shared<A, S>,
         desks: &mut [Desk<A>],
         stations: &mut [Station<A>],
-    ) -> Option<Tidied> {
+    ) -> Option<Came> {
         let desk = desks.first_mut()?;
         deliver(rt, shared, stations.first_mut()?)?;
         for _ in 0..10 {
-            bring(rt, alloc, shared, desk, M1)?.ok()?;
+            bring_tidy(rt, alloc, shared, desk, M1)?.ok()?;
         }
-        bring(rt, alloc, shared, desk, M2)?.ok()
+        bring_tidy(rt, alloc, shared, desk, M2)?.ok()
     }
 
-    fn is_right<S: BookRows>(&self, done: &Done<Tidied, S>) -> bool {
-        matches!(&done.answer.receipt, Ok(receipt) if receipt.told == Told::Accepted(1))
+    fn is_right<S: BookRows>(&self, done: &Done<Came, S>) -> bool {
+        done.answer.told == Some(Told::Accepted(1))
             && done.answer.tidying == Tidying::Pruned { before: 0 }
             && done.closed.book().prunings() == 1
     }
@@ -133,8 +123,7 @@ impl Task for Lacking {
 /// the entries are folded.
 #[test]
 fn a_lack_of_room_prunes(rt: HostRuntime) -> Result<(), Fail> {
-    let book: Book<Rows> = waiting(&rt, false, 20, &[M1])?;
-    let right = comes_out(&rt, rt.alloc(), book, &Lacking);
+    let right = comes_out(&rt, rt.alloc(), RandomState::new(&rt)?, &ONE, &Lacking)?;
     assert!(rt; right);
     Ok(())
 }

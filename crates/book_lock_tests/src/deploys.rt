@@ -1,11 +1,12 @@
 //! Plans that are deployed in a shared book.
 
-use crate::stage::{Done, M1, Rows, SLOWER, Task, comes_out, plan, plan_of, waiting};
-use book_core::{Book, BookRows, DeployRefusal, EVENTS_MAX};
+use crate::stage::{Done, M1, SLOWER, Task, Waiting, comes_out, plan, plan_of};
+use book_core::{BookRows, DeployRefusal, EVENTS_MAX};
 use book_lock::{Desk, Shared, Sharing, Station};
 use log::Log;
 use plan_text::Plan;
 use std::alloc::Global;
+use std::hash::RandomState;
 use std::sync::{Arc, Wait};
 use std::test::Fail;
 
@@ -53,15 +54,23 @@ impl Task for Deployments {
     }
 }
 
+/// A book in which one message waits.
+const ONE: Waiting = Waiting {
+    four: false,
+    room: EVENTS_MAX,
+    messages: &[M1],
+};
+
 /// A plan that lacks a destination to which a message waits is refused. One that only waits longer between two attempts is
 /// in force from then on, and is in the history.
 #[test]
 fn plans_are_deployed(rt: HostRuntime) -> Result<(), Fail> {
+    let hasher = RandomState::new(&rt)?;
     let Some(slower) = plan_of(rt.alloc(), SLOWER) else {
         return Err("a plan".into());
     };
-    let book: Book<Rows> = waiting(&rt, false, EVENTS_MAX, &[M1])?;
-    let right = comes_out(&rt, rt.alloc(), book, &Deployments { slower });
+    let task = Deployments { slower };
+    let right = comes_out(&rt, rt.alloc(), hasher, &ONE, &task)?;
     assert!(rt; right);
     Ok(())
 }

@@ -4,12 +4,13 @@ ghost use Rattle.std.specs.Prelude.{◌≡◌, ◌+◌, length};
 ghost use Rattle.event_log.specs.History.{next_place, plan_in_force};
 ghost use Rattle.event_log.specs.Counting.{counted};
 
-use crate::stage::{M1, Rows, bring, waiting};
-use book_core::{Book, BookRows, EVENTS_MAX};
+use crate::stage::{EMPTY, M1, Rows, bring, filled};
+use book_core::{Book, BookRows};
 use book_lock::{LogEntry, NotClosed, Opened, Shared, Sharing};
 use ghost_log::BlankLog;
 use log::Log;
 use std::alloc::Global;
+use std::hash::RandomState;
 use std::marker::Brand;
 use std::sync::Wait;
 use std::test::Fail;
@@ -57,13 +58,24 @@ fn noted<S: BookRows + Drop, H: Wait + Log>(
     noted_after_close::<Brand, S, H>(rt, alloc, book, log, finish)
 }
 
+/// The same with an empty book.
+fn noted_of_empty<H: Wait + Log>(
+    rt: &H,
+    alloc: Global,
+    hasher: RandomState,
+    finish: bool,
+) -> Result<Option<bool>, Fail> {
+    let book = filled::<Rows>(alloc, hasher, &EMPTY)?;
+    Ok(noted(rt, alloc, book, finish))
+}
+
 /// A shared book that comes back is finished where it was noted before the close that no arrival will follow, and not
 /// otherwise.
 #[test]
 fn the_note_comes_back(rt: HostRuntime) -> Result<(), Fail> {
+    let hasher = RandomState::new(&rt)?;
     for finish in [true, false] {
-        let book: Book<Rows> = waiting(&rt, false, EVENTS_MAX, &[])?;
-        let noted = noted(&rt, rt.alloc(), book, finish);
+        let noted = noted_of_empty(&rt, rt.alloc(), hasher, finish)?;
         assert!(rt; noted == Some(finish));
     }
     Ok(())

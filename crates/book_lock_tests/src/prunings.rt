@@ -1,12 +1,13 @@
 //! A shared book of which messages are forgotten.
 
-use crate::stage::{Done, M1, M2, Rows, Task, bring, comes_out, waiting};
+use crate::stage::{Done, M1, M2, Rows, Task, Waiting, bring, filled, is_done_right};
 use book_core::{Book, BookRows, CancelRefusal, EVENTS_MAX, PruneRefusal, Receipt, Told};
 use book_lock::{Desk, Shared, Sharing, Station, audit};
 use conn_worker::nearest;
 use dest_queue::{Outcome, SlotState};
 use log::Log;
 use std::alloc::Global;
+use std::hash::RandomState;
 use std::slice;
 use std::sync::Wait;
 use std::test::Fail;
@@ -55,26 +56,33 @@ impl Task for Prunings {
     }
 }
 
-/// Has the front of queue 0 delivered. None where that is refused.
-fn deliver_front<S: BookRows>(book: &mut Book<S>) -> Option<SlotState> {
-    let ticket = book.take(0, nearest(0)).ok()?.ticket;
-    book.settle(&ticket, Outcome::Delivered, nearest(0)).ok()
+/// Whether the front of queue 0 is delivered.
+fn delivers_front<S: BookRows>(book: &mut Book<S>) -> bool {
+    let Ok(job) = book.take(0, nearest(0)) else {
+        return false;
+    };
+    book.settle(&job.ticket, Outcome::Delivered, nearest(0)) == Ok(SlotState::Delivered)
 }
 
-/// A book of two messages, of which the first was delivered.
-fn half_delivered<S: BookRows + Drop>(rt: &HostRuntime) -> Result<Book<S>, Fail> {
-    let mut book = waiting(rt, false, EVENTS_MAX, &[M1, M2])?;
-    match deliver_front(&mut book) {
-        Some(SlotState::Delivered) => Ok(book),
-        _ => Err("a delivery".into()),
-    }
+/// A book in which two messages wait.
+const TWO: Waiting = Waiting {
+    four: false,
+    room: EVENTS_MAX,
+    messages: &[M1, M2],
+};
+
+/// Whether the first of two messages is delivered, and the prunings of their book come out as they are to.
+fn comes_out<H: Wait + Log>(rt: &H, alloc: Global, hasher: RandomState) -> Result<bool, Fail> {
+    let mut book = filled::<Rows>(alloc, hasher, &TWO)?;
+    let delivered = delivers_front(&mut book);
+    let right = is_done_right(rt, alloc, book, &Prunings);
+    Ok(delivered && right)
 }
 
 /// Of two messages the first was delivered: the second is not forgotten, the first is, and comes again as a new message.
 #[test]
 fn delivered_messages_are_forgotten(rt: HostRuntime) -> Result<(), Fail> {
-    let book: Book<Rows> = half_delivered(&rt)?;
-    let right = comes_out(&rt, rt.alloc(), book, &Prunings);
+    let right = comes_out(&rt, rt.alloc(), RandomState::new(&rt)?)?;
     assert!(rt; right);
     Ok(())
 }

@@ -2,8 +2,8 @@
 
 ghost use Rattle.std.specs.Prelude.{◌≡◌};
 
-use crate::stage::{Done, M1, M2, Rows, Task, comes_out, judged, plan, waiting};
-use book_core::{Book, BookRows, NotBooked};
+use crate::stage::{Done, M1, M2, Task, Waiting, comes_out, judged, plan};
+use book_core::{BookRows, NotBooked};
 use book_lock::{Desk, Shared, Sharing, Station};
 use conn_core::{Booked, ConnectionId, Replies, book_and_reply};
 use conn_worker::{AtDesk, nearest};
@@ -11,6 +11,7 @@ use judge_core::{Judged, JudgedMessage};
 use log::Log;
 use stat_count::Counts;
 use std::alloc::Global;
+use std::hash::RandomState;
 use std::sync::Wait;
 use std::test::Fail;
 
@@ -96,6 +97,18 @@ fn bring_twice<A: Sharing, S: BookRows, H: Wait + Log>(
     }
 }
 
+/// Brings what was judged to a desk of a shared book, twice. None where it is no message.
+fn bring_judged<A: Sharing, S: BookRows, H: Wait + Log>(
+    rt: &H,
+    alloc: Global,
+    shared: &Shared<A, S>,
+    desk: &mut Desk<A>,
+    judged: &Judged,
+) -> Option<Answers> {
+    let message = judged.message()?;
+    Some(bring_twice(rt, alloc, shared, desk, &message))
+}
+
 /// The message M1, judged by the plan of a case.
 fn judged_in(alloc: Global, case: &Case) -> Option<Judged> {
     let plan = plan(alloc, case.four)?;
@@ -115,8 +128,7 @@ impl Task for Case {
     ) -> Option<Answers> {
         let desk = desks.first_mut()?;
         let judged = judged_in(alloc, self)?;
-        let message = judged.message()?;
-        Some(bring_twice(rt, alloc, shared, desk, &message))
+        bring_judged(rt, alloc, shared, desk, &judged)
     }
 
     /// Whether a message was refused as is due, and nothing else was changed.
@@ -134,13 +146,20 @@ impl Task for Case {
     }
 }
 
+/// A book with room for ten entries, which one message fills.
+const FULL: Waiting = Waiting {
+    four: false,
+    room: 10,
+    messages: &[M2],
+};
+
 /// A message that was judged by another plan is refused for that, though the book is full, and one judged by the book's plan
 /// because it is full. The acknowledgment says so, and nothing changes.
 #[test]
 fn cases(rt: HostRuntime) -> Result<(), Fail> {
+    let hasher = RandomState::new(&rt)?;
     for (place, case) in CASES.iter().enumerate() {
-        let book: Book<Rows> = waiting(&rt, false, 10, &[M2])?;
-        let right = comes_out(&rt, rt.alloc(), book, case);
+        let right = comes_out(&rt, rt.alloc(), hasher, &FULL, case)?;
         assert!(rt; right, "case {place}");
     }
     Ok(())

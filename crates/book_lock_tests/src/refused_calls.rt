@@ -17,6 +17,7 @@ use log::Log;
 use plan_text::Plan;
 use stat_count::{Counts, DestinationCounts};
 use std::alloc::Global;
+use std::hash::RandomState;
 use std::slice;
 use std::sync::{Arc, Wait};
 use std::test::Fail;
@@ -95,13 +96,6 @@ fn prepared_parts(alloc: Global, plan_in_force: &Arc<Plan>) -> Option<Parts> {
     let message = judged(alloc, plan_in_force, M1)?;
     let deployed = plan_of(alloc, PLAN)?;
     Some(Parts { message, deployed })
-}
-
-/// A book, and what calls of it are made with. None where memory was refused for them.
-fn prepare<S: BookRows + Drop>(rt: &HostRuntime) -> Option<(Book<S>, Parts)> {
-    let plan = plan_of(rt.alloc(), PLAN)?;
-    let parts = prepared_parts(rt.alloc(), &plan)?;
-    Some((empty_book(rt, plan, EVENTS_MAX)?, parts))
 }
 
 /// Right, where a call was answered as it is to be.
@@ -365,22 +359,22 @@ fn make_calls<S: BookRows + Drop, H: Wait + Log>(
     }
 }
 
-/// Makes the calls of a book, where there is one.
-fn end_of_calls<S: BookRows + Drop, H: Wait + Log>(
-    rt: &H,
-    alloc: Global,
-    prepared: Option<(Book<S>, Parts)>,
-) -> CallsEnd {
-    match prepared {
-        Some((book, parts)) => make_calls(rt, alloc, book, &parts),
-        None => CallsEnd::NotShared,
-    }
+/// Makes the calls of an empty book.
+fn end_of_calls<H: Wait + Log>(rt: &H, alloc: Global, hasher: RandomState) -> CallsEnd {
+    let Some(plan) = plan_of(alloc, PLAN) else {
+        return CallsEnd::NotShared;
+    };
+    let Some(parts) = prepared_parts(alloc, &plan) else {
+        return CallsEnd::NotShared;
+    };
+    let book = empty_book::<Rows>(alloc, hasher, plan, EVENTS_MAX);
+    make_calls(rt, alloc, book, &parts)
 }
 
 /// Whichever request is refused: the call that was refused changed nothing, and made again it is done.
 #[test]
 fn holds_where_memory_is_refused(rt: HostRuntime) -> Result<(), Fail> {
-    match end_of_calls(&rt, rt.alloc(), prepare::<Rows>(&rt)) {
+    match end_of_calls(&rt, rt.alloc(), RandomState::new(&rt)?) {
         CallsEnd::NotShared => {}
         CallsEnd::Wrong => return Err("a call".into()),
         CallsEnd::Made { refused, once } => assert!(rt; refused <= 1 && once),
@@ -391,7 +385,7 @@ fn holds_where_memory_is_refused(rt: HostRuntime) -> Result<(), Fail> {
 /// With memory to spare no call is refused.
 #[test]
 fn all_is_done_with_memory_to_spare(rt: HostRuntime) -> Result<(), Fail> {
-    match end_of_calls(&rt, rt.alloc(), prepare::<Rows>(&rt)) {
+    match end_of_calls(&rt, rt.alloc(), RandomState::new(&rt)?) {
         CallsEnd::NotShared => return Err("memory".into()),
         CallsEnd::Wrong => return Err("a call".into()),
         CallsEnd::Made { refused, once } => assert!(rt; refused == 0 && once),

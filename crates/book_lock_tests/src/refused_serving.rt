@@ -5,12 +5,13 @@ ghost use Rattle.std.specs.Prelude.{◌<◌};
 
 use crate::devices::{Cut, Devices, SMOOTH, Sink, Source};
 use crate::stage::{Done, Rows, Task, empty_book, plan, share};
-use book_core::{Book, BookRows, EVENTS_MAX};
+use book_core::{BookRows, EVENTS_MAX};
 use book_lock::{Closed, Desk, Shared, Sharing, Station, audit, rising};
 use conn_worker::{Counted, ServeEnd, ServeReport, Still, nearest, serve};
 use log::Log;
 use stat_count::Counts;
 use std::alloc::Global;
+use std::hash::RandomState;
 use std::sync::Wait;
 use std::test::Fail;
 
@@ -44,11 +45,6 @@ struct Course {
     made: u64,
     before: Counts,
     after: Counts,
-}
-
-/// An empty book of the built-in plan. None where memory was refused.
-fn book<S: BookRows + Drop>(rt: &HostRuntime) -> Option<Book<S>> {
-    empty_book(rt, plan(rt.alloc(), false)?, EVENTS_MAX)
 }
 
 /// A writer that needs no further memory. None where memory was refused for it.
@@ -196,21 +192,26 @@ fn told_of<S: BookRows>(serving: &Serving, served: &Done<Course, S>) -> Told {
     }
 }
 
-/// Serves the two messages by a book, and returns the outcome. None where memory was refused before.
-fn serve_by<S: BookRows + Drop, H: Wait + Log>(
+/// Serves the two messages by an empty book of the built-in plan, and returns the outcome. None where memory was refused before.
+fn serve_by<H: Wait + Log>(
     rt: &H,
     alloc: Global,
-    book: Option<Book<S>>,
+    hasher: RandomState,
     serving: &Serving,
 ) -> Option<Told> {
-    let served = share(rt, alloc, book?, serving).ok()?;
-    Some(told_of(serving, &served))
+    let plan = plan(alloc, false)?;
+    let book = empty_book::<Rows>(alloc, hasher, plan, EVENTS_MAX);
+    match share(rt, alloc, book, serving) {
+        Ok(served) => Some(told_of(serving, &served)),
+        Err(_) => None,
+    }
 }
 
 /// Whichever request is refused: what was answered is what was booked, and the book has nothing else.
 #[test]
 fn holds_where_memory_is_refused(rt: HostRuntime) -> Result<(), Fail> {
-    let Some(told) = serve_by(&rt, rt.alloc(), book::<Rows>(&rt), &IN_TWO) else {
+    let hasher = RandomState::new(&rt)?;
+    let Some(told) = serve_by(&rt, rt.alloc(), hasher, &IN_TWO) else {
         return Ok(());
     };
     assert!(rt; told.right, "{:?}, {} booked", told.end, told.booked);
@@ -228,7 +229,7 @@ fn all_is_done(told: Option<Told>) -> bool {
 /// With memory to spare both are booked and acknowledged.
 #[test]
 fn all_is_done_with_memory_to_spare(rt: HostRuntime) -> Result<(), Fail> {
-    let told = serve_by(&rt, rt.alloc(), book::<Rows>(&rt), &IN_TWO);
+    let told = serve_by(&rt, rt.alloc(), RandomState::new(&rt)?, &IN_TWO);
     assert!(rt; all_is_done(told));
     Ok(())
 }
@@ -236,7 +237,7 @@ fn all_is_done_with_memory_to_spare(rt: HostRuntime) -> Result<(), Fail> {
 /// Messages that come in one piece are booked in the order in which they come.
 #[test]
 fn messages_of_a_piece_are_booked_in_order(rt: HostRuntime) -> Result<(), Fail> {
-    let told = serve_by(&rt, rt.alloc(), book::<Rows>(&rt), &IN_ONE);
+    let told = serve_by(&rt, rt.alloc(), RandomState::new(&rt)?, &IN_ONE);
     assert!(rt; all_is_done(told));
     Ok(())
 }

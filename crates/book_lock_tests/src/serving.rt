@@ -1,11 +1,12 @@
 //! A conversation over devices that fail at one of their calls.
 
 use crate::devices::{CUTS, Cut, Devices, Mishap, SMOOTH, Sink, Source};
-use crate::stage::{Rows, waiting};
-use book_core::{Book, BookRows, EVENTS_MAX};
+use crate::stage::{EMPTY, Rows, filled};
+use book_core::{Book, BookRows};
 use conn_core::ConnectionId;
 use conn_worker::{Counted, ServeEnd, ServeReport, Still, TURNS_MAX, nearest, serve_within};
 use std::alloc::Global;
+use std::hash::RandomState;
 use std::test::Fail;
 
 /// Two admissions, of which the first requests an accept acknowledgment and the second both.
@@ -78,8 +79,9 @@ fn serve_from<S: BookRows>(
 
 /// Serves the conversation over these devices, by the built-in plan.
 fn serve(rt: &HostRuntime, devices: Devices) -> Result<Served, Fail> {
+    let hasher = RandomState::new(rt)?;
     let stream = both(rt.alloc(), &MESSAGES)?;
-    let mut book: Book<Rows> = waiting(rt, false, EVENTS_MAX, &[])?;
+    let mut book = filled::<Rows>(rt.alloc(), hasher, &EMPTY)?;
     Ok(serve_from(rt.alloc(), &mut book, &stream, devices))
 }
 

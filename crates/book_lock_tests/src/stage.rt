@@ -6,8 +6,10 @@ ghost use Rattle.judge_core.specs.Judging.{is_bookable};
 ghost use Rattle.event_log.specs.History.{next_place, plan_in_force};
 ghost use Rattle.event_log.specs.Counting.{counted};
 
-use book_core::{Book, BookRows, EVENTS_MAX, Outbound, Receipt};
-use book_lock::{Closed, Desk, LogEntry, Opened, Shared, Sharing, Station};
+use book_core::{Book, BookRows, EVENTS_MAX, Outbound, Receipt, Told};
+use book_lock::{
+    Closed, Crowded, Desk, LogEntry, Opened, Shared, Sharing, Station, Tidied, Tidying,
+};
 use dest_queue::Queued;
 use ghost_log::BlankLog;
 use judge_core::{Judged, fits_block, judge};
@@ -74,43 +76,65 @@ pub(crate) fn judged(alloc: Global, plan: &Arc<Plan>, text: &str) -> Option<Judg
     }
 }
 
-/// An empty book of a plan with room for a number of entries. None where memory is refused.
+/// An empty book of a plan with room for a number of entries.
 pub(crate) fn empty_book<S: BookRows + Drop>(
-    rt: &HostRuntime,
+    alloc: Global,
+    hasher: RandomState,
     plan: Arc<Plan>,
     room: u32,
-) -> Option<Book<S>> {
-    let hasher = RandomState::new(rt).ok()?;
+) -> Book<S> {
     let room = room.clamp(1, EVENTS_MAX);
-    Some(Book::new(rt.alloc(), plan, room, hasher))
+    Book::new(alloc, plan, room, hasher)
+}
+
+/// Books a message by connection 0. Whether it is booked.
+fn books<S: BookRows>(alloc: Global, book: &mut Book<S>, text: &str) -> bool {
+    match judged(alloc, book.plan(), text) {
+        Some(judged) => book.arrive(0, &judged).is_ok(),
+        None => false,
+    }
 }
 
 /// Books messages by connection 0. None where one is not booked.
 fn fill<S: BookRows>(alloc: Global, book: &mut Book<S>, messages: &[&str]) -> Option<()> {
     for text in messages {
-        let judged = judged(alloc, book.plan(), text)?;
-        book.arrive(0, &judged).ok()?;
+        if !books(alloc, book, text) {
+            return None;
+        }
     }
     Some(())
 }
 
-/// A book of a plan with room for a number of entries, in which these messages wait.
-pub(crate) fn waiting<S: BookRows + Drop>(
-    rt: &HostRuntime,
-    four: bool,
-    room: u32,
-    messages: &[&str],
+/// A book in which messages wait: whether its plan is that of four destinations or the built-in one, and for how many entries
+/// it has room.
+#[derive(Clone, Copy)]
+pub struct Waiting {
+    pub four: bool,
+    pub room: u32,
+    pub messages: &'static [&'static str],
+}
+
+/// A book of the built-in plan in which nothing waits.
+pub const EMPTY: Waiting = Waiting {
+    four: false,
+    room: EVENTS_MAX,
+    messages: &[],
+};
+
+/// A book in which messages wait.
+pub(crate) fn filled<S: BookRows + Drop>(
+    alloc: Global,
+    hasher: RandomState,
+    due: &Waiting,
 ) -> Result<Book<S>, Fail> {
-    let Some(plan) = plan(rt.alloc(), four) else {
+    let Some(plan) = plan(alloc, due.four) else {
         return Err("a plan".into());
     };
-    let Some(mut book) = empty_book(rt, plan, room) else {
-        return Err("a book".into());
-    };
-    if fill(rt.alloc(), &mut book, messages).is_none() {
-        return Err("a message".into());
+    let mut book = empty_book(alloc, hasher, plan, due.room);
+    match fill(alloc, &mut book, due.messages) {
+        Some(()) => Ok(book),
+        None => Err("a message".into()),
     }
-    Ok(book)
 }
 
 /// A message judged by the plan in force of a shared book. None where it is not bookable, or memory is refused.
@@ -176,6 +200,27 @@ pub enum Undone {
     NotClosed,
 }
 
+/// Does a task with a book that was just shared, and closes it.
+fn work_and_close<A: Sharing, S: BookRows + Drop, K: Task, H: Wait + Log>(
+    rt: &H,
+    alloc: Global,
+    opened: Opened<A, S>,
+    task: &K,
+) -> Result<Done<K::Answer, S>, Undone> {
+    let Opened {
+        shared,
+        mut desks,
+        mut stations,
+    } = opened;
+    let Some(answer) = task.work(rt, alloc, &shared, &mut desks, &mut stations) else {
+        return Err(Undone::Nothing);
+    };
+    match shared.close(desks, stations) {
+        Ok(closed) => Ok(Done { answer, closed }),
+        Err(_) => Err(Undone::NotClosed),
+    }
+}
+
 /// Shares a book between a desk and a station, does a task with it, and closes it.
 fn share_and_close<A: Sharing, S: BookRows + Drop, K: Task, H: Wait + Log>(
     rt: &H,
@@ -191,23 +236,9 @@ fn share_and_close<A: Sharing, S: BookRows + Drop, K: Task, H: Wait + Log>(
     requires channels { length (plan_in_force book).channels ≡ A.channels }
     requires seats { (A.desks ≡ 1) × (A.stations ≡ 1) }
 {
-    let opened = Shared::<A, S>::new(alloc, book, 1, 1, log);
-    let Ok(
-        Opened {
-            shared,
-            mut desks,
-            mut stations,
-        },
-    ) = opened
-    else {
-        return Err(Undone::NotShared);
-    };
-    let Some(answer) = task.work(rt, alloc, &shared, &mut desks, &mut stations) else {
-        return Err(Undone::Nothing);
-    };
-    match shared.close(desks, stations) {
-        Ok(closed) => Ok(Done { answer, closed }),
-        Err(_) => Err(Undone::NotClosed),
+    match Shared::<A, S>::new(alloc, book, 1, 1, log) {
+        Ok(opened) => work_and_close(rt, alloc, opened, task),
+        Err(_) => Err(Undone::NotShared),
     }
 }
 
@@ -225,7 +256,7 @@ pub(crate) fn share<S: BookRows + Drop, K: Task, H: Wait + Log>(
 }
 
 /// Whether a task with a shared book comes out as it is to.
-pub(crate) fn comes_out<S: BookRows + Drop, K: Task, H: Wait + Log>(
+pub(crate) fn is_done_right<S: BookRows + Drop, K: Task, H: Wait + Log>(
     rt: &H,
     alloc: Global,
     book: Book<S>,
@@ -234,5 +265,51 @@ pub(crate) fn comes_out<S: BookRows + Drop, K: Task, H: Wait + Log>(
     match share(rt, alloc, book, task) {
         Ok(done) => task.is_right(&done),
         Err(_) => false,
+    }
+}
+
+/// Whether a task with a shared book, in which messages wait, comes out as it is to.
+pub(crate) fn comes_out<K: Task, H: Wait + Log>(
+    rt: &H,
+    alloc: Global,
+    hasher: RandomState,
+    due: &Waiting,
+    task: &K,
+) -> Result<bool, Fail> {
+    let book = filled::<Rows>(alloc, hasher, due)?;
+    Ok(is_done_right(rt, alloc, book, task))
+}
+
+/// What an arrival came to that pruned a tight book first: its answer, if it was booked, and what was done about the book.
+#[derive(Clone, Copy)]
+pub struct Came {
+    pub told: Option<Told>,
+    pub tidying: Tidying,
+}
+
+impl Came {
+    /// What it came to.
+    pub fn of(tidied: Tidied) -> Came {
+        let Tidied { receipt, tidying } = tidied;
+        let told = match receipt {
+            Ok(receipt) => Some(receipt.told),
+            Err(_) => None,
+        };
+        Came { told, tidying }
+    }
+}
+
+/// Books a message by connection 7, with the last message kept where the book is pruned. None where memory is refused.
+pub(crate) fn bring_tidy<A: Sharing, S: BookRows, H: Wait + Log>(
+    rt: &H,
+    alloc: Global,
+    shared: &Shared<A, S>,
+    desk: &mut Desk<A>,
+    text: &str,
+) -> Option<Result<Came, Crowded>> {
+    let judged = judged_now(rt, alloc, shared, text)?;
+    match shared.arrive_tidy(rt, desk, 7, &judged, 1) {
+        Ok(tidied) => Some(Ok(Came::of(tidied))),
+        Err(crowded) => Some(Err(crowded)),
     }
 }

@@ -4,7 +4,7 @@ ghost use Rattle.std.specs.Prelude.{◌≡◌, ◌+◌, ◌<◌, length};
 ghost use Rattle.event_log.specs.History.{next_place, plan_in_force};
 ghost use Rattle.event_log.specs.Counting.{counted};
 
-use crate::stage::{Rows, UPDATE, waiting};
+use crate::stage::{Rows, UPDATE, Waiting, filled};
 use book_core::{Book, BookRows, EVENTS_MAX};
 use book_lock::{Closed, LogEntry, Opened, Shared, Sharing, Station};
 use conn_worker::nearest;
@@ -12,6 +12,7 @@ use dest_queue::{FailCause, Outcome, SlotState};
 use ghost_log::BlankLog;
 use log::Log;
 use std::alloc::Global;
+use std::hash::RandomState;
 use std::marker::Brand;
 use std::sync::Wait;
 use std::test::Fail;
@@ -115,23 +116,38 @@ fn comes_out<S: BookRows + Drop + Send, H: Log + Threads + Wait + Sync>(
     rt: &H,
     alloc: Global,
     book: Book<S>,
+    log: BlankLog<LogEntry>,
 ) -> bool {
-    let Ok(log) = BlankLog::new(alloc) else {
-        return false;
-    };
-    let closed = cancel_and_deliver::<Brand, S, H>(rt, alloc, book, log);
-    match closed {
+    match cancel_and_deliver::<Brand, S, H>(rt, alloc, book, log) {
         Some(closed) => is_right(closed.book()),
         None => false,
     }
 }
 
+/// A book of four destinations, in which an update waits.
+const ONE_UPDATE: Waiting = Waiting {
+    four: true,
+    room: EVENTS_MAX,
+    messages: &[UPDATE],
+};
+
+/// Whether a cancellation beside deliveries comes out as it is to.
+fn is_cancelled_beside<H: Log + Threads + Wait + Sync>(
+    rt: &H,
+    alloc: Global,
+    hasher: RandomState,
+) -> Result<bool, Fail> {
+    let log = BlankLog::new(alloc)?;
+    let book = filled::<Rows>(alloc, hasher, &ONE_UPDATE)?;
+    Ok(comes_out(rt, alloc, book, log))
+}
+
 /// Each slot is delivered or cancelled at the end, and the statistics count as many as there are.
 #[test]
 fn cancel_beside_deliveries(rt: HostRuntime) -> Result<(), Fail> {
+    let hasher = RandomState::new(&rt)?;
     for _ in 0..ROUNDS {
-        let book: Book<Rows> = waiting(&rt, true, EVENTS_MAX, &[UPDATE])?;
-        let right = comes_out(&rt, rt.alloc(), book);
+        let right = is_cancelled_beside(&rt, rt.alloc(), hasher)?;
         assert!(rt; right);
     }
     Ok(())

@@ -1,12 +1,13 @@
 //! What a service asks of a shared book: arrivals that prune a tight book, numbers of connections, and what is shown.
 
-use crate::stage::{Done, M1, M2, Rows, Task, comes_out, judged_now, waiting};
-use book_core::{Book, BookRows, Front, PruneRefusal, Told};
-use book_lock::{Desk, Found, Gauge, Shared, Sharing, Station, Status, Tidied, Tidying};
+use crate::stage::{Came, Done, M1, M2, Task, Waiting, bring_tidy, comes_out};
+use book_core::{BookRows, Front, PruneRefusal, Told};
+use book_lock::{Desk, Found, Gauge, Shared, Sharing, Station, Status, Tidying};
 use conn_worker::nearest;
 use dest_queue::{Outcome, SlotState};
 use log::Log;
 use std::alloc::Global;
+use std::hash::RandomState;
 use std::sync::Wait;
 use std::test::Fail;
 
@@ -16,20 +17,50 @@ const FRESH: SlotState = SlotState::Waiting {
     due: 0,
 };
 
-/// Two messages that wait, and one that comes again.
-#[derive(Drop)]
+/// What is shown of two messages that wait.
+#[derive(Clone, Copy)]
 struct Shown {
     admitted: [Option<u32>; 2],
     gauge: Gauge,
-    status: Status,
-    channels: u32,
+    /// Whether the status is that of two messages that wait, and the plan has one channel.
+    status: bool,
     front: Option<Front>,
     first_live: Option<(u32, u32)>,
-    waiting: Vec<Front>,
-    past: Vec<Front>,
-    found: Vec<u32>,
-    kept: Found,
-    to_come: Found,
+    /// How many messages wait at the destination, and how many behind these two.
+    waiting: usize,
+    past: usize,
+    /// Whether the second message is found by its control id and by its number, and the third is still to come.
+    found: bool,
+    kept: bool,
+    to_come: bool,
+}
+
+/// Whether the status is that of two messages that wait, and the plan has one channel.
+fn has_status<A: Sharing, S: BookRows, H: Wait + Log>(
+    rt: &H,
+    shared: &Shared<A, S>,
+) -> Option<bool> {
+    let (status, plan) = shared.status(rt).ok()?;
+    Some(is_status_of_two(&status) && plan.channels() == 1)
+}
+
+/// How many of at most this many messages wait at the destination, from one on.
+fn waiting_from<A: Sharing, S: BookRows, H: Wait + Log>(
+    rt: &H,
+    shared: &Shared<A, S>,
+    from: u32,
+    most: u32,
+) -> Option<usize> {
+    Some(shared.waiting(rt, 0, from, most).ok()?.len())
+}
+
+/// Whether the second message is found by its control id.
+fn finds_second<A: Sharing, S: BookRows, H: Wait + Log>(
+    rt: &H,
+    shared: &Shared<A, S>,
+) -> Option<bool> {
+    let found = shared.find(rt, b"M2", 0, 10).ok()?;
+    Some(found.as_slice() == [1].as_slice())
 }
 
 /// Reads all that is shown.
@@ -46,20 +77,17 @@ impl Task for Showing {
         _: &mut [Desk<A>],
         _: &mut [Station<A>],
     ) -> Option<Shown> {
-        let admitted = [shared.admit(rt), shared.admit(rt)];
-        let (status, plan) = shared.status(rt).ok()?;
         Some(Shown {
-            admitted,
+            admitted: [shared.admit(rt), shared.admit(rt)],
             gauge: shared.gauge(rt),
-            status,
-            channels: plan.channels(),
+            status: has_status(rt, shared)?,
             front: shared.front(rt, 0),
             first_live: shared.first_live(rt),
-            waiting: shared.waiting(rt, 0, 0, 10).ok()?,
-            past: shared.waiting(rt, 0, 2, u32::MAX).ok()?,
-            found: shared.find(rt, b"M2", 0, 10).ok()?,
-            kept: shared.message(rt, 1).ok()?,
-            to_come: shared.message(rt, 2).ok()?,
+            waiting: waiting_from(rt, shared, 0, 10)?,
+            past: waiting_from(rt, shared, 2, u32::MAX)?,
+            found: finds_second(rt, shared)?,
+            kept: is_second(&shared.message(rt, 1).ok()?),
+            to_come: matches!(shared.message(rt, 2), Ok(Found::ToCome)),
         })
     }
 
@@ -69,19 +97,17 @@ impl Task for Showing {
         shown.admitted == [Some(0), Some(1)]
             && done.closed.admitted() == 2
             && is_gauge_of_two(shown.gauge)
-            && is_status_of_two(&shown.status)
-            && shown.channels == 1
+            && shown.status
             && shown.front
                 == Some(Front {
                     number: 0,
                     state: FRESH,
                 })
             && shown.first_live == Some((0, 0))
-            && shown.waiting.len() == 2
-            && shown.past.is_empty()
-            && shown.found.as_slice() == [1].as_slice()
-            && is_second(&shown.kept)
-            && matches!(shown.to_come, Found::ToCome)
+            && (shown.waiting, shown.past) == (2, 0)
+            && shown.found
+            && shown.kept
+            && shown.to_come
     }
 }
 
@@ -130,34 +156,30 @@ fn is_second(found: &Found) -> bool {
 /// Two messages wait in a book with room for 20 entries: what is shown of it is so.
 #[test]
 fn two_messages_are_shown(rt: HostRuntime) -> Result<(), Fail> {
-    let book: Book<Rows> = waiting(&rt, false, 20, &[M1, M2])?;
-    let right = comes_out(&rt, rt.alloc(), book, &Showing);
+    let due = Waiting {
+        four: false,
+        room: 20,
+        messages: &[M1, M2],
+    };
+    let right = comes_out(&rt, rt.alloc(), RandomState::new(&rt)?, &due, &Showing)?;
     assert!(rt; right);
     Ok(())
 }
 
 /// The results of arrivals at a book that fills: of the second message, and of the first one when it was repeated,
-/// and of two prunings after that; and what is said of the first message then, and of the second.
-#[derive(Drop)]
+/// and of two prunings after that; and whether the first message is forgotten then, and the second folded.
+#[derive(Clone, Copy)]
 struct Tidyings {
-    at_first: Tidied,
-    at_last: Tidied,
+    at_first: Came,
+    at_last: Came,
     by_itself: Result<u32, PruneRefusal>,
     again: Result<u32, PruneRefusal>,
-    forgotten: Found,
-    folded: Found,
+    forgotten: bool,
+    folded: bool,
 }
 
 /// Books messages in a small book, and prunes it.
 struct Filling;
-
-/// The answer to an arrival, if it was booked.
-fn told(tidied: &Tidied) -> Option<Told> {
-    match &tidied.receipt {
-        Ok(receipt) => Some(receipt.told),
-        Err(_) => None,
-    }
-}
 
 /// Whether what is found is the second message, of whose arrival no connection is known.
 fn is_folded(found: &Found) -> bool {
@@ -179,18 +201,6 @@ fn deliver<A: Sharing, S: BookRows, H: Wait + Log>(
         .ok()
 }
 
-/// Books a message by connection 7, with the last message kept where the book is tight.
-fn bring_tidy<A: Sharing, S: BookRows, H: Wait + Log>(
-    rt: &H,
-    alloc: Global,
-    shared: &Shared<A, S>,
-    desk: &mut Desk<A>,
-    text: &str,
-) -> Option<Tidied> {
-    let judged = judged_now(rt, alloc, shared, text)?;
-    shared.arrive_tidy(rt, desk, 7, &judged, 1).ok()
-}
-
 impl Task for Filling {
     type Answer = Tidyings;
 
@@ -204,18 +214,18 @@ impl Task for Filling {
     ) -> Option<Tidyings> {
         let desk = desks.first_mut()?;
         let station = stations.first_mut()?;
-        let at_first = bring_tidy(rt, alloc, shared, desk, M2)?;
+        let at_first = bring_tidy(rt, alloc, shared, desk, M2)?.ok()?;
         deliver(rt, shared, station)?;
-        bring_tidy(rt, alloc, shared, desk, M2)?;
-        bring_tidy(rt, alloc, shared, desk, M2)?;
-        let at_last = bring_tidy(rt, alloc, shared, desk, M1)?;
+        bring_tidy(rt, alloc, shared, desk, M2)?.ok()?;
+        bring_tidy(rt, alloc, shared, desk, M2)?.ok()?;
+        let at_last = bring_tidy(rt, alloc, shared, desk, M1)?.ok()?;
         Some(Tidyings {
             at_first,
             at_last,
             by_itself: shared.prune_settled(rt, 0),
             again: shared.prune_settled(rt, 0),
-            forgotten: shared.message(rt, 0).ok()?,
-            folded: shared.message(rt, 1).ok()?,
+            forgotten: matches!(shared.message(rt, 0), Ok(Found::Forgotten)),
+            folded: is_folded(&shared.message(rt, 1).ok()?),
         })
     }
 
@@ -223,14 +233,14 @@ impl Task for Filling {
     /// kept forgets nothing that waits.
     fn is_right<S: BookRows>(&self, done: &Done<Tidyings, S>) -> bool {
         let came = &done.answer;
-        told(&came.at_first) == Some(Told::Accepted(1))
+        came.at_first.told == Some(Told::Accepted(1))
             && came.at_first.tidying == Tidying::NotTight
-            && told(&came.at_last) == Some(Told::Accepted(2))
+            && came.at_last.told == Some(Told::Accepted(2))
             && came.at_last.tidying == Tidying::Pruned { before: 1 }
             && came.by_itself == Ok(1)
             && came.again == Ok(1)
-            && matches!(came.forgotten, Found::Forgotten)
-            && is_folded(&came.folded)
+            && came.forgotten
+            && came.folded
             && done.closed.book().prunings() == 3
     }
 }
@@ -239,8 +249,12 @@ impl Task for Filling {
 /// received two times more: it is tight, and the next arrival prunes it.
 #[test]
 fn a_tight_book_is_pruned(rt: HostRuntime) -> Result<(), Fail> {
-    let book: Book<Rows> = waiting(&rt, false, 16, &[M1])?;
-    let right = comes_out(&rt, rt.alloc(), book, &Filling);
+    let due = Waiting {
+        four: false,
+        room: 16,
+        messages: &[M1],
+    };
+    let right = comes_out(&rt, rt.alloc(), RandomState::new(&rt)?, &due, &Filling)?;
     assert!(rt; right);
     Ok(())
 }

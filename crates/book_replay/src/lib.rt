@@ -6,8 +6,6 @@ mod flights;
 mod laws;
 mod redo;
 mod run;
-#[cfg(test)]
-mod tests;
 
 pub use event_records::Record;
 pub use fault::{ReplayError, ReplayFault};

@@ -1,16 +1,49 @@
 //! Whether books and the sequential engine are alike.
 
+ghost use Rattle.std.specs.Prelude.{◌<◌};
+
 use book_core::{Book, Job, Outbound, PruneRefusal, TakeRefusal};
 use dest_queue::{Outcome, Queued, SlotState};
 use event_log::{Entry, Ticket, Told};
 use hl7_head::Moment;
+use plan_text::Plan;
 use record_list::RecordList;
 use row_store::QUEUES;
 use sequential_book::SequentialBook;
+use stat_count::Counts;
 use std::alloc::AllocError;
+use std::sync::Arc;
 
 /// The book of the engines, with the rows of the program.
 pub type Engine = Book<RecordList<Queued<Outbound>>>;
+
+/// What a book shows: a slot, the length of a queue, the number of entries, the statistics and the plan in force.
+#[derive(Drop)]
+pub struct View<'a> {
+    pub state: Option<SlotState>,
+    pub waiting: u64,
+    pub len: usize,
+    pub counts: &'a Counts,
+    pub plan: &'a Arc<Plan>,
+}
+
+/// What a book shows of a message at a destination, of the queue there, and of all of it.
+pub(crate) fn view_of(book: &Engine, number: u32, d: u32) -> View<'_> {
+    View {
+        state: book.status(number, d),
+        waiting: book.queue_len(d),
+        len: book.len(),
+        counts: book.counts(),
+        plan: book.plan(),
+    }
+}
+
+/// Whether a destination and a channel are counted alike.
+pub(crate) fn is_counted_alike(one: &Counts, other: &Counts, d: u32) -> bool
+    requires { d < 32 }
+{
+    one.destination(d) == other.destination(d) && one.channel(d / 2) == other.channel(d / 2)
+}
 
 /// Whether a slot, a queue and the number of entries are the same in a book and in the sequential engine.
 ///
@@ -24,10 +57,11 @@ pub(crate) fn is_alike(
     d: u32,
 ) -> Result<bool, AllocError> {
     let (state, waiting) = (other.status(number, d)?, other.queue_len(d)?);
+    let shown = view_of(book, number, d);
     Ok(
-        book.status(number, d) == state
-            && book.queue_len(d) == waiting as u64
-            && book.len() == other.entries().len(),
+        shown.state == state
+            && shown.waiting == waiting as u64
+            && shown.len == other.entries().len(),
     )
 }
 

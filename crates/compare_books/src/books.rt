@@ -3,7 +3,7 @@
 ghost use Rattle.std.specs.Prelude.{IsTrue};
 ghost use Rattle.judge_core.specs.Judging.{is_bookable};
 
-use crate::alike::{Engine, is_alike, is_same_take, prune_refusal};
+use crate::alike::{Engine, is_alike, is_same_take, prune_refusal, view_of};
 use crate::dice::{Dice, NO_TICKET};
 use crate::known::{Key, Keys};
 use crate::plan::{Said, judged_by, plan_of};
@@ -15,7 +15,7 @@ use hl7_head::Moment;
 use judge_core::Judged;
 use plan_text::Plan;
 use sequential_book::{NotBooked as OtherRefusal, NotSettled, SequentialBook};
-use std::alloc::Global;
+use std::alloc::{AllocError, Global};
 use std::hash::RandomState;
 use std::sync::Arc;
 
@@ -43,18 +43,29 @@ pub struct Books {
 }
 
 /// A book of a plan in which nothing is booked.
-fn empty_book(rt: &HostRuntime, plan: &Arc<Plan>, room: u32) -> Result<Box<Engine>> {
-    let alloc = rt.alloc();
-    let hasher = RandomState::new(rt)?;
+fn empty_book(
+    alloc: Global,
+    plan: &Arc<Plan>,
+    room: u32,
+    hasher: RandomState,
+) -> Result<Box<Engine>, AllocError> {
     let plan = Arc::try_clone(plan)?;
     let room = room.clamp(1, EVENTS_MAX);
     Ok(Box::new(alloc, Book::new(alloc, plan, room, hasher))?)
 }
 
-/// The sequential engine of a plan, in which nothing is booked.
-fn other_engine(alloc: Global, plan: &Arc<Plan>) -> Result<Box<SequentialBook>> {
+/// The sequential engine of a plan, in which nothing is booked, if it is asked.
+fn other_engine(
+    alloc: Global,
+    plan: &Arc<Plan>,
+    asked: bool,
+) -> Result<Option<Box<SequentialBook>>, AllocError> {
+    if !asked {
+        return Ok(None);
+    }
     let plan = Arc::try_clone(plan)?;
-    Ok(Box::new(alloc, SequentialBook::new(alloc, plan, ENTRIES))?)
+    let other = Box::new(alloc, SequentialBook::new(alloc, plan, ENTRIES))?;
+    Ok(Some(other))
 }
 
 /// The answer of a book to a message, and the index of its entry.
@@ -73,6 +84,21 @@ fn ticket_of(answer: &Result<Job, TakeRefusal>) -> Result<Ticket, TakeRefusal> {
     }
 }
 
+/// The attempt with which two books take the front of a queue, or why they don't. None where they don't take the same.
+fn take(
+    book: &mut Engine,
+    pruned: &mut Engine,
+    d: u32,
+    now: Moment,
+) -> Option<Result<Ticket, TakeRefusal>> {
+    let (answer, again) = (book.take(d, now), pruned.take(d, now));
+    if is_same_take(&again, &answer) {
+        Some(ticket_of(&answer))
+    } else {
+        None
+    }
+}
+
 /// A book deploys a plan, of which it becomes another owner.
 fn deploy(book: &mut Engine, plan: &Arc<Plan>) -> Result<(), DeployRefusal> {
     book.deploy(Arc::try_clone(plan)?)
@@ -86,16 +112,12 @@ impl Books {
     /// Where memory is refused.
     pub fn new(rt: &HostRuntime, asked: bool) -> Result<Books> {
         let alloc = rt.alloc();
-        let plan = plan_of(alloc, Said::FIRST)?;
+        let (plan, hasher) = (plan_of(alloc, Said::FIRST)?, RandomState::new(rt)?);
         let room = if asked { ENTRIES } else { MANY_ENTRIES };
-        let other = match asked {
-            true => Some(other_engine(alloc, &plan)?),
-            false => None,
-        };
         Ok(Books {
-            book: empty_book(rt, &plan, room)?,
-            other,
-            pruned: empty_book(rt, &plan, room)?,
+            other: other_engine(alloc, &plan, asked)?,
+            book: empty_book(alloc, &plan, room, hasher)?,
+            pruned: empty_book(alloc, &plan, room, hasher)?,
             forgotten: 0,
             keys: Keys::new(alloc),
             last: NO_TICKET,
@@ -180,19 +202,23 @@ impl Books {
     pub fn take(&mut self, dice: &mut Dice) -> Result<bool> {
         let d = dice.roll(5);
         let now = dice.now()?;
-        let answer = self.book.take(d, now);
-        let ticket = ticket_of(&answer);
-        let other = match &mut self.other {
-            Some(other) => other.take(d, now),
-            None => ticket,
-        };
-        if !is_same_take(&self.pruned.take(d, now), &answer) || other != ticket {
+        let Some(answer) = self.take_front(d, now) else {
             bail!("a take has two answers");
-        }
-        if let Ok(ticket) = ticket {
+        };
+        if let Ok(ticket) = answer {
             self.note_taken(ticket);
         }
-        Ok(ticket.is_ok())
+        Ok(answer.is_ok())
+    }
+
+    /// The attempt with which all take the front of a queue, or why they don't. None where they don't take the same.
+    fn take_front(&mut self, d: u32, now: Moment) -> Option<Result<Ticket, TakeRefusal>> {
+        let answer = take(&mut self.book, &mut self.pruned, d, now)?;
+        let other = match &mut self.other {
+            Some(other) => other.take(d, now),
+            None => answer,
+        };
+        if other == answer { Some(answer) } else { None }
     }
 
     /// Notes an attempt, and whether it is of a message that a pruning has kept.
@@ -310,15 +336,19 @@ impl Books {
     /// Whether a slot, a queue, the number of entries and the statistics are the same where messages are forgotten;
     /// forgotten messages have no slots.
     fn is_pruned_alike(&self, number: u32, d: u32) -> bool {
+        let (whole, pruned) = (
+            view_of(&self.book, number, d),
+            view_of(&self.pruned, number, d),
+        );
         let due = if number < self.forgotten {
             None
         } else {
-            self.book.status(number, d)
+            whole.state
         };
-        self.pruned.status(number, d) == due
-            && self.pruned.queue_len(d) == self.book.queue_len(d)
-            && self.pruned.len() == self.book.len()
-            && *self.pruned.counts() == *self.book.counts()
+        pruned.state == due
+            && pruned.waiting == whole.waiting
+            && pruned.len == whole.len
+            && *pruned.counts == *whole.counts
     }
 
     /// Compares a slot, a queue, the statistics and the number of entries of all.

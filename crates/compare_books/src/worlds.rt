@@ -1,23 +1,32 @@
 //! Worlds and the sequential engine, to which the same happens.
 
-use crate::alike::{is_alike, is_same, prune_refusal};
+ghost use Rattle.std.specs.Prelude.{◌≡◌, ◌<◌, length};
+ghost use Rattle.std.specs.Arc.{arc_value};
+ghost use Rattle.event_log.specs.History.{plan_in_force};
+
+use crate::alike::{is_alike, is_counted_alike, is_same, prune_refusal, view_of};
 use crate::dice::{Dice, NO_TICKET};
 use crate::known::{Key, Keys};
 use crate::line::{Block, Line, Piece};
 use crate::plan::{Said, judged_by, plan_of};
 use anyhow::{Result, bail};
-use book_core::{EVENTS_MAX, Outbound};
+use book_core::{Book, EVENTS_MAX, Outbound};
 use dest_queue::Queued;
 use engine_model::{Step, World, steps_of};
-use event_log::Ticket;
+use event_log::{Ticket, Told};
 use hl7_head::Moment;
+use judge_core::Judged;
+use plan_text::Plan;
 use record_list::RecordList;
 use sequential_book::SequentialBook;
 use std::alloc::{AllocError, Global};
 use std::hash::RandomState;
 use std::sync::Arc;
 
-type Engine = World<RecordList<Queued<Outbound>>>;
+/// The rows of the program.
+type Rows = RecordList<Queued<Outbound>>;
+
+type Engine = World<Rows>;
 
 /// How many entries the engines may hold where no message is forgotten.
 const ENTRIES: u32 = 60;
@@ -45,17 +54,28 @@ pub struct Worlds {
     last: Ticket,
 }
 
-/// A world in which nothing is booked, with room for a number of entries.
-fn silent(rt: &HostRuntime, room: u32) -> Result<Box<Engine>> {
-    let alloc = rt.alloc();
-    let hasher = RandomState::new(rt)?;
-    let plan = plan_of(alloc, Said::FIRST)?;
-    if plan.channels() != 2 {
-        bail!("the plan has two channels");
-    }
+/// A world of a plan with two channels in which nothing is booked, with room for a number of entries.
+fn world_of(
+    alloc: Global,
+    plan: Arc<Plan>,
+    room: u32,
+    hasher: RandomState,
+) -> Result<Box<Engine>, AllocError>
+    requires channels { length (arc_value plan).channels ≡ 2 }
+{
     let room = room.clamp(1, EVENTS_MAX);
     let world = World::new(alloc, plan, &CHANNELS, room, hasher)?;
     Ok(Box::new(alloc, world)?)
+}
+
+/// A world in which nothing is booked, with room for a number of entries.
+fn silent(rt: &HostRuntime, room: u32) -> Result<Box<Engine>> {
+    let hasher = RandomState::new(rt)?;
+    let plan = plan_of(rt.alloc(), Said::FIRST)?;
+    if plan.channels() != 2 {
+        bail!("the plan has two channels");
+    }
+    Ok(world_of(rt.alloc(), plan, room, hasher)?)
 }
 
 /// The sequential engine in which nothing is booked, with room for a number of entries.
@@ -87,9 +107,52 @@ fn hear(
     Ok(())
 }
 
-/// Whether an entry is there in a world and in the sequential engine, and is the same.
-fn is_entry_alike(world: &Engine, other: &SequentialBook, place: usize) -> bool {
-    match (world.book().entry(place), other.entries().get(place)) {
+/// The book of a world.
+fn book_of(world: &Engine) -> &Book<Rows> {
+    world.book()
+}
+
+/// What a connection of a world was sent, if it has not ended.
+fn sent_by(world: &Engine, conn: u32) -> Option<&[u8]> {
+    if world.ended(conn) {
+        return None;
+    }
+    Some(world.output(conn))
+}
+
+/// Whether a world forgets the messages below a number when it is asked to.
+fn forgets(world: &mut Engine, before: u32) -> bool {
+    let prunings = book_of(world).prunings();
+    world.step(Step::Prune { before });
+    book_of(world).prunings() != prunings
+}
+
+/// The answer of the sequential engine to what was judged by its plan. None where it isn't booked.
+fn told_of(other: &mut SequentialBook, conn: u32, judged: &Judged) -> Option<Told>
+    requires { judged.now.plan ≡ plan_in_force other.old }
+{
+    if !judged.bookable() {
+        return None;
+    }
+    other.arrive(conn, judged).ok()
+}
+
+/// The answer of the sequential engine to a block. None where it isn't booked.
+fn told(
+    alloc: Global,
+    other: &mut SequentialBook,
+    conn: u32,
+    channel: u32,
+    block: &Block,
+) -> Result<Option<Told>> {
+    let raw = Vec::from_slice(alloc, &block.raw)?;
+    let judged = judged_by(alloc, other.plan(), channel, raw)?;
+    Ok(told_of(other, conn, &judged))
+}
+
+/// Whether an entry is there in a book and in the sequential engine, and is the same.
+fn is_entry_alike(book: &Book<Rows>, other: &SequentialBook, place: usize) -> bool {
+    match (book.entry(place), other.entries().get(place)) {
         (Some(entry), Some(due)) => is_same(entry, due),
         _ => false,
     }
@@ -171,12 +234,8 @@ impl Worlds {
 
     /// The sequential engine books a message, if it is one. A new key is kept.
     fn arrive(&mut self, conn: u32, channel: u32, block: &Block) -> Result<()> {
-        let raw = Vec::from_slice(self.alloc, &block.raw)?;
-        let judged = judged_by(self.alloc, self.other.plan(), channel, raw)?;
         let place = self.other.entries().len();
-        if judged.bookable()
-            && let Ok(told) = self.other.arrive(conn, &judged)
-        {
+        if let Some(told) = told(self.alloc, &mut self.other, conn, channel, block)? {
             let id = block.id;
             self.keys.note(Key {
                 channel,
@@ -261,10 +320,8 @@ impl Worlds {
 
     /// The messages below a number are forgotten in the second world, if they may be.
     fn forget(&mut self, before: u32) -> Result<()> {
-        let due = prune_refusal(self.whole.book(), self.forgotten, before);
-        let prunings = self.bytewise.book().prunings();
-        self.bytewise.step(Step::Prune { before });
-        if (self.bytewise.book().prunings() == prunings) != due.is_some() {
+        let due = prune_refusal(book_of(&self.whole), self.forgotten, before);
+        if forgets(&mut self.bytewise, before) != due.is_none() {
             bail!("a pruning is made or refused against the rules");
         }
         if due.is_none() {
@@ -276,7 +333,7 @@ impl Worlds {
 
     /// How many plans were deployed.
     pub fn deployments(&self) -> u32 {
-        self.whole.book().deployments()
+        book_of(&self.whole).deployments()
     }
 
     /// How many messages were forgotten.
@@ -291,6 +348,29 @@ impl Worlds {
         self.bytewise.run(&steps);
     }
 
+    /// What isn't the same: the numbers of entries, the plans in force, the lengths of a queue, or what the worlds count at a
+    /// destination and at a channel.
+    fn difference(&self, d: u32) -> Option<&'static str>
+        requires { d < 32 }
+    {
+        let (whole, bytewise) = (
+            view_of(book_of(&self.whole), d, d),
+            view_of(book_of(&self.bytewise), d, d),
+        );
+        let (len, plan) = (self.other.entries().len(), self.other.plan());
+        if whole.len != len || bytewise.len != len {
+            Some("there are two numbers of entries")
+        } else if !whole.plan.same(plan) || !bytewise.plan.same(plan) {
+            Some("two plans are in force")
+        } else if whole.waiting != bytewise.waiting {
+            Some("a queue has two lengths")
+        } else if !is_counted_alike(whole.counts, bytewise.counts, d) {
+            Some("a destination or a channel is counted in two ways")
+        } else {
+            None
+        }
+    }
+
     /// Compares the numbers of entries, the plans in force, the lengths of a queue, and what the worlds count
     /// at a destination and at a channel.
     ///
@@ -298,26 +378,10 @@ impl Worlds {
     ///
     /// Where two of them differ, or memory is refused.
     pub fn compare(&self, dice: &mut Dice) -> Result<()> {
-        let (book, bytewise) = (self.whole.book(), self.bytewise.book());
-        let len = self.other.entries().len();
-        if book.len() != len || bytewise.len() != len {
-            bail!("there are two numbers of entries");
+        match self.difference(dice.roll(4)) {
+            Some(difference) => bail!("{difference}"),
+            None => Ok(()),
         }
-        let plan = self.other.plan();
-        if !book.plan().same(plan) || !bytewise.plan().same(plan) {
-            bail!("two plans are in force");
-        }
-        let d = dice.roll(4);
-        if book.queue_len(d) != bytewise.queue_len(d) {
-            bail!("a queue has two lengths");
-        }
-        let (counts, again) = (book.counts(), bytewise.counts());
-        if counts.destination(d) != again.destination(d)
-            || counts.channel(d / 2) != again.channel(d / 2)
-        {
-            bail!("a destination or a channel is counted in two ways");
-        }
-        Ok(())
     }
 
     /// Compares queues and slots of the first world with those of the sequential engine.
@@ -327,18 +391,21 @@ impl Worlds {
     /// Where one is not the same, or memory is refused.
     pub fn compare_queues(&self) -> Result<()> {
         for d in 0..5 {
-            if !is_alike(self.whole.book(), &self.other, d, d)? {
+            if !is_alike(book_of(&self.whole), &self.other, d, d)? {
                 bail!("a queue has two lengths, or a slot two states");
             }
         }
         Ok(())
     }
 
-    /// Whether a connection was sent the same in both worlds, and has not ended.
-    fn is_sent_alike(&self, conn: u32) -> bool {
-        self.whole.output(conn) == self.bytewise.output(conn)
-            && !self.whole.ended(conn)
-            && !self.bytewise.ended(conn)
+    /// How many bytes a connection was sent. None where it was sent other bytes in the other world, or has ended.
+    fn sent_on(&self, conn: u32) -> Option<usize> {
+        let (sent, again) = (sent_by(&self.whole, conn)?, sent_by(&self.bytewise, conn)?);
+        if sent == again {
+            Some(sent.len())
+        } else {
+            None
+        }
     }
 
     /// How many bytes the connections were sent.
@@ -347,24 +414,25 @@ impl Worlds {
     ///
     /// Where one was sent other bytes in the other world, or has ended.
     pub fn compare_output(&self) -> Result<usize> {
-        let mut sent = 0_usize;
+        let mut all = 0_usize;
         for conn in 0..4 {
-            if !self.is_sent_alike(conn) {
+            let Some(sent) = self.sent_on(conn) else {
                 bail!("a connection was sent two things, or has ended");
-            }
-            sent = sent.saturating_add(self.whole.output(conn).len());
+            };
+            all = all.saturating_add(sent);
         }
-        Ok(sent)
+        Ok(all)
     }
 
     /// How many entries a world has booked. An error where the sequential engine has others than those that the world holds.
     fn compare_history(&self, world: &Engine) -> Result<usize> {
-        let len = world.book().len();
+        let book = book_of(world);
+        let len = book.len();
         if len != self.other.entries().len() {
             bail!("there are two numbers of entries");
         }
-        for place in world.book().first_place()..len {
-            if !is_entry_alike(world, &self.other, place) {
+        for place in book.first_place()..len {
+            if !is_entry_alike(book, &self.other, place) {
                 bail!("entry {place} isn't the same");
             }
         }
@@ -373,7 +441,7 @@ impl Worlds {
 
     /// How many entries a world has that takes the steps of the history. An error where the sequential engine has others.
     fn compare_again(&self, again: &mut Engine) -> Result<usize> {
-        again.run(&steps_of(self.alloc, self.whole.book())?);
+        again.run(&steps_of(self.alloc, book_of(&self.whole))?);
         self.compare_history(again)
     }
 

@@ -1,5 +1,5 @@
 -- One more piece of a stream.
-use Rattle.std.proofs.Common.{◌≡◌, ◌≢◌, ℕ, List, [], ◌++◌, Option, Result, Ok, Err, OnErr, IfErr, refl, sym, ap, ◌∙◌, append_assoc, append-nil}
+use Rattle.std.proofs.Common.{◌≡◌, ◌≢◌, ℕ, List, [], ◌++◌, Option, Result, Ok, Err, OnErr, IfErr, refl, sym, ap, subst, ◌∙◌, append_assoc, append-nil}
 use Rattle.std.specs.Io.KnownBytes.{Consumes, Appends, IsAtEnd}
 use Rattle.std.proofs.KnownBytes.{Consumes-nil, Consumes-trans, Appends-nil, Appends-trans}
 use Rattle.book_core.specs.declared.receipt.Receipt.{Receipt}
@@ -8,7 +8,7 @@ use Rattle.mllp_frame.specs.inner.Framed.{Framed, fed}
 use Rattle.mllp_frame.specs.Framing.{blocks}
 use Rattle.mllp_frame.specs.inner.Framing.{open_end}
 use Rattle.conn_worker.specs.declared.report.ServeEnd.{ServeEnd}
-use Rattle.conn_worker.specs.declared.report.ServeEnd.TheVariants.{End, ReadFault, WriteFault, NoMemory, TurnBound}
+use Rattle.conn_worker.specs.declared.report.ServeEnd.TheVariants.{End, ReadFault, WriteFault, NoMemory, TurnBound, NotPersisted}
 use Rattle.conn_worker.specs.declared.report.ServeReport.{ServeReport}
 use Rattle.conn_worker.specs.declared.dialogue.Progress.{Progress}
 use Rattle.conn_core.specs.Replies.{Answer}
@@ -136,6 +136,7 @@ writing_other ReadFault a b h e = h
 writing_other WriteFault a b h e = cc
 writing_other NoMemory a b h e = h
 writing_other TurnBound a b h e = cc
+writing_other NotPersisted a b h e = cc
 
 pub handling_other : (end : ServeEnd) → StopsHandling end → end ≢ End
 handling_other End h e = h
@@ -143,6 +144,42 @@ handling_other ReadFault h e = h
 handling_other WriteFault h e = h
 handling_other NoMemory h e = cc
 handling_other TurnBound h e = cc
+handling_other NotPersisted h e = h
+
+-- nothing was booked after events were handled
+pub handled_then : {B K : Type 0} (books : B → B → List Receipt → Type 0) {has : K → List Receipt → Type 0} {conn channel : ℕ} {events : List FramingEvent} {b b' b'' : B} {t t' : Progress K}
+    → ((x y z : B) (rs ss : List Receipt) → books x y rs → books y z ss → books x z (rs ++ ss)) → books b' b'' []
+    → HandlesAll books has conn channel events b b' t t' → HandlesAll books has conn channel events b b'' t t'
+handled_then books {b' = b'} {b'' = b''} after none all first before text s =
+    let a = all first before text s in
+    record {
+      receipts = a.receipts;
+      booked = subst (λ (l : List Receipt). books first b'' l) (append-nil a.receipts) (after first b' b'' a.receipts [] a.booked none);
+      kept = a.kept;
+      answers = a.answers;
+      tells = a.tells;
+      replies = a.replies;
+      made = a.made;
+    }
+
+-- the same where the first of them were handled
+pub handled_front_then : {B K : Type 0} (books : B → B → List Receipt → Type 0) {has : K → List Receipt → Type 0} {conn channel : ℕ} {events : List FramingEvent} {b b' b'' : B} {t t' : Progress K}
+    → ((x y z : B) (rs ss : List Receipt) → books x y rs → books y z ss → books x z (rs ++ ss)) → books b' b'' []
+    → HandlesFront books has conn channel events b b' t t' → HandlesFront books has conn channel events b b'' t t'
+handled_front_then books {b' = b'} {b'' = b''} after none front first before text s =
+    let a = front first before text s in
+    record {
+      handled = a.handled;
+      later = a.later;
+      whole = a.whole;
+      receipts = a.receipts;
+      booked = subst (λ (l : List Receipt). books first b'' l) (append-nil a.receipts) (after first b' b'' a.receipts [] a.booked none);
+      kept = a.kept;
+      answers = a.answers;
+      tells = a.tells;
+      missing = a.missing;
+      replies = a.replies;
+    }
 
 pub reading_end : (end : ServeEnd) (left : Option (List ℕ)) (a b : ℕ) → StopsReading end left a b → end ≡ End → IsAtEnd left
 reading_end end left a b h e = rw e at h

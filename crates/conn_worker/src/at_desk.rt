@@ -12,7 +12,7 @@ use crate::report::{ServeEnd, ServeReport};
 use crate::session::serve_within;
 use book_core::{BookRows, NotBooked, Receipt};
 use book_lock::{Desk, Shared, Sharing};
-use conn_core::{Booking, ConnectionId};
+use conn_core::{Booking, ConnectionId, NotPersisted};
 use fixed_numbers::TURNS_MAX;
 use judge_core::Judged;
 use log::Log;
@@ -67,6 +67,9 @@ impl<'a, A: Sharing, S: BookRows, H: Wait + Log> Booking for AtDesk<'a, A, S, H>
 
     ghost outcomes = { λ _ _ _. ⊤ };
 
+    /// The book ends with its process.
+    ghost survives = { λ _. ⊤ };
+
     fn plan(&mut self) -> Result<Arc<Plan>, AllocError> {
         self.shared.plan_at(self.rt, self.desk)
     }
@@ -81,6 +84,10 @@ impl<'a, A: Sharing, S: BookRows, H: Wait + Log> Booking for AtDesk<'a, A, S, H>
         let outcome = self.shared.arrive_judged(self.rt, self.desk, conn, judged);
         self.log_outcome(conn, judged, &outcome);
         outcome
+    }
+
+    fn persist(&mut self) -> Result<(), NotPersisted> {
+        Ok(())
     }
 
     fn pass_over(&mut self, conn: u32, judged: &Judged) {

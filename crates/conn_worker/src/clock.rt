@@ -1,6 +1,6 @@
 //! Clocks: the moment at which a message is answered, and those that deliveries go by.
 
-ghost use Rattle.std.specs.Prelude.{◌≡◌, ◌≤◌, ◌+◌, ◌/◌, min, Some};
+ghost use Rattle.std.specs.Prelude.{◌≡◌, ◌≤◌, ◌+◌, ◌*◌, ◌/◌, min, Some};
 ghost use Rattle.std.specs.Duration.{as_nanos};
 ghost use Rattle.std.specs.Time.{system_time_nanos};
 
@@ -107,10 +107,19 @@ impl<'a, C: time::Clock> Steady<'a, C> {
     /// A clock that begins with the system's time. Where that can't be read, or is before the year 1970, it begins with that
     /// year.
     pub fn new(system: &'a C) -> Self {
-        let began = match system.since_1970() {
+        Steady::not_before(system, 0)
+    }
+
+    /// A clock that begins with the system's time, or with this number of seconds since 1970 where that is later: what it is
+    /// compared with may have been noted before the system's clock was set back.
+    pub fn not_before(system: &'a C, seconds: u64) -> Self
+        ensures { seconds * 1_000_000_000 ≤ as_nanos result.last }
+    {
+        let now = match system.since_1970() {
             Ok(time) => time,
             Err(_) => Duration::ZERO,
         };
+        let began = now.max(Duration::from_secs(seconds));
         Steady {
             system,
             began,

@@ -1,5 +1,6 @@
 //! The lines of the log about what was received over a connection. None has data of a message but its control id.
 
+use crate::report::{ServeEnd, ServeReport};
 use book_core::{NotBooked, Receipt};
 use book_lock::Gauge;
 use er7_tree::{Message, Refusal};
@@ -8,7 +9,7 @@ use fixed_numbers::{CARRIAGE_RETURN, LINE_FEED};
 use hl7_head::Cause;
 use hl7_transform::StopCause;
 use judge_core::Judged;
-use log::{Log, info, warn};
+use log::{Level, Log, log, warn};
 use log_text::ControlId;
 use memchr::memchr;
 use mllp_frame::Break;
@@ -64,43 +65,68 @@ fn stop_in(alloc: Global, judged: &Judged) -> Result<Option<StoppedStep>, AllocE
     }
 }
 
-/// Logs that a message was refused for a step: which one, counted from 1, and of which route.
-fn log_stopped<H: Log>(
+/// Logs what happened to a message, with its channel, its connection and its control id.
+fn log_message<H: Log>(rt: &H, level: Level, conn: u32, judged: &Judged, text: &str) {
+    let name = channel_name(judged.plan(), judged.channel());
+    let id = control_id(judged);
+    log!(rt; level, channel = name, connection = conn, control_id:% = id; "{text}");
+}
+
+/// Logs that a message was refused for a step that all routes of its channel share: which one, counted from 1.
+fn log_stopped<H: Log>(rt: &H, conn: u32, judged: &Judged, cause: Cause, stop: StoppedStep) {
+    let name = channel_name(judged.plan(), judged.channel());
+    let id = control_id(judged);
+    let (step, why) = (stop.step.saturating_add(1), reason(stop.cause));
+    warn!(rt; channel = name, connection = conn, control_id:% = id, step; "message refused: {cause:?}, {why}");
+}
+
+/// Logs that a message was refused for a step of this route.
+fn log_stopped_at<H: Log>(
     rt: &H,
     conn: u32,
     judged: &Judged,
-    channel: &Channel,
+    route: &str,
     cause: Cause,
     stop: StoppedStep,
 ) {
-    let (name, id) = (channel.name(), control_id(judged));
+    let name = channel_name(judged.plan(), judged.channel());
+    let id = control_id(judged);
     let (step, why) = (stop.step.saturating_add(1), reason(stop.cause));
-    match stop.route {
-        Some(index) => {
-            let route = route_name(judged.plan(), channel, index);
-            warn!(rt; channel = name, connection = conn, control_id:% = id, route, step; "message refused: {cause:?}, {why}");
-        }
-        None => {
-            warn!(rt; channel = name, connection = conn, control_id:% = id, step; "message refused: {cause:?}, {why}");
-        }
-    }
+    warn!(rt; channel = name, connection = conn, control_id:% = id, route, step; "message refused: {cause:?}, {why}");
+}
+
+/// Logs that a message was refused, with the cause.
+fn log_cause<H: Log>(rt: &H, conn: u32, judged: &Judged, cause: Cause) {
+    let name = channel_name(judged.plan(), judged.channel());
+    let id = control_id(judged);
+    warn!(rt; channel = name, connection = conn, control_id:% = id; "message refused: {cause:?}");
+}
+
+/// Logs that a message was not booked, with the cause.
+fn log_unbooked<H: Log>(rt: &H, conn: u32, judged: &Judged, refusal: NotBooked) {
+    let name = channel_name(judged.plan(), judged.channel());
+    let id = control_id(judged);
+    warn!(rt; channel = name, connection = conn, control_id:% = id; "message not booked: {refusal:?}");
 }
 
 /// Logs that a message was refused, with the cause, and the step where a step is the cause.
 fn log_refused<H: Log>(rt: &H, alloc: Global, conn: u32, judged: &Judged, cause: Cause) {
-    let plan = judged.plan();
     let by_step = matches!(cause, Cause::SourceTransform | Cause::RouteTransform);
     let stop = if by_step {
         stop_in(alloc, judged)
     } else {
         Ok(None)
     };
+    let plan = judged.plan();
     match (stop, plan.channel(judged.channel())) {
-        (Ok(Some(stop)), Some(channel)) => log_stopped(rt, conn, judged, channel, cause, stop),
-        _ => {
-            let (name, id) = (channel_name(plan, judged.channel()), control_id(judged));
-            warn!(rt; channel = name, connection = conn, control_id:% = id; "message refused: {cause:?}");
-        }
+        (Ok(Some(stop)), Some(channel)) => match stop.route {
+            Some(index) => {
+                let route = route_name(plan, channel, index);
+                log_stopped_at(rt, conn, judged, route, cause, stop);
+            }
+            None => log_stopped(rt, conn, judged, cause, stop),
+        },
+        _ => log_cause(rt, conn, judged, cause),
     }
 }
 
@@ -134,47 +160,28 @@ pub fn log_arrival<H: Log>(
                 told: Told::Repeat(_),
                 ..
             },
-        ) => {
-            let (name, id) = (
-                channel_name(judged.plan(), judged.channel()),
-                control_id(judged),
-            );
-            info!(rt; channel = name, connection = conn, control_id:% = id; "message repeated");
-        }
+        ) => log_message(rt, Level::Info, conn, judged, "message repeated"),
         Ok(_) => {}
-        Err(refusal) => {
-            let (name, id) = (
-                channel_name(judged.plan(), judged.channel()),
-                control_id(judged),
-            );
-            warn!(rt; channel = name, connection = conn, control_id:% = id; "message not booked: {refusal:?}");
-        }
+        Err(refusal) => log_unbooked(rt, conn, judged, *refusal),
     }
     if has_line_feed(judged.raw().as_slice()) {
-        let (name, id) = (
-            channel_name(judged.plan(), judged.channel()),
-            control_id(judged),
-        );
-        warn!(rt; channel = name, connection = conn, control_id:% = id;
-            "MSH holds a line feed: segments have to end with a carriage return");
+        let text = "MSH holds a line feed: segments have to end with a carriage return";
+        log_message(rt, Level::Warn, conn, judged, text);
     }
 }
 
 /// Logs a message that is not booked since its connection was reset before.
 pub fn log_cut<H: Log>(rt: &H, conn: u32, judged: &Judged) {
-    let (name, id) = (
-        channel_name(judged.plan(), judged.channel()),
-        control_id(judged),
-    );
-    info!(rt; channel = name, connection = conn, control_id:% = id; "message dropped: its connection was reset before it was booked");
+    let text = "message dropped: its connection was reset before it was booked";
+    log_message(rt, Level::Info, conn, judged, text);
 }
 
 /// Logs a block that is no message, with the reason, or an acknowledgment that nothing waits for.
 pub fn log_passed_over<H: Log>(rt: &H, alloc: Global, conn: u32, judged: &Judged) {
     let name = channel_name(judged.plan(), judged.channel());
     if judged.header().is_some() {
-        let id = control_id(judged);
-        warn!(rt; channel = name, connection = conn, control_id:% = id; "acknowledgment received and dropped");
+        let text = "acknowledgment received and dropped";
+        log_message(rt, Level::Warn, conn, judged, text);
         return;
     }
     match Message::parse(alloc, judged.raw().as_slice()) {
@@ -216,4 +223,43 @@ pub fn log_fill<H: Log>(rt: &H, gauge: Gauge) {
         81..=90 => warn!(rt; held, owed, events_max; "book above 80 % of its entries"),
         _ => warn!(rt; held, owed, events_max; "book above 90 % of its entries"),
     }
+}
+
+/// How serious it is that a connection ended so, and why it did, in words.
+fn why_ended(end: ServeEnd) -> (Level, &'static str) {
+    match end {
+        ServeEnd::End => (Level::Info, "closed by the sender"),
+        ServeEnd::ReadFault => (Level::Info, "reading from the sender failed"),
+        ServeEnd::WriteFault => (Level::Info, "writing to the sender failed"),
+        ServeEnd::NoMemory => (Level::Warn, "out of memory"),
+        ServeEnd::TurnBound => (Level::Warn, "it brought more than one connection may"),
+        ServeEnd::NotPersisted => (
+            Level::Warn,
+            "the store has failed, so what was received last is not acknowledged",
+        ),
+    }
+}
+
+/// Logs that a connection ended, why, and what it brought: this number of booked messages, and what the report counts. A
+/// connection that was read to its end ended since the service stops, where it does.
+pub fn log_end<H: Log, K>(
+    rt: &H,
+    channel: &str,
+    connection: u32,
+    booked: u64,
+    report: &ServeReport<K>,
+    stops: bool,
+) {
+    let (level, why) = match report.end {
+        ServeEnd::End if stops => (Level::Info, "the service stops"),
+        end => why_ended(end),
+    };
+    let ServeReport {
+        unbooked,
+        unreadable,
+        strays,
+        breaks,
+        ..
+    } = *report;
+    log!(rt; level, channel, connection, booked, unbooked, unreadable, strays, breaks; "connection ended: {why}");
 }

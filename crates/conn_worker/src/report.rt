@@ -23,6 +23,8 @@ pub enum ServeEnd {
     NoMemory,
     /// As many reads were made, or as many events read, as one connection may have.
     TurnBound,
+    /// What was booked may not survive a crash, since its store has failed: its acknowledgments were not written.
+    NotPersisted,
 }
 
 impl From<AllocError> for ServeEnd {

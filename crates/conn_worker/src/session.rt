@@ -10,7 +10,7 @@ use crate::counted::Counted;
 use crate::dialogue::Progress;
 use crate::keeping::ReceiptSink;
 use crate::report::{ServeEnd, ServeReport};
-use crate::stream::{read_piece, write_out};
+use crate::stream::{read_piece, write_persisted};
 use conn_core::{Booking, ConnectionId};
 use fixed_numbers::TURNS_MAX;
 use mllp_frame::{Framer, longer_streams};
@@ -50,7 +50,7 @@ impl<K: ReceiptSink> Session<K> {
         })
     }
 
-    /// Reads a piece, handles its events, and writes and flushes their replies.
+    /// Reads a piece, handles its events, and writes and flushes their replies once what they acknowledge survives a crash.
     fn serve_piece<B: Booking, R: Read, W: Write, C: Clock>(
         &mut self,
         line: &ConnectionId,
@@ -93,7 +93,8 @@ impl<K: ReceiptSink> Session<K> {
         let answered = self
             .dialogue
             .answer_events(line, book, &mut self.framer, clock, self.events_max);
-        match write_out(writer, self.dialogue.replies.as_slice(), &mut self.turns) {
+        let replies = self.dialogue.replies.as_slice();
+        match write_persisted(book, writer, replies, &mut self.turns) {
             Ok(()) => {}
             Err(end) => return Err(end),
         }
@@ -131,7 +132,8 @@ impl<K: ReceiptSink> Session<K> {
 
 /// Serves a connection to its reader's end, or to a fault, or to `bound` reads or events: each message is booked and
 /// acknowledged as its header requests (HL7 v2.5.1, 2.9.2 and 2.9.3). The replies to a piece are written and flushed before
-/// the next read waits. The moments of the replies are the clock's.
+/// the next read waits, and none is written before what was booked survives a crash of the process, where it has to. The
+/// moments of the replies are the clock's.
 pub fn serve_within<B: Booking, K: ReceiptSink, R: Read, W: Write, C: Clock>(
     line: &ConnectionId,
     book: &mut B,

@@ -6,6 +6,7 @@ ghost use Rattle.conn_worker.specs.inner.Stream.{StopsReading, StopsWriting, Wri
 
 use crate::counted::{Counted, is_interruption};
 use crate::report::ServeEnd;
+use conn_core::{Booking, NotPersisted};
 use std::io::{Read, Write};
 
 /// Takes one of the turns that are left, if there is one.
@@ -104,16 +105,44 @@ fn flush<W: Write>(writer: &mut Counted<W>, turns: &mut u64) -> Result<(), Serve
     }
 }
 
-/// Writes replies and flushes them, where there are any.
+/// Writes replies and flushes them. All that was booked, so also what they acknowledge, survives a crash of the process.
 ///
 /// # Errors
 ///
 /// `WriteFault` where the writer failed, `TurnBound` where no turn is left. The first bytes may be written.
-pub(crate) fn write_out<W: Write>(
+fn write_out<B: Booking, W: Write>(
+    _book: &B,
     writer: &mut Counted<W>,
     replies: &[u8],
     turns: &mut u64,
 ) -> Result<(), ServeEnd>
+    requires survives { B.survives _book.now }
+    ensures flushed { OnOk result (writer.new.unflushed ≡ false) }
+    ensures ok { OnOk result (Appends (W.contents writer.old.inner) (W.contents writer.new.inner) replies.now) }
+    ensures front { OnErr result (WritesFront (W.contents writer.old.inner) (W.contents writer.new.inner) replies.now) }
+    ensures stop { IfErr result (λ end. StopsWriting end writer.old.faults writer.new.faults) }
+    ensures faults { writer.old.faults ≤ writer.new.faults }
+    ensures turns { turns.new ≤ turns.old }
+    ensures bound { IfErr result (λ end. end ≡ ServeEnd.TurnBound → turns.new ≡ 0) }
+{
+    write_all(writer, replies, turns)?;
+    flush(writer, turns)
+}
+
+/// Waits until all that was booked survives a crash of the process, and then writes replies and flushes them, where there are
+/// any.
+///
+/// # Errors
+///
+/// `NotPersisted` where what was booked may not survive; nothing is written then. `WriteFault` where the writer failed,
+/// `TurnBound` where no turn is left. The first bytes may be written.
+pub(crate) fn write_persisted<B: Booking, W: Write>(
+    book: &mut B,
+    writer: &mut Counted<W>,
+    replies: &[u8],
+    turns: &mut u64,
+) -> Result<(), ServeEnd>
+    ensures unbooked { B.books book.old book.new [] }
     ensures flushed { OnOk result (writer.old.unflushed ≡ false → writer.new.unflushed ≡ false) }
     ensures ok { OnOk result (Appends (W.contents writer.old.inner) (W.contents writer.new.inner) replies.now) }
     ensures front { OnErr result (WritesFront (W.contents writer.old.inner) (W.contents writer.new.inner) replies.now) }
@@ -125,6 +154,8 @@ pub(crate) fn write_out<W: Write>(
     if replies.is_empty() {
         return Ok(());
     }
-    write_all(writer, replies, turns)?;
-    flush(writer, turns)
+    match book.persist() {
+        Ok(()) => write_out(book, writer, replies, turns),
+        Err(NotPersisted) => Err(ServeEnd::NotPersisted),
+    }
 }

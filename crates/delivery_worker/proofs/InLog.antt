@@ -15,10 +15,14 @@ use Rattle.event_log.specs.declared.refusal.TakeRefusal.{TakeRefusal}
 use Rattle.book_core.specs.declared.letter.Job.{Job}
 use Rattle.ghost_log.specs.Seats.{entries_of}
 use Rattle.ghost_log.proofs.Seats.{entries-append, entry_one}
-use Rattle.book_lock.specs.Log.{Calls, IsLegalLog, Log, SeatView, Takes, own_entry}
+use Rattle.book_lock.specs.Log.{Calls, IsLegalLog, Log, Looks, SeatView, own_entry}
+use Rattle.book_lock.specs.declared.durable.TakeDurableRefusal.{TakeDurableRefusal}
+use Rattle.book_lock.specs.declared.durable.TakeDurableRefusal.TheVariants.{NotDurable, Refused}
 use Rattle.book_lock.specs.declared.log_entry.LogEntry.{LogEntry}
 use Rattle.book_lock.specs.declared.log_entry.LogEntry.TheVariants as log
 use Rattle.delivery_worker.specs.Delivering.{Attempt, IsSendingOf, attempt_outcome}
+use Rattle.delivery_worker.specs.inner.Taking.{IsNotTakenBy, TakesAfterLook}
+use Rattle.delivery_worker.specs.declared.taking.TakeRule.{TakeRule}
 use Rattle.delivery_worker.specs.Turns.{DeliversInLog, IsTurnWithin, StationTurn, booked_as, entries_in, settlement}
 
 abbrev attempt_of : StationTurn → Attempt
@@ -37,7 +41,7 @@ own_booked n e (Ok reply) = entry_one n (log.Booked (entry_of e reply))
 own_booked n e (Err refusal) = refl
 
 -- a call adds its entry to those of its seat
-call_adds : (h : History) (e : Event) (old new : SeatView) (r : Result (Reply e) (Refusal e)) → Calls h e old new r
+pub call_adds : (h : History) (e : Event) (old new : SeatView) (r : Result (Reply e) (Refusal e)) → Calls h e old new r
     → entries_of old.number new.seen ≡ entries_of old.number old.seen ++ booked_as e r
 call_adds h e old new r c =
     let n = old.number in
@@ -63,45 +67,86 @@ no_turn h d old new is =
       legal = λ was. subst (IsLegalLog h) (sym seen) was;
     }
 
+-- a look adds no entry to those of its seat
+look_adds : (h : History) (old new : SeatView) → Looks h old new → entries_of old.number new.seen ≡ entries_of old.number old.seen
+look_adds h old new l =
+    ap (entries_of old.number) l.seen ∙ entries-append old.number old.seen l.others
+    ∙ ap (λ (w : List LogEntry). entries_of old.number old.seen ++ w) l.none_own ∙ append-nil (entries_of old.number old.seen)
+
+look_onward : (h : History) (old new : SeatView) → Looks h old new → IsPrefix old.seen new.seen
+look_onward h old new l = (l.others, sym l.seen)
+
+-- a look
+looked : (h : History) (d : ℕ) (old new : SeatView) → Looks h old new → DeliversInLog h d old new []
+looked h d old new l = record {
+  turns = [];
+  attempts_are = refl;
+  each = All-nil (IsTurnWithin h d old new);
+  own = look_adds h old new l ∙ sym (append-nil (entries_of old.number old.seen));
+  number = l.number;
+  onward = look_onward h old new l;
+  legal = λ was. l.legal;
+}
+
+-- what such a take adds to the entries of its seat
+pub take_adds : (h : History) (d now : ℕ) (old new : SeatView) (r : Result Job TakeRefusal) → (t : TakesAfterLook h d now old new r)
+    → entries_of old.number new.seen ≡ entries_of old.number old.seen ++ booked_as (event.take d now) (result_map (λ job. job.ticket) r)
+take_adds h d now old new r t =
+    let e = event.take d now in
+    let reply = result_map (λ (job : Job). job.ticket) r in
+    let added : entries_of old.number new.seen ≡ entries_of old.number t.begin.seen ++ booked_as e reply =
+    subst (λ (n : ℕ). entries_of n new.seen ≡ entries_of n t.begin.seen ++ booked_as e reply) t.number (call_adds h e t.begin new reply t.takes.call) in
+    added ∙ ap (λ (w : List LogEntry). w ++ booked_as e reply) t.none_own
+
+pub take_onward : (h : History) (d now : ℕ) (old new : SeatView) (r : Result Job TakeRefusal) → TakesAfterLook h d now old new r → IsPrefix old.seen new.seen
+take_onward h d now old new r t =
+    onward_then old.seen t.begin.seen new.seen t.after (call_onward h (event.take d now) t.begin new (result_map (λ (job : Job). job.ticket) r) t.takes.call)
+
 -- a take that was refused
-pub refused_turn : (h : History) (d now : ℕ) (old new : SeatView) (refusal : TakeRefusal) → Takes h d now old new (Err refusal) → DeliversInLog h d old new []
+refused_turn : (h : History) (d now : ℕ) (old new : SeatView) (refusal : TakeRefusal) → TakesAfterLook h d now old new (Err refusal) → DeliversInLog h d old new []
 refused_turn h d now old new refusal t = record {
   turns = [];
   attempts_are = refl;
   each = All-nil (IsTurnWithin h d old new);
-  own = call_adds h (event.take d now) old new (Err refusal) t.call;
-  number = t.call.number;
-  onward = call_onward h (event.take d now) old new (Err refusal) t.call;
-  legal = λ was. t.call.legal;
+  own = take_adds h d now old new (Err refusal) t;
+  number = t.takes.call.number ∙ t.number;
+  onward = take_onward h d now old new (Err refusal) t;
+  legal = λ was. t.takes.call.legal;
 }
+
+-- nothing was taken
+pub not_taken : (h : History) (rule : TakeRule) (d now : ℕ) (old new : SeatView) (refusal : TakeDurableRefusal) → IsNotTakenBy rule h d now old new refusal → DeliversInLog h d old new []
+not_taken h rule d now old new NotDurable l = looked h d old new l.1
+not_taken h rule d now old new (Refused refusal) t = refused_turn h d now old new refusal t
 
 -- a take, an attempt and its settlement
 pub one_turn : (h : History) (d taken_at settled_at : ℕ) (old between new : SeatView) (job : Job) (attempt : Attempt) (o : Outcome) (reply : Result SlotState SettleRefusal)
-    → Takes h d taken_at old between (Ok job) → IsSendingOf attempt.last job.control_id job.payload job.ack → attempt_outcome attempt ≡ o
+    → TakesAfterLook h d taken_at old between (Ok job) → IsSendingOf attempt.last job.control_id job.payload job.ack → attempt_outcome attempt ≡ o
     → Calls h (event.settle job.ticket o settled_at) between new reply → DeliversInLog h d old new (attempt ∷ [])
 one_turn h d taken_at settled_at old between new job attempt o reply takes sends is settles =
     let t : StationTurn = record { job = job; taken_at = taken_at; attempt = attempt; settled_at = settled_at; reply = reply } in
     let settled : Calls h (settlement t) between new reply = subst (λ (x : Outcome). Calls h (event.settle job.ticket x settled_at) between new reply) (sym is) settles in
     let took : entries_of old.number between.seen ≡ entries_of old.number old.seen ++ booked_as (event.take d taken_at) (Ok job.ticket) =
-    call_adds h (event.take d taken_at) old between (Ok job.ticket) takes.call in
+    take_adds h d taken_at old between (Ok job) takes in
+    let number : between.number ≡ old.number = takes.takes.call.number ∙ takes.number in
     let then : entries_of old.number new.seen ≡ entries_of old.number between.seen ++ booked_as (settlement t) reply =
-    subst (λ (n : ℕ). entries_of n new.seen ≡ entries_of n between.seen ++ booked_as (settlement t) reply) takes.call.number
+    subst (λ (n : ℕ). entries_of n new.seen ≡ entries_of n between.seen ++ booked_as (settlement t) reply) number
     (call_adds h (settlement t) between new reply settled) in record {
       turns = t ∷ [];
       attempts_are = refl;
       each = All-push (IsTurnWithin h d old new) [] t (All-nil (IsTurnWithin h d old new)) (record {
-        begin = old;
+        begin = takes.begin;
         end = new;
-        turn = record { between = between; takes = takes; sends = sends; settles = settled };
-        number = refl;
-        after = onward_same old.seen old.seen refl;
+        turn = record { between = between; takes = takes.takes; sends = sends; settles = settled };
+        number = takes.number;
+        after = takes.after;
         before = onward_same new.seen new.seen refl;
       });
       own = then ∙ ap (λ (w : List LogEntry). w ++ booked_as (settlement t) reply) took
           ∙ append_assoc (entries_of old.number old.seen) (booked_as (event.take d taken_at) (Ok job.ticket)) (booked_as (settlement t) reply)
           ∙ ap (λ (w : List LogEntry). entries_of old.number old.seen ++ w) (sym (append-nil (entries_in t)));
-      number = settled.number ∙ takes.call.number;
-      onward = onward_then old.seen between.seen new.seen (call_onward h (event.take d taken_at) old between (Ok job.ticket) takes.call) (call_onward h (settlement t) between new reply settled);
+      number = settled.number ∙ number;
+      onward = onward_then old.seen between.seen new.seen (take_onward h d taken_at old between (Ok job) takes) (call_onward h (settlement t) between new reply settled);
       legal = λ was. settled.legal;
     }
 

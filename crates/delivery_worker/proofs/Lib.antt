@@ -1,4 +1,5 @@
 pub mod Afresh
+pub mod ByRule
 pub mod Calls
 pub mod Delivered
 pub mod InLog

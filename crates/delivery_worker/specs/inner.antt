@@ -4,4 +4,5 @@ pub mod Calls
 pub mod Delivering
 pub mod Lately
 pub mod Stream
+pub mod Taking
 pub mod Works

@@ -12,12 +12,15 @@ ghost use Rattle.delivery_worker.specs.inner.Calls.{CallsMore, CallsUpTo};
 ghost use Rattle.delivery_worker.specs.inner.Stream.{ReadsFront, ReadsOn, Receives};
 ghost use Rattle.delivery_worker.specs.Delivering.{IsSendingOf};
 ghost use Rattle.delivery_worker.specs.inner.Delivering.{Sends, Spends, Tries};
+ghost use Rattle.delivery_worker.specs.Taking.{MayBeSent};
 
 use crate::answer::Answer;
 use crate::answers::{Decision, Reply, decision_by, decision_of};
 use crate::data::is_data;
 use crate::link::{Link, LinkFault};
+use crate::taking::TakeRule;
 use book_core::Job;
+use book_lock::{Sharing, Station};
 use dest_queue::Outcome;
 use fixed_numbers::{MAX_ANSWERS, RECEIVES_MAX};
 use mllp_frame::{Framer, longer_streams, write_block};
@@ -363,8 +366,15 @@ impl Connection {
     /// Sends a message, and reads the answers where the destination acknowledges. Where the connection that was kept can't be
     /// used for it, or has ended before a byte of an answer was received, the message is sent over a new one, in the same attempt.
     /// After a fault of the link, the end of its input, too many receives or a refusal for memory the next attempt
-    /// connects anew.
-    pub fn attempt<L: Link>(&mut self, link: &mut L, job: &Job) -> Outcome
+    /// connects anew. By the rule `Durable` nothing is sent but what is durable by what the station's seat has seen.
+    pub fn attempt<A: Sharing, L: Link>(
+        &mut self,
+        link: &mut L,
+        station: &Station<A>,
+        rule: TakeRule,
+        job: &Job,
+    ) -> Outcome
+        requires durable { MayBeSent rule A.opening station.now.seat job.now.ticket.number }
         ensures tries { (t : Tries self.old.framer self.new.framer (L.sent link.old) (L.sent link.new) (L.received link.old) (L.received link.new) result)
             × IsSendingOf t.attempt.last job.now.control_id job.now.payload job.now.ack }
         ensures receives { CallsUpTo (L.receives link.old) (L.receives link.new) RECEIVES_MAX }

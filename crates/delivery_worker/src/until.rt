@@ -4,6 +4,7 @@ ghost use Rattle.std.specs.Prelude.{◌≡◌, ◌+◌, ◌*◌, ◌≤◌, [], 
 ghost use Rattle.std.specs.Io.KnownBytes.{Keeps};
 ghost use Rattle.fixed_numbers.specs.declared.serving.TheConstants.{RECEIVES_MAX};
 ghost use Rattle.mllp_frame.specs.inner.Framed.{blank};
+ghost use Rattle.delivery_worker.specs.Taking.{TakesByRule};
 ghost use Rattle.delivery_worker.specs.Turns.{DeliversInLog};
 ghost use Rattle.delivery_worker.specs.inner.Calls.{CallsUpTo};
 ghost use Rattle.delivery_worker.specs.inner.Delivering.{DeliversAfresh, Tries};
@@ -11,15 +12,20 @@ ghost use Rattle.delivery_worker.specs.inner.Delivering.{DeliversAfresh, Tries};
 use crate::connection::Connection;
 use crate::link::Link;
 use crate::report::{DeliverEnd, DeliverReport};
+use crate::taking::TakeRule;
 use crate::worker::take_turn;
 use book_core::{BookRows, Front};
-use book_lock::{Shared, Sharing, Station};
+use book_lock::{Shared, Sharing, Station, TakeDurableRefusal};
 use conn_worker::Clock;
 use dest_queue::{Outcome, SlotState};
 use log::Log;
 use std::alloc::Global;
 use std::sync::Wait;
-use std::time;
+use std::time::Duration;
+use std::{thread, time};
+
+/// The milliseconds that a worker waits where a message is not durable yet: about as long as a commit takes.
+const COMMIT_WAIT: u64 = 2;
 
 /// What halts the work.
 pub trait Halt {
@@ -34,6 +40,8 @@ enum Pause {
     Drained,
     /// Nothing is due, or the destination can't be reached.
     NotYet,
+    /// The first message is due, and is not durable yet.
+    NotDurable,
 }
 
 /// Whether a message is at the front of a queue that may be taken at this moment.
@@ -57,6 +65,7 @@ fn deliver_afresh<H: Wait, A: Sharing, S: BookRows, L: Link, C: Clock>(
     connection: &mut Connection,
     link: &mut L,
     d: u32,
+    rule: TakeRule,
     clock: &mut C,
 ) -> Result<Outcome, Pause>
     ensures taken { OnOk result (station.new.counts.takes ≡ station.old.counts.takes + 1) }
@@ -67,6 +76,7 @@ fn deliver_afresh<H: Wait, A: Sharing, S: BookRows, L: Link, C: Clock>(
         (t : Tries (Some blank) connection.new.framer (L.sent link.old) (L.sent link.new)
         (L.received link.old) (L.received link.new) outcome)
         × DeliversInLog A.opening d station.old.seat station.new.seat (t.attempt ∷ [])) }
+    ensures by_rule { OnOk result (TakesByRule rule A.opening station.old.seat station.new.seat) }
     ensures receives { OnOk result (
         CallsUpTo (L.receives link.old) (L.receives link.new) RECEIVES_MAX) }
     ensures refused { OnErr result (station.new.counts ≡ station.old.counts) }
@@ -81,9 +91,10 @@ fn deliver_afresh<H: Wait, A: Sharing, S: BookRows, L: Link, C: Clock>(
         Ok(()) => {}
         Err(_) => return Err(Pause::NotYet),
     }
-    match take_turn(rt, shared, station, connection, link, d, clock) {
+    match take_turn(rt, shared, station, connection, link, d, rule, clock) {
         Ok(outcome) => Ok(outcome),
-        Err(_) => Err(Pause::NotYet),
+        Err(TakeDurableRefusal::NotDurable) => Err(Pause::NotDurable),
+        Err(TakeDurableRefusal::Refused(_)) => Err(Pause::NotYet),
     }
 }
 
@@ -95,6 +106,7 @@ fn turn_afresh<H: Wait, A: Sharing, S: BookRows, L: Link, C: Clock>(
     connection: &mut Connection,
     link: &mut L,
     d: u32,
+    rule: TakeRule,
     clock: &mut C,
 ) -> Result<Outcome, Pause>
     ensures taken { OnOk result (station.new.counts.takes ≡ station.old.counts.takes + 1) }
@@ -105,6 +117,7 @@ fn turn_afresh<H: Wait, A: Sharing, S: BookRows, L: Link, C: Clock>(
         (t : Tries (Some blank) connection.new.framer (L.sent link.old) (L.sent link.new)
         (L.received link.old) (L.received link.new) outcome)
         × DeliversInLog A.opening d station.old.seat station.new.seat (t.attempt ∷ [])) }
+    ensures by_rule { OnOk result (TakesByRule rule A.opening station.old.seat station.new.seat) }
     ensures receives { OnOk result (
         CallsUpTo (L.receives link.old) (L.receives link.new) RECEIVES_MAX) }
     ensures refused { OnErr result (station.new.counts ≡ station.old.counts) }
@@ -124,14 +137,15 @@ fn turn_afresh<H: Wait, A: Sharing, S: BookRows, L: Link, C: Clock>(
     if !is_due(front, clock) {
         return Err(Pause::NotYet);
     }
-    deliver_afresh(rt, shared, station, connection, link, d, clock)
+    deliver_afresh(rt, shared, station, connection, link, d, rule, clock)
 }
 
 /// Delivers the messages of queue `d`, one after another, over one link, until that is halted: each that is due is
-/// taken, sent as a block, and settled by what the destination answers (HL7 v2.5.1, 2.9.2 and 2.9.3). A message is
-/// taken only once its connection is ready, so a destination that can't be reached costs no attempt. No answer is
-/// read but one that was received after the connection was readied for the attempt. Where nothing can be sent, the
-/// worker waits for a change at the queue, or a short while, and then flushes the log.
+/// taken, sent as a block, and settled by what the destination answers (HL7 v2.5.1, 2.9.2 and 2.9.3). By the rule
+/// `Durable` a message is taken only once its arrival is durable. A message is taken only once its connection is
+/// ready, so a destination that can't be reached costs no attempt. No answer is read but one that was received after
+/// the connection was readied for the attempt. Where nothing can be sent, the worker waits for a change at the queue,
+/// or a short while, and then flushes the log.
 ///
 /// It ends where it is halted, or where no arrival will follow and the queue is empty.
 pub fn deliver_until<
@@ -148,6 +162,7 @@ pub fn deliver_until<
     station: &mut Station<A>,
     link: &mut L,
     d: u32,
+    rule: TakeRule,
     clock: &mut C,
     halt: &E,
 ) -> DeliverReport
@@ -164,6 +179,9 @@ pub fn deliver_until<
         × DeliversInLog A.opening d station.old.seat station.new.seat
         (map (λ e. e.attempt) t.exchanges) }
 
+    // Each message that was taken may be sent by the rule.
+    ensures by_rule { TakesByRule rule A.opening station.old.seat station.new.seat }
+
     // An attempt makes 1,000,000 receives at most.
     ensures receives { CallsUpTo (L.receives link.old) (L.receives link.new) (RECEIVES_MAX * result.taken) }
 {
@@ -175,12 +193,16 @@ pub fn deliver_until<
             link.finish();
             return report;
         }
-        match turn_afresh(rt, shared, station, &mut connection, link, d, clock) {
+        match turn_afresh(rt, shared, station, &mut connection, link, d, rule, clock) {
             Ok(outcome) => report.count(outcome),
             Err(Pause::Drained) => {
                 report.end = DeliverEnd::Drained;
                 link.finish();
                 return report;
+            }
+            Err(Pause::NotDurable) => {
+                thread::sleep(rt, Duration::from_millis(COMMIT_WAIT));
+                rt.flush();
             }
             Err(Pause::NotYet) => {
                 shared.bell(rt, d);

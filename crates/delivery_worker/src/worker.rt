@@ -5,14 +5,16 @@ ghost use Rattle.std.specs.Io.KnownBytes.{Keeps};
 ghost use Rattle.fixed_numbers.specs.declared.serving.TheConstants.{RECEIVES_MAX};
 ghost use Rattle.delivery_worker.specs.inner.Calls.{CallsUpTo};
 ghost use Rattle.delivery_worker.specs.Delivering.{Delivers, attempts_in};
+ghost use Rattle.delivery_worker.specs.Taking.{TakesByRule};
 ghost use Rattle.delivery_worker.specs.Turns.{DeliversInLog};
 ghost use Rattle.delivery_worker.specs.inner.Delivering.{Tries};
 
 use crate::connection::Connection;
 use crate::link::Link;
 use crate::report::{DeliverEnd, DeliverReport};
+use crate::taking::{TakeRule, take_by};
 use book_core::{BookRows, TakeRefusal};
-use book_lock::{Shared, Sharing, Station};
+use book_lock::{Shared, Sharing, Station, TakeDurableRefusal};
 use conn_worker::Clock;
 use dest_queue::Outcome;
 use log::Log;
@@ -20,8 +22,8 @@ use std::alloc::Global;
 use std::sync::Wait;
 use std::time;
 
-/// Takes the message at the front of a queue, makes one attempt to deliver it, and settles the attempt, whatever its
-/// outcome. The lock is held for the take and for the settlement, and not in between.
+/// Takes the first message of a queue by a rule, makes one attempt to deliver it, and settles the attempt, whatever
+/// its outcome. The lock is held for the take and for the settlement, and not in between.
 // Inlined, for speed: a call that is not takes some 50 instructions more.
 #[inline(always)]
 pub(crate) fn take_turn<H: Wait, A: Sharing, S: BookRows, L: Link, C: Clock>(
@@ -31,8 +33,9 @@ pub(crate) fn take_turn<H: Wait, A: Sharing, S: BookRows, L: Link, C: Clock>(
     connection: &mut Connection,
     link: &mut L,
     d: u32,
+    rule: TakeRule,
     clock: &mut C,
-) -> Result<Outcome, TakeRefusal>
+) -> Result<Outcome, TakeDurableRefusal>
     ensures taken { OnOk result (station.new.counts.takes ≡ station.old.counts.takes + 1) }
     ensures settled { OnOk result (
         (station.old.counts.settlements ≤ station.new.counts.settlements)
@@ -41,6 +44,7 @@ pub(crate) fn take_turn<H: Wait, A: Sharing, S: BookRows, L: Link, C: Clock>(
         (t : Tries connection.old.framer connection.new.framer (L.sent link.old) (L.sent link.new)
         (L.received link.old) (L.received link.new) outcome)
         × DeliversInLog A.opening d station.old.seat station.new.seat (t.attempt ∷ [])) }
+    ensures by_rule { OnOk result (TakesByRule rule A.opening station.old.seat station.new.seat) }
     ensures receives { OnOk result (
         CallsUpTo (L.receives link.old) (L.receives link.new) RECEIVES_MAX) }
     ensures refused { OnErr result (
@@ -53,8 +57,8 @@ pub(crate) fn take_turn<H: Wait, A: Sharing, S: BookRows, L: Link, C: Clock>(
         × Keeps (L.received link.old) (L.received link.new)) }
     ensures uncalled { OnErr result (CallsUpTo (L.receives link.old) (L.receives link.new) 0) }
 {
-    let job = shared.take(rt, station, d, clock.at_take())?;
-    let outcome = connection.attempt(link, &job);
+    let job = take_by(rt, shared, station, d, rule, clock.at_take())?;
+    let outcome = connection.attempt(link, station, rule, &job);
     // Where there is no interval, none can be cut short.
     let now = if link.has_interval() {
         clock.at_settlement()
@@ -102,9 +106,18 @@ pub fn deliver<H: Wait + time::Clock + Log, A: Sharing, S: BookRows, L: Link, C:
     'turns: for _ in 0..turns {
         // An arrival before this note is seen by the take after it.
         let is_finished = shared.is_finished();
-        match take_turn(rt, shared, station, &mut connection, link, d, clock) {
+        match take_turn(
+            rt,
+            shared,
+            station,
+            &mut connection,
+            link,
+            d,
+            TakeRule::Any,
+            clock,
+        ) {
             Ok(outcome) => report.count(outcome),
-            Err(TakeRefusal::Idle) if is_finished => {
+            Err(TakeDurableRefusal::Refused(TakeRefusal::Idle)) if is_finished => {
                 report.end = DeliverEnd::Drained;
                 link.finish();
                 return report;

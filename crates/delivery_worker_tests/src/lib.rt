@@ -4,6 +4,8 @@
 #[cfg(test)]
 mod delivering;
 #[cfg(test)]
+mod durable;
+#[cfg(test)]
 mod halting;
 #[cfg(test)]
 mod lost;

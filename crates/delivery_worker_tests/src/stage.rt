@@ -9,7 +9,7 @@ use crate::played::{Leaping, Looks, Played};
 use book_core::{Book, BookRows, EVENTS_MAX, Outbound};
 use book_lock::{Closed, LogEntry, Opened, Shared, Sharing, Station};
 use conn_worker::Clock;
-use delivery_worker::{DeliverReport, deliver, deliver_until};
+use delivery_worker::{DeliverReport, TakeRule, deliver, deliver_until};
 use dest_queue::Queued;
 use ghost_log::BlankLog;
 use judge_core::{Judged, fits_block, judge};
@@ -38,7 +38,7 @@ pub const BLOCKS: [&str; 2] = [
 ];
 
 /// A message on the first channel of a plan, judged by it. None where memory was refused.
-fn judged(alloc: Global, plan: &Arc<Plan>, text: &str) -> Option<Judged>
+pub(crate) fn judged(alloc: Global, plan: &Arc<Plan>, text: &str) -> Option<Judged>
     ensures { IfSome result (λ judged. IsTrue (is_bookable judged.raw)) }
 {
     let raw = Vec::from_slice(alloc, text.as_bytes()).ok()?;
@@ -109,7 +109,17 @@ fn deliver_at<A: Sharing, S: BookRows, H: Wait + time::Clock + Log, C: Clock>(
         Course::Turns(turns) => deliver(rt, alloc, shared, station, link, 0, clock, turns),
         Course::Looks(looks) => {
             let halt = Looks::new(looks);
-            deliver_until(rt, alloc, shared, station, link, 0, clock, &halt)
+            deliver_until(
+                rt,
+                alloc,
+                shared,
+                station,
+                link,
+                0,
+                TakeRule::Any,
+                clock,
+                &halt,
+            )
         }
     })
 }

@@ -239,39 +239,66 @@ impl Repeats {
 #[cfg(test)]
 mod tests {
     use super::{KINDS_MAX, Repeats};
-    use crate::text::Part;
+    use crate::text::{Line, Part};
+    use std::alloc::AllocError;
+    use std::fmt::Write;
+
+    /// A record of a kind: its key, its second, what it says, and its control id.
+    type Row = (u64, u64, &'static str, &'static str);
+
+    const MINUTE: &[Row] = &[
+        (1, 100, "WARN full channel=ADT", "A"),
+        (2, 100, "WARN full channel=ORU", "B"),
+        (1, 101, "WARN full channel=ADT", "C"),
+        (1, 159, "WARN full channel=ADT", "D"),
+    ];
+
+    const NEXT: &[Row] = &[
+        (1, 219, "WARN full channel=ADT", "E"),
+        (2, 160, "WARN full channel=ORU", "F"),
+    ];
+
+    /// Notes the control ids of the records that are shown.
+    fn note_shown(notes: &mut Line, repeats: &mut Repeats, rows: &[Row]) {
+        for (key, now, head, id) in rows {
+            if repeats.shows(*key, *now, &Part::of(head), Part::of(id)) {
+                let _ = write!(notes, "{id} shown; ");
+            }
+        }
+    }
+
+    /// Notes what is due.
+    fn note_due(notes: &mut Line, repeats: &mut Repeats, now: u64, at_the_end: bool) {
+        if let Some(due) = repeats.due(now, at_the_end) {
+            let (head, hidden, first, last) = (due.head, due.hidden, due.first, due.last);
+            let _ = write!(notes, "{head}: {hidden} hidden, {first} to {last}; ");
+        }
+    }
+
+    /// What is shown and due of records of two kinds.
+    fn minute(repeats: &mut Repeats) -> Line {
+        let mut notes = Line::new();
+        note_shown(&mut notes, repeats, MINUTE);
+        note_due(&mut notes, repeats, 159, false);
+        note_due(&mut notes, repeats, 160, false);
+        note_due(&mut notes, repeats, 160, true);
+        note_shown(&mut notes, repeats, NEXT);
+        note_due(&mut notes, repeats, 219, true);
+        notes
+    }
 
     #[test]
-    fn a_minute_of_one_kind_is_one_line(rt: HostRuntime) -> Result<(), std::alloc::AllocError> {
-        let mut repeats = Repeats::new(rt.alloc())?;
-        let (full, other) = (
-            Part::of("WARN full channel=ADT"),
-            Part::of("WARN full channel=ORU"),
+    fn a_minute_of_one_kind_is_one_line(rt: HostRuntime) -> Result<(), AllocError> {
+        let notes = minute(&mut Repeats::new(rt.alloc())?);
+        assert_eq!(rt;
+            notes.as_str(),
+            "A shown; B shown; WARN full channel=ADT: 2 hidden, C to D; F shown; WARN full channel=ADT: 1 hidden, E to E; "
         );
-        assert!(rt; repeats.shows(1, 100, &full, Part::of("A")));
-        assert!(rt; repeats.shows(2, 100, &other, Part::of("B")));
-        assert!(rt; !repeats.shows(1, 101, &full, Part::of("C")));
-        assert!(rt; !repeats.shows(1, 159, &full, Part::of("D")));
-        assert!(rt; repeats.due(159, false).is_none());
-        let due = repeats
-            .due(160, false)
-            .map(|due| (due.hidden, due.first, due.last, due.head));
-        let Some((hidden, first, last, head)) = due else {
-            panic!(rt; "nothing is due");
-        };
-        assert_eq!(rt; hidden, 2);
-        assert_eq!(rt; first.as_str(), "C");
-        assert_eq!(rt; last.as_str(), "D");
-        assert_eq!(rt; head.as_str(), "WARN full channel=ADT");
-        assert!(rt; repeats.due(160, true).is_none());
-        assert!(rt; !repeats.shows(1, 219, &full, Part::of("E")));
-        assert!(rt; repeats.shows(2, 160, &other, Part::of("F")));
-        assert!(rt; repeats.due(219, true).is_some());
         Ok(())
     }
 
     #[test]
-    fn further_kinds_are_one_line_a_minute(rt: HostRuntime) -> Result<(), std::alloc::AllocError> {
+    fn further_kinds_are_one_line_a_minute(rt: HostRuntime) -> Result<(), AllocError> {
         let (mut repeats, head, id) = (Repeats::new(rt.alloc())?, Part::of("H"), Part::of("A"));
         let mut shown = 0u32;
         for key in 0..1_000 {

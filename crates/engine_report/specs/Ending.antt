@@ -24,6 +24,7 @@ status_of _ = 3
 -- the fault that is reported where serving ends otherwise than at the reader's end
 abbrev pub fault_of_end : ServeEnd → Fault
 fault_of_end end.WriteFault = fault.Write
+fault_of_end end.NotPersisted = fault.Write
 fault_of_end end.NoMemory = fault.Memory
 fault_of_end _ = fault.Read
 

@@ -68,7 +68,7 @@ pub fn outcome<'a>(end: ServeEnd) -> Result<(), Fault<'a>>
     match end {
         ServeEnd::End => Ok(()),
         ServeEnd::ReadFault | ServeEnd::TurnBound => Err(Fault::Read),
-        ServeEnd::WriteFault => Err(Fault::Write),
+        ServeEnd::WriteFault | ServeEnd::NotPersisted => Err(Fault::Write),
         ServeEnd::NoMemory => Err(Fault::Memory),
     }
 }

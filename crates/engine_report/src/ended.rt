@@ -32,6 +32,14 @@ pub enum Trouble<'a> {
         /// The names of the plan's channels.
         names: String,
     },
+    /// The store can't be used, or has failed.
+    #[error("store: {line}")]
+    Store {
+        /// What is wrong, in a line.
+        line: String,
+        /// The exit status.
+        status: u8,
+    },
 }
 
 impl Ended {
@@ -49,13 +57,14 @@ impl Ended {
 }
 
 impl Trouble<'_> {
-    /// The exit status: that of the fault, and 2 for a channel that isn't in the plan.
+    /// The exit status: that of the fault, 2 for a channel that isn't in the plan, and what a store's failure says.
     pub fn status(&self) -> u8
         ensures { result ≡ trouble_status self.now }
     {
         match self {
             Trouble::Engine(fault) => fault.status(),
             Trouble::NoChannel { .. } => 2,
+            Trouble::Store { status, .. } => *status,
         }
     }
 }

@@ -6,7 +6,7 @@ use crate::loan::TakeCell;
 use crate::site::Context;
 use book_core::BookRows;
 use book_lock::Sharing;
-use conn_worker::{Clock, Counted, ServeEnd, ServeReport, serve};
+use conn_worker::{Clock, Counted, ServeEnd, log_end, serve};
 use log::{Log, info, warn};
 use std::io::Write;
 use std::sync::Wait;
@@ -15,30 +15,6 @@ use std::thread::{Builder, Scope, Threads};
 
 /// The stack of a thread that serves a connection, in bytes. The system gives memory to the part that is used alone.
 const SERVING_STACK: usize = 262_144;
-
-/// Logs that a connection ended, why, and what it brought.
-fn log_end<H: Log>(rt: &H, channel: &str, connection: u32, report: &ServeReport) {
-    let booked = report.receipts.len();
-    let ServeReport {
-        unbooked,
-        unreadable,
-        strays,
-        breaks,
-        ..
-    } = *report;
-    match report.end {
-        ServeEnd::End =>
-            info!(rt; channel, connection, booked, unbooked, unreadable, strays, breaks; "connection ended: closed by the sender"),
-        ServeEnd::ReadFault =>
-            info!(rt; channel, connection, booked, unbooked, unreadable, strays, breaks; "connection ended: reading from the sender failed"),
-        ServeEnd::WriteFault =>
-            info!(rt; channel, connection, booked, unbooked, unreadable, strays, breaks; "connection ended: writing to the sender failed"),
-        ServeEnd::NoMemory =>
-            warn!(rt; channel, connection, booked, unbooked, unreadable, strays, breaks; "connection ended: out of memory"),
-        ServeEnd::TurnBound =>
-            warn!(rt; channel, connection, booked, unbooked, unreadable, strays, breaks; "connection ended: it brought more than one connection may"),
-    }
-}
 
 /// Whether it is the engine that ends a connection which serving ended so, while its sender may still be sending.
 fn is_ended_here(end: ServeEnd) -> bool {
@@ -85,7 +61,15 @@ fn serve_connection<
     if is_ended_here(report.end) {
         reader.into_inner().drain();
     }
-    log_end(site.rt, site.channel_name(channel), connection, &report);
+    let booked = report.receipts.len() as u64;
+    log_end(
+        site.rt,
+        site.channel_name(channel),
+        connection,
+        booked,
+        &report,
+        false,
+    );
     place.give_back(
         site.rt,
         ConnectionWork {

@@ -74,6 +74,18 @@ module _ (first : ℕ) (old new : View) (clean : doubt old.is_clean ≤ doubt ne
         λ is_open. subst (EndsBefore first next) (sym ((undone.kept (clean_if_open is_open)).committed is_open)) (was is_open),
       )
 
+  pub was_open_rolled_back : IsRolledBack old new → IsTrue new.is_open → IsTrue old.is_open
+  was_open_rolled_back undone is_open = (undone.kept (clean_if_open is_open)).was_open is_open
+
+  pub was_open_committed : (IsClean new → Commits old new) → IsTrue new.is_open → IsTrue old.is_open
+  was_open_committed commits is_open = ap (λ (v : View). v.is_open) (sym (commits (clean_if_open is_open)).is) ∙ is_open
+
+  pub was_open_written : (IsClean new → OnlyWrites old new) → IsTrue new.is_open → IsTrue old.is_open
+  was_open_written only is_open = ap (λ (v : View). v.is_open) (sym (only (clean_if_open is_open))) ∙ is_open
+
+  pub committed_kept : IsRolledBack old new → IsTrue new.is_open → new.committed ≡ old.committed
+  committed_kept undone is_open = (undone.kept (clean_if_open is_open)).committed is_open
+
   pub opened_sees : (next : ℕ) → (IsClean new → OnlyReads old new) → (IsClean new → EndsBefore first next old.trees) → SeesRecords first new next
   opened_sees next only holds sound =
       let h = clean_if_sound sound in

@@ -1,4 +1,4 @@
-ghost use Rattle.std.specs.Prelude.{◌≡◌, ◌≢◌, ◌≤◌, map, IfOk, IfErr};
+ghost use Rattle.std.specs.Prelude.{◌≡◌, ◌≢◌, ◌≤◌, map, IfOk, IfErr, IsTrue};
 ghost use Rattle.sqlite_disk.specs.Disk.{MoreFaults};
 ghost use Rattle.sqlite_trees.specs.Tree.{Trees};
 ghost use Rattle.sqlite_trees.specs.View.{IsClean, doubt};
@@ -40,6 +40,10 @@ impl<S: Store> EventStore<S> {
         ensures now { IfOk result (λ r. IsClean (S.Store.view r.0.store)
             → records_in (S.Store.view r.0.store).trees
             ≡ records_in (S.Store.view store).committed) }
+        ensures committed { IfOk result (λ r. IsClean (S.Store.view r.0.store)
+            → (S.Store.view r.0.store).committed ≡ (S.Store.view store).committed) }
+        ensures open { IfOk result (λ r. IsClean (S.Store.view r.0.store)
+            → IsTrue (S.Store.view r.0.store).is_open) }
         ensures first { IfOk result (λ r. r.0.first ≡ first) }
         // Each outcome of a crash is as it was, and there is no other.
         ensures crash { IfOk result (λ r. (db : Trees) → S.Store.recovers r.0.store db

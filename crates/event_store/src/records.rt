@@ -1,4 +1,4 @@
-ghost use Rattle.std.specs.Prelude.{◌≡◌, ◌≢◌, ◌⊎◌, ◌+◌, ◌^◌, ◌<◌, ◌≤◌, ◌++◌, IsTrue, IfErr, OnOk, OnErr};
+ghost use Rattle.std.specs.Prelude.{◌≡◌, ◌≢◌, ◌⊎◌, ◌+◌, ◌^◌, ◌<◌, ◌≤◌, ◌++◌, false, IsTrue, IfErr, OnOk, OnErr};
 ghost use Rattle.sqlite_disk.specs.Disk.{MoreFaults};
 ghost use Rattle.sqlite_trees.specs.declared.store.Shape.TheVariants as table;
 ghost use Rattle.sqlite_trees.specs.Tree.{Trees, rowid, put_row};
@@ -87,6 +87,9 @@ impl<S: Store> EventStore<S> {
         ensures crash { (db : Trees) → S.Store.recovers self.new.store db
             → S.Store.recovers self.old.store db }
         ensures first { self.new.first ≡ self.old.first }
+        // A store that is shut stays shut.
+        ensures shut { IsTrue (S.Store.view self.new.store).is_open
+            → IsTrue (S.Store.view self.old.store).is_open }
         ensures clean { doubt (S.Store.view self.old.store).is_clean
             ≤ doubt (S.Store.view self.new.store).is_clean }
         ensures cause { IsClean (S.Store.view self.new.store)
@@ -116,12 +119,17 @@ impl<S: Store> EventStore<S> {
             → (S.Store.view self.new.store).trees ≡ (S.Store.view self.old.store).trees) }
         ensures undone { OnErr result (IsTrue (S.Store.view self.new.store).is_open
             → (S.Store.view self.new.store).trees ≡ (S.Store.view self.old.store).committed) }
+        ensures kept { OnErr result (IsTrue (S.Store.view self.new.store).is_open
+            → (S.Store.view self.new.store).committed ≡ (S.Store.view self.old.store).committed) }
         // A crash at any moment of the call leaves what it could leave before, or all the records of
         // the transaction.
         ensures crash { (db : Trees) → S.Store.recovers self.new.store db
             → (records_in db ≡ records_in (S.Store.view self.old.store).trees)
             ⊎ S.Store.recovers self.old.store db }
         ensures first { self.new.first ≡ self.old.first }
+        // A store that is shut stays shut.
+        ensures shut { IsTrue (S.Store.view self.new.store).is_open
+            → IsTrue (S.Store.view self.old.store).is_open }
         ensures clean { doubt (S.Store.view self.old.store).is_clean
             ≤ doubt (S.Store.view self.new.store).is_clean }
         ensures cause { IsClean (S.Store.view self.new.store)
@@ -142,5 +150,32 @@ impl<S: Store> EventStore<S> {
                 Err(error)
             }
         }
+    }
+
+    /// Drops what was appended since the last commit that returned `Ok`, and mends a transaction that is broken. It
+    /// does nothing for a store that is shut.
+    pub fn rollback(&mut self)
+        ensures undone { IsTrue (S.Store.view self.new.store).is_open
+            → (S.Store.view self.new.store).trees ≡ (S.Store.view self.old.store).committed }
+        ensures committed { IsTrue (S.Store.view self.new.store).is_open
+            → (S.Store.view self.new.store).committed ≡ (S.Store.view self.old.store).committed }
+        ensures mended { IsTrue (S.Store.view self.new.store).is_open
+            → (S.Store.view self.new.store).is_broken ≡ false }
+        // A crash leaves nothing that it could not leave before.
+        ensures crash { (db : Trees) → S.Store.recovers self.new.store db
+            → S.Store.recovers self.old.store db }
+        ensures first { self.new.first ≡ self.old.first }
+        // A store that is shut stays shut.
+        ensures shut { IsTrue (S.Store.view self.new.store).is_open
+            → IsTrue (S.Store.view self.old.store).is_open }
+        ensures clean { doubt (S.Store.view self.old.store).is_clean
+            ≤ doubt (S.Store.view self.new.store).is_clean }
+        ensures stays_open { IsClean (S.Store.view self.new.store)
+            → IsTrue (S.Store.view self.old.store).is_open
+            → IsTrue (S.Store.view self.new.store).is_open
+            ⊎ MoreFaults (S.Store.faults self.old.store) (S.Store.faults self.new.store) }
+    {
+        self.store.rollback();
+        self.next = self.committed;
     }
 }

@@ -1,8 +1,9 @@
 //! The plan.
 
-ghost use Rattle.std.specs.Prelude.{◌≡◌, length, slice_get, option_map};
+ghost use Rattle.std.specs.Prelude.{◌≡◌, IsUtf8, Ok, length, slice_get, option_map};
 ghost use Rattle.std.specs.Bool.{Decides};
 ghost use Rattle.std.specs.Option.{option_copied};
+ghost use Rattle.plan_text.specs.Document.{plan_in};
 ghost use Rattle.plan_text.specs.Entries.{IsPlan};
 
 use crate::channel::Channel;
@@ -14,15 +15,14 @@ use std::marker::Model;
 /// Two plans are equal where they say the same, wherever they lie in memory.
 #[derive(Drop)]
 pub struct Plan {
-    /// The document that it was read from. It is kept for speed: two plans of equal documents are equal, which one
-    /// comparison of bytes decides.
+    /// The document that it was read from. Two plans of equal documents are equal, which one comparison of bytes decides.
     pub(crate) document: Vec<u8>,
     pub(crate) destinations: Vec<Destination>,
     pub(crate) channels: Vec<Channel>,
 }
 
 impl Model for Plan {
-    ghost use Rattle.std.specs.Prelude.{◌≡◌, Ok};
+    ghost use Rattle.std.specs.Prelude.{◌≡◌, IsUtf8, Ok};
     ghost use Rattle.plan_text.specs.Document.{plan_in};
     ghost use Rattle.plan_text.specs.Entries.{PlanEntry, IsPlan};
     ghost use Rattle.plan_text.specs.inner.Coding.{plan_code};
@@ -38,6 +38,7 @@ impl Model for Plan {
 
     ghost invariant = { λ p. record {
       rules : IsPlan (record { destinations = p.destinations.items; channels = p.channels.items });
+      text : IsUtf8 p.document.items;
       read : plan_in p.document.items ≡ Ok (record { destinations = p.destinations.items; channels = p.channels.items });
     } };
 }
@@ -69,6 +70,14 @@ impl Plan {
         ensures { result ≡ length self.now.destinations }
     {
         self.destinations.len() as u32
+    }
+
+    /// The TOML text that the plan was read from. Reading it again gives this plan.
+    pub fn document(&self) -> &[u8]
+        ensures text { IsUtf8 result.now }
+        ensures read { plan_in result.now ≡ Ok self.now }
+    {
+        self.document.as_slice()
     }
 
     /// What holds of every plan.

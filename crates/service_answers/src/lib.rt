@@ -3,12 +3,14 @@
 #![tactic(auto)]
 
 mod cancellations;
+mod contents;
 mod echoes;
 mod figures;
 mod ids;
 mod live;
 mod messages;
 mod metrics;
+mod origins;
 mod plans;
 mod prunings;
 mod renames;
@@ -19,6 +21,7 @@ pub use cancellations::{
     Places, Series, cancellable_text, cancelled_text, control_id_of, not_cancelled_at_text,
     not_cancelled_text, series_cancelled_text, several_text,
 };
+pub use contents::{contents_text, document_text, exported_text};
 pub use echoes::echo_text;
 pub use figures::{Dropped, Figures, Unbooked};
 pub use ids::unescaped;
@@ -28,6 +31,7 @@ pub use messages::{
     waiting_text,
 };
 pub use metrics::metrics_text;
+pub use origins::{Origin, origin_text};
 pub use plans::{
     add_listener, bad_plan_text, deployed_text, long_file_text, no_file_text, no_regular_file_text,
     refused_plan_text,

@@ -2,7 +2,7 @@
 
 ghost use Rattle.std.specs.Prelude.{◌≡◌, ◌≤◌, ◌<◌, ◌==◌, IfSome, length, option_map};
 ghost use Rattle.std.specs.List.{position};
-ghost use Rattle.service_commands.specs.inner.Commands.{argument, cancel_of, cancel_waiting_of, cancelling, command_of, named, numbered, number_of, seen, single, trimmed, with_digit, without_return, word_len};
+ghost use Rattle.service_commands.specs.inner.Commands.{argument, cancel_of, cancel_waiting_of, cancelling, command_of, exporting, named, numbered, number_of, seen, single, trimmed, with_digit, without_return, word_len};
 
 /// The command that a line is. Texts are of type `T`, the bytes as they are in the line.
 #[derive(Clone, Copy, Debug, PartialEq, Eq)]
@@ -13,12 +13,20 @@ pub enum Command<T> {
     Metrics,
     /// Where the message of this number is.
     Message(u32),
+    /// The text of the message of this number as it was received.
+    Show(u32),
+    /// The bytes of the message of this number, as they were received, into a new file of this path, at least one byte.
+    Export(u32, T),
     /// The numbers of the messages with this control id (MSH-10, HL7 v2.5.1, 2.15.9.10), at least one byte.
     Find(T),
     /// The first messages in the queue of the destination of this name, at least one byte.
     Waiting(T),
     /// The plan in the file of this path, at least one byte, which is to replace the plan in force.
     Deploy(T),
+    /// Where the plan in force comes from.
+    Plan,
+    /// The document of the plan in force.
+    PlanText,
     /// Forgetting what is settled.
     Prune,
     /// The messages that failed at the destination of this name, at least one byte.
@@ -153,6 +161,20 @@ fn cancelling(text: &[u8]) -> Command<&[u8]>
     }
 }
 
+/// The command of a line behind `export `: a number, a space and a path.
+fn exporting(text: &[u8]) -> Command<&[u8]>
+    ensures { seen result ≡ exporting text.now }
+{
+    let (word, rest) = text.split_at(word_len(text));
+    if let Some(number) = number_of(word)
+        && let Some(path) = argument(rest, b" ")
+    {
+        Command::Export(number, path)
+    } else {
+        Command::Unknown
+    }
+}
+
 /// The command of a line that begins with none of the words that a text follows.
 fn numbered(line: &[u8]) -> Command<&[u8]>
     ensures { seen result ≡ numbered line.now }
@@ -160,6 +182,12 @@ fn numbered(line: &[u8]) -> Command<&[u8]>
     if let Some(text) = argument(line, b"message ") {
         return match number_of(text) {
             Some(number) => Command::Message(number),
+            None => Command::Unknown,
+        };
+    }
+    if let Some(text) = argument(line, b"show ") {
+        return match number_of(text) {
+            Some(number) => Command::Show(number),
             None => Command::Unknown,
         };
     }
@@ -176,7 +204,7 @@ fn trimmed(line: &[u8]) -> &[u8]
     line.trim_ascii_end()
 }
 
-/// The command of a line without white space at its end that begins with neither `find ` nor `deploy `.
+/// The command of a line without white space at its end that begins with none of `find `, `deploy ` and `export `.
 fn single(line: &[u8]) -> Command<&[u8]>
     ensures { seen result ≡ single line.now }
 {
@@ -184,6 +212,10 @@ fn single(line: &[u8]) -> Command<&[u8]>
         Command::Status
     } else if line == b"metrics".as_slice() {
         Command::Metrics
+    } else if line == b"plan".as_slice() {
+        Command::Plan
+    } else if line == b"plan text".as_slice() {
+        Command::PlanText
     } else if line == b"prune".as_slice() {
         Command::Prune
     } else if line == b"stop".as_slice() {
@@ -210,6 +242,8 @@ fn named(line: &[u8]) -> Command<&[u8]>
         Command::Find(text)
     } else if let Some(text) = argument(line, b"deploy ") {
         Command::Deploy(text)
+    } else if let Some(text) = argument(line, b"export ") {
+        exporting(text)
     } else {
         single(trimmed(line))
     }
@@ -226,103 +260,106 @@ pub fn read_command(line: &[u8]) -> Command<&[u8]>
 #[cfg(test)]
 mod tests {
     use super::{Command, read_command};
+    use std::process::Abort;
+
+    /// Lines, each with the command that it is.
+    type Rows = &'static [(&'static [u8], Command<&'static [u8]>)];
+
+    /// Asserts that each line is read as the command beside it.
+    fn assert_read(rt: &impl Abort, rows: Rows) {
+        for (line, command) in rows {
+            assert_eq!(rt; read_command(line), *command);
+        }
+    }
+
+    const COMMANDS: Rows = &[
+        (b"status", Command::Status),
+        (b"metrics", Command::Metrics),
+        (b"message 4294967295", Command::Message(4_294_967_295)),
+        (b"show 0", Command::Show(0)),
+        (b"export 7 /tmp/a b", Command::Export(7, b"/tmp/a b")),
+        (b"find A 1", Command::Find(b"A 1")),
+        (b"waiting LAB", Command::Waiting(b"LAB")),
+        (b"deploy /etc/a b.toml", Command::Deploy(b"/etc/a b.toml")),
+        (b"plan", Command::Plan),
+        (b"plan text", Command::PlanText),
+        (b"prune", Command::Prune),
+        (b"failed LAB", Command::Failed(b"LAB")),
+        (b"cancel 0", Command::Cancel(0)),
+        (b"stop", Command::Stop),
+        (b"stop now", Command::StopNow),
+        (b"help", Command::Help),
+    ];
 
     #[test]
     fn each_command_is_read(rt: HostRuntime) {
-        assert_eq!(rt; read_command(b"status"), Command::Status);
-        assert_eq!(rt; read_command(b"metrics"), Command::Metrics);
-        assert_eq!(rt;
-            read_command(b"message 4294967295"),
-            Command::Message(4_294_967_295)
-        );
-        assert_eq!(rt; read_command(b"find A 1"), Command::Find(b"A 1".as_slice()));
-        assert_eq!(rt;
-            read_command(b"waiting LAB"),
-            Command::Waiting(b"LAB".as_slice())
-        );
-        assert_eq!(rt;
-            read_command(b"deploy /etc/a b.toml"),
-            Command::Deploy(b"/etc/a b.toml".as_slice())
-        );
-        assert_eq!(rt; read_command(b"prune"), Command::Prune);
-        assert_eq!(rt;
-            read_command(b"failed LAB"),
-            Command::Failed(b"LAB".as_slice())
-        );
-        assert_eq!(rt; read_command(b"cancel 0"), Command::Cancel(0));
-        assert_eq!(rt; read_command(b"stop"), Command::Stop);
-        assert_eq!(rt; read_command(b"stop now"), Command::StopNow);
-        assert_eq!(rt; read_command(b"help"), Command::Help);
+        assert_read(&rt, COMMANDS);
     }
+
+    const CANCELLATIONS: Rows = &[
+        (b"cancel 7 ", Command::Cancel(7)),
+        (b"cancel 7 all", Command::CancelAll(7)),
+        (b"cancel 7 LAB\r", Command::CancelAt(7, b"LAB")),
+        (b"cancel 7 waiting", Command::CancelAt(7, b"waiting")),
+        (b"cancel waiting LAB", Command::CancelWaiting(b"LAB")),
+        (b"cancel waiting all", Command::CancelWaiting(b"all")),
+        (
+            b"cancel waiting LAB through 12",
+            Command::CancelThrough(b"LAB", 12),
+        ),
+        (b"cancel LAB", Command::Unknown),
+        (b"cancel all", Command::Unknown),
+        (b"cancel waiting", Command::Unknown),
+        (b"cancel waiting  LAB", Command::Unknown),
+        (b"cancel waiting LAB 12", Command::Unknown),
+        (b"cancel waiting LAB through", Command::Unknown),
+        (b"cancel waiting LAB through 1 2", Command::Unknown),
+        (b"cancel waiting LAB through 4294967296", Command::Unknown),
+    ];
 
     #[test]
     fn cancellations_are_read_by_their_words(rt: HostRuntime) {
-        let (lab, all) = (b"LAB".as_slice(), b"all".as_slice());
-        assert_eq!(rt; read_command(b"cancel 7 "), Command::Cancel(7));
-        assert_eq!(rt; read_command(b"cancel 7 all"), Command::CancelAll(7));
-        assert_eq!(rt; read_command(b"cancel 7 LAB\r"), Command::CancelAt(7, lab));
-        assert_eq!(rt;
-            read_command(b"cancel 7 waiting"),
-            Command::CancelAt(7, b"waiting".as_slice())
-        );
-        assert_eq!(rt;
-            read_command(b"cancel waiting LAB"),
-            Command::CancelWaiting(lab)
-        );
-        assert_eq!(rt;
-            read_command(b"cancel waiting all"),
-            Command::CancelWaiting(all)
-        );
-        assert_eq!(rt;
-            read_command(b"cancel waiting LAB through 12"),
-            Command::CancelThrough(lab, 12)
-        );
-        for line in [
-            b"cancel LAB".as_slice(),
-            b"cancel all",
-            b"cancel waiting",
-            b"cancel waiting  LAB",
-            b"cancel waiting LAB 12",
-            b"cancel waiting LAB through",
-            b"cancel waiting LAB through 1 2",
-            b"cancel waiting LAB through 4294967296",
-        ] {
-            assert_eq!(rt; read_command(line), Command::Unknown);
-        }
+        assert_read(&rt, CANCELLATIONS);
     }
+
+    const ENDS: Rows = &[
+        (b"status\r", Command::Status),
+        (b"stop now \t\r", Command::StopNow),
+        (b"message 7 ", Command::Message(7)),
+        (b"waiting LAB \r", Command::Waiting(b"LAB")),
+        (b"find A \r", Command::Find(b"A ")),
+        (b"deploy a.toml \r", Command::Deploy(b"a.toml ")),
+        (b"export 7 a.hl7 \r", Command::Export(7, b"a.hl7 ")),
+        (b"show 7 \r", Command::Show(7)),
+        (b"find \r", Command::Unknown),
+    ];
 
     #[test]
     fn the_end_of_a_line_is_dropped(rt: HostRuntime) {
-        assert_eq!(rt; read_command(b"status\r"), Command::Status);
-        assert_eq!(rt; read_command(b"stop now \t\r"), Command::StopNow);
-        assert_eq!(rt; read_command(b"message 7 "), Command::Message(7));
-        assert_eq!(rt;
-            read_command(b"waiting LAB \r"),
-            Command::Waiting(b"LAB".as_slice())
-        );
-        assert_eq!(rt; read_command(b"find A \r"), Command::Find(b"A ".as_slice()));
-        assert_eq!(rt;
-            read_command(b"deploy a.toml \r"),
-            Command::Deploy(b"a.toml ".as_slice())
-        );
-        assert_eq!(rt; read_command(b"find \r"), Command::Unknown);
+        assert_read(&rt, ENDS);
     }
+
+    const OTHERS: Rows = &[
+        (b"", Command::Unknown),
+        (b"Status", Command::Unknown),
+        (b" status", Command::Unknown),
+        (b"message", Command::Unknown),
+        (b"message ", Command::Unknown),
+        (b"message +1", Command::Unknown),
+        (b"message 4294967296", Command::Unknown),
+        (b"cancel 1x", Command::Unknown),
+        (b"show", Command::Unknown),
+        (b"show 1 LAB", Command::Unknown),
+        (b"export 1", Command::Unknown),
+        (b"export 1 ", Command::Unknown),
+        (b"export a.hl7 1", Command::Unknown),
+        (b"plan  text", Command::Unknown),
+        (b"find ", Command::Unknown),
+        (b"stop  now", Command::Unknown),
+    ];
 
     #[test]
     fn other_lines_are_unknown(rt: HostRuntime) {
-        for line in [
-            b"".as_slice(),
-            b"Status",
-            b" status",
-            b"message",
-            b"message ",
-            b"message +1",
-            b"message 4294967296",
-            b"cancel 1x",
-            b"find ",
-            b"stop  now",
-        ] {
-            assert_eq!(rt; read_command(line), Command::Unknown);
-        }
+        assert_read(&rt, OTHERS);
     }
 }

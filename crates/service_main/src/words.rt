@@ -7,8 +7,9 @@ ghost use Rattle.engine_report.specs.inner.Ended.{ended_status, trouble_status};
 use crate::check::check;
 use crate::trying::try_messages;
 use engine_report::{Ended, Fault, Trouble, bounded_file, warned_service_plan};
+use service_answers::Origin;
 use service_run::{PLAN_BYTES, RunEnd, Settings, run};
-use service_words::{Request, parse_args};
+use service_words::{Keeping, Request, parse_args};
 use service_workers::Crew;
 use std::env;
 use std::io::ErrorKind;
@@ -47,17 +48,22 @@ fn print_help<'a>(rt: &HostRuntime, error: clap::Error) -> Result<Ended, Trouble
 /// `Crew` name them, and no value that `main` has is of their types.
 pub type Sockets = PhantomData<(TcpListener, TcpStream)>;
 
-/// Runs the service by the plan in a file.
+/// Runs the service by the plan in a file, with its history kept in memory or in a store.
 fn serve<'a, H: Crew + Threads + Eprint + Copy + Sync>(
     rt: &HostRuntime,
     handle: &H,
     path: &'a str,
     settings: &Settings,
+    keeping: Keeping<'_>,
 ) -> Result<Ended, Trouble<'a>> {
     bounded_file(rt, path, PLAN_BYTES)?;
     let plan = warned_service_plan(rt, path, settings.events)?;
-    match run(rt, handle, path, plan, settings)? {
-        RunEnd::Drained => Ok(Ended::Done),
+    let folder = match keeping {
+        Keeping::Memory => None,
+        Keeping::Store(folder) => Some(folder),
+    };
+    match run(rt, handle, path, plan, settings, folder)? {
+        RunEnd::Drained | RunEnd::Stored => Ok(Ended::Done),
         RunEnd::Undelivered => Ok(Ended::Undelivered),
     }
 }
@@ -79,21 +85,25 @@ pub fn perform<'a, H: Crew + Threads + Eprint + Copy + Sync>(
         Ok(
             Request::Run {
                 plan,
+                keeping,
                 connections,
                 events,
                 keep,
                 idle,
                 grace,
+                show,
             },
         ) => {
             let settings = Settings {
+                plan: Origin::File(plan),
                 connections,
                 events,
                 keep,
                 idle,
                 grace,
+                show,
             };
-            serve(rt, handle, plan, &settings)
+            serve(rt, handle, plan, &settings, keeping)
         }
         Err(error) => print_help(rt, error),
     }

@@ -3,17 +3,19 @@
 use crate::cancelling::{
     ask_cancel_waiting, do_cancel, do_cancel_all, do_cancel_at, do_cancel_through,
 };
+use crate::origin::{PlanOrigin, ask_plan, ask_plan_text};
 use crate::output::{answer, say};
 use crate::questions::{
     ask_failed, ask_find, ask_message, ask_metrics, ask_status, ask_waiting, do_deploy, do_prune,
 };
 use crate::settings::Settings;
+use crate::showing::{ask_show, do_export};
 use crate::workers::Workers;
 use book_lock::Sharing;
 use log::{Log, info};
 use service_answers::echo_text;
 use service_commands::{Command, HELP, Input, UNKNOWN, read_command, read_line};
-use service_workers::{Crew, Gate, Site, Stage, StandardInput, StopMode, has_ended, stop};
+use service_workers::{Crew, Site, Stage, StandardInput, StopMode, has_ended, stop};
 use std::alloc::AllocError;
 use std::str;
 use std::time::Duration;
@@ -23,6 +25,13 @@ const LINE_BYTES: usize = 4_096;
 
 /// How many milliseconds one look at the workers waits, once no command can follow.
 const LOOK_MILLIS: u64 = 100;
+
+/// The answer to a command that changed the book, where the change may not survive a crash.
+const NOT_DURABLE: &str =
+    "refused: the store has failed, so the change may be lost when the process ends\n\n";
+
+/// The answer to a command with a path that is no text.
+const NO_TEXT: &str = "refused: the path is not UTF-8\n\n";
 
 /// The line before the answer to a command that can't be shown.
 const UNSHOWN: &str = "> ..\n";
@@ -35,16 +44,67 @@ fn echo<A: Sharing, H: Crew>(rt: &HostRuntime, site: &Site<'_, A, H>, line: &[u8
     }
 }
 
+/// Prints the answer to a command that changed the book, once the change survives a crash, where there is a store.
+fn answer_durable<A: Sharing, H: Crew>(
+    rt: &HostRuntime,
+    site: &Site<'_, A, H>,
+    workers: &Workers<A>,
+    text: Result<String, AllocError>,
+) {
+    if workers.operator.wait_durable(site) {
+        answer(rt, text);
+    } else {
+        say(rt, NOT_DURABLE);
+    }
+}
+
 /// Puts the plan in a file in force, where the path is text, and prints the result.
 fn deploy<A: Sharing, H: Crew>(
     rt: &HostRuntime,
     site: &Site<'_, A, H>,
-    gates: &[Gate],
+    workers: &Workers<A>,
+    origin: &mut PlanOrigin<'_>,
     path: &[u8],
 ) {
     match str::from_utf8(path) {
-        Ok(path) => answer(rt, do_deploy(rt, site, gates, path)),
-        Err(_) => say(rt, "refused: the path is not UTF-8\n\n"),
+        Ok(path) => {
+            let deployed = do_deploy(rt, site, &workers.gates, origin, path);
+            answer_durable(rt, site, workers, deployed);
+        }
+        Err(_) => say(rt, NO_TEXT),
+    }
+}
+
+/// Writes the bytes of a message to a new file, where its path is text, and prints the result.
+fn export<A: Sharing, H: Crew>(
+    rt: &HostRuntime,
+    site: &Site<'_, A, H>,
+    settings: &Settings,
+    number: u32,
+    path: &[u8],
+) {
+    match str::from_utf8(path) {
+        Ok(path) => answer(rt, do_export(rt, site, settings, number, path)),
+        Err(_) => say(rt, NO_TEXT),
+    }
+}
+
+/// Executes a command that forgets or cancels messages, and returns its answer.
+///
+/// # Errors
+///
+/// Where memory is refused, or the plan has more owners than can be counted.
+fn change<A: Sharing, H: Crew>(
+    site: &Site<'_, A, H>,
+    command: Command<&[u8]>,
+) -> Result<String, AllocError> {
+    match command {
+        Command::Prune => do_prune(site),
+        Command::Cancel(number) => do_cancel(site, number),
+        Command::CancelAll(number) => do_cancel_all(site, number),
+        Command::CancelAt(number, name) => do_cancel_at(site, number, name),
+        Command::CancelThrough(name, number) => do_cancel_through(site, name, number),
+        _ => UNKNOWN.to_string(site.alloc),
     }
 }
 
@@ -55,22 +115,29 @@ fn execute<A: Sharing, H: Crew>(
     workers: &Workers<A>,
     settings: &Settings,
     started: u64,
+    origin: &mut PlanOrigin<'_>,
     command: Command<&[u8]>,
 ) {
     match command {
         Command::Status => answer(rt, ask_status(site, started)),
         Command::Metrics => answer(rt, ask_metrics(site, started)),
         Command::Message(number) => answer(rt, ask_message(site, number)),
+        Command::Show(number) => answer(rt, ask_show(site, settings, number)),
+        Command::Export(number, path) => export(rt, site, settings, number, path),
         Command::Find(id) => answer(rt, ask_find(site, id)),
         Command::Waiting(name) => answer(rt, ask_waiting(site, name)),
-        Command::Deploy(path) => deploy(rt, site, &workers.gates, path),
-        Command::Prune => answer(rt, do_prune(site)),
         Command::Failed(name) => answer(rt, ask_failed(site, name)),
-        Command::Cancel(number) => answer(rt, do_cancel(site, number)),
-        Command::CancelAll(number) => answer(rt, do_cancel_all(site, number)),
-        Command::CancelAt(number, name) => answer(rt, do_cancel_at(site, number, name)),
         Command::CancelWaiting(name) => answer(rt, ask_cancel_waiting(site, name)),
-        Command::CancelThrough(name, number) => answer(rt, do_cancel_through(site, name, number)),
+        Command::Plan => answer(rt, ask_plan(site, origin)),
+        Command::PlanText => answer(rt, ask_plan_text(site)),
+        Command::Deploy(path) => deploy(rt, site, workers, origin, path),
+        Command::Prune
+        | Command::Cancel(_)
+        | Command::CancelAll(_)
+        | Command::CancelAt(..)
+        | Command::CancelThrough(..) => {
+            answer_durable(rt, site, workers, change(site, command));
+        }
         Command::Stop => begin_stop(rt, site, workers, StopMode::Drain, settings.grace),
         Command::StopNow => begin_stop(rt, site, workers, StopMode::Now, settings.grace),
         Command::Help => say(rt, HELP),
@@ -116,12 +183,13 @@ pub(crate) fn execute_all<A: Sharing, H: Crew>(
 ) {
     let mut reader = StandardInput::new(site, rt.stdin());
     let mut line = [0u8; LINE_BYTES];
+    let mut origin = PlanOrigin::new(settings, started);
     for _ in site.rt.forever() {
         match read_line(&mut reader, &mut line) {
             Ok(Input::Line(len)) => {
                 echo(rt, site, &line[..len]);
                 let command = read_command(&line[..len]);
-                execute(rt, site, workers, settings, started, command);
+                execute(rt, site, workers, settings, started, &mut origin, command);
             }
             Ok(Input::TooLong) => {
                 say(rt, UNSHOWN);

@@ -5,11 +5,15 @@ mod cancelling;
 mod ending;
 mod execution;
 mod figures;
+mod journaling;
 mod listeners;
+mod origin;
 mod output;
 mod questions;
 mod service;
 mod settings;
+mod showing;
+mod stored;
 mod threads;
 mod workers;
 

@@ -3,6 +3,7 @@
 ghost use Rattle.std.specs.Prelude.{◌<◌, IfSome};
 
 use crate::figures::figures_of;
+use crate::origin::PlanOrigin;
 use book_core::{Failure, Front};
 use book_lock::{Gauge, Sharing, Status};
 use log::{Log, info, warn};
@@ -407,6 +408,7 @@ pub(crate) fn do_deploy<A: Sharing, H: Crew>(
     rt: &HostRuntime,
     site: &Site<'_, A, H>,
     gates: &[Gate],
+    origin: &mut PlanOrigin<'_>,
     path: &str,
 ) -> Result<String, AllocError> {
     let proposal = match read_plan(rt, site, path)? {
@@ -415,10 +417,12 @@ pub(crate) fn do_deploy<A: Sharing, H: Crew>(
     };
     let (status, before) = site.shared.status(site.rt)?;
     let text = deployed(site, gates, &before, &proposal, &status.counts)?;
+    let name = String::from_str(site.alloc, path)?;
     let path = Escaped(path);
     let shared = Arc::try_clone(&proposal.plan)?;
     match site.shared.deploy(site.rt, shared) {
         Ok(()) => {
+            origin.note(name, site.seconds());
             log_deployed(site, path, &before, &proposal.plan, &status.counts);
             Ok(text)
         }

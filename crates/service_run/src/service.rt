@@ -7,18 +7,19 @@ ghost use Rattle.event_log.specs.Counting.{counted};
 use crate::ending::{conclude, name_left};
 use crate::listeners::open_gates;
 use crate::settings::Settings;
+use crate::stored::run_stored;
 use crate::threads::work;
 use crate::workers::Workers;
 use book_core::{Book, EVENTS_MAX};
 use book_lock::{LogEntry, Opened, Shared, Sharing};
 use descriptors::allowed;
 use engine_journal::{Journal, Outbox, Repeats};
-use engine_report::{Fault, connections_of, descriptors_of, hasher};
+use engine_report::{Fault, Trouble, connections_of, descriptors_of, hasher};
 use ghost_log::BlankLog;
 use log::{Log, info, warn};
 use log_text::Escaped;
 use plan_text::Plan;
-use service_workers::{Crew, Gate, ServiceRows, Site};
+use service_workers::{Crew, Gate, History, ServiceRows, Site};
 use std::alloc::AllocError;
 use std::marker::Brand;
 use std::sync::{Arc, Mutex};
@@ -27,10 +28,10 @@ use std::thread::{Builder, Threads};
 
 /// How many queues there are. Each has a post, whatever the plan in force has, so that a destination that is deployed later
 /// is delivered to at once.
-const POSTS: u32 = 32;
+pub(crate) const POSTS: u32 = 32;
 
 /// The version that the log says at the start.
-const VERSION: &str = "0.2.0";
+pub(crate) const VERSION: &str = "0.2.0";
 
 /// The stack of the thread that writes the lines of the log, in bytes.
 const WRITER_STACK_BYTES: usize = 262_144;
@@ -42,6 +43,8 @@ pub enum RunEnd {
     Drained,
     /// Messages were left undelivered, or failed since their last attempt was cut off by the stop.
     Undelivered,
+    /// Messages that are not delivered yet are in the store, for the next start.
+    Stored,
 }
 
 /// What the workers of a service leave.
@@ -63,7 +66,8 @@ fn run_workers<A: Sharing + Send + Sync, H: Crew + Threads + Sync>(
 ) -> Worked {
     let alloc = rt.alloc();
     let started = seconds_now(handle);
-    let site = Site::new(handle, alloc, shared, settings.keep, settings.idle);
+    let Settings { keep, idle, .. } = *settings;
+    let site = Site::new(handle, alloc, shared, keep, idle, History::Memory);
     let is_staffed = work(rt, handle, &site, workers, settings, started);
     if let Ok(undelivered) = name_left(rt, &site)
         && undelivered > 0
@@ -120,15 +124,18 @@ fn serve<'f, A: Sharing + Send + Sync, H: Crew + Threads + Sync>(
 }
 
 /// Seconds since 1970; 0 where the clock can't be read.
-fn seconds_now<H: Crew>(handle: &H) -> u64 {
+pub(crate) fn seconds_now<H: Crew>(handle: &H) -> u64 {
     match handle.since_1970() {
         Ok(since) => since.as_secs(),
         Err(_) => 0,
     }
 }
 
-/// Logs that the process may have fewer descriptors open than a service needs, where that is so.
-fn log_descriptors<H: Log>(handle: &H, needed: u64) {
+/// Logs that the process may have fewer descriptors open than a service needs for a plan and this number of connections, where
+/// that is so.
+pub(crate) fn log_descriptors<H: Log>(handle: &H, plan: &Plan, connections: u32) {
+    let unused_queues = POSTS.saturating_sub(plan.destinations());
+    let needed = descriptors_of(plan, connections).saturating_add(u64::from(unused_queues));
     if let Some(allowed) = allowed()
         && allowed < needed
     {
@@ -137,7 +144,7 @@ fn log_descriptors<H: Log>(handle: &H, needed: u64) {
 }
 
 /// Logs what the service runs with.
-fn log_start<H: Log>(handle: &H, path: &str, plan: &Plan, settings: &Settings) {
+pub(crate) fn log_start<H: Log>(handle: &H, path: &str, plan: &Plan, settings: &Settings) {
     let (channels, destinations) = (plan.channels(), plan.destinations());
     let Settings {
         connections,
@@ -145,14 +152,16 @@ fn log_start<H: Log>(handle: &H, path: &str, plan: &Plan, settings: &Settings) {
         keep,
         idle,
         grace,
+        show,
+        ..
     } = *settings;
     let (version, path) = (VERSION, Escaped(path));
     info!(handle; version, plan:% = path, channels, destinations; "the service starts");
-    info!(handle; connections, events, keep, idle, grace; "the bounds of the service");
+    info!(handle; connections, events, keep, idle, grace, show; "the bounds of the service");
 }
 
-/// Runs the service by a plan, with its log in a journal.
-fn run_by<'f, H: Crew + Threads + Sync>(
+/// Runs the service by a plan, with its book in memory.
+fn run_in_memory<'f, H: Crew + Threads + Sync>(
     rt: &HostRuntime,
     handle: &H,
     path: &str,
@@ -160,11 +169,12 @@ fn run_by<'f, H: Crew + Threads + Sync>(
     settings: &Settings,
 ) -> Result<RunEnd, Fault<'f>> {
     let alloc = rt.alloc();
-    let desks = connections_of(plan, settings.connections)?;
+    let connections = connections_of(plan, settings.connections)?;
     log_start(handle, path, plan, settings);
-    let unused_queues = POSTS.saturating_sub(plan.destinations());
-    let needed = descriptors_of(plan, desks).saturating_add(u64::from(unused_queues));
-    log_descriptors(handle, needed);
+    log_descriptors(handle, plan, connections);
+    info!(handle; "the book is in memory alone: what is not delivered when the process ends is lost");
+    // One desk more is the operator's.
+    let desks = connections.saturating_add(1);
     let hasher = hasher(rt)?;
     let shared_plan = Arc::try_clone(plan)?;
     let gates = open_gates(rt, handle, plan)?;
@@ -175,33 +185,49 @@ fn run_by<'f, H: Crew + Threads + Sync>(
     serve::<Brand, _>(rt, handle, settings, gates, book, desks, log)
 }
 
-/// Runs the service by a plan, which was read from the file `path`, until it is stopped. Lines of the log are written by a
-/// thread of their own.
+/// Runs the service by a plan, with its book in a store where a folder is given.
+fn run_by<'f, H: Crew + Threads + Sync>(
+    rt: &HostRuntime,
+    handle: &H,
+    path: &str,
+    plan: &Arc<Plan>,
+    settings: &Settings,
+    folder: Option<&str>,
+) -> Result<RunEnd, Trouble<'f>> {
+    match folder {
+        Some(folder) => run_stored(rt, handle, path, folder, plan, settings),
+        None => Ok(run_in_memory(rt, handle, path, plan, settings)?),
+    }
+}
+
+/// Runs the service by a plan, which was read from the file `path`, until it is stopped. Its history is kept in a store where the
+/// folder of one is given, and else in memory. Lines of the log are written by a thread of their own.
 ///
 /// # Errors
 ///
-/// `Limit` where the connections of all channels are more than 9,999; `Random`; `Listen` of the first channel that can't
-/// listen; `Memory`; `Write` and `Audit` at the end.
+/// `Store` where the store can't be used, or has failed. Of an engine: `Limit` where the connections of all channels are more than
+/// 9,999; `Random`; `Listen` of the first channel that can't listen; `Memory`; `Write` and `Audit` at the end.
 pub fn run<'f, H: Crew + Threads + Eprint + Copy + Sync>(
     rt: &HostRuntime,
     handle: &H,
     path: &str,
     plan: Plan,
     settings: &Settings,
-) -> Result<RunEnd, Fault<'f>> {
+    folder: Option<&str>,
+) -> Result<RunEnd, Trouble<'f>> {
     let alloc = rt.alloc();
     let plan = Arc::new(alloc, plan).map_err(AllocError::from)?;
     let repeats = Mutex::new(Repeats::new(alloc)?);
     let outbox = Outbox::new(alloc)?;
     let journal = Journal::buffered(*handle, &repeats, &outbox);
-    let mut ended = Err(Fault::Memory);
+    let mut ended = Err(Trouble::Engine(Fault::Memory));
     let end = &mut ended;
     thread::scope(thread::scope_env(), handle, |scope| {
         let writer = Builder::new()
             .stack_size(WRITER_STACK_BYTES)
             .spawn_scoped(scope, || outbox.write_all(handle));
         if writer.is_ok() {
-            *end = run_by(rt, &journal, path, &plan, settings);
+            *end = run_by(rt, &journal, path, &plan, settings, folder);
             journal.finish();
         }
         outbox.end(handle);

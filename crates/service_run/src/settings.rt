@@ -1,8 +1,12 @@
 //! The settings of `run`.
 
+use service_answers::Origin;
+
 /// The settings of `run`, as the command line has them.
 #[derive(Clone, Copy, Debug, PartialEq, Eq)]
-pub struct Settings {
+pub struct Settings<'a> {
+    /// What the plan of the start is read from.
+    pub plan: Origin<'a>,
     /// The most connections of each channel at once.
     pub connections: u32,
     /// The most entries that the book may hold.
@@ -13,4 +17,6 @@ pub struct Settings {
     pub idle: u32,
     /// How many seconds connections may take at `stop` to write their last acknowledgments.
     pub grace: u32,
+    /// Whether the commands `show` and `export` give the text of messages.
+    pub show: bool,
 }

@@ -13,7 +13,7 @@ use std::thread::{Builder, Scope, Threads};
 use std::time::Duration;
 
 /// The stack of a worker's thread, in bytes. The system gives memory to the part that is used alone.
-const STACK_BYTES: usize = 262_144;
+pub(crate) const STACK_BYTES: usize = 262_144;
 
 /// Starts a thread for each post. Returns how many threads were refused.
 fn start_posts<'s, 'x: 's, E: 's, A: Sharing + Send + Sync + 's, H: Crew + Sync + 's>(
@@ -78,7 +78,7 @@ fn start_warden<'s, 'x: 's, E: 's, A: Sharing + Send + Sync + 's, H: Crew + Sync
 
 /// Starts all workers. Returns whether enough threads could be started: that of each post, the warden's, and that of the first
 /// place of each channel.
-fn start_all<'s, 'x: 's, E: 's, A: Sharing + Send + Sync + 's, H: Crew + Sync + 's>(
+pub(crate) fn start_all<'s, 'x: 's, E: 's, A: Sharing + Send + Sync + 's, H: Crew + Sync + 's>(
     scope: &Scope<'s, E>,
     site: &'s Site<'x, A, H>,
     workers: &'s Workers<A>,
@@ -100,6 +100,17 @@ fn start_all<'s, 'x: 's, E: 's, A: Sharing + Send + Sync + 's, H: Crew + Sync + 
     true
 }
 
+/// Ends all workers at once.
+pub(crate) fn halt<A: Sharing, H: Crew>(site: &Site<'_, A, H>, workers: &Workers<A>) {
+    stop(
+        site,
+        &workers.gates,
+        &workers.places,
+        StopMode::Now,
+        Duration::ZERO,
+    );
+}
+
 /// Starts all workers, and obeys commands until they have ended. Returns whether enough threads could be started; where not,
 /// those that were are ended.
 fn work_within<'s, 'x: 's, E: 's, A: Sharing + Send + Sync + 's, H: Crew + Sync + 's>(
@@ -115,13 +126,7 @@ fn work_within<'s, 'x: 's, E: 's, A: Sharing + Send + Sync + 's, H: Crew + Sync 
         info!(site.rt; "the service is ready");
         execute_all(rt, site, workers, settings, started);
     } else {
-        stop(
-            site,
-            &workers.gates,
-            &workers.places,
-            StopMode::Now,
-            Duration::ZERO,
-        );
+        halt(site, workers);
     }
     is_staffed
 }

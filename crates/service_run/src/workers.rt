@@ -4,7 +4,7 @@ ghost use Rattle.std.specs.Prelude.{All};
 ghost use Rattle.delivery_worker.specs.Sent.{IsUnused};
 
 use book_lock::{Desk, Sharing, Station};
-use service_workers::{Gate, Place, Post, PostWork};
+use service_workers::{Gate, OperatorDesk, Place, Post, PostWork};
 use std::alloc::{AllocError, Global};
 
 /// What works: the listeners of the channels, the places at which connections are served, and the posts that deliver.
@@ -16,6 +16,8 @@ pub struct Workers<A: Sharing> {
     pub places: Vec<Place<A>>,
     /// The posts, by destination.
     pub posts: Vec<Post<A>>,
+    /// The desk by which commands wait until what they changed survives a crash.
+    pub operator: OperatorDesk<A>,
 }
 
 /// The desks of workers that have ended, and what delivered.
@@ -78,23 +80,25 @@ fn works_of<A: Sharing>(
 }
 
 impl<A: Sharing> Workers<A> {
-    /// A place for each desk, and a post for each station, which has made no call.
+    /// An operator with the last desk, a place for each other desk, and a post for each station, which has made no call.
     ///
     /// # Errors
     ///
-    /// Where memory is refused.
+    /// Where memory is refused, or there is no desk.
     pub fn new(
         alloc: Global,
         gates: Vec<Gate>,
-        desks: Vec<Desk<A>>,
+        mut desks: Vec<Desk<A>>,
         stations: Vec<Station<A>>,
     ) -> Result<Self, AllocError>
         requires { All (λ s. IsUnused s.seat) stations.items }
     {
+        let operator = OperatorDesk::new(desks.pop().ok_or(AllocError)?);
         Ok(Workers {
             gates,
             places: places_of(alloc, desks)?,
             posts: posts_of(alloc, stations)?,
+            operator,
         })
     }
 
@@ -104,9 +108,16 @@ impl<A: Sharing> Workers<A> {
     ///
     /// Where memory is refused.
     pub fn into_returned(self, alloc: Global) -> Result<Returned<A>, AllocError> {
-        let Workers { places, posts, .. } = self;
+        let Workers {
+            places,
+            posts,
+            operator,
+            ..
+        } = self;
+        let mut desks = desks_of(alloc, places)?;
+        desks.push(operator.into_desk())?;
         Ok(Returned {
-            desks: desks_of(alloc, places)?,
+            desks,
             posts: works_of(alloc, posts)?,
         })
     }

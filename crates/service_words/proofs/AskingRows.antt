@@ -1,13 +1,57 @@
 -- Worked command lines.
-use Rattle.std.specs.Prelude.{◌≡◌, List, [], ◌∷◌, Option, None, Some, codes, option_map, refl}
+use Rattle.std.specs.Prelude.{◌≡◌, Bool, List, [], ◌∷◌, Option, None, Some, codes, false, option_map, refl, true}
 use Rattle.clap.proofs.OnLiterals.{clap_on_literals}
-use Rattle.clap.specs.declared.error.kind.ErrorKind.TheVariants.{MissingRequiredArgument, MissingSubcommand, UnknownArgument, ValueValidation}
+use Rattle.clap.specs.declared.error.kind.ErrorKind.TheVariants.{ArgumentConflict, MissingRequiredArgument, MissingSubcommand, UnknownArgument, ValueValidation}
 use Rattle.clap.specs.Words.{Text, fault_of, first_of, one_of, subcommand_of}
-use Rattle.service_words.specs.inner.Words.{program}
+use Rattle.service_words.specs.inner.Words.{faults_of, has_memory, program}
 
 -- the command that words name, with its plan, its connections and what it keeps as they are written
 abbrev read-run : List Text → Option (Text × Option Text × Option Text × Option Text)
 read-run words = option_map (λ p. (p.0, first_of (codes "PLAN") p.1, one_of (codes "connections") p.1, one_of (codes "keep") p.1)) (subcommand_of program words)
+
+-- the command that words name, with the folder of its store and whether it keeps the history in memory
+abbrev read-place : List Text → Option (Text × Option Text × Bool)
+read-place words = option_map (λ p. (p.0, first_of (codes "store") p.1, has_memory p.1)) (subcommand_of program words)
+
+-- what the words write for --show
+abbrev read-show : List Text → Option (Option Text)
+read-show words = option_map (λ p. one_of (codes "show") p.1) (subcommand_of program words)
+
+show-off : read-show (codes "hl7_service" ∷ codes "run" ∷ codes "a.toml" ∷ codes "--show" ∷ codes "off" ∷ []) ≡ Some (Some (codes "false"))
+unfolding clap_on_literals
+show-off = refl
+
+show-on : read-show (codes "hl7_service" ∷ codes "run" ∷ codes "--show=on" ∷ codes "a.toml" ∷ []) ≡ Some (Some (codes "true"))
+unfolding clap_on_literals
+show-on = refl
+
+shown-without-a-word : read-show (codes "hl7_service" ∷ codes "run" ∷ codes "a.toml" ∷ []) ≡ Some None
+unfolding clap_on_literals
+shown-without-a-word = refl
+
+in-a-store : read-place (codes "hl7_service" ∷ codes "run" ∷ codes "a.toml" ∷ codes "--store" ∷ codes "kept" ∷ []) ≡ Some (codes "run", Some (codes "kept"), false)
+unfolding clap_on_literals
+in-a-store = refl
+
+in-memory : read-place (codes "hl7_service" ∷ codes "run" ∷ codes "--memory" ∷ codes "a.toml" ∷ []) ≡ Some (codes "run", None, true)
+unfolding clap_on_literals
+in-memory = refl
+
+no-place : faults_of (codes "hl7_service" ∷ codes "run" ∷ codes "a.toml" ∷ []) ≡ MissingRequiredArgument ∷ []
+unfolding clap_on_literals
+no-place = refl
+
+two-places : faults_of (codes "hl7_service" ∷ codes "run" ∷ codes "a.toml" ∷ codes "--store=kept" ∷ codes "--memory" ∷ []) ≡ ArgumentConflict ∷ []
+unfolding clap_on_literals
+two-places = refl
+
+one-place : faults_of (codes "hl7_service" ∷ codes "run" ∷ codes "a.toml" ∷ codes "--store=kept" ∷ []) ≡ []
+unfolding clap_on_literals
+one-place = refl
+
+no-place-to-check : faults_of (codes "hl7_service" ∷ codes "check" ∷ codes "a.toml" ∷ []) ≡ []
+unfolding clap_on_literals
+no-place-to-check = refl
 
 -- the command that words name, with its plan and its channel
 abbrev read-try : List Text → Option (Text × Option Text × Option Text)

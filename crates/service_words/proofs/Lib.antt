@@ -1,3 +1,4 @@
 pub mod Asking
 mod AskingRows
 pub mod Commands
+pub mod Refusing

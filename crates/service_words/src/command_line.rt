@@ -1,20 +1,30 @@
 //! The words of the command line.
 
-ghost use Rattle.std.specs.Prelude.{◌≡◌, ◌≤◌, ℕ, None, Some, IfOk, codes, false, length, map, pos, string_bytes};
+ghost use Rattle.std.specs.Prelude.{◌≡◌, ◌≤◌, ℕ, None, Some, IfOk, codes, false, length, map, option_map, pos, string_bytes, true};
 ghost use Rattle.clap.specs.declared.builder.command.Command.TheViews.{out-Command as fields_of};
 ghost use Rattle.clap.specs.declared.builder.value_parser.ValueParser.TheVariants as parser;
-ghost use Rattle.clap.specs.Words.{FailsBy, app_of, fault_of, found_of, new_app, new_rule, rows_of, rule_of, subcommand_of, subcommand_rows_of, with_rule, with_subcommand};
+ghost use Rattle.clap.specs.Words.{FailsBy, app_of, fault_of, found_of, kind_of, new_app, new_rule, one_text, rows_of, rule_of, subcommand_of, subcommand_rows_of, with_rule, with_subcommand};
 ghost use Rattle.service_words.specs.inner.Request.{IsWithinLimits};
-ghost use Rattle.service_words.specs.inner.Words.{channel_rule, check_app, connections_rule, events_rule, grace_rule, idle_rule, keep_rule, plan_rule, program, run_app, top, try_app, verbose_rule, Asks, AsksBy, AsksCheck, AsksRun, AsksTry, IsWithin, IsKept};
+ghost use Rattle.service_words.specs.inner.Words.{bounded_run, channel_rule, check_app, connections_rule, events_rule, faults_of, grace_rule, has_memory, idle_rule, keep_rule, kept_run, keeping_fault, memory_rule, place_fault, plan_rule, program, run_app, run_fault, show_rule, store_rule, top, try_app, verbose_rule, Asks, AsksBy, AsksCheck, AsksRun, AsksTry, IsRefusedBy, IsWithin, IsKept, KeepsIn};
 
-use crate::help::{CHECKING, RUNNING, STATUSES, TRYING};
+use crate::help::{CHECKING, ONE_PLACE, RUN_USAGE, RUNNING, STATUSES, TRYING};
 use clap::builder::ValueParser;
+use clap::error::ErrorKind;
 use clap::{Arg, ArgAction, ArgMatches, Command, Error, value_parser};
 use fixed_numbers::EVENTS_MAX;
 use std::alloc::{AllocError, Global};
 
 /// What `--version` prints after the program's name: its version, and the toolchain's logic by which its proofs were checked.
 const VERSION: &str = "0.2.0 (toolchain logic dac8208d650f15bf)";
+
+/// Where the history of the book is kept.
+#[derive(Clone, Copy, Debug, PartialEq, Eq)]
+pub enum Keeping<'a> {
+    /// In memory alone: what is not delivered when the process ends is lost.
+    Memory,
+    /// In this folder: the next process on it continues where the last one ended.
+    Store(&'a str),
+}
 
 /// What the program is asked to do.
 #[derive(Clone, Copy, Debug, PartialEq, Eq)]
@@ -23,6 +33,8 @@ pub enum Request<'a> {
     Run {
         /// The plan's file.
         plan: &'a str,
+        /// Where the history of the book is kept.
+        keeping: Keeping<'a>,
         /// The most connections of each channel at once, 1 to 1,000.
         connections: u32,
         /// The most entries that the book may hold, 1 to 1,000,000.
@@ -33,6 +45,8 @@ pub enum Request<'a> {
         idle: u32,
         /// How many seconds connections may take at `stop` to write their last acknowledgments, 0 to 3,600.
         grace: u32,
+        /// Whether the commands `show` and `export` give the text of messages.
+        show: bool,
     },
     /// Judge what comes on standard input by the plan in a file, and print what would be answered and sent.
     Try {
@@ -67,6 +81,31 @@ fn number_option<'a>(
         .value_name(value_name)
         .value_parser(numbers)
         .help(help)
+}
+
+/// The folder of the store.
+fn store_option<'a>(alloc: Global) -> Arg<'a>
+    ensures rule { rule_of result ≡ store_rule }
+    ensures local { result.global ≡ false }
+{
+    Arg::new(alloc, "store")
+        .long("store")
+        .value_name("FOLDER")
+        .help(
+            "Keeps the history in this folder, which is made where it is missing, and continues from it at the next start",
+        )
+}
+
+fn memory_option<'a>(alloc: Global) -> Arg<'a>
+    ensures rule { rule_of result ≡ memory_rule }
+    ensures local { result.global ≡ false }
+{
+    Arg::new(alloc, "memory")
+        .long("memory")
+        .action(ArgAction::SetTrue)
+        .help(
+            "Keeps the history in memory alone: what is not yet delivered when the process ends is lost",
+        )
 }
 
 /// The numbers that `--connections` takes.
@@ -147,6 +186,19 @@ fn grace_option<'a>(alloc: Global) -> Arg<'a>
     number_option(alloc, "grace", "SECONDS", grace_seconds(), help)
 }
 
+fn show_option<'a>(alloc: Global) -> Arg<'a>
+    ensures rule { rule_of result ≡ show_rule }
+    ensures local { result.global ≡ false }
+{
+    Arg::new(alloc, "show")
+        .long("show")
+        .value_name("ON|OFF")
+        .value_parser(ValueParser::Boolish)
+        .help(
+            "Whether the commands 'show' and 'export' give the text of messages, on or off [default: on]",
+        )
+}
+
 fn channel_option<'a>(alloc: Global) -> Arg<'a>
     ensures rule { rule_of result ≡ channel_rule }
     ensures local { result.global ≡ false }
@@ -211,30 +263,48 @@ fn try_command<'a>(alloc: Global) -> Result<Command<'a>, AllocError>
     with_word(command, channel_option(alloc))
 }
 
-/// `run` with its plan, its connections and its entries.
-fn running<'a>(alloc: Global) -> Result<Command<'a>, AllocError>
-    ensures app { IfOk result (λ c. app_of c
-        ≡ with_rule (with_rule (with_rule (new_app (codes "run")) plan_rule) connections_rule) events_rule) }
-    ensures local { IfOk result (λ c. (fields_of c).has_globals ≡ false) }
+/// `run` with its texts, before it takes any word.
+fn bare_run<'a>(alloc: Global) -> Command<'a>
+    ensures app { app_of result ≡ new_app (codes "run") }
+    ensures local { (fields_of result).has_globals ≡ false }
 {
-    let command = Command::new(alloc, "run")
+    Command::new(alloc, "run")
         .about(
             "Listens for each channel of a plan, acknowledges what comes, and delivers it to the destinations",
         )
-        .after_help(RUNNING);
-    let command = with_word(command, plan_word(alloc))?;
+        .override_usage(RUN_USAGE)
+        .after_help(RUNNING)
+}
+
+/// `run` with its plan, and the two options that say where the history is kept.
+fn running<'a>(alloc: Global) -> Result<Command<'a>, AllocError>
+    ensures app { IfOk result (λ c. app_of c ≡ kept_run) }
+    ensures local { IfOk result (λ c. (fields_of c).has_globals ≡ false) }
+{
+    let command = with_word(bare_run(alloc), plan_word(alloc))?;
+    let command = with_word(command, store_option(alloc))?;
+    with_word(command, memory_option(alloc))
+}
+
+/// `run` with the bounds of its connections and of the book besides.
+fn bounded_run<'a>(alloc: Global) -> Result<Command<'a>, AllocError>
+    ensures app { IfOk result (λ c. app_of c ≡ bounded_run) }
+    ensures local { IfOk result (λ c. (fields_of c).has_globals ≡ false) }
+{
+    let command = running(alloc)?;
     let command = with_word(command, connections_option(alloc))?;
-    with_word(command, events_option(alloc))
+    let command = with_word(command, events_option(alloc))?;
+    with_word(command, keep_option(alloc))
 }
 
 fn run_command<'a>(alloc: Global) -> Result<Command<'a>, AllocError>
     ensures app { IfOk result (λ c. app_of c ≡ run_app) }
     ensures local { IfOk result (λ c. (fields_of c).has_globals ≡ false) }
 {
-    let command = running(alloc)?;
-    let command = with_word(command, keep_option(alloc))?;
+    let command = bounded_run(alloc)?;
     let command = with_word(command, idle_option(alloc))?;
-    with_word(command, grace_option(alloc))
+    let command = with_word(command, grace_option(alloc))?;
+    with_word(command, show_option(alloc))
 }
 
 /// The program by its name, with its version and help, before it has any command.
@@ -292,20 +362,65 @@ fn keep_of(given: Option<u32>, events: u32) -> u32
     given.unwrap_or((events / 4).min(100_000)).min(1_000_000)
 }
 
-/// The request that the words of `run` make.
-fn run_request<'a>(matches: &ArgMatches<'a>) -> Request<'a>
-    ensures limits { IsWithinLimits result }
-    ensures written { AsksRun result (rows_of (found_of matches.now)) }
+/// Whether `show` and `export` give the text of messages: as `--show` says, and yes where it is left out.
+fn shows(matches: &ArgMatches<'_>) -> bool
+    ensures left_out { one_text (found_of matches.now) (codes "show") ≡ None → result ≡ true }
+    ensures on { one_text (found_of matches.now) (codes "show") ≡ Some (codes "true") → result ≡ true }
+    ensures off { one_text (found_of matches.now) (codes "show") ≡ Some (codes "false")
+        → result ≡ false }
 {
+    matches.get_one("show").unwrap_or(true)
+}
+
+/// Whether `--memory` is given.
+fn wants_memory(matches: &ArgMatches<'_>) -> bool
+    ensures { result ≡ has_memory (rows_of (found_of matches.now)) }
+{
+    match matches.get_str("memory") {
+        Some(written) => written == "true",
+        None => false,
+    }
+}
+
+/// Where `run` keeps the history.
+///
+/// # Errors
+///
+/// `MissingRequiredArgument` where neither `--store` nor `--memory` is given, and `ArgumentConflict` where both are.
+fn keeping_of<'a>(folder: Option<&'a str>, memory: bool) -> Result<Keeping<'a>, ErrorKind>
+    ensures kept { IfOk result (λ keeping. KeepsIn keeping (option_map (λ path. path.now) folder.entry) memory) }
+    ensures refused { IsRefusedBy (place_fault (option_map (λ path. path.now) folder.entry) memory) result }
+{
+    match (folder, memory) {
+        (Some(folder), false) => Ok(Keeping::Store(folder)),
+        (None, true) => Ok(Keeping::Memory),
+        (None, false) => Err(ErrorKind::MissingRequiredArgument),
+        (Some(_), true) => Err(ErrorKind::ArgumentConflict),
+    }
+}
+
+/// The request that the words of `run` make.
+///
+/// # Errors
+///
+/// As of `keeping_of`.
+fn run_request<'a>(matches: &ArgMatches<'a>) -> Result<Request<'a>, ErrorKind>
+    ensures limits { IfOk result IsWithinLimits }
+    ensures written { IfOk result (λ request. AsksRun request (rows_of (found_of matches.now))) }
+    ensures refused { IsRefusedBy (run_fault (rows_of (found_of matches.now))) result }
+{
+    let keeping = keeping_of(matches.get_str("store"), wants_memory(matches))?;
     let events = number_of(matches.get_one("events"), 1, EVENTS_MAX, EVENTS_MAX);
-    Request::Run {
+    Ok(Request::Run {
         plan: matches.get_str("PLAN").unwrap_or(""),
+        keeping,
         connections: number_of(matches.get_one("connections"), 1, 1_000, 64),
         events,
         keep: keep_of(matches.get_one("keep"), events),
         idle: number_of(matches.get_one("idle"), 0, 86_400, 0),
         grace: number_of(matches.get_one("grace"), 0, 3_600, 5),
-    }
+        show: shows(matches),
+    })
 }
 
 /// The request that the words of `try` make.
@@ -331,20 +446,33 @@ fn check_request<'a>(matches: &ArgMatches<'a>) -> Request<'a>
 }
 
 /// The request that the words of a command make, by its name.
-fn request_of<'a>(matches: &ArgMatches<'a>) -> Request<'a>
-    ensures limits { IsWithinLimits result }
-    ensures written { AsksBy result (subcommand_rows_of matches.now) }
+///
+/// # Errors
+///
+/// As of `run_request`.
+fn request_of<'a>(matches: &ArgMatches<'a>) -> Result<Request<'a>, ErrorKind>
+    ensures limits { IfOk result IsWithinLimits }
+    ensures written { IfOk result (λ request. AsksBy request (subcommand_rows_of matches.now)) }
+    ensures refused { IsRefusedBy (keeping_fault (subcommand_rows_of matches.now)) result }
 {
     match matches.subcommand() {
-        Some(("check", given)) => check_request(given),
-        Some(("try", given)) => try_request(given),
+        Some(("check", given)) => Ok(check_request(given)),
+        Some(("try", given)) => Ok(try_request(given)),
         Some((_, given)) => run_request(given),
         // The parse fails where no command is given.
-        None => Request::Check {
+        None => Ok(Request::Check {
             plan: "",
             verbose: false,
-        },
+        }),
     }
+}
+
+/// The error of a `run` for whose history no place is given, or two are.
+fn one_place_error(alloc: Global, kind: ErrorKind) -> Result<Error, AllocError>
+    ensures { IfOk result (λ error. kind_of error ≡ kind) }
+{
+    let mut command = run_command(alloc)?;
+    command.error(kind, ONE_PLACE)
 }
 
 /// The matches of the words, of which the first is the program's name.
@@ -364,8 +492,11 @@ fn parse<'a>(alloc: Global, words: &'a [String]) -> Result<ArgMatches<'a>, Error
 pub fn parse_args<'a>(alloc: Global, words: &'a [String]) -> Result<Request<'a>, Error>
     ensures limits { IfOk result IsWithinLimits }
     ensures written { IfOk result (λ request. Asks request (map string_bytes words.entry.now)) }
-    ensures refused { FailsBy (fault_of program (map string_bytes words.entry.now)) result }
+    ensures refused { FailsBy (faults_of (map string_bytes words.entry.now)) result }
 {
     let matches = parse(alloc, words)?;
-    Ok(request_of(&matches))
+    match request_of(&matches) {
+        Ok(request) => Ok(request),
+        Err(kind) => Err(one_place_error(alloc, kind)?),
+    }
 }

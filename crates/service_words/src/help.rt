@@ -9,8 +9,19 @@ Each fault is a line on standard error. The exit status:
   3  file: PLAN; device: read, write, random or listen NAME; memory
   4  audit: NAME
   5  stop now: messages were left undelivered, each named on standard error
+  6  store: a write or sync failed; what was acknowledged is in the store
+  7  store: damaged, or of another program or version
+  8  store: in use by another process
 
-Example: hl7_service run plan.toml --connections 16";
+Example: hl7_service run plan.toml --store store";
+
+/// The two forms of `run`.
+pub const RUN_USAGE: &str = "\
+hl7_service run <PLAN> --store <FOLDER> [OPTIONS]
+       hl7_service run <PLAN> --memory [OPTIONS]";
+
+/// What is wrong with a `run` that has neither of the options that say where the history is kept, or both.
+pub const ONE_PLACE: &str = "exactly one of '--store <FOLDER>' and '--memory' has to be given";
 
 /// The text after the words in the help of `run`.
 pub const RUNNING: &str = "\
@@ -21,9 +32,13 @@ line. The end of standard input ends nothing.
   status         what each channel, each destination, the book and the connections have done
   metrics        the same numbers in the text format of Prometheus
   message N      where message N is
+  show N         the text of message N as it was received, a segment a line
+  export N PATH  the bytes of message N as they were received, into a new file
   find ID        the numbers of the messages with this control id (MSH-10), at most 100
   waiting NAME   the first 100 messages in a destination's queue
   failed NAME    the last 100 messages that failed at a destination, newest first, and why
+  plan           where the plan in force comes from, since when it is, and its SHA-256
+  plan text      the document of the plan in force
   deploy PATH    takes the plan in this file in place of the one in force
   prune          forgets what is settled, but for the last messages that are kept
   cancel N       does not deliver message N where it waits, if that is one destination
@@ -36,7 +51,7 @@ line. The end of standard input ends nothing.
 
 Standard error has a log: a line for each event that an operator has to know of.
 
-Example: hl7_service run plan.toml --connections 16 --idle 600 < commands > answers";
+Example: hl7_service run plan.toml --store store --connections 16 --idle 600 < commands > answers";
 
 /// The text after the words in the help of `try`.
 pub const TRYING: &str = "\

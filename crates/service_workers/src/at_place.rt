@@ -8,8 +8,8 @@ ghost use Rattle.book_lock.specs.inner.Planning.{WasInForce};
 use crate::pauses::paused_by;
 use crate::site::{Crew, Site};
 use book_core::{NotBooked, Receipt};
-use book_lock::{Crowded, Desk, Sharing, Tidied, Tidying};
-use conn_core::Booking;
+use book_lock::{Crowded, Desk, NotDurable, Sharing, Tidied, Tidying};
+use conn_core::{Booking, NotPersisted};
 use conn_worker::{log_arrival, log_break, log_cut, log_fill, log_passed_over};
 use event_log::Told;
 use judge_core::{Judged, judge};
@@ -179,7 +179,8 @@ impl<'a, 'x, A: Sharing, H: Crew> AtPlace<'a, 'x, A, H> {
 }
 
 impl<'a, 'x, A: Sharing, H: Crew> Booking for AtPlace<'a, 'x, A, H> {
-    ghost use Rattle.std.specs.Prelude.{refl, ⊤};
+    ghost use Rattle.std.specs.Prelude.{refl, ⊤, IsTrue};
+    ghost use Rattle.book_lock.specs.Durable.{AreArrivalsDurable, AreCommitted};
     ghost use Rattle.conn_worker.specs.inner.Arriving.{BooksAtDesk, desk_after, desk_nothing};
 
     /// The arrivals of these receipts were booked at the desk, in this order, and nothing else was. It is the same desk.
@@ -196,6 +197,12 @@ impl<'a, 'x, A: Sharing, H: Crew> Booking for AtPlace<'a, 'x, A, H> {
         WasInForce A.opening x.desk.now.seat.seen x.desk.now.deployed plan };
 
     ghost outcomes = { λ _ _ _. ⊤ };
+
+    /// Where the history is written to a store, each arrival that was booked at the desk is durable, and what is durable follows
+    /// its commit.
+    ghost survives = { λ x. IsTrue x.site.now.is_stored →
+        AreArrivalsDurable A.opening x.desk.now.seat
+        × AreCommitted A.opening A.committed x.desk.now.seat.seen };
 
     fn plan(&mut self) -> Result<Arc<Plan>, AllocError> {
         self.site.shared.plan_at(self.site.rt, self.desk)
@@ -222,6 +229,16 @@ impl<'a, 'x, A: Sharing, H: Crew> Booking for AtPlace<'a, 'x, A, H> {
             return self.arrive(conn, &anew);
         }
         self.note_arrival(conn, judged, tidied)
+    }
+
+    fn persist(&mut self) -> Result<(), NotPersisted> {
+        if !self.site.is_stored {
+            return Ok(());
+        }
+        match self.site.shared.wait_durable(self.site.rt, self.desk) {
+            Ok(()) => Ok(()),
+            Err(NotDurable) => Err(NotPersisted),
+        }
     }
 
     fn pass_over(&mut self, conn: u32, judged: &Judged) {

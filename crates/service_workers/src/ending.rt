@@ -1,6 +1,8 @@
 //! The end of a service's work.
 
-ghost use Rattle.std.specs.Prelude.{◌≡◌, IfOk, IfSome, IsTrue, List, is_some, map, vec_len};
+ghost use Rattle.std.specs.Prelude.{◌≡◌, ◌+◌, IfOk, IfSome, IsTrue, List, is_some, map, vec_len};
+ghost use Rattle.book_lock.specs.Durable.{HasCommitted};
+ghost use Rattle.book_lock.specs.Shares.{seats_of};
 ghost use Rattle.delivery_worker.specs.Sent.{IsTracedTo, StationWork};
 
 use crate::post::PostWork;
@@ -47,6 +49,10 @@ pub fn close_book<A: Sharing>(
         (closed.opening ≡ A.counts) × (closed.first ≡ A.first))) }
     ensures whole { (vec_len desks ≡ A.desks) × (vec_len posts ≡ A.stations)
         → IfOk result (λ ended. IsTrue (is_some ended)) }
+    // Each index that was published as durable follows the commit of all changes below it.
+    ensures committed { IfOk result (λ ended. IfSome ended (λ closed.
+        HasCommitted A.opening A.committed (A.desks + A.stations + 1)
+        (seats_of desks.items (map (λ p. p.station) posts.items)) closed.book)) }
     ensures traced { IfOk result (λ ended. IfSome ended (λ closed.
         ∥ ((works : List (StationWork A.opening)) × IsTracedTo A.opening
         desks.items (map (λ p. p.station) posts.items) works closed.book) ∥₁)) }

@@ -8,10 +8,12 @@
 #![tactic(auto)]
 
 mod at_place;
+mod draining;
 mod ending;
 mod gate;
 mod half;
 mod hold;
+mod operator;
 mod pauses;
 mod place;
 mod post;
@@ -27,11 +29,12 @@ mod way;
 pub use ending::close_book;
 pub use gate::Gate;
 pub use hold::Hold;
+pub use operator::OperatorDesk;
 pub use pauses::{PauseCause, pause_cause, paused_by};
 pub use place::{Place, work_place};
 pub use post::{Post, PostWork, work_post};
 pub use prunings::{PruneRefusal, prune_refusal};
-pub use site::{Crew, ServiceRows, Site};
+pub use site::{Crew, History, ServiceRows, Site};
 pub use stage::Stage;
 pub use standard_input::StandardInput;
 pub use stopping::{StopMode, has_ended, stop};

@@ -11,7 +11,7 @@ use crate::stage::Stage;
 use book_lock::{Desk, Sharing};
 use conn_core::ConnectionId;
 use conn_worker::{
-    Counted, DiscardReceipts, Running, ServeEnd, ServeReport, TURNS_MAX, serve_within,
+    Counted, DiscardReceipts, Running, ServeEnd, ServeReport, TURNS_MAX, log_end, serve_within,
 };
 use log::{Log, info, warn};
 use socket_options::keep_alive;
@@ -152,7 +152,7 @@ fn log_unframed<H: Log>(rt: &H, label: Label<'_>, served: &Served) {
 }
 
 /// Logs that a connection ended, why, and what it brought. Returns whether it ended because memory was refused.
-fn log_end<A: Sharing, H: Crew>(
+fn note_end<A: Sharing, H: Crew>(
     site: &Site<'_, A, H>,
     label: Label<'_>,
     served: Result<Served, AllocError>,
@@ -169,29 +169,9 @@ fn log_end<A: Sharing, H: Crew>(
     };
     log_unframed(rt, label, &served);
     let Served { report, booked, .. } = served;
-    let ServeReport {
-        unbooked,
-        unreadable,
-        strays,
-        breaks,
-        end,
-        ..
-    } = report;
-    match end {
-        ServeEnd::End if site.stage() != Stage::Open =>
-            info!(rt; channel, connection, booked, unbooked, unreadable, strays, breaks; "connection ended: the service stops"),
-        ServeEnd::End =>
-            info!(rt; channel, connection, booked, unbooked, unreadable, strays, breaks; "connection ended: closed by the sender"),
-        ServeEnd::ReadFault =>
-            info!(rt; channel, connection, booked, unbooked, unreadable, strays, breaks; "connection ended: reading from the sender failed"),
-        ServeEnd::WriteFault =>
-            info!(rt; channel, connection, booked, unbooked, unreadable, strays, breaks; "connection ended: writing to the sender failed"),
-        ServeEnd::NoMemory =>
-            warn!(rt; channel, connection, booked, unbooked, unreadable, strays, breaks; "connection ended: out of memory"),
-        ServeEnd::TurnBound =>
-            warn!(rt; channel, connection, booked, unbooked, unreadable, strays, breaks; "connection ended: it brought more than one connection may"),
-    }
-    end == ServeEnd::NoMemory
+    let stops = site.stage() != Stage::Open;
+    log_end(rt, channel, connection, booked, &report, stops);
+    report.end == ServeEnd::NoMemory
 }
 
 /// Serves a connection that was accepted, under a number of its own. Where no number is left, the connection is closed.
@@ -206,7 +186,7 @@ fn serve_accepted<A: Sharing, H: Crew>(
     requires { gate.now.channel < A.channels }
 {
     let channel = gate.name();
-    let Some(connection) = site.shared.admit(site.rt) else {
+    let Some(connection) = site.admit() else {
         site.count_refused();
         warn!(site.rt; channel, peer:% = peer; "connection closed: no number is left for it");
         return;
@@ -220,7 +200,7 @@ fn serve_accepted<A: Sharing, H: Crew>(
     site.count_opened(gate.channel());
     let served = serve_stream(site, gate.channel(), hold, desk, stream, label);
     site.count_ended(gate.channel());
-    if log_end(site, label, served) {
+    if note_end(site, label, served) {
         site.count_refused();
         thread::sleep(site.rt, Duration::from_millis(RETRY_MILLIS));
     }

@@ -89,7 +89,8 @@ fn deliver_all<A: Sharing, H: Crew>(site: &Site<'_, A, H>, work: PostWork<A>) ->
         &mut station,
         &mut link,
         destination,
-        &mut Steady::new(site.rt),
+        site.take_rule(),
+        &mut Steady::not_before(site.rt, site.last_second),
         site,
     );
     PostWork {

@@ -5,6 +5,7 @@ use crate::stage::Stage;
 use crate::tallies::{Dropped, Tallies, Unbooked};
 use book_core::{NotBooked, Outbound};
 use book_lock::{Shared, Sharing};
+use delivery_worker::TakeRule;
 use dest_queue::Queued;
 use judge_core::Judged;
 use log::Log;
@@ -38,6 +39,14 @@ pub struct Site<'x, A: Sharing, H> {
     pub keep: u32,
     /// After how many seconds without a byte a connection ends; 0: never.
     pub idle: u32,
+    /// Whether the history is written to a store.
+    pub is_stored: bool,
+    /// The last moment in the store, in seconds since 1970, before which deliveries go by no other; 0 where there is none.
+    pub last_second: u64,
+    /// The number of the first connection.
+    first_connection: u32,
+    /// The number before which the numbers of connections are reserved in the store.
+    reserved: AtomicU32,
     /// How many connections are open.
     open: AtomicU32,
     /// How many places work.
@@ -53,6 +62,49 @@ pub struct Site<'x, A: Sharing, H> {
     tallies: Tallies,
 }
 
+/// Where a service keeps the history of its book, and what it goes on from.
+#[derive(Clone, Copy, Debug, PartialEq, Eq)]
+pub enum History {
+    /// In memory: it ends with the process.
+    Memory,
+    /// In a store.
+    Store {
+        /// The number of the first connection.
+        first_connection: u32,
+        /// The number before which the numbers of connections are reserved in the store.
+        reserved: u32,
+        /// The last moment in the store, in seconds since 1970; 0 where there is none.
+        last_second: u64,
+    },
+}
+
+impl History {
+    /// Whether it is written to a store.
+    fn is_stored(self) -> bool {
+        matches!(self, History::Store { .. })
+    }
+
+    /// The number of the first connection, and that before which numbers are reserved.
+    fn connections(self) -> (u32, u32) {
+        match self {
+            History::Memory => (0, u32::MAX),
+            History::Store {
+                first_connection,
+                reserved,
+                ..
+            } => (first_connection, reserved),
+        }
+    }
+
+    /// The last moment in the store, in seconds since 1970; 0 where there is none.
+    fn last_second(self) -> u64 {
+        match self {
+            History::Memory => 0,
+            History::Store { last_second, .. } => last_second,
+        }
+    }
+}
+
 impl<'x, A: Sharing, H: Crew> Site<'x, A, H> {
     /// A site where nothing works yet.
     pub fn new(
@@ -61,13 +113,19 @@ impl<'x, A: Sharing, H: Crew> Site<'x, A, H> {
         shared: &'x Shared<A, ServiceRows>,
         keep: u32,
         idle: u32,
+        history: History,
     ) -> Self {
+        let (first_connection, reserved) = history.connections();
         Site {
             rt,
             alloc,
             shared,
             keep,
             idle,
+            is_stored: history.is_stored(),
+            last_second: history.last_second(),
+            first_connection,
+            reserved: AtomicU32::new(reserved),
             open: AtomicU32::new(0),
             places: AtomicU32::new(0),
             posts: AtomicU32::new(0),
@@ -143,6 +201,44 @@ impl<'x, A: Sharing, H: Crew> Site<'x, A, H> {
             thread::sleep(self.rt, Duration::from_millis(PAUSE_STEP));
         }
         false
+    }
+
+    /// Which messages are taken from their queues: where there is a store, only those that a crash doesn't lose.
+    pub(crate) fn take_rule(&self) -> TakeRule {
+        if self.is_stored {
+            TakeRule::Durable
+        } else {
+            TakeRule::Any
+        }
+    }
+
+    /// The number of the next connection, once it is reserved in the store. None where no number is left, or the service ends
+    /// before that.
+    pub(crate) fn admit(&self) -> Option<u32> {
+        let admitted = self.shared.admit(self.rt)?;
+        let number = self.first_connection.checked_add(admitted)?;
+        for _ in self.rt.forever() {
+            if number < self.reserved.load(Ordering::SeqCst) {
+                return Some(number);
+            }
+            if self.stage() != Stage::Open {
+                return None;
+            }
+            thread::sleep(self.rt, Duration::from_millis(PAUSE_STEP));
+        }
+        None
+    }
+
+    /// Notes the number before which the numbers of connections are reserved in the store.
+    pub fn note_reserved(&self, end: u32) {
+        self.reserved.fetch_max(end, Ordering::SeqCst);
+    }
+
+    /// How many reserved numbers of connections are left.
+    pub fn numbers_left(&self) -> u32 {
+        let admitted = self.shared.gauge(self.rt).admitted;
+        let next = self.first_connection.saturating_add(admitted);
+        self.reserved.load(Ordering::SeqCst).saturating_sub(next)
     }
 
     /// How many connections are open.

@@ -12,7 +12,7 @@ use std::io::Read;
 /// The descriptor of standard input.
 const STANDARD_INPUT: i32 = 0;
 
-/// How long to wait for input before looking at the workers, while the service ends, in milliseconds.
+/// How long to wait for input before looking at the workers, in milliseconds.
 const LOOK_MILLIS: i32 = 100;
 
 /// A reader of standard input. While the service ends, it is at its end once all workers have ended, even where its writer
@@ -32,10 +32,7 @@ impl<'s, 'x, A: Sharing, H: Crew, R: Read> StandardInput<'s, 'x, A, H, R> {
     /// Waits until there is input, or its end; while the service ends, no longer than the workers work. Returns whether there is.
     fn wait(&self) -> bool {
         for _ in self.site.rt.forever() {
-            if self.site.stage() == Stage::Open {
-                return true;
-            }
-            if has_ended(self.site) {
+            if self.site.stage() != Stage::Open && has_ended(self.site) {
                 return false;
             }
             let mut input = [pollfd {

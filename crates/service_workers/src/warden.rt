@@ -1,5 +1,6 @@
 //! The warden: it has reading pause where the book has no room, and reports what runs out.
 
+use crate::draining::Drain;
 use crate::pauses::{
     PauseCause, frees_enough, has_channel, held_back_by, is_filling, is_overfull, pause_cause,
     paused_by,
@@ -85,6 +86,7 @@ struct Watch {
     remembered: Remembered,
     prunings: Left,
     deployments: Left,
+    drain: Drain,
 }
 
 impl Watch {
@@ -97,6 +99,7 @@ impl Watch {
             remembered: Remembered::Few,
             prunings: Left::Many,
             deployments: Left::Many,
+            drain: Drain::new(),
         }
     }
 
@@ -269,6 +272,7 @@ fn look<A: Sharing, H: Crew>(site: &Site<'_, A, H>, watch: &mut Watch) {
     log_remembered(watch, site.rt, &plan, &status, site.keep);
     watch.log_left(site.rt, status.gauge);
     make_room(site, &status);
+    watch.drain.log(site, &plan, &status.counts);
     site.rt.flush();
 }
 

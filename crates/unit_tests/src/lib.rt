@@ -7,6 +7,8 @@ mod answers;
 #[cfg(test)]
 mod cancelling;
 #[cfg(test)]
+mod contents;
+#[cfg(test)]
 mod decisions;
 #[cfg(test)]
 mod dropped;

@@ -17,6 +17,8 @@ mod many;
 #[cfg(test)]
 mod prefixes;
 #[cfg(test)]
+mod runs;
+#[cfg(test)]
 mod stage;
 #[cfg(test)]
 mod writers;

@@ -1,24 +1,15 @@
 //! Two senders with fifty messages each, which all go to both of two destinations, over sockets of
 //! the loopback device.
 
-ghost use Rattle.std.specs.Prelude.{◌≡◌, ◌+◌, length};
-ghost use Rattle.event_log.specs.History.{next_place, plan_in_force};
-ghost use Rattle.event_log.specs.Counting.{counted};
-
 use crate::crowd::{BLOCK, MESSAGES, acceptance, replies_to, stream_of};
-use crate::many::{Ended, Rows, close, is_right};
-use book_core::{Book, EVENTS_MAX};
-use book_lock::{LogEntry, Opened, Shared, Sharing};
-use conn_worker::{Still, nearest};
+use crate::runs::{Outcome, plan_of, run_on};
 use delivery_worker::TcpLink;
-use engine_workers::{TcpDoor, Workers, run_workers};
-use ghost_log::BlankLog;
+use engine_workers::TcpDoor;
 use log::Log;
 use plan_text::{Destination, Plan};
 use std::alloc::Global;
 use std::hash::RandomState;
 use std::io::{Read, Write};
-use std::marker::Brand;
 use std::net::{Net, Shutdown, SocketAddr, TcpListener, TcpStream};
 use std::sync::{Arc, Wait};
 use std::test::Fail;
@@ -38,15 +29,7 @@ fn plan_for(alloc: Global, first: u16, second: u16) -> Option<Arc<Plan>> {
     let text = format!(in alloc;
         "[[destination]]\nname = \"A\"\naddress = \"127.0.0.1:{first}\"\nattempts = 1\n[[destination]]\nname = \"B\"\naddress = \"127.0.0.1:{second}\"\nattempts = 1\n[[channel]]\nname = \"ADT\"\nlisten = \"127.0.0.1:0\"\ntypes = [\"ADT\"]\nprocessing = [\"P\", \"T\"]\nversions = [\"2.5.1\"]\n[[channel.route]]\nto = \"A\"\n[[channel.route]]\nto = \"B\"\n"
     );
-    let plan = Plan::read(alloc, text.ok()?.as_bytes()).ok()?;
-    Arc::new(alloc, plan).ok()
-}
-
-/// An empty book of a plan. None where memory is refused.
-fn empty_book(rt: &HostRuntime, plan: &Arc<Plan>) -> Option<Book<Rows>> {
-    let hasher = RandomState::new(rt).ok()?;
-    let plan = Arc::try_clone(plan).ok()?;
-    Some(Book::new(rt.alloc(), plan, EVENTS_MAX, hasher))
+    plan_of(alloc, text.ok()?.as_str())
 }
 
 /// Bounds each read and write of a stream.
@@ -144,65 +127,22 @@ fn links_of<'a, H: Net<Listener = TcpListener, Stream = TcpStream> + Clock + Log
     Some(links)
 }
 
-/// Runs the workers of a book with two connections on its one channel, and closes it. None where
-/// memory or a thread is refused, or something is missing at the end.
-fn run<
-    'a,
-    A: Sharing + Send + Sync,
-    H: Wait + Threads + Clock + Log + Sync + Net<Listener = TcpListener, Stream = TcpStream>,
->(
-    rt: &'a H,
-    alloc: Global,
-    book: Book<Rows>,
-    log: BlankLog<LogEntry>,
-    doors: Vec<TcpDoor<'a, H>>,
-    links: Vec<TcpLink<'a, H, &'a Destination>>,
-) -> Option<Ended>
-    requires opening { book ≡ A.opening }
-    requires log { log.table.shared.table_id ≡ A.table }
-    requires counts { counted book ≡ A.counts }
-    requires first { next_place book ≡ A.first }
-    requires channels { length (plan_in_force book).channels ≡ A.channels }
-    requires seats { (A.desks ≡ 2) × (A.stations ≡ 2) }
-{
-    let opened = Shared::<A, Rows>::new(alloc, book, 2, 2, log);
-    let Ok(
-        Opened {
-            shared,
-            desks,
-            stations,
-        },
-    ) = opened
-    else {
-        return None;
-    };
-    let staff = Workers {
-        desks,
-        doors,
-        stations,
-        links,
-    };
-    let worked = run_workers(rt, alloc, &shared, staff, 2, Still(nearest(0))).ok()?;
-    close(rt, alloc, shared, worked)
-}
-
-/// Runs the workers of a book behind a door. None where there is no book, memory or a thread is
-/// refused, or something is missing at the end.
-fn run_on<
+/// Runs the workers of a book of a plan behind a door. None where memory is refused.
+fn run_behind<
     'a,
     H: Wait + Threads + Clock + Log + Sync + Net<Listener = TcpListener, Stream = TcpStream>,
 >(
     rt: &'a H,
     alloc: Global,
-    plan: &'a Plan,
-    book: Option<Book<Rows>>,
+    plan: &'a Arc<Plan>,
+    hasher: RandomState,
     door: TcpDoor<'a, H>,
-) -> Option<Ended> {
+) -> Option<Outcome> {
     let links = links_of(rt, alloc, plan)?;
     let mut doors = Vec::new(alloc);
     doors.push(door).ok()?;
-    let log = BlankLog::new(alloc).ok()?;
-    run::<Brand, H>(rt, alloc, book?, log, doors, links)
+    let (plan, each) = (Arc::try_clone(plan).ok()?, u64::from(MESSAGES));
+    Some(run_on(rt, alloc, plan, hasher, doors, links, each))
 }
 
 /// Whether a sender was sent the replies to its messages, and nothing else.
@@ -227,6 +167,16 @@ fn has_both(bytes: &[u8], streams: &[Vec<u8>; 2]) -> bool {
     first.is_empty() && second.is_empty()
 }
 
+/// Both senders send their messages.
+fn send_both<H: Net<Listener = TcpListener, Stream = TcpStream>>(
+    rt: &H,
+    address: SocketAddr,
+    streams: &[Vec<u8>; 2],
+) -> io::Result<[TcpStream; 2]> {
+    let first = send_all(rt, address, &streams[0])?;
+    Ok([first, send_all(rt, address, &streams[1])?])
+}
+
 /// Whether both senders are answered, and the run of the workers behind a door comes out as it has
 /// to.
 fn comes_out<
@@ -234,22 +184,18 @@ fn comes_out<
 >(
     rt: &H,
     alloc: Global,
-    plan: &Plan,
-    book: Option<Book<Rows>>,
+    plan: &Arc<Plan>,
+    hasher: RandomState,
     streams: &[Vec<u8>; 2],
 ) -> io::Result<bool> {
     let Some(channel) = plan.channel(0) else {
         return Ok(false);
     };
     let door = TcpDoor::bind(rt, alloc, channel, 0)?;
-    let address = door.address()?;
-    let mut first = send_all(rt, address, &streams[0])?;
-    let mut second = send_all(rt, address, &streams[1])?;
-    let Some(ended) = run_on(rt, alloc, plan, book, door) else {
-        return Ok(false);
-    };
+    let [mut first, mut second] = send_both(rt, door.address()?, streams)?;
+    let ended = run_behind(rt, alloc, plan, hasher, door);
     let told = is_told(alloc, &mut first, 0) && is_told(alloc, &mut second, 1);
-    Ok(told && is_right(alloc, ended))
+    Ok(told && matches!(ended, Some(Outcome::Right)))
 }
 
 /// All messages of both senders are acknowledged and booked once, and received by both destinations
@@ -257,6 +203,7 @@ fn comes_out<
 #[test]
 fn two_senders(rt: HostRuntime) -> Result<(), Fail> {
     let alloc = rt.alloc();
+    let hasher = RandomState::new(&rt)?;
     let streams = [stream_of(alloc, 0)?, stream_of(alloc, 1)?];
     let (Some(first), Some(second)) = (listen(&rt, alloc), listen(&rt, alloc)) else {
         return Err("no destination".into());
@@ -264,7 +211,7 @@ fn two_senders(rt: HostRuntime) -> Result<(), Fail> {
     let Some(plan) = plan_for(alloc, first.address.port(), second.address.port()) else {
         return Err("no plan".into());
     };
-    let right = comes_out(&rt, alloc, &plan, empty_book(&rt, &plan), &streams);
+    let right = comes_out(&rt, alloc, &plan, hasher, &streams);
     let (first, second) = (received_by(&rt, first), received_by(&rt, second));
     assert!(rt; matches!(right, Ok(true)));
     assert!(rt; has_both(&first, &streams) && has_both(&second, &streams));

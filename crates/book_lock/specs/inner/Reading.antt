@@ -7,7 +7,6 @@ use Rattle.plan_text.specs.Entries.{PlanEntry}
 use Rattle.book_core.specs.declared.questions.Failure.{Failure}
 use Rattle.book_core.specs.declared.questions.Front.{Front}
 use Rattle.book_core.specs.inner.Questions.{CameBy, failed_as, first_live, has_control_id, live_at, queued_as}
-use Rattle.book_lock.specs.Log.{IsBookOf, Log}
 use Rattle.book_lock.specs.declared.message.Found.{Found}
 use Rattle.book_lock.specs.declared.message.Found.TheVariants.{ToCome, Forgotten, Kept}
 use Rattle.book_lock.specs.declared.message.Message.{Message}
@@ -15,17 +14,6 @@ use Rattle.book_lock.specs.declared.status.Gauge.{Gauge}
 use Rattle.book_lock.specs.declared.status.Status.{Status}
 use Rattle.book_lock.specs.Rises.{SharedBook}
 use Rattle.book_lock.specs.inner.Showing.{IsGauge, IsStatus}
-
--- a book is what some legal log makes of the opening
-pub record IsLogged (opening book : History) : Type 0 where
-  pub entries : Log
-  pub is_book : IsBookOf opening entries book
-
--- What was read holds of the book as it was at one moment: the book that a legal log makes of the opening.
-pub record IsReadOf (opening : History) (Holds : History → Type 0) : Type 0 where
-  pub book : History
-  pub logged : IsLogged opening book
-  pub holds : Holds book
 
 -- how full the book is, with how many connections were admitted
 pub record IsGaugeOf (h : History) (g : Gauge) : Type 0 where

@@ -13,11 +13,10 @@ use Rattle.book_lock.specs.declared.tidying.Tidied.{Tidied}
 use Rattle.book_lock.specs.declared.tidying.Tidying.{Tidying}
 use Rattle.book_lock.specs.declared.tidying.Tidying.TheVariants.{NotTight, Pruned, Refused}
 use Rattle.book_lock.specs.Crowding.{crowded_route}
-use Rattle.book_lock.specs.Log.{IsTidiedInLog, book_at}
+use Rattle.book_lock.specs.Log.{IsTidiedInLog, book_at, IsReadOf}
 use Rattle.book_lock.specs.Rises.{SharedBook}
 use Rattle.book_lock.specs.Shares.{DeskView}
 use Rattle.book_lock.specs.inner.Arriving.{ArrivesAtBook, ArrivesAtDesk}
-use Rattle.book_lock.specs.inner.Reading.{IsReadOf}
 use Rattle.book_lock.specs.inner.Rises.{with_book}
 
 -- the outcome of a pruning

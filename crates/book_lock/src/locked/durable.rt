@@ -4,7 +4,7 @@ ghost use Rattle.std.specs.Prelude.{◌≡◌, false, Ok, Some, IfOk, IfErr, IsT
 ghost use Rattle.event_log.specs.History.{next_place};
 ghost use Rattle.book_core.specs.inner.Questions.{front_at};
 ghost use Rattle.book_core.specs.declared.questions.Front.{Front};
-ghost use Rattle.book_lock.specs.Durable.{AreArrivalsDurable, AreCommitted, ArrivedBelow, IsDurableMessage, changes_of};
+ghost use Rattle.book_lock.specs.Durable.{AreArrivalsDurable, AreCommitted, ArrivedBelow, IsDurableMessage, IsNotTaken, changes_of};
 ghost use Rattle.book_lock.specs.Log.{Looks, SeatView, Takes, after_log};
 ghost use Rattle.book_lock.specs.inner.Shares.{with_take};
 
@@ -47,6 +47,24 @@ impl<A: Sharing, S: BookRows> Locked<A, S> {
     /// Whether entries below this index are still to become durable.
     pub fn is_pending(&self, until: usize) -> bool {
         self.durable < until && !self.journal_failed
+    }
+
+    /// Whether entries below this index are still to become durable. Where they are, it is noted that a thread waits for that.
+    pub fn must_wait(&mut self, until: usize) -> bool
+        ensures { self.new ≡ self.old }
+    {
+        let waits = self.is_pending(until);
+        self.journal_wanted = self.journal_wanted || waits;
+        waits
+    }
+
+    /// Whether a thread has begun to wait for entries to become durable since the last call.
+    pub fn take_wanted(&mut self) -> bool
+        ensures { self.new ≡ self.old }
+    {
+        let wanted = self.journal_wanted;
+        self.journal_wanted = false;
+        wanted
     }
 
     /// Notes that no further entry becomes durable.
@@ -101,12 +119,15 @@ impl<A: Sharing, S: BookRows> Locked<A, S> {
     ) -> Result<Job, TakeDurableRefusal>
         ensures call { IfOk result (λ job. (between : SeatView) × Looks A.opening station.old.seat between
             × Takes A.opening d now between station.new.seat (Ok job)) }
+        ensures not_taken { IfErr result
+            (IsNotTaken A.opening d now station.old.seat station.new.seat) }
         ensures durable { IfOk result (λ job.
             IsDurableMessage A.opening self.old.book station.new.seat.seen job.ticket.number) }
         ensures counted { OnOk result (station.new.counts ≡ with_take station.old.counts) }
         ensures err { OnErr result (station.new.counts ≡ station.old.counts) }
     {
         if !self.is_front_durable(station, d) {
+            self.journal_wanted = true;
             return Err(TakeDurableRefusal::NotDurable);
         }
         match self.take(station, d, now) {

@@ -1,10 +1,9 @@
 //! The journal of a shared book: copies of its history, and the wait until they are durable.
 
-ghost use Rattle.std.specs.Prelude.{◌≡◌, Ok, IfOk, OnErr, OnOk};
-ghost use Rattle.book_lock.specs.Durable.{AreArrivalsDurable, AreCommitted, IsDurableMessage, changes_of};
+ghost use Rattle.std.specs.Prelude.{◌≡◌, Ok, IfOk, IfErr, OnErr, OnOk};
+ghost use Rattle.book_lock.specs.Durable.{AreArrivalsDurable, AreCommitted, IsDurableMessage, IsNotTaken, changes_of};
 ghost use Rattle.book_lock.specs.Journal.{Copies};
-ghost use Rattle.book_lock.specs.Log.{Looks, SeatView, Takes};
-ghost use Rattle.book_lock.specs.inner.Reading.{IsReadOf};
+ghost use Rattle.book_lock.specs.Log.{Looks, SeatView, Takes, IsReadOf};
 ghost use Rattle.book_lock.specs.inner.Shares.{with_take};
 
 use crate::copied::Copied;
@@ -17,6 +16,7 @@ use book_core::{BookRows, Job};
 use hl7_head::Moment;
 use std::alloc::Global;
 use std::sync::Wait;
+use std::time::{Clock, Duration};
 
 impl<A: Sharing, S: BookRows> Shared<A, S> {
     /// Copies of all changes that the reader has not copied, in order. The call holds the lock in proportion to their number.
@@ -76,6 +76,9 @@ impl<A: Sharing, S: BookRows> Shared<A, S> {
     {
         let mut locked = self.locked.lock(rt);
         let until = locked.observe_end(desk);
+        if locked.must_wait(until) {
+            self.journal_bell.notify_all();
+        }
         let mut locked = self
             .became_durable
             .wait_while(rt, locked, |locked| locked.is_pending(until));
@@ -101,6 +104,8 @@ impl<A: Sharing, S: BookRows> Shared<A, S> {
     ) -> Result<Job, TakeDurableRefusal>
         ensures call { IfOk result (λ job. (between : SeatView) × Looks A.opening station.old.seat between
             × Takes A.opening d now between station.new.seat (Ok job)) }
+        ensures not_taken { IfErr result
+            (IsNotTaken A.opening d now station.old.seat station.new.seat) }
         ensures durable { IfOk result (λ job. IsReadOf A.opening
             (λ book. IsDurableMessage A.opening book station.new.seat.seen job.ticket.number)) }
         ensures counted { OnOk result (station.new.counts ≡ with_take station.old.counts) }
@@ -108,6 +113,20 @@ impl<A: Sharing, S: BookRows> Shared<A, S> {
     {
         let mut locked = self.locked.lock(rt);
         locked.book_is_logged();
-        locked.take_durable(station, d, now)
+        let taken = locked.take_durable(station, d, now);
+        if taken.is_err() {
+            self.journal_bell.notify_all();
+        }
+        taken
+    }
+
+    /// Waits until a thread waits for entries to become durable, or for this time at most. It returns at once where one has
+    /// begun to wait since the last call.
+    pub fn wait_wanted<H: Wait + Clock>(&self, rt: &H, most: Duration) {
+        let mut locked = self.locked.lock(rt);
+        if !locked.take_wanted() {
+            let (mut woken, _) = self.journal_bell.wait_timeout(rt, locked, most);
+            let _wanted = woken.take_wanted();
+        }
     }
 }

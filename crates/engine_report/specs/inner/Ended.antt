@@ -16,3 +16,4 @@ ended_status ended.Undelivered = 5
 abbrev pub trouble_status : Trouble → ℕ
 trouble_status (trouble.Engine fault) = status_of fault
 trouble_status (trouble.NoChannel given names) = 2
+trouble_status (trouble.Store line status) = status

@@ -6,16 +6,20 @@ use Rattle.std.specs.Char.{is_ascii_whitespace}
 use Rattle.std.specs.List.{position, suffix_len}
 use Rattle.std.specs.Str.{bytes_eq}
 use Rattle.service_commands.specs.declared.command.Command.{Command}
-use Rattle.service_commands.specs.declared.command.Command.TheVariants.{Status, Metrics, Message, Find, Waiting, Deploy, Prune, Failed, Cancel, CancelAll, CancelAt, CancelWaiting, CancelThrough, Stop, StopNow, Help, Unknown}
+use Rattle.service_commands.specs.declared.command.Command.TheVariants.{Status, Metrics, Message, Show, Export, Find, Waiting, Deploy, Plan, PlanText, Prune, Failed, Cancel, CancelAll, CancelAt, CancelWaiting, CancelThrough, Stop, StopNow, Help, Unknown}
 
 -- a command by the bytes of its text
 abbrev pub seen : Command (Bor (List ℕ)) → Command (List ℕ)
 seen Status = Status
 seen Metrics = Metrics
 seen (Message n) = Message n
+seen (Show n) = Show n
+seen (Export n text) = Export n text.now
 seen (Find text) = Find text.now
 seen (Waiting text) = Waiting text.now
 seen (Deploy text) = Deploy text.now
+seen Plan = Plan
+seen PlanText = PlanText
 seen Prune = Prune
 seen (Failed text) = Failed text.now
 seen (Cancel n) = Cancel n
@@ -75,11 +79,18 @@ cancelling text =
     (argument (codes "waiting ") text)
     (option_map_or (λ n. cancel_of n (drop (word_len text) text)) (number_of (take (word_len text) text)) Unknown)
 
--- message N, and what begins with cancel
+-- export N PATH, by what follows the word
+abbrev pub exporting : List ℕ → Command (List ℕ)
+exporting text =
+    option_map_or (λ n. option_map_or (λ path. Export n path) (argument (codes " ") (drop (word_len text) text)) Unknown)
+    (number_of (take (word_len text) text)) Unknown
+
+-- message N, show N, and what begins with cancel
 abbrev pub numbered : List ℕ → Command (List ℕ)
 numbered line =
     option_map_or (λ text. option_map_or (λ n. Message n) (number_of text) Unknown) (argument (codes "message ") line)
-    (option_map_or (λ text. cancelling text) (argument (codes "cancel ") line) Unknown)
+    (option_map_or (λ text. option_map_or (λ n. Show n) (number_of text) Unknown) (argument (codes "show ") line)
+    (option_map_or (λ text. cancelling text) (argument (codes "cancel ") line) Unknown))
 
 -- a line without the carriage return at its end
 abbrev pub without_return : List ℕ → List ℕ
@@ -89,23 +100,26 @@ without_return line = if bytes_eq (drop (length line - 1) line) (codes "\r") the
 abbrev pub trimmed : List ℕ → List ℕ
 trimmed line = take (length line - suffix_len is_ascii_whitespace line) line
 
--- the command of a line that is neither find ID nor deploy PATH
+-- the command of a line that is none of find ID, deploy PATH and export N PATH
 abbrev pub single : List ℕ → Command (List ℕ)
 single line =
     if bytes_eq line (codes "status") then Status
     else (if bytes_eq line (codes "metrics") then Metrics
+    else (if bytes_eq line (codes "plan") then Plan
+    else (if bytes_eq line (codes "plan text") then PlanText
     else (if bytes_eq line (codes "prune") then Prune
     else (if bytes_eq line (codes "stop") then Stop
     else (if bytes_eq line (codes "stop now") then StopNow
     else (if bytes_eq line (codes "help") then Help
     else option_map_or (λ text. Waiting text) (argument (codes "waiting ") line)
-    (option_map_or (λ text. Failed text) (argument (codes "failed ") line) (numbered line)))))))
+    (option_map_or (λ text. Failed text) (argument (codes "failed ") line) (numbered line)))))))))
 
--- find ID, deploy PATH, with all that follows the word; of any other command white space at its end is dropped
+-- find ID, deploy PATH, export N PATH, with all that follows the word; of any other command white space at its end is dropped
 abbrev pub named : List ℕ → Command (List ℕ)
 named line =
     option_map_or (λ text. Find text) (argument (codes "find ") line)
-    (option_map_or (λ text. Deploy text) (argument (codes "deploy ") line) (single (trimmed line)))
+    (option_map_or (λ text. Deploy text) (argument (codes "deploy ") line)
+    (option_map_or (λ text. exporting text) (argument (codes "export ") line) (single (trimmed line))))
 
 -- the command that a line is
 abbrev pub command_of : List ℕ → Command (List ℕ)

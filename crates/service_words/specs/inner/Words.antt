@@ -1,16 +1,30 @@
 -- The words of the command line: the program's commands, and what they ask.
-use Rattle.std.specs.Prelude.{◌≡◌, ◌≤◌, ◌<◌, ◌^◌, ◌/◌, ℕ, Bool, List, Option, None, Some, option_map, min, codes, false, pos, true, unwrap_or, [], ⊤}
-use Rattle.std.specs.Option.{SomeIff}
+use Rattle.std.specs.Prelude.{◌≡◌, ◌≤◌, ◌<◌, ◌^◌, ◌/◌, ◌||◌, ℕ, Bool, List, MatchResult, Option, Result, None, Some, if◌then◌else◌, option_map, min, codes, false, pos, true, unwrap_or, [], ◌∷◌, ⊤}
+use Rattle.std.specs.Option.{SomeIff, option_map_or}
+use Rattle.std.specs.Str.{bytes_eq}
 use Rattle.std.specs.Str.Parse.{IsNumeral, digits_value, without_leading_plus}
 use Rattle.clap.specs.declared.builder.action.ArgAction.TheVariants.{SetTrue}
 use Rattle.clap.specs.declared.builder.value_parser.ValueParser.TheVariants as parser
-use Rattle.clap.specs.Words.{App, Row, Rule, Text, first_of, new_app, new_rule, one_of, subcommand_of, with_rule, with_subcommand}
+use Rattle.clap.specs.Kinds.{or_else}
+use Rattle.clap.specs.Words.{App, Kinds, Row, Rule, Text, fault_of, first_of, new_app, new_rule, one_of, subcommand_of, with_rule, with_subcommand}
+use Rattle.clap.specs.declared.error.kind.ErrorKind.{ErrorKind}
+use Rattle.clap.specs.declared.error.kind.ErrorKind.TheVariants.{ArgumentConflict, MissingRequiredArgument}
+use Rattle.service_words.specs.declared.command_line.Keeping.{Keeping}
+use Rattle.service_words.specs.declared.command_line.Keeping.TheVariants.{Memory, Store}
 use Rattle.service_words.specs.declared.command_line.Request.{Request}
 use Rattle.service_words.specs.declared.command_line.Request.TheVariants.{Check, Run, Try}
 
 -- a word that has to be given and has a value of its own: the plan's file
 abbrev pub plan_rule : Rule
 plan_rule = record (new_rule (codes "PLAN")) { required = true }
+
+-- an option and the folder of the store
+abbrev pub store_rule : Rule
+store_rule = record (new_rule (codes "store")) { long = Some (codes "store"); value_names = 1 }
+
+-- an option that takes nothing, in place of a store
+abbrev pub memory_rule : Rule
+memory_rule = record (new_rule (codes "memory")) { long = Some (codes "memory"); action = Some SetTrue }
 
 -- an option and its number, from the least to the most
 abbrev pub number_rule : Text → ℕ → ℕ → Rule
@@ -32,6 +46,10 @@ idle_rule = number_rule (codes "idle") 0 86_400
 abbrev pub grace_rule : Rule
 grace_rule = number_rule (codes "grace") 0 3_600
 
+-- an option and a word for yes or no
+abbrev pub show_rule : Rule
+show_rule = record (new_rule (codes "show")) { long = Some (codes "show"); value_names = 1; parser = Some parser.Boolish }
+
 -- an option and a name
 abbrev pub channel_rule : Rule
 channel_rule = record (new_rule (codes "channel")) { long = Some (codes "channel"); value_names = 1 }
@@ -40,9 +58,17 @@ channel_rule = record (new_rule (codes "channel")) { long = Some (codes "channel
 abbrev pub verbose_rule : Rule
 verbose_rule = record (new_rule (codes "verbose")) { long = Some (codes "verbose"); action = Some SetTrue }
 
--- run PLAN [--connections N] [--events N] [--keep N] [--idle SECONDS] [--grace SECONDS]
+-- run PLAN [--store FOLDER] [--memory]
+abbrev pub kept_run : App
+kept_run = with_rule (with_rule (with_rule (new_app (codes "run")) plan_rule) store_rule) memory_rule
+
+-- [--connections N] [--events N] [--keep N] besides
+abbrev pub bounded_run : App
+bounded_run = with_rule (with_rule (with_rule kept_run connections_rule) events_rule) keep_rule
+
+-- [--idle SECONDS] [--grace SECONDS] [--show ON|OFF] besides: all the words of `run`
 abbrev pub run_app : App
-run_app = with_rule (with_rule (with_rule (with_rule (with_rule (with_rule (new_app (codes "run")) plan_rule) connections_rule) events_rule) keep_rule) idle_rule) grace_rule
+run_app = with_rule (with_rule (with_rule bounded_run idle_rule) grace_rule) show_rule
 
 -- try PLAN [--channel NAME]
 abbrev pub try_app : App
@@ -83,17 +109,57 @@ pub record IsWritten (name : Text) (rows : List Row) (Is : Option ℕ → ℕ �
   pub given_is : IsNumberOf (one_of name rows) given
   pub number_is : Is given number
 
--- what the words of `run` ask: the plan and each number as they are written
-pub record AsToRun (plan : Text) (connections events keep idle grace : ℕ) (rows : List Row) : Type 0 where
+-- whether an option with a word for yes or no says yes, as it does where it is left out: the parser reads the word as "true" or "false"
+pub record IsYes (written : Option Text) (yes : Bool) : Type 0 where
+  pub left_out : written ≡ None → yes ≡ true
+  pub on : written ≡ Some (codes "true") → yes ≡ true
+  pub off : written ≡ Some (codes "false") → yes ≡ false
+
+-- whether --memory is given: the parser writes "true" for it where it is
+abbrev pub has_memory : List Row → Bool
+has_memory rows = option_map_or (λ text. bytes_eq text (codes "true")) (first_of (codes "memory") rows) false
+
+-- where the history is kept, by the folder of --store and whether --memory is given
+abbrev pub KeepsIn : Keeping → Option Text → Bool → Type 0
+KeepsIn Memory folder memory = (folder ≡ None) × (memory ≡ true)
+KeepsIn (Store path) folder memory = (folder ≡ Some path.now) × (memory ≡ false)
+
+-- exactly one of --store and --memory has to be given
+abbrev pub place_fault : Option Text → Bool → Kinds
+place_fault None false = MissingRequiredArgument ∷ []
+place_fault (Some folder) true = ArgumentConflict ∷ []
+place_fault _ _ = []
+
+-- what is wrong with the words of `run` that the parser takes
+abbrev pub run_fault : List Row → Kinds
+run_fault rows = place_fault (first_of (codes "store") rows) (has_memory rows)
+
+-- what is wrong with the words of a command that the parser takes, by the command's name
+abbrev pub keeping_fault : Option (Text × List Row) → Kinds
+keeping_fault None = []
+keeping_fault (Some (name, rows)) = if bytes_eq name (codes "check") || bytes_eq name (codes "try") then [] else run_fault rows
+
+-- an error exactly where there is a fault, and of its kind
+abbrev pub IsRefusedBy : {T : Type 0} → Kinds → Result T ErrorKind → Type 0
+IsRefusedBy kinds result = MatchResult result (λ _. kinds ≡ []) (λ kind. kinds ≡ kind ∷ [])
+
+-- what is wrong with the words: what the parser doesn't take, or no single place for the history
+abbrev pub faults_of : List Text → Kinds
+faults_of words = or_else (fault_of program words) (keeping_fault (subcommand_of program words))
+
+-- what the words of `run` ask: the plan, where the history is kept, and each option as they are written
+pub record AsToRun (plan : Text) (keeping : Keeping) (connections events keep idle grace : ℕ) (show : Bool) (rows : List Row) : Type 0 where
   pub plan_is : plan ≡ unwrap_or (first_of (codes "PLAN") rows) []
+  pub keeping_is : KeepsIn keeping (first_of (codes "store") rows) (has_memory rows)
   pub connections_are : IsWritten (codes "connections") rows (IsWithin 1 1_000 64) connections
   pub events_are : IsWritten (codes "events") rows (IsWithin 1 1_000_000 1_000_000) events
   pub keep_is : IsWritten (codes "keep") rows (IsKept events) keep
   pub idle_is : IsWritten (codes "idle") rows (IsWithin 0 86_400 0) idle
   pub grace_is : IsWritten (codes "grace") rows (IsWithin 0 3_600 5) grace
+  pub show_is : IsYes (one_of (codes "show") rows) show
 
 abbrev pub AsksRun : Request → List Row → Type 0
-AsksRun (Run plan connections events keep idle grace) rows = AsToRun plan.now connections events keep idle grace rows
+AsksRun (Run plan keeping connections events keep idle grace show) rows = AsToRun plan.now keeping connections events keep idle grace show rows
 AsksRun _ rows = ⊥
 
 -- what the words of `try` ask: the plan and the channel as they are written
@@ -117,8 +183,8 @@ AsksCheck _ rows = ⊥
 -- what the words of a command ask, by the command's name. Words without a command have a fault.
 abbrev pub AsksBy : Request → Option (Text × List Row) → Type 0
 AsksBy request None = ⊤
-AsksBy (Run plan connections events keep idle grace) (Some (name, rows)) =
-    (name ≡ codes "check" → ⊥) × (name ≡ codes "try" → ⊥) × AsksRun (Run plan connections events keep idle grace) rows
+AsksBy (Run plan keeping connections events keep idle grace show) (Some (name, rows)) =
+    (name ≡ codes "check" → ⊥) × (name ≡ codes "try" → ⊥) × AsksRun (Run plan keeping connections events keep idle grace show) rows
 AsksBy (Try plan channel) (Some (name, rows)) = (name ≡ codes "try") × AsksTry (Try plan channel) rows
 AsksBy (Check plan verbose) (Some (name, rows)) = (name ≡ codes "check") × AsksCheck (Check plan verbose) rows
 

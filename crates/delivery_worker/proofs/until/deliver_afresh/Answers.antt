@@ -16,15 +16,25 @@ pub returns-in-Ok-take_turn-clause-receives : goal.returns-in-Ok-take_turn-claus
 returns-in-Ok-take_turn-clause-receives g c =
     calls_add _ _ _ _ _ _ (calls_up _ _ _ c.prepare.ensures.receives) c.in-Ok-take_turn.ensures.receives (omega arith)
 
-pub returns-in-Err-take_turn-clause-unused : goal.returns-in-Err-take_turn-clause-unused
-returns-in-Err-take_turn-clause-unused g c = (
-  Keeps-trans _ _ _ c.prepare.ensures.sent c.in-Err-take_turn.ensures.unused.0,
-  Keeps-trans _ _ _ c.prepare.ensures.received c.in-Err-take_turn.ensures.unused.1,
+pub returns-in-Err-NotDurable-clause-unused : goal.returns-in-Err-NotDurable-clause-unused
+returns-in-Err-NotDurable-clause-unused g c = (
+  Keeps-trans _ _ _ c.prepare.ensures.sent c.in-Err-NotDurable.ensures.unused.0,
+  Keeps-trans _ _ _ c.prepare.ensures.received c.in-Err-NotDurable.ensures.unused.1,
 )
 
-pub returns-in-Err-take_turn-clause-uncalled : goal.returns-in-Err-take_turn-clause-uncalled
-returns-in-Err-take_turn-clause-uncalled g c =
-    calls_add _ _ _ _ _ _ (calls_up _ _ _ c.prepare.ensures.receives) c.in-Err-take_turn.ensures.uncalled (omega arith)
+pub returns-in-Err-NotDurable-clause-uncalled : goal.returns-in-Err-NotDurable-clause-uncalled
+returns-in-Err-NotDurable-clause-uncalled g c =
+    calls_add _ _ _ _ _ _ (calls_up _ _ _ c.prepare.ensures.receives) c.in-Err-NotDurable.ensures.uncalled (omega arith)
+
+pub returns-in-Err-Refused-clause-unused : goal.returns-in-Err-Refused-clause-unused
+returns-in-Err-Refused-clause-unused g c = (
+  Keeps-trans _ _ _ c.prepare.ensures.sent c.in-Err-Refused.ensures.unused.0,
+  Keeps-trans _ _ _ c.prepare.ensures.received c.in-Err-Refused.ensures.unused.1,
+)
+
+pub returns-in-Err-Refused-clause-uncalled : goal.returns-in-Err-Refused-clause-uncalled
+returns-in-Err-Refused-clause-uncalled g c =
+    calls_add _ _ _ _ _ _ (calls_up _ _ _ c.prepare.ensures.receives) c.in-Err-Refused.ensures.uncalled (omega arith)
 
 pub returns-in-Err-clause-untaken : goal.returns-in-Err-clause-untaken
 returns-in-Err-clause-untaken g c = no_turn _ _ _ _ refl

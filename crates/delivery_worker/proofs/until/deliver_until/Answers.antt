@@ -2,15 +2,17 @@ use Rattle.std.proofs.Common.{◌∙◌, ap, refl, arith}
 use Rattle.std.proofs.KnownBytes.{Keeps-trans}
 use Rattle.delivery_worker.specs.declared.report.DeliverReport.{DeliverReport}
 use Rattle.delivery_worker.proofs.Afresh.{attempted, delivers, paused, starts}
+use Rattle.delivery_worker.proofs.ByRule.{none_taken, none_yet, taken_then}
 use Rattle.delivery_worker.proofs.Calls.{calls_add, calls_end, calls_none, calls_within}
 use Rattle.delivery_worker.proofs.Delivered.{counted_taken}
 use Rattle.delivery_worker.proofs.InLog.{no_turn}
-use Rattle.delivery_worker.proofs.until.deliver_until.Goals.{in-Ok, in-Err-NotYet}
+use Rattle.delivery_worker.proofs.until.deliver_until.Goals.{in-Ok, in-Err-NotDurable, in-Err-NotYet}
 use Rattle.delivery_worker.proofs.until.deliver_until.Goals as goal
 
 pub turns-init : goal.turns-init
 turns-init g c = record {
   so_far = starts _ _ _ _ _ _ c.new-report.ensures;
+  by_rule = none_yet _ _ _;
   calls = calls_within _ _ 0 _ (calls_none _) (omega arith);
 }
 
@@ -21,10 +23,17 @@ turns-preserved g c =
           let is = w.report-is ∙ w.count.ensures in
           let taken = ap (λ (r : DeliverReport). r.taken) is ∙ counted_taken _ _ in record {
             so_far = attempted _ _ _ _ _ _ _ _ _ _ _ _ _ _ _ _ c.turns.invariant.so_far w.in-Ok.ensures.attempt w.in-Ok.ensures.taken w.in-Ok.ensures.settled is;
+            by_rule = taken_then _ _ _ _ _ c.turns.invariant.by_rule w.in-Ok.ensures.by_rule;
             calls = calls_add _ _ _ _ _ _ c.turns.invariant.calls w.in-Ok.ensures.receives (omega (arith, taken));
           }
+      | in-Err-NotDurable w ↦ record {
+        so_far = paused _ _ _ _ _ _ _ _ _ _ _ _ _ _ c.turns.invariant.so_far w.in-Err-NotDurable.ensures.refused w.in-Err-NotDurable.ensures.untaken w.in-Err-NotDurable.ensures.unused w.report-is;
+        by_rule = taken_then _ _ _ _ _ c.turns.invariant.by_rule (none_taken _ _ _ _ _ w.in-Err-NotDurable.ensures.untaken);
+        calls = calls_add _ _ _ _ _ _ c.turns.invariant.calls w.in-Err-NotDurable.ensures.uncalled (omega (arith, ap (λ (r : DeliverReport). r.taken) w.report-is));
+      }
       | in-Err-NotYet w ↦ record {
         so_far = paused _ _ _ _ _ _ _ _ _ _ _ _ _ _ c.turns.invariant.so_far w.in-Err-NotYet.ensures.refused w.in-Err-NotYet.ensures.untaken w.in-Err-NotYet.ensures.unused w.report-is;
+        by_rule = taken_then _ _ _ _ _ c.turns.invariant.by_rule (none_taken _ _ _ _ _ w.in-Err-NotYet.ensures.untaken);
         calls = calls_add _ _ _ _ _ _ c.turns.invariant.calls w.in-Err-NotYet.ensures.uncalled (omega (arith, ap (λ (r : DeliverReport). r.taken) w.report-is));
       }
     ]
@@ -49,3 +58,12 @@ returns-in-Err-Drained-clause-receives g c = calls_end _ _ _ _ _ c.turns.invaria
 
 pub returns-clause-receives : goal.returns-clause-receives
 returns-clause-receives g c = calls_end _ _ _ _ _ c.turns.invariant.calls (calls_none _) c.finish-2.ensures.receives
+
+pub returns-then-is_halted-clause-by_rule : goal.returns-then-is_halted-clause-by_rule
+returns-then-is_halted-clause-by_rule g c = c.turns.invariant.by_rule
+
+pub returns-in-Err-Drained-clause-by_rule : goal.returns-in-Err-Drained-clause-by_rule
+returns-in-Err-Drained-clause-by_rule g c = taken_then _ _ _ _ _ c.turns.invariant.by_rule (none_taken _ _ _ _ _ c.in-Err-Drained.ensures.untaken)
+
+pub returns-clause-by_rule : goal.returns-clause-by_rule
+returns-clause-by_rule g c = c.turns.invariant.by_rule

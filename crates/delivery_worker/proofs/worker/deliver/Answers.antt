@@ -28,17 +28,17 @@ turns-preserved g c =
       }
     ]
 
-pub returns-in-Err-Idle-clause-attempts : goal.returns-in-Err-Idle-clause-attempts
-returns-in-Err-Idle-clause-attempts g c =
-    delivers _ _ _ _ _ _ _ _ _ _ _ _ _ _ _ c.turns.invariant.so_far c.in-Err-Idle.ensures.untaken (Keeps-trans _ _ _ c.in-Err-Idle.ensures.unused.0 c.finish.ensures.sent)
-    (Keeps-trans _ _ _ c.in-Err-Idle.ensures.unused.1 c.finish.ensures.received) refl refl refl refl
+pub returns-in-Err-Refused-Idle-clause-attempts : goal.returns-in-Err-Refused-Idle-clause-attempts
+returns-in-Err-Refused-Idle-clause-attempts g c =
+    delivers _ _ _ _ _ _ _ _ _ _ _ _ _ _ _ c.turns.invariant.so_far c.in-Err-Refused-Idle.ensures.untaken (Keeps-trans _ _ _ c.in-Err-Refused-Idle.ensures.unused.0 c.finish.ensures.sent)
+    (Keeps-trans _ _ _ c.in-Err-Refused-Idle.ensures.unused.1 c.finish.ensures.received) refl refl refl refl
 
 pub returns-clause-attempts : goal.returns-clause-attempts
 returns-clause-attempts g c =
     delivers _ _ _ _ _ _ _ _ _ _ _ _ _ _ _ c.turns.invariant.so_far (no_turn _ _ _ _ refl) c.finish-2.ensures.sent c.finish-2.ensures.received refl refl refl refl
 
-pub returns-in-Err-Idle-clause-receives : goal.returns-in-Err-Idle-clause-receives
-returns-in-Err-Idle-clause-receives g c = calls_end _ _ _ _ _ c.turns.invariant.calls c.in-Err-Idle.ensures.uncalled c.finish.ensures.receives
+pub returns-in-Err-Refused-Idle-clause-receives : goal.returns-in-Err-Refused-Idle-clause-receives
+returns-in-Err-Refused-Idle-clause-receives g c = calls_end _ _ _ _ _ c.turns.invariant.calls c.in-Err-Refused-Idle.ensures.uncalled c.finish.ensures.receives
 
 pub returns-clause-receives : goal.returns-clause-receives
 returns-clause-receives g c = calls_end _ _ _ _ _ c.turns.invariant.calls (calls_none _) c.finish-2.ensures.receives

@@ -1,6 +1,5 @@
-use Rattle.std.proofs.Common.{subst}
-use Rattle.service_words.specs.inner.Words.{AsksBy}
+use Rattle.service_words.proofs.Refusing.{fails-still}
 use Rattle.service_words.proofs.command_line.parse_args.Goals as goal
 
-pub returns-clause-written : goal.returns-clause-written
-returns-clause-written c = subst (AsksBy c.request_of.result) c.in_ok-matches.ensures.rows c.request_of.ensures.written
+pub returns-in_err-matches-clause-refused : goal.returns-in_err-matches-clause-refused
+returns-in_err-matches-clause-refused c = fails-still _ _ _ c.from_residual.result c.in_err-matches.ensures.refused c.from_residual.ensures.1

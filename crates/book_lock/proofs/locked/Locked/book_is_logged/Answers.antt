@@ -1,7 +1,7 @@
 use Rattle.std.proofs.Common.{ap, subst}
 use Rattle.event_log.specs.History.{History}
 use Rattle.book_lock.specs.Rises.{SharedBook}
-use Rattle.book_lock.specs.inner.Reading.{IsLogged}
+use Rattle.book_lock.specs.Log.{IsLogged}
 use Rattle.book_lock.proofs.locked.Locked.book_is_logged.Goals as goal
 
 pub returns : goal.returns

@@ -1,6 +1,6 @@
 use Rattle.std.proofs.Common.{subst}
 use Rattle.book_lock.specs.Rises.{SharedBook}
-use Rattle.book_lock.specs.inner.Reading.{IsLogged}
+use Rattle.book_lock.specs.Log.{IsLogged}
 use Rattle.book_lock.proofs.MakingRoom.{seen_back, seen_results}
 use Rattle.book_lock.proofs.shared.Shared.arrive_tidy_judged.Goals as goal
 

@@ -1,7 +1,7 @@
 use Rattle.std.proofs.Common.{ap, ◌∙◌, subst}
 use Rattle.event_log.specs.Counting.{counted}
 use Rattle.book_lock.specs.Rises.{SharedBook}
-use Rattle.book_lock.specs.inner.Reading.{IsLogged}
+use Rattle.book_lock.specs.Log.{IsLogged}
 use Rattle.book_lock.proofs.shared.Shared.counts.Goals as goal
 
 pub returns-clause-read : goal.returns-clause-read

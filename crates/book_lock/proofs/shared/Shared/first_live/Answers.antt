@@ -2,7 +2,8 @@ use Rattle.std.proofs.Common.{◌≡◌, ℕ, Option, None, Some, refl, sym, ap,
 use Rattle.event_log.specs.History.{History}
 use Rattle.book_core.specs.inner.Questions.{first_live, live_at}
 use Rattle.book_lock.specs.Rises.{SharedBook}
-use Rattle.book_lock.specs.inner.Reading.{IsLogged, first_live_at}
+use Rattle.book_lock.specs.Log.{IsLogged}
+use Rattle.book_lock.specs.inner.Reading.{first_live_at}
 use Rattle.book_lock.proofs.shared.Shared.first_live.Goals as goal
 
 -- the first message that is still to be delivered, with its first such destination or with none

@@ -1,6 +1,6 @@
 use Rattle.std.proofs.Common.{ap}
 use Rattle.sqlite_trees.specs.View.{View}
-use Rattle.event_store.proofs.RecordLemmas.{put_record, sees_more, keeps_commit, clean_if_open}
+use Rattle.event_store.proofs.RecordLemmas.{put_record, sees_more, keeps_commit, clean_if_open, was_open_written}
 use Rattle.event_store.proofs.records.EventStore.append.Goals as goal
 
 pub invariant_of-self-2-clause-sees : goal.invariant_of-self-2-clause-sees
@@ -24,3 +24,9 @@ returns-clause-committed g c is_open =
     let old = c.args.self.now.store in
     let new = c.put.new.store in
     ap (λ (v : View). v.committed) (c.in_ok-put.ensures.frame (clean_if_open c.args.self.now.first (g.S.Store.view old) (g.S.Store.view new) c.put.ensures.quiet.clean (g.met.S.Store.broken_if_shut new) (g.met.S.Store.shut_if_dirty new) is_open))
+
+pub returns-clause-shut : goal.returns-clause-shut
+returns-clause-shut g c =
+    let old = c.args.self.now.store in
+    let new = c.put.new.store in
+    was_open_written c.args.self.now.first (g.S.Store.view old) (g.S.Store.view new) c.put.ensures.quiet.clean (g.met.S.Store.broken_if_shut new) (g.met.S.Store.shut_if_dirty new) c.in_ok-put.ensures.frame

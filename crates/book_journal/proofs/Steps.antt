@@ -1,0 +1,126 @@
+-- What a journal holds, from step to step.
+use Rattle.std.proofs.Common.{◌≡◌, ◌≤◌, ◌+◌, Bool, true, false, true≢false, List, [], ◌∷◌, ◌++◌, map, length, refl, sym, ap, subst, ◌∙◌, arith, append_assoc, length-append}
+use Rattle.std.proofs.lemmas.List.{append-nil, map-append, length-map}
+use Rattle.sqlite_trees.specs.Tree.{Trees}
+use Rattle.sqlite_trees.specs.View.{View, IsClean, doubt}
+use Rattle.event_log.specs.History.{History}
+use Rattle.event_store.specs.Records.{AreDurable, Record as Row, records_in}
+use Rattle.book_lock.specs.declared.copied.Copied.{Copied}
+use Rattle.book_lock.specs.Durable.{changes_of}
+use Rattle.book_lock.specs.Journal.{Copies, change_copied}
+use Rattle.book_lock.specs.Log.{IsLegalLog, Log, Looks, SeatView}
+use Rattle.book_journal.specs.inner.Held.{AreHeld, HasRows}
+use Rattle.book_journal.specs.inner.Order.{HasCopied, IsInOrder}
+use Rattle.book_journal.proofs.Rows.{has_joined}
+
+-- ---- copies
+
+pub nothing_copied : (opening : History) (seat : SeatView) (unwritten : List Copied) → HasCopied opening seat seat unwritten unwritten
+nothing_copied opening seat unwritten = record {
+  number = refl;
+  others = [];
+  none_own = refl;
+  seen = sym (append-nil seat.seen);
+  legal = λ legal. legal;
+  more = [];
+  copied = sym (append-nil unwritten);
+  changes = sym (append-nil (changes_of seat.seen));
+}
+
+pub all_copied : (opening : History) (old new : SeatView) (before copies : List Copied) → before ≡ [] → Copies opening old new copies → HasCopied opening old new before copies
+all_copied opening old new before copies none c = record {
+  number = c.number;
+  others = c.others;
+  none_own = c.none_own;
+  seen = c.seen;
+  legal = λ _. c.legal;
+  more = copies;
+  copied = ap (λ l. l ++ copies) (sym none);
+  changes = c.changes;
+}
+
+pub looked : (opening : History) (old new : SeatView) (before after : List Copied) → IsLegalLog opening old.seen → HasCopied opening old new before after → Looks opening old new
+looked opening old new before after legal c =
+    record { number = c.number; others = c.others; none_own = c.none_own; seen = c.seen; legal = c.legal legal }
+
+pub counted : (opening : History) (old new : SeatView) (before after : List Copied) → HasCopied opening old new before after
+    → length (changes_of new.seen) + length before ≡ length (changes_of old.seen) + length after
+counted opening old new before after c =
+    let longer : length after ≡ length before + length c.more = ap length c.copied ∙ length-append before c.more in
+    let changes : length (changes_of new.seen) ≡ length (changes_of old.seen) + length c.more =
+    ap length c.changes ∙ length-append (changes_of old.seen) (map change_copied c.more) ∙ ap (λ k. length (changes_of old.seen) + k) (length-map c.more change_copied) in
+    omega arith
+
+-- ---- the order
+
+pub in_order_first : (opening : History) (before : List Row) (v : View) (recovers : Trees → Type 0) (seen : Log) → seen ≡ [] → AreDurable v recovers before
+    → (IsClean v → records_in v.trees ≡ before) → IsInOrder opening before v recovers seen [] false
+in_order_first opening before v recovers seen none durable sees =
+    subst (λ (l : Log). IsInOrder opening before v recovers l [] false) (sym none) (record {
+      held = [];
+      split = refl;
+      legal = record { each = λ k x got. absurd cc };
+      sees = λ _ clean. none_behind (records_in v.trees) (sees clean);
+      leaves = λ _. record { each = λ clean db left. none_behind (records_in db) (durable clean db left) };
+    })
+  where
+    none_behind : (all : List Row) → all ≡ before → HasRows before all []
+    none_behind all is = record { rows = []; behind = is ∙ sym (append-nil before); are = tt }
+
+module _ (opening : History) (before : List Row) where
+  pub in_order_copied : (v : View) (recovers : Trees → Type 0) (old new : SeatView) (unwritten after : List Copied) (failed : Bool)
+      → IsInOrder opening before v recovers old.seen unwritten failed → HasCopied opening old new unwritten after
+      → IsInOrder opening before v recovers new.seen after failed
+  in_order_copied v recovers old new unwritten after failed o c = record {
+    held = o.held;
+    split =
+        c.changes ∙ ap (λ l. l ++ map change_copied c.more) o.split ∙ append_assoc o.held (map change_copied unwritten) (map change_copied c.more)
+        ∙ ap (λ l. o.held ++ l) (sym (map-append change_copied unwritten c.more)) ∙ ap (λ l. o.held ++ map change_copied l) (sym c.copied);
+    legal = c.legal o.legal;
+    sees = o.sees;
+    leaves = o.leaves;
+  }
+
+  pub in_order_failed : (v w : View) (recovers left : Trees → Type 0) (seen : Log) (unwritten : List Copied) (failed : Bool)
+      → IsInOrder opening before v recovers seen unwritten failed → IsInOrder opening before w left seen unwritten true
+  in_order_failed v w recovers left seen unwritten failed o = record {
+    held = o.held;
+    split = o.split;
+    legal = o.legal;
+    sees = λ (no : true ≡ false). absurd (true≢false no);
+    leaves = λ (no : true ≡ false). absurd (true≢false no);
+  }
+
+  pub in_order_written : (v w : View) (recovers left : Trees → Type 0) (seen : Log) (unwritten : List Copied)
+      → IsInOrder opening before v recovers seen unwritten false → doubt v.is_clean ≤ doubt w.is_clean
+      → (IsClean w → HasRows (records_in v.trees) (records_in w.trees) (map change_copied unwritten))
+      → (IsClean w → (db : Trees) → left db → HasRows (records_in v.trees) (records_in db) (map change_copied unwritten))
+      → IsInOrder opening before w left seen [] false
+  in_order_written v w recovers left seen unwritten o clean adds leaves = record {
+    held = o.held ++ map change_copied unwritten;
+    split = o.split ∙ sym (append-nil (o.held ++ map change_copied unwritten));
+    legal = o.legal;
+    sees = λ _ is_clean. has_joined before (records_in v.trees) (records_in w.trees) o.held (map change_copied unwritten) (o.sees refl (was is_clean)) (adds is_clean);
+    leaves = λ _. record {
+      each = λ is_clean db is_left.
+          has_joined before (records_in v.trees) (records_in db) o.held (map change_copied unwritten) (o.sees refl (was is_clean)) (leaves is_clean db is_left);
+    };
+  }
+    where
+      was : IsClean w → IsClean v
+      was is_clean = omega (arith, is_clean, clean)
+
+  pub held_all : (v : View) (recovers : Trees → Type 0) (seen : Log) (unwritten : List Copied) (failed : Bool) → IsInOrder opening before v recovers seen unwritten failed
+      → failed ≡ false → length unwritten ≡ 0 → AreHeld v recovers before (changes_of seen)
+  held_all v recovers seen [] failed o sound none = subst (AreHeld v recovers before) (sym (o.split ∙ append-nil o.held)) (o.leaves sound)
+  held_all v recovers seen (c ∷ more) failed o sound none = absurd (omega (arith, none))
+
+  pub in_order_after : (v w : View) (recovers left : Trees → Type 0) (old new : SeatView) (unwritten after : List Copied) (failed : Bool)
+      → IsInOrder opening before v recovers old.seen unwritten failed → HasCopied opening old new unwritten after → failed ≡ false
+      → doubt v.is_clean ≤ doubt w.is_clean
+      → (IsClean w → HasRows (records_in v.trees) (records_in w.trees) (map change_copied after))
+      → (IsClean w → (db : Trees) → left db → HasRows (records_in v.trees) (records_in db) (map change_copied after))
+      → IsInOrder opening before w left new.seen [] false
+  in_order_after v w recovers left old new unwritten after failed o c sound clean adds leaves =
+      let copied = in_order_copied v recovers old new unwritten after failed o c in
+      in_order_written v w recovers left new.seen after (subst (IsInOrder opening before v recovers new.seen after) sound copied) clean adds leaves

@@ -1,0 +1,40 @@
+//! Why a step of a journal wasn't made.
+
+ghost use Rattle.std.specs.Prelude.{◌≡◌, ◌≢◌, ◌↔◌, IsTrue};
+ghost use Rattle.book_journal.specs.declared.fault.JournalError.TheVariants.{NoMemory, Pruned};
+
+use book_lock::CopyRefusal;
+use sqlite_trees::error::StoreError;
+use std::alloc::{AllocError, AllocFailed};
+use thiserror::Error;
+
+/// Why nothing was published.
+#[derive(Clone, Copy, Debug, PartialEq, Eq, Error)]
+pub enum JournalError {
+    /// Memory was refused before anything was written. The step may be made again.
+    #[error("out of memory")]
+    NoMemory,
+    /// Changes were folded before the journal had copied them. They can't be written any more.
+    #[error("changes of the book were pruned before they were written to the store")]
+    Pruned,
+    /// The store failed, and nothing more is written to it: what is held now is found when its file is opened again.
+    #[error("the store of the book failed: {0}")]
+    Store(StoreError),
+}
+
+impl JournalError {
+    /// Whether no later step can succeed, so that the journal of the book has failed.
+    pub fn is_final(self) -> bool
+        ensures { IsTrue result ↔ (self ≢ JournalError.NoMemory) }
+    {
+        !matches!(self, JournalError::NoMemory)
+    }
+}
+
+impl From<AllocError> for JournalError {
+    ghost from_gives = { λ _ e. e ≡ NoMemory };
+
+    fn from(_: AllocError) -> JournalError {
+        JournalError::NoMemory
+    }
+}

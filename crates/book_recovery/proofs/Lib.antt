@@ -1,0 +1,5 @@
+pub mod Codec
+pub mod Noting
+pub mod Bodies
+pub mod Deployed
+pub mod Files

@@ -1,0 +1,4 @@
+pub mod Seen
+pub mod Adopted
+pub mod Interrupting
+pub mod inner

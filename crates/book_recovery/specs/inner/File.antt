@@ -1,0 +1,155 @@
+-- What is recovered from the bodies of a file's records.
+use Rattle.std.specs.Prelude.{◌≡◌, ◌≢◌, ◌⊎◌, ◌+◌, ℕ, max, List, [], ◌∷◌, map, take, drop, slice_get, Option, None, Some, Result, Ok, Err, IsErr, IsUtf8}
+use Rattle.std.specs.List.{AllByRecursion, filter_map}
+use Rattle.plan_text.specs.Entries.{PlanEntry}
+use Rattle.plan_text.specs.Document.{plan_in}
+use Rattle.event_log.specs.History.{History}
+use Rattle.event_log.specs.inner.History.{snapshot_after}
+use Rattle.event_store.specs.declared.columns.StoredRecord.{StoredRecord}
+use Rattle.event_records.specs.declared.fault.RecordFault.{RecordFault}
+use Rattle.event_records.specs.declared.record.Record.{Record}
+use Rattle.event_records.specs.inner.Fields.{Fits as RecordFits}
+use Rattle.event_records.specs.inner.Encoding.{encoding}
+use Rattle.event_records.specs.inner.Decoding.{record_at}
+use Rattle.book_replay.specs.declared.fault.ReplayFault.TheVariants.{NoMemory, Invalid, Refused, Differs}
+use Rattle.book_replay.specs.Replay.{AreReplayed, IsReason, after_records}
+use Rattle.book_recovery.specs.declared.fault.HeaderFault.{HeaderFault}
+use Rattle.book_recovery.specs.declared.fault.HeaderFault.TheVariants.{NoHeader}
+use Rattle.book_recovery.specs.declared.fault.RecordProblem.{RecordProblem}
+use Rattle.book_recovery.specs.declared.fault.RecordProblem.TheVariants.{Damaged, Trailing, Replay}
+use Rattle.book_recovery.specs.declared.fault.RecoveryError.{RecoveryError}
+use Rattle.book_recovery.specs.declared.fault.RecoveryError.TheVariants as errors
+use Rattle.book_recovery.specs.declared.fault.Stop.{Stop}
+use Rattle.book_recovery.specs.Seen.{last_moment, last_second}
+use Rattle.book_recovery.specs.inner.Header.{Contents, Fits, header_bytes, header_in}
+
+-- ---- bodies
+
+-- the bodies of stored records
+abbrev pub bodies_of : List StoredRecord → List (List ℕ)
+bodies_of rows = map (λ r. r.body.items) rows
+
+-- a record that is all that was read
+abbrev pub whole : Result (Record × List ℕ) RecordFault → Option Record
+whole (Ok (r, [])) = Some r
+whole (Ok (r, b ∷ bs)) = None
+whole (Err fault) = None
+
+-- the record that a body is, with nothing behind it
+abbrev pub record_in : List ℕ → Option Record
+record_in body = whole (record_at body)
+
+-- the records among bodies
+abbrev pub records_in : List (List ℕ) → List Record
+records_in bodies = filter_map record_in bodies
+
+-- the header of a file, which is its first body
+abbrev pub file_header : List (List ℕ) → Result Contents HeaderFault
+file_header [] = Err NoHeader
+file_header (body ∷ bodies) = header_in body
+
+-- the records of a file, which are all bodies but the first
+abbrev pub file_records : List (List ℕ) → List Record
+file_records bodies = records_in (drop 1 bodies)
+
+-- the last second that the rows of a file name: when one was written, or a moment in its record
+abbrev pub last_second_in : List StoredRecord → ℕ
+last_second_in rows = max (last_second (map (λ r. r.at) rows)) (last_moment (file_records (bodies_of rows)))
+
+-- ---- a book that is recovered
+
+-- the history behind a file's header, before its first record
+abbrev pub start : Contents → PlanEntry → History
+start header plan = snapshot_after plan header.events_max
+
+-- a history is recovered from the bodies of a file
+pub record IsRecovered (bodies : List (List ℕ)) (h : History) : Type 0 where
+  pub header : Contents
+  pub plan : PlanEntry
+  pub read : file_header bodies ≡ Ok header
+  pub planned : plan_in header.document ≡ Ok plan
+  -- the bodies are the encodings of the header and of the records, in order, and nothing else
+  pub encoded : bodies ≡ header_bytes header ∷ map encoding (file_records bodies)
+  -- the history is what the sequential engine makes of the records, and their arrivals were so answered
+  pub history : h ≡ after_records (start header plan) (file_records bodies)
+  pub replayed : AreReplayed (start header plan) (file_records bodies)
+
+-- ---- a file from which none is
+
+-- a body is a record of which this holds
+pub record IsRecordThat (P : Record → Type 0) (body : List ℕ) : Type 0 where
+  pub its : Record
+  pub is : record_in body ≡ Some its
+  pub holds : P its
+
+-- more bytes are behind the record of a body
+pub record HasTrailing (body : List ℕ) : Type 0 where
+  pub its : Record
+  pub rest : List ℕ
+  pub read : record_at body ≡ Ok (its, rest)
+  pub some : rest ≢ []
+
+-- the reason for which a recovery stops at a body, where this is the history before it; memory can be refused at any
+abbrev pub IsProblem : RecordProblem → History → List ℕ → Type 0
+IsProblem (Damaged fault) h body = record_at body ≡ Err fault
+IsProblem Trailing h body = HasTrailing body
+IsProblem (Replay NoMemory) h body = Unit {0}
+IsProblem (Replay Invalid) h body = IsRecordThat (IsReason Invalid h) body
+IsProblem (Replay Refused) h body = IsRecordThat (IsReason Refused h) body
+IsProblem (Replay Differs) h body = IsRecordThat (IsReason Differs h) body
+
+-- it stops at the body of this index, behind records that were booked again
+pub record StopsAtBody (index : ℕ) (problem : RecordProblem) (h : History) (bodies : List (List ℕ)) : Type 0 where
+  pub stop : List ℕ
+  pub found : slice_get bodies index ≡ Some stop
+  pub encoded : take index bodies ≡ map encoding (records_in (take index bodies))
+  pub replayed : AreReplayed h (records_in (take index bodies))
+  pub is : IsProblem problem (after_records h (records_in (take index bodies))) stop
+
+-- it stops at the record of this index, counted from 0 for the header
+pub record IsStopped (stop : Stop) (bodies : List (List ℕ)) : Type 0 where
+  pub header : Contents
+  pub plan : PlanEntry
+  pub index : ℕ
+  pub read : file_header bodies ≡ Ok header
+  pub planned : plan_in header.document ≡ Ok plan
+  pub version : stop.version.now ≡ header.version
+  pub place : stop.index ≡ index + 1
+  pub stops : StopsAtBody index stop.problem (start header plan) (drop 1 bodies)
+
+-- the document of a file's header is no plan
+pub record HasNoPlan (bodies : List (List ℕ)) : Type 0 where
+  pub header : Contents
+  pub read : file_header bodies ≡ Ok header
+  pub no_plan : IsUtf8 header.document → IsErr (plan_in header.document)
+
+-- why the document of a header isn't read
+abbrev pub IsPlanFailure : RecoveryError → List ℕ → Type 0
+IsPlanFailure errors.NoMemory document = Unit {0}
+IsPlanFailure (errors.Header fault) document = ⊥
+IsPlanFailure errors.NoPlan document = IsUtf8 document → IsErr (plan_in document)
+IsPlanFailure (errors.Stopped stop) document = ⊥
+
+-- why no book is recovered; memory can be refused at any time
+abbrev pub IsFailure : List (List ℕ) → RecoveryError → Type 0
+IsFailure bodies errors.NoMemory = Unit {0}
+IsFailure bodies (errors.Header fault) = file_header bodies ≡ Err fault
+IsFailure bodies errors.NoPlan = HasNoPlan bodies
+IsFailure bodies (errors.Stopped stop) = IsStopped stop bodies
+
+-- ---- a file that was written
+
+-- A header and records of which a file is written: they fit into their encodings, the header has a plan, and the sequential
+-- engine books the records, and answers their arrivals as they say.
+pub record IsRecoverable (c : Contents) (plan : PlanEntry) (rs : List Record) : Type 0 where
+  pub header : Fits c
+  pub records : AllByRecursion RecordFits rs
+  pub planned : plan_in c.document ≡ Ok plan
+  pub replayed : AreReplayed (start c plan) rs
+
+-- what may stop a recovery of such a file: memory is refused, or an arrival is of no event of a book
+abbrev pub IsExcused : RecoveryError → Type 0
+IsExcused errors.NoMemory = Unit {0}
+IsExcused (errors.Header fault) = ⊥
+IsExcused errors.NoPlan = ⊥
+IsExcused (errors.Stopped stop) = (stop.problem ≡ Replay NoMemory) ⊎ (stop.problem ≡ Replay Invalid)

@@ -1,0 +1,17 @@
+use mathlib.Core.List.{[]}
+use denote.Exit.{no}
+use denote.Param.{param}
+use denote.Param.Send.{arg_send, param_send}
+use Rattle.service_run.specs.contracts.journaling.Reserving as Reserving
+use Rattle.service_run.proofs.journaling.Reserving.TheSendSync as reserving
+use Rattle.service_run.proofs.Crossing.{at_place_send}
+use Rattle.service_run.proofs.journaling.start_reserving.Goals as goal
+
+pub spawn_scoped-requires-send-F : goal.spawn_scoped-requires-send-F
+spawn_scoped-requires-send-F g c κs within =
+    let b = c.type_bounds in
+    param_send 1 _ (arg_send _ no _ (
+    at_place_send (param 1 g.row.A) (param 2 g.row.H) g.A.Sharing g.A.Naming
+    _ _ _ _ _ _ (Reserving.the_row _) []
+    b.sync-H (reserving.the_sync _) tt
+    ))

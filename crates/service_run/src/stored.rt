@@ -1,0 +1,398 @@
+//! A service with a store, from its start to its end.
+
+ghost use Rattle.std.specs.Prelude.{◌≡◌, ◌+◌, [], IfOk, IfSome, List, length, map};
+ghost use Rattle.sqlite_store.specs.FileStore.{recovers, view};
+ghost use Rattle.sqlite_trees.specs.View.{IsClean};
+ghost use Rattle.event_log.specs.History.{next_place, plan_in_force};
+ghost use Rattle.event_log.specs.Counting.{counted};
+ghost use Rattle.event_store.specs.Records.{AreDurable, records_in};
+ghost use Rattle.book_journal.specs.inner.Held.{AreHeld};
+ghost use Rattle.book_lock.specs.declared.log_entry.LogEntry.{LogEntry as Change};
+ghost use Rattle.book_lock.specs.inner.Log.{new_seats};
+
+use crate::ending::conclude;
+use crate::journaling::{Ending, operation_of, work_journaled};
+use crate::listeners::open_gates;
+use crate::service::{POSTS, RunEnd, VERSION, log_descriptors, log_start, seconds_now};
+use crate::settings::Settings;
+use crate::workers::Workers;
+use book_core::{Book, EVENTS_MAX};
+use book_journal::{Journal, Journaling};
+use book_lock::{Desk, JournalReader, LogEntry, Opened, Shared, Sharing};
+use conn_worker::nearest;
+use engine_report::{Fault, Trouble, connections_of};
+use event_store::EventStore;
+use ghost_log::BlankLog;
+use log::{Log, info, warn};
+use log_text::Escaped;
+use plan_text::Plan;
+use service_answers::Origin;
+use service_store::{
+    ConnectionNumbers, ServiceStore, StartError, StartRequest, Started, close_store,
+    start_in_folder,
+};
+use service_workers::{Crew, Gate, History, ServiceRows, Site};
+use sqlite_std_file::File;
+use sqlite_store::FileStore;
+use sqlite_trees::store::Store;
+use std::alloc::{AllocError, Global};
+use std::marker::Brand;
+use std::sync::Arc;
+use std::thread::Threads;
+
+/// What a service with a store begins with.
+#[derive(Drop)]
+struct Beginning<S: Store> {
+    /// The listeners of the channels.
+    gates: Vec<Gate>,
+    /// The book, as it was recovered.
+    book: Book<ServiceRows>,
+    /// The store that has the records from which the book was recovered.
+    store: EventStore<S>,
+    /// From where connections go on.
+    connections: Connections,
+}
+
+/// From where the connections and the moments of a service with a store go on.
+#[derive(Drop)]
+struct Connections {
+    /// The numbers of connections.
+    numbers: ConnectionNumbers,
+    /// The last moment in the store, in seconds since 1970.
+    last_second: u64,
+}
+
+/// The exit status where a write or a sync of the store has failed.
+pub(crate) const STORE_FAILED: u8 = 6;
+
+/// The last of this number of new desks, which is that of the journal.
+///
+/// # Errors
+///
+/// Where there is none.
+fn journal_desk<A: Sharing>(desks: &mut Vec<Desk<A>>, _count: usize) -> Result<Desk<A>, AllocError>
+    requires { map (λ d. d.seat) desks.old.items ≡ new_seats 0 _count }
+    ensures { IfOk result (λ d. d.seat.seen ≡ []) }
+{
+    match desks.pop() {
+        Some(desk) => Ok(desk),
+        None => Err(AllocError),
+    }
+}
+
+/// How the workers and the journal of a service with a store have worked.
+#[derive(Clone, Copy)]
+struct Journaled {
+    ending: Ending,
+    /// How many messages failed since their last attempt was cut off by the stop.
+    cut: u64,
+}
+
+/// Runs all workers over a shared book, and the journal beside them, until they have ended.
+fn run_journaled<A: Journaling + Send + Sync, S: Store, H: Crew + Threads + Sync>(
+    rt: &HostRuntime,
+    handle: &H,
+    settings: &Settings,
+    shared: &Shared<A, ServiceRows>,
+    workers: &Workers<A>,
+    connections: Connections,
+    journal: &mut Journal<A, S>,
+) -> Journaled
+    requires committed { (store : S) (changes : List Change)
+        → AreHeld (S.Store.view store) (S.Store.recovers store) A.before changes
+        → A.committed changes }
+{
+    let Connections {
+        numbers,
+        last_second,
+    } = connections;
+    let history = History::Store {
+        first_connection: numbers.first(),
+        reserved: numbers.end(),
+        last_second,
+    };
+    let Settings { keep, idle, .. } = *settings;
+    let site = Site::new(handle, rt.alloc(), shared, keep, idle, history);
+    let operation = operation_of(rt, workers, settings, seconds_now(handle));
+    let ending = work_journaled(handle, &site, &operation, numbers, journal);
+    Journaled {
+        ending,
+        cut: site.cut(),
+    }
+}
+
+/// How a service with a store ended, by how its workers and its journal did, and by how its book was closed.
+///
+/// # Errors
+///
+/// `Store` where the journal failed; else the fault of the end.
+fn outcome<'f>(
+    alloc: Global,
+    worked: Journaled,
+    closed: Result<RunEnd, Fault<'f>>,
+) -> Result<RunEnd, Trouble<'f>> {
+    match worked.ending {
+        Ending::NoThreads => Err(Trouble::Engine(Fault::Memory)),
+        Ending::Failed(error) => Err(Trouble::Store {
+            line: format!(in alloc; "{error}")?,
+            status: STORE_FAILED,
+        }),
+        Ending::Written => match closed {
+            Ok(_) if worked.cut > 0 => Ok(RunEnd::Undelivered),
+            Ok(RunEnd::Undelivered) => Ok(RunEnd::Stored),
+            Ok(end) => Ok(end),
+            Err(fault) => Err(Trouble::Engine(fault)),
+        },
+    }
+}
+
+/// Shares the book, runs all workers over it and the journal beside them, closes it, and prints the statistics. Returns how the
+/// service ended, and the store.
+fn serve_stored<'f, A: Journaling + Send + Sync, S: Store + Drop, H: Crew + Threads + Sync>(
+    rt: &HostRuntime,
+    handle: &H,
+    settings: &Settings,
+    beginning: Beginning<S>,
+    desks: usize,
+    log: BlankLog<LogEntry>,
+) -> Result<(Result<RunEnd, Trouble<'f>>, EventStore<S>), Trouble<'f>>
+    requires opening { beginning.book ≡ A.opening }
+    requires log { log.table.shared.table_id ≡ A.table }
+    requires counts { counted beginning.book ≡ A.counts }
+    requires first { next_place beginning.book ≡ A.first }
+    requires channels { length (plan_in_force beginning.book).channels ≡ A.channels }
+    requires seats { (A.desks ≡ desks) × (A.stations ≡ 32) }
+    requires durable { AreDurable (S.Store.view beginning.store.store)
+        (S.Store.recovers beginning.store.store) A.before }
+    requires sees { IsClean (S.Store.view beginning.store.store)
+        → records_in (S.Store.view beginning.store.store).trees ≡ A.before }
+    requires committed { (store : S) (changes : List Change)
+        → AreHeld (S.Store.view store) (S.Store.recovers store) A.before changes
+        → A.committed changes }
+{
+    let alloc = rt.alloc();
+    let Beginning {
+        gates,
+        book,
+        store,
+        connections,
+    } = beginning;
+    let (next, prunings) = (book.len(), book.prunings());
+    let plan = Arc::try_clone(book.plan())?;
+    let opened = Shared::<A, ServiceRows>::new(alloc, book, desks, POSTS as usize, log);
+    let Ok(
+        Opened {
+            shared,
+            desks: mut seated,
+            stations,
+        },
+    ) = opened
+    else {
+        return Err(Trouble::Engine(Fault::Memory));
+    };
+    let own = journal_desk(&mut seated, desks)?;
+    let reader = JournalReader::new(own, next, prunings);
+    let mut journal = Journal::new(alloc, reader, store, plan);
+    let workers = Workers::new(alloc, gates, seated, stations)?;
+    let worked = run_journaled(
+        rt,
+        handle,
+        settings,
+        &shared,
+        &workers,
+        connections,
+        &mut journal,
+    );
+    let plan = shared.plan(handle)?;
+    let mut returned = workers.into_returned(alloc)?;
+    let (own, store) = journal.into_parts();
+    returned.desks.push(own).map_err(AllocError::from)?;
+    let closed = conclude(rt, alloc, &plan, shared, returned);
+    Ok((outcome(alloc, worked, closed), store))
+}
+
+/// Why the store can't be used, as the program reports it.
+fn trouble_of<'f>(alloc: Global, error: &StartError<'_>) -> Result<Trouble<'f>, AllocError> {
+    Ok(Trouble::Store {
+        line: format!(in alloc; "{error}")?,
+        status: error.fault.status(),
+    })
+}
+
+/// Logs what was found in the store: how much was recovered, which plan is in force, and what the end of the last process
+/// interrupted.
+fn log_found<S: Store, H: Log>(handle: &H, folder: &str, found: &Started<S, ServiceRows>) {
+    let Started {
+        book,
+        records,
+        interrupted,
+        failed,
+        kept_plan,
+        ..
+    } = found;
+    let (store, records, messages) = (Escaped(folder), *records, book.message_count());
+    info!(handle; store:% = store, records, messages; "the store is open");
+    if let Some(refusal) = kept_plan {
+        let deployments = book.deployments();
+        warn!(handle; target: "always", deployments; "the plan of the command line is not taken, and the one in the store stays in force: {refusal}");
+    }
+    let interrupted = *interrupted;
+    if interrupted > 0 {
+        warn!(handle; target: "always", interrupted; "attempts to deliver were interrupted by the end of the last process: they are made again, so a destination may get a message twice");
+    }
+    for ticket in failed {
+        let (message, queue) = (ticket.number, ticket.destination);
+        warn!(handle; target: "always", message, queue; "message failed: its last attempt was interrupted, so it may or may not have been delivered");
+    }
+}
+
+/// The settings of a start, where the plan that it begins with may be that of the store.
+fn began_with<'a>(settings: &Settings<'a>, is_plan_kept: bool) -> Settings<'a> {
+    let plan = if is_plan_kept {
+        Origin::Store
+    } else {
+        settings.plan
+    };
+    Settings { plan, ..*settings }
+}
+
+/// Starts from the store in a folder.
+///
+/// # Errors
+///
+/// `Store` where it can't be used, `Memory`.
+fn open_store<'f, H: Crew>(
+    rt: &HostRuntime,
+    handle: &H,
+    folder: &str,
+    plan: &Arc<Plan>,
+    settings: &Settings,
+) -> Result<ServiceStore<ServiceRows>, Trouble<'f>>
+    ensures durable { IfOk result (λ s. AreDurable (view s.started.store.store)
+        (recovers s.started.store.store) (records_in (view s.started.store.store).trees)) }
+{
+    let request = StartRequest {
+        plan: Arc::try_clone(plan)?,
+        events_max: settings.events.clamp(1, EVENTS_MAX),
+        version: VERSION,
+        now: nearest(seconds_now(handle)),
+    };
+    match start_in_folder(rt, folder, request) {
+        Ok(opened) => Ok(opened),
+        Err(error) => Err(trouble_of(rt.alloc(), &error)?),
+    }
+}
+
+/// The listeners of a service, and among how many desks its book is shared.
+#[derive(Drop)]
+struct Listening {
+    gates: Vec<Gate>,
+    desks: usize,
+}
+
+/// Listens by the plan in force of a book that was started.
+///
+/// # Errors
+///
+/// `Limit` where the connections of all channels are more than 9,999; `Listen` of the first channel that can't listen; `Memory`.
+fn listen<'f, S: Store, H: Crew>(
+    rt: &HostRuntime,
+    handle: &H,
+    settings: &Settings,
+    started: &Started<S, ServiceRows>,
+) -> Result<Listening, Fault<'f>> {
+    let plan = started.book.plan();
+    let connections = connections_of(plan, settings.connections)?;
+    log_descriptors(handle, plan, connections);
+    Ok(Listening {
+        gates: open_gates(rt, handle, plan)?,
+        // Two desks more are the operator's and the journal's.
+        desks: connections.saturating_add(2) as usize,
+    })
+}
+
+/// Serves from a book that was started in the store of a folder. Returns how the service ended, and the store.
+fn serve_started<'f, S: Store + Drop, H: Crew + Threads + Sync>(
+    rt: &HostRuntime,
+    handle: &H,
+    folder: &str,
+    settings: &Settings,
+    started: Started<S, ServiceRows>,
+    numbers: ConnectionNumbers,
+) -> Result<(Result<RunEnd, Trouble<'f>>, EventStore<S>), Trouble<'f>>
+    requires durable { AreDurable (S.Store.view started.store.store)
+        (S.Store.recovers started.store.store) (records_in (S.Store.view started.store.store).trees) }
+{
+    log_found(handle, folder, &started);
+    let settings = &began_with(settings, started.kept_plan.is_some());
+    let Listening { gates, desks } = listen(rt, handle, settings, &started)?;
+    let Started {
+        book,
+        store,
+        last_second,
+        ..
+    } = started;
+    let beginning = Beginning {
+        gates,
+        book,
+        store,
+        connections: Connections {
+            numbers,
+            last_second,
+        },
+    };
+    let log = BlankLog::new(rt.alloc())?;
+    serve_stored::<Brand, S, H>(rt, handle, settings, beginning, desks, log)
+}
+
+/// Closes the store in a folder in order, and logs where that fails.
+fn close<H: Log>(handle: &H, folder: &str, store: EventStore<FileStore<File>>) {
+    if let Err(error) = close_store(store) {
+        let store = Escaped(folder);
+        warn!(handle; target: "always", store:% = store; "the store is not closed in order: {error}");
+    }
+}
+
+/// Serves from the store in a folder, and closes it.
+fn serve_found<'f, H: Crew + Threads + Sync>(
+    rt: &HostRuntime,
+    handle: &H,
+    folder: &str,
+    settings: &Settings,
+    found: ServiceStore<ServiceRows>,
+) -> Result<RunEnd, Trouble<'f>>
+    requires durable { AreDurable (view found.started.store.store)
+        (recovers found.started.store.store) (records_in (view found.started.store.store).trees) }
+{
+    let ServiceStore {
+        started,
+        connections,
+    } = found;
+    match serve_started(rt, handle, folder, settings, started, connections) {
+        Ok((ended, store)) => {
+            close(handle, folder, store);
+            ended
+        }
+        Err(trouble) => Err(trouble),
+    }
+}
+
+/// Runs the service by a plan, with its history in the store of a folder.
+///
+/// # Errors
+///
+/// `Store` where the store can't be used, or has failed; those of an engine.
+pub(crate) fn run_stored<'f, H: Crew + Threads + Sync>(
+    rt: &HostRuntime,
+    handle: &H,
+    path: &str,
+    folder: &str,
+    plan: &Arc<Plan>,
+    settings: &Settings,
+) -> Result<RunEnd, Trouble<'f>> {
+    log_start(handle, path, plan, settings);
+    match open_store(rt, handle, folder, plan, settings) {
+        Ok(found) => serve_found(rt, handle, folder, settings, found),
+        Err(trouble) => Err(trouble),
+    }
+}

@@ -1,0 +1,3 @@
+pub mod Behind
+pub mod Booked
+pub mod Faults

@@ -1,0 +1,244 @@
+//! Why a store isn't started.
+
+ghost use Rattle.std.specs.Prelude.{◌≡◌, ℕ, List};
+ghost use Rattle.book_recovery.specs.inner.File.{IsFailure};
+ghost use Rattle.service_store.specs.declared.fault.BookFault.TheVariants.{NoMemory};
+ghost use Rattle.service_store.specs.inner.Faults.{IsBookFailure, IsWriteFailure, book_status, numbers_status, start_status};
+
+use book_recovery::{HeaderFault, RecordProblem, RecoveryError, Stop};
+use book_replay::ReplayFault;
+use sqlite_trees::error::StoreError;
+use std::alloc::{AllocError, AllocFailed, Global};
+use std::io;
+use thiserror::Error;
+
+/// Why the book of a store isn't started.
+#[derive(Debug, Drop, Error)]
+pub enum BookFault {
+    /// An allocation was refused.
+    #[error("out of memory")]
+    NoMemory,
+    /// The first record is no header.
+    #[error("{0}: name the folder of a store that this version of the program reads")]
+    Header(HeaderFault),
+    /// The document in the header is no plan.
+    #[error("the plan in the header can't be read: start the version of the program that began the store")]
+    NoPlan,
+    /// The book can't be recovered.
+    #[error("record {}: {problem}; version {version} began the store: start that version, or restore the file", .index.saturating_add(1))]
+    Stopped {
+        /// The index of the record at which it stops, counted from 0 for the header. The text counts from 1.
+        index: usize,
+        /// What is wrong with it.
+        problem: RecordProblem,
+        /// The version of the program that began the store.
+        version: String,
+    },
+    /// The book of the store may hold another number of entries than the command line asks for.
+    #[error("the store was begun with --events {bound}, and the command line has {asked}: start with --events {bound}")]
+    OtherBound {
+        /// The most entries of the store's book.
+        bound: u32,
+        /// Those that the command line asks for.
+        asked: u32,
+    },
+    /// The store failed at a write or a sync.
+    #[error("not written: {0}; see to the disk and its room, and start again")]
+    Write(StoreError),
+}
+
+/// Why no number of a connection is reserved.
+#[derive(Debug, Drop, Error)]
+pub enum NumbersFault {
+    /// An allocation was refused.
+    #[error("out of memory")]
+    NoMemory,
+    /// The file is there, and holds something else than one number.
+    #[error("damaged: write the first number of a connection that was never used into it, on a line")]
+    Damaged,
+    /// All numbers of 32 bits are used.
+    #[error("no number of a connection is left: begin another store")]
+    UsedUp,
+    /// The file can't be read.
+    #[error("not read: {0}")]
+    Read(io::Error),
+    /// The file can't be replaced.
+    #[error("not written: {0}; see to the disk and its room, and start again")]
+    Write(io::Error),
+}
+
+/// What went wrong at a start.
+#[derive(Debug, Drop, Error)]
+pub enum StartFault {
+    /// An allocation was refused.
+    #[error("out of memory")]
+    NoMemory,
+    /// The system gave no random bytes.
+    #[error("the system gave no random bytes")]
+    NoRandom,
+    /// The path is that of a file.
+    #[error("no folder: name a folder, or a path at which nothing is")]
+    NotAFolder,
+    /// The folder can't be made or looked at.
+    #[error("the folder can't be used: {0}")]
+    Folder(io::Error),
+    /// Another process has the store open.
+    #[error("in use by another process: end that process, or name another folder")]
+    InUse,
+    /// The file of the store can't be opened.
+    #[error("can't be opened: {0}")]
+    File(io::Error),
+    /// The file is no store, or is damaged.
+    #[error("damaged, or no message store: restore it, or name another folder")]
+    NotAStore,
+    /// SQLite left a journal beside the file.
+    #[error("a rollback journal is beside the file: open the file with sqlite3 first")]
+    HotJournal,
+    /// Another program, or another version of this one, wrote the file.
+    #[error("the file is of format {0}, and this program reads format 0: start the program that wrote it")]
+    OtherFormat(u32),
+    /// The disk failed while the store was opened or made.
+    #[error("{0}: see to the disk and its room, and start again")]
+    Disk(StoreError),
+    /// The book of the store isn't started.
+    #[error("{0}")]
+    Book(BookFault),
+    /// No number of a connection is reserved.
+    #[error("{0}")]
+    Numbers(NumbersFault),
+}
+
+/// Why a store isn't started, with the folder of the store. The text is one line that begins with the path of the folder or the file.
+#[derive(Debug, Drop, Error)]
+#[error("{folder}{}: {fault}", .fault.file())]
+pub struct StartError<'a> {
+    /// The path of the folder.
+    pub folder: &'a str,
+    /// What went wrong.
+    pub fault: StartFault,
+}
+
+impl From<AllocError> for BookFault {
+    ghost from_gives = { λ _ e. e ≡ NoMemory };
+
+    fn from(_: AllocError) -> BookFault {
+        BookFault::NoMemory
+    }
+}
+
+impl<T: Drop> From<AllocFailed<T>> for BookFault {
+    ghost from_gives = { λ _ e. e ≡ NoMemory };
+
+    fn from(_: AllocFailed<T>) -> BookFault {
+        BookFault::NoMemory
+    }
+}
+
+/// A recovery that stopped at a record.
+fn stopped(alloc: Global, stop: Stop<'_>) -> BookFault
+    ensures { (asked : ℕ) (bodies : List (List ℕ)) → IsFailure bodies (RecoveryError.Stopped stop.entry) → IsBookFailure asked bodies result }
+{
+    if stop.problem == RecordProblem::Replay(ReplayFault::NoMemory) {
+        return BookFault::NoMemory;
+    }
+    match String::from_str(alloc, stop.version) {
+        Ok(version) => BookFault::Stopped {
+            index: stop.index,
+            problem: stop.problem,
+            version,
+        },
+        Err(_) => BookFault::NoMemory,
+    }
+}
+
+impl BookFault {
+    /// Why no book was recovered.
+    pub(crate) fn of_recovery(alloc: Global, error: RecoveryError<'_>) -> BookFault
+        ensures { (asked : ℕ) (bodies : List (List ℕ)) → IsFailure bodies error.entry → IsBookFailure asked bodies result }
+    {
+        match error {
+            RecoveryError::NoMemory => BookFault::NoMemory,
+            RecoveryError::Header(fault) => BookFault::Header(fault),
+            RecoveryError::NoPlan => BookFault::NoPlan,
+            RecoveryError::Stopped(stop) => stopped(alloc, stop),
+        }
+    }
+
+    /// What failed at a write of the store.
+    pub(crate) fn of_write(error: StoreError) -> BookFault
+        ensures { IsWriteFailure result }
+    {
+        match error {
+            StoreError::OutOfMemory => BookFault::NoMemory,
+            error => BookFault::Write(error),
+        }
+    }
+
+    /// The exit status of a program that ends for it.
+    pub fn status(&self) -> u8
+        ensures { result ≡ book_status self.now }
+    {
+        match self {
+            BookFault::NoMemory => 3,
+            BookFault::Header(_)
+            | BookFault::NoPlan
+            | BookFault::Stopped { .. }
+            | BookFault::OtherBound { .. } => 7,
+            BookFault::Write(_) => 6,
+        }
+    }
+}
+
+impl NumbersFault {
+    /// What failed at a write of the file.
+    pub(crate) fn of_write(error: io::Error) -> NumbersFault {
+        match error.kind() {
+            io::ErrorKind::OutOfMemory => NumbersFault::NoMemory,
+            _ => NumbersFault::Write(error),
+        }
+    }
+
+    /// The exit status of a program that ends for it.
+    pub fn status(&self) -> u8
+        ensures { result ≡ numbers_status self.now }
+    {
+        match self {
+            NumbersFault::NoMemory | NumbersFault::UsedUp | NumbersFault::Read(_) => 3,
+            NumbersFault::Damaged => 7,
+            NumbersFault::Write(_) => 6,
+        }
+    }
+}
+
+impl StartFault {
+    /// The end of the path of what it is about: nothing for the folder.
+    fn file(&self) -> &'static str {
+        match self {
+            StartFault::NoMemory
+            | StartFault::NoRandom
+            | StartFault::NotAFolder
+            | StartFault::Folder(_) => "",
+            StartFault::Numbers(_) => "/connections",
+            _ => "/events.db",
+        }
+    }
+
+    /// The exit status of a program that ends for it: 8 where the store is in use; 7 where a file is damaged, of another format, or
+    /// of another bound, or its book is not what was acknowledged; 6 where the disk failed; else 3.
+    pub fn status(&self) -> u8
+        ensures { result ≡ start_status self.now }
+    {
+        match self {
+            StartFault::NoMemory
+            | StartFault::NoRandom
+            | StartFault::NotAFolder
+            | StartFault::Folder(_)
+            | StartFault::File(_) => 3,
+            StartFault::InUse => 8,
+            StartFault::NotAStore | StartFault::HotJournal | StartFault::OtherFormat(_) => 7,
+            StartFault::Disk(_) => 6,
+            StartFault::Book(fault) => fault.status(),
+            StartFault::Numbers(fault) => fault.status(),
+        }
+    }
+}

@@ -1,0 +1,319 @@
+//! A book is started from what a store holds.
+
+ghost use Rattle.std.specs.Prelude.{◌≡◌, ◌≢◌, ◌≤◌, ◌-◌, ◌+◌, ◌↔◌, [], None, Some, Err, IfOk, IfErr, IfSome, OnOk, length};
+ghost use Rattle.std.specs.Arc.{arc_value};
+ghost use Rattle.sqlite_trees.specs.View.{IsClean, doubt};
+ghost use Rattle.event_log.specs.History.{History, plan_in_force};
+ghost use Rattle.event_store.specs.Records.{AreDurable, records_in};
+ghost use Rattle.book_recovery.specs.Seen.{last_connection};
+ghost use Rattle.book_recovery.specs.inner.File.{IsRecovered, bodies_of, file_records, last_second_in};
+ghost use Rattle.service_store.specs.inner.Faults.{IsBookFailure};
+ghost use Rattle.service_store.specs.inner.Starting.{AreBooked, AreReadOf, IsCaughtUp, IsPlanned, bodies_in};
+
+use crate::fault::BookFault;
+use crate::keep::{keep_header, keep_records};
+use book_core::{Book, BookRows, DeployRefusal, Ticket};
+use book_recovery::{
+    NewFile, Recovered, SettledFlights, VERSION_MAX, adopt_plan, begin_file, recover,
+    settle_interrupted,
+};
+use event_records::Record;
+use event_store::{EventStore, Opened, StoredRecord};
+use hl7_head::Moment;
+use plan_text::Plan;
+use sqlite_trees::store::Store;
+use std::alloc::{AllocError, Global};
+use std::hash::RandomState;
+use std::sync::Arc;
+
+/// What a start is made with.
+#[derive(Drop)]
+pub struct StartRequest<'a> {
+    /// The plan of the command line.
+    pub plan: Arc<Plan>,
+    /// The most entries that the book may hold, at least 1 and at most `EVENTS_MAX`.
+    pub events_max: u32,
+    /// The version of the program, at most `VERSION_MAX` bytes.
+    pub version: &'a str,
+    /// The moment of the start.
+    pub now: Moment,
+}
+
+/// A book that was started, and its store.
+#[derive(Drop)]
+pub struct Started<S: Store, B: BookRows> {
+    /// The book.
+    pub book: Book<B>,
+    /// The store, which holds what the book was recovered from, and nothing else.
+    pub store: EventStore<S>,
+    /// The later of the last moment in the store and the moment of the start, in seconds since 1970.
+    pub last_second: u64,
+    /// How many records were behind the header when the store was opened: 0 for a new store.
+    pub records: usize,
+    /// The highest number of a connection over which a message had arrived, if one had.
+    pub last_connection: Option<u32>,
+    /// How many attempts were in flight when the last process ended.
+    pub interrupted: usize,
+    /// Those of them that were the last: their messages have failed, though they may never have been delivered.
+    pub failed: Vec<Ticket>,
+    /// Why the plan of the command line is not in force, where it isn't: the book refuses it, and goes on with the plan of the store.
+    pub kept_plan: Option<DeployRefusal>,
+}
+
+/// What the book of a store was brought up to date by.
+#[derive(Drop)]
+struct CaughtUp {
+    records: Vec<Record>,
+    interrupted: usize,
+    failed: Vec<Ticket>,
+    kept_plan: Option<DeployRefusal>,
+}
+
+/// A moment in milliseconds since 1970.
+fn millis(now: Moment) -> i64 {
+    now.secs() as i64 * 1_000
+}
+
+/// The later of a moment and this number of seconds since 1970. A number that is no moment leaves the moment as it is.
+fn later(now: Moment, second: u64) -> Moment
+    ensures { now ≤ result }
+{
+    match i64::try_from(second) {
+        Ok(seconds) if second > now.secs() => Moment::of_unix(seconds).unwrap_or(now),
+        _ => now,
+    }
+}
+
+/// Puts the plan of the command line in force, unless the book refuses it. Returns the records of that, and the refusal.
+fn adopt<B: BookRows>(
+    alloc: Global,
+    book: &mut Book<B>,
+    plan: Arc<Plan>,
+) -> Result<(Vec<Record>, Option<DeployRefusal>), AllocError>
+    ensures booked { IfOk result (λ r. AreBooked book.old book.new r.0.items) }
+    ensures planned { IfOk result (λ r. IsPlanned (arc_value plan) book.old book.new r.1) }
+{
+    let mut records = Vec::new(alloc);
+    match adopt_plan(alloc, book, plan) {
+        Ok(None) => Ok((records, None)),
+        Ok(Some(item)) => {
+            records.push(item)?;
+            Ok((records, None))
+        }
+        Err(DeployRefusal::NoMemory) => Err(AllocError),
+        Err(refusal) => Ok((records, Some(refusal))),
+    }
+}
+
+/// Puts the plan of the command line in force, unless the book refuses it, and settles the attempts that are in flight.
+fn catch_up<B: BookRows>(
+    alloc: Global,
+    book: &mut Book<B>,
+    plan: Arc<Plan>,
+    now: Moment,
+) -> Result<CaughtUp, AllocError>
+    ensures booked { IfOk result (λ c. AreBooked book.old book.new c.records.items) }
+    ensures caught_up { IfOk result (λ c. IsCaughtUp (arc_value plan) now book.old book.new
+        c.kept_plan c.interrupted c.failed.items) }
+{
+    let (mut records, kept_plan) = adopt(alloc, book, plan)?;
+    let SettledFlights {
+        records: mut settlements,
+        failed,
+    } = settle_interrupted(alloc, book, now)?;
+    let interrupted = settlements.len();
+    records.append(&mut settlements)?;
+    Ok(CaughtUp {
+        records,
+        interrupted,
+        failed,
+        kept_plan,
+    })
+}
+
+/// Begins a store that has no record: its header is its first record, and is committed.
+fn begin<S: Store + Drop, B: BookRows + Drop>(
+    alloc: Global,
+    mut events: EventStore<S>,
+    request: StartRequest<'_>,
+    hasher: RandomState,
+) -> Result<Started<S, B>, BookFault>
+    requires some { 1 ≤ request.events_max }
+    requires few { request.events_max ≤ 1000000 }
+    requires version { length request.version.now ≤ VERSION_MAX }
+    ensures recovered { IfOk result (λ s. IsClean (S.Store.view s.store.store)
+        → bodies_in (S.Store.view events.store).trees ≡ []
+        → IsRecovered (bodies_in (S.Store.view s.store.store).trees) s.book) }
+    ensures durable { IfOk result (λ s. AreDurable (S.Store.view s.store.store)
+        (S.Store.recovers s.store.store) (records_in (S.Store.view s.store.store).trees)) }
+    ensures plan { IfOk result (λ s. plan_in_force s.book ≡ arc_value request.entry.plan) }
+    ensures kept { IfOk result (λ s. s.kept_plan ≡ None) }
+    ensures bound { IfOk result (λ s. s.book.opening.events_max ≡ request.entry.events_max) }
+    ensures records { IfOk result (λ s. s.records ≡ 0) }
+    ensures connection { IfOk result (λ s. s.last_connection ≡ None) }
+    ensures clean { IfOk result (λ s. doubt (S.Store.view events.store).is_clean
+        ≤ doubt (S.Store.view s.store.store).is_clean) }
+    ensures first { IfOk result (λ s. s.store.first ≡ events.first) }
+    ensures failure { IfErr result (IsBookFailure request.entry.events_max []) }
+{
+    let StartRequest {
+        plan,
+        events_max,
+        version,
+        now,
+    } = request;
+    let NewFile { header, book } = begin_file(alloc, plan, events_max, version, hasher)?;
+    keep_header(&mut events, header.as_slice(), millis(now))?;
+    Ok(Started {
+        book,
+        store: events,
+        last_second: now.secs(),
+        records: 0,
+        last_connection: None,
+        interrupted: 0,
+        failed: Vec::new(alloc),
+        kept_plan: None,
+    })
+}
+
+/// The book of the rows of a store that was begun with this bound.
+fn recover_bounded<B: BookRows + Drop>(
+    alloc: Global,
+    rows: &[StoredRecord],
+    events_max: u32,
+    hasher: RandomState,
+) -> Result<Recovered<B>, BookFault>
+    ensures recovered { IfOk result (λ r. IsRecovered (bodies_of rows.now) r.book) }
+    ensures bound { IfOk result (λ r. r.book.opening.events_max ≡ events_max) }
+    ensures records { IfOk result (λ r. r.records + 1 ≡ length rows.now) }
+    ensures connection { IfOk result (λ r. r.last_connection ≡ last_connection (file_records (bodies_of rows.now))) }
+    ensures second { IfOk result (λ r. r.last_second ≡ last_second_in rows.now) }
+    ensures failure { IfErr result (IsBookFailure events_max (bodies_of rows.now)) }
+{
+    let recovered = match recover::<B>(alloc, rows, hasher) {
+        Ok(recovered) => recovered,
+        Err(error) => return Err(BookFault::of_recovery(alloc, error)),
+    };
+    let bound = recovered.book.events_max();
+    if bound != events_max {
+        return Err(BookFault::OtherBound {
+            bound,
+            asked: events_max,
+        });
+    }
+    Ok(recovered)
+}
+
+/// Goes on from the rows of a store.
+fn resume<S: Store + Drop, B: BookRows + Drop>(
+    alloc: Global,
+    mut events: EventStore<S>,
+    rows: &[StoredRecord],
+    request: StartRequest<'_>,
+    hasher: RandomState,
+) -> Result<Started<S, B>, BookFault>
+    ensures recovered { IfOk result (λ s. IsClean (S.Store.view s.store.store)
+        → bodies_in (S.Store.view events.store).trees ≡ bodies_of rows.now
+        → IsRecovered (bodies_in (S.Store.view s.store.store).trees) s.book) }
+    ensures durable { IfOk result (λ s. AreDurable (S.Store.view s.store.store)
+        (S.Store.recovers s.store.store) (records_in (S.Store.view s.store.store).trees)) }
+    ensures caught_up { IfOk result (λ s. (h : History) → IsRecovered (bodies_of rows.now) h
+        → IsCaughtUp (arc_value request.entry.plan) request.entry.now h s.book s.kept_plan s.interrupted s.failed.items) }
+    ensures plan { IfOk result (λ s. (s.kept_plan ≡ None) ↔ (plan_in_force s.book ≡ arc_value request.entry.plan)) }
+    ensures bound { IfOk result (λ s. s.book.opening.events_max ≡ request.entry.events_max) }
+    ensures records { IfOk result (λ s. s.records + 1 ≡ length rows.now) }
+    ensures connection { IfOk result (λ s. s.last_connection ≡ last_connection (file_records (bodies_of rows.now))) }
+    ensures second { IfOk result (λ s. last_second_in rows.now ≤ s.last_second) }
+    ensures clean { IfOk result (λ s. doubt (S.Store.view events.store).is_clean
+        ≤ doubt (S.Store.view s.store.store).is_clean) }
+    ensures first { IfOk result (λ s. s.store.first ≡ events.first) }
+    ensures failure { IfErr result (IsBookFailure request.entry.events_max (bodies_of rows.now)) }
+{
+    let StartRequest {
+        plan,
+        events_max,
+        now,
+        ..
+    } = request;
+    let Recovered {
+        mut book,
+        records,
+        last_connection,
+        last_second,
+    } = recover_bounded::<B>(alloc, rows, events_max, hasher)?;
+    let now = later(now, last_second);
+    let caught_up = catch_up(alloc, &mut book, plan, now)?;
+    let records_kept = caught_up.records.as_slice();
+    match keep_records(alloc, &mut events, &book, records_kept, millis(now)) {
+        Ok(()) => {}
+        Err(fault) => return Err(fault),
+    }
+    let CaughtUp {
+        interrupted,
+        failed,
+        kept_plan,
+        ..
+    } = caught_up;
+    Ok(Started {
+        book,
+        store: events,
+        last_second: last_second.max(now.secs()),
+        records,
+        last_connection,
+        interrupted,
+        failed,
+        kept_plan,
+    })
+}
+
+/// Starts the book of a store that was opened just now. A store with no record is begun: its header becomes its first record. From
+/// any other the book is recovered; then the plan of the command line is put in force, unless the book refuses it, the attempts that
+/// were in flight are settled, and the records of that are appended. What the store holds is committed.
+///
+/// # Errors
+///
+/// Where the book can't be recovered, it may hold another number of entries, or the store can't be written. The file is as it was
+/// then, or begun.
+pub fn start_book<S: Store + Drop, B: BookRows + Drop>(
+    alloc: Global,
+    opened: Opened<S>,
+    request: StartRequest<'_>,
+    hasher: RandomState,
+) -> Result<Started<S, B>, BookFault>
+    requires some { 1 ≤ request.events_max }
+    requires few { request.events_max ≤ 1000000 }
+    requires version { length request.version.now ≤ VERSION_MAX }
+
+    // Where the rows are what the store had, the book is recovered from what the store has now, and a crash leaves just that.
+    ensures recovered { IfOk result (λ s. AreReadOf (S.Store.view opened.0.store) opened.1.items
+        → IsClean (S.Store.view s.store.store)
+        → IsRecovered (bodies_in (S.Store.view s.store.store).trees) s.book) }
+    ensures durable { IfOk result (λ s. AreDurable (S.Store.view s.store.store)
+        (S.Store.recovers s.store.store) (records_in (S.Store.view s.store.store).trees)) }
+
+    // From the book of the rows, the plan is put in force or kept, and all attempts in flight are settled.
+    ensures caught_up { IfOk result (λ s. (h : History) → IsRecovered (bodies_of opened.1.items) h
+        → IsCaughtUp (arc_value request.entry.plan) request.entry.now h s.book s.kept_plan s.interrupted s.failed.items) }
+    ensures plan { IfOk result (λ s. (s.kept_plan ≡ None) ↔ (plan_in_force s.book ≡ arc_value request.entry.plan)) }
+    ensures bound { IfOk result (λ s. s.book.opening.events_max ≡ request.entry.events_max) }
+
+    ensures records { IfOk result (λ s. s.records ≡ length opened.1.items - 1) }
+    ensures connection { IfOk result (λ s. s.last_connection ≡ last_connection (file_records (bodies_of opened.1.items))) }
+    ensures second { IfOk result (λ s. last_second_in opened.1.items ≤ s.last_second) }
+    ensures clean { IfOk result (λ s. doubt (S.Store.view opened.0.store).is_clean
+        ≤ doubt (S.Store.view s.store.store).is_clean) }
+    ensures first { IfOk result (λ s. s.store.first ≡ opened.0.first) }
+    ensures failure { IfErr result (IsBookFailure request.entry.events_max (bodies_of opened.1.items)) }
+{
+    let (events, rows) = opened;
+    if rows.is_empty() {
+        match begin(alloc, events, request, hasher) {
+            Ok(started) => return Ok(started),
+            Err(fault) => return Err(fault),
+        }
+    }
+    match resume(alloc, events, rows.as_slice(), request, hasher) {
+        Ok(started) => Ok(started),
+        Err(fault) => Err(fault),
+    }
+}
