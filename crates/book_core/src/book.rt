@@ -18,6 +18,7 @@ ghost use Rattle.event_log.specs.inner.Legal.{IsSound};
 ghost use Rattle.event_log.specs.Room.{is_full, owed, committed_by_new};
 ghost use Rattle.event_log.specs.Counting.{counted};
 ghost use Rattle.book_core.specs.Headline.{KeepsItsPromise};
+ghost use Rattle.book_core.specs.inner.Parts.{IsKept};
 ghost use Rattle.book_core.specs.inner.Questions.{CameBy, came_as, first_live, failed_as, front_at, has_control_id, is_tight, live_at, queued_as, settled_before};
 ghost use Rattle.book_core.specs.Receiving.{IsReceipt, arrival_reply};
 ghost use Rattle.book_core.specs.Sending.{awaits_ack};
@@ -37,7 +38,7 @@ use dest_queue::{
 use dup_index::Keys;
 use event_log::{
     CancelRefusal, DEPLOYMENTS_MAX, DeployRefusal, EVENTS_MAX, Entry, Log, PruneRefusal,
-    TakeRefusal, Ticket, Told, attempts_max, front_answer, interval, keeps_destination,
+    Snapshot, TakeRefusal, Ticket, Told, attempts_max, front_answer, interval, keeps_destination,
     same_channels, slot_owed,
 };
 use hl7_head::Moment;
@@ -92,6 +93,29 @@ impl<S: BookRows> Book<S> {
             counts: Counts::new(),
             flights: 0,
         }
+    }
+
+    /// The book of this history, of whose messages these are the rows, the keys and the statistics; `flights` is how many
+    /// attempts are under way.
+    pub fn of_parts(alloc: Global, log: Log, rows: S, keys: Keys, counts: Counts, flights: u32) -> Book<S>
+        requires { IsKept log.history (S.rows rows) keys.known counts flights log.room }
+        ensures { result ≡ log.history }
+    {
+        Book {
+            alloc,
+            log,
+            rows,
+            keys,
+            counts,
+            flights,
+        }
+    }
+
+    /// What the history goes on from.
+    pub fn opening(&self) -> &Snapshot
+        ensures { result.now ≡ self.now.opening }
+    {
+        self.log.opening()
     }
 
     /// The plan in force.

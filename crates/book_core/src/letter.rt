@@ -175,7 +175,7 @@ impl Outbound {
     ///
     /// Where a text has more owners than can be counted, the header isn't that of the bytes, or a number is too great to be
     /// kept: none of an accepted message is.
-    pub(crate) fn share(
+    pub fn share(
         place: usize,
         channel: u32,
         raw: &Text,

@@ -155,6 +155,20 @@ impl SlotList {
         })
     }
 
+    /// The slots as a list.
+    fn to_vec(&self, alloc: Global) -> Result<Vec<Slot>, AllocError>
+        ensures { IfOk result (λ slots. slots.items ≡ listed self.now) }
+    {
+        if let SlotList::Several(list) = self {
+            return list.as_ref().clone();
+        }
+        let mut slots = Vec::new(alloc);
+        if let Some(slot) = self.single() {
+            slots.push(slot)?;
+        }
+        Ok(slots)
+    }
+
     /// The state at d, if there is a slot there.
     fn state_at(&self, d: u32) -> Option<SlotState>
         ensures { result ≡ state_at d (listed self.now) }
@@ -243,14 +257,38 @@ impl Slots {
         ensures ok { OnOk result (self.new ≡ self.old ++ new_slot d ∷ []) }
         ensures err { OnErr result (self.new ≡ self.old) }
     {
-        let slot = Slot {
+        self.push(Slot {
             destination: d,
             state: SlotState::Waiting {
                 attempts: 0,
                 due: 0,
             },
-        };
+        })
+    }
+
+    /// Adds a slot in any state behind the others.
+    ///
+    /// # Errors
+    ///
+    /// Where memory is refused; the slots are as they were.
+    pub fn push(&mut self, slot: Slot) -> Result<(), AllocError>
+        requires { slot.destination < QUEUES }
+        ensures ok { OnOk result (self.new ≡ self.old ++ slot ∷ []) }
+        ensures err { OnErr result (self.new ≡ self.old) }
+    {
         self.list.add(self.alloc, slot)
+    }
+
+    /// The slots as a list, in their order.
+    ///
+    /// # Errors
+    ///
+    /// Where memory is refused.
+    pub fn to_vec(&self) -> Result<Vec<Slot>, AllocError>
+        ensures value { IfOk result (λ slots. slots.items ≡ self.now) }
+        ensures within { All (λ slot. slot.destination < QUEUES) self.now }
+    {
+        self.list.to_vec(self.alloc)
     }
 
     /// A copy of the slots.

@@ -89,6 +89,32 @@ impl Log {
         }
     }
 
+    /// The history that goes on from an opening, with none booked since. `owed` is what the slots of its messages owe.
+    pub fn resume(alloc: Global, opening: Snapshot, owed: u32) -> Log
+        requires owed { owed ≡ owed (begun opening) }
+        requires within { owed ≤ opening.events_max }
+        requires few { opening.events_max ≤ EVENTS_MAX }
+        requires few_places { opening.places ≤ 1000000000 }
+        requires few_messages { opening.messages ≤ 1000000000 }
+        ensures { result.history ≡ begun opening }
+    {
+        Log {
+            deployed: None,
+            deployments: opening.deployments,
+            messages: opening.messages,
+            entries: Vec::new(alloc),
+            owed,
+            opening,
+        }
+    }
+
+    /// What the history goes on from.
+    pub fn opening(&self) -> &Snapshot
+        ensures { result.now ≡ self.now.history.opening }
+    {
+        &self.opening
+    }
+
     /// The plan in force.
     pub fn plan(&self) -> &Arc<Plan>
         ensures { arc_value result.now ≡ plan_in_force self.now.history }

@@ -108,6 +108,13 @@ impl Remembered {
         self.told
     }
 
+    /// Where it goes, in the order of the routes; nothing for one that was filtered.
+    pub fn deliveries(&self) -> Option<&Deliveries>
+        ensures { option_map_or (λ ds. ds.now) result [] ≡ self.now.deliveries }
+    {
+        self.deliveries.as_ref()
+    }
+
     /// The states of its slots at the destinations that it names.
     pub fn slots(&self) -> &Slots
         ensures { result.now ≡ self.now.slots }
@@ -174,6 +181,90 @@ fn index_of(remembered: &[Remembered], place: usize) -> Option<usize>
 }
 
 impl Snapshot {
+    /// The opening of these parts, with what is remembered in order of index.
+    pub fn of(
+        plan: Arc<Plan>,
+        events_max: u32,
+        places: usize,
+        messages: u32,
+        deployments: u32,
+        prunings: u32,
+        forgotten: Counts,
+        remembered: Vec<Remembered>,
+    ) -> Snapshot
+        requires { IsStrictlyIncreasing (map (λ r. r.place) remembered.items) }
+        ensures { result ≡ record {
+          plan = arc_value plan;
+          events_max = events_max;
+          places = places;
+          messages = messages;
+          deployments = deployments;
+          prunings = prunings;
+          forgotten = forgotten;
+          remembered = remembered.items;
+        } }
+    {
+        Snapshot {
+            plan,
+            events_max,
+            places,
+            messages,
+            deployments,
+            prunings,
+            forgotten,
+            remembered,
+        }
+    }
+
+    /// The plan in force.
+    pub fn plan(&self) -> &Arc<Plan>
+        ensures { arc_value result.now ≡ self.now.plan }
+    {
+        &self.plan
+    }
+
+    /// The most entries that the history may hold, those owed included.
+    pub fn events_max(&self) -> u32
+        ensures { result ≡ self.now.events_max }
+    {
+        self.events_max
+    }
+
+    /// How many entries were folded.
+    pub fn places(&self) -> usize
+        ensures { result ≡ self.now.places }
+    {
+        self.places
+    }
+
+    /// How many messages were accepted.
+    pub fn messages(&self) -> u32
+        ensures { result ≡ self.now.messages }
+    {
+        self.messages
+    }
+
+    /// How many plans were deployed.
+    pub fn deployments(&self) -> u32
+        ensures { result ≡ self.now.deployments }
+    {
+        self.deployments
+    }
+
+    /// How many prunings were made.
+    pub fn prunings(&self) -> u32
+        ensures { result ≡ self.now.prunings }
+    {
+        self.prunings
+    }
+
+    /// What is counted of what was forgotten.
+    pub fn forgotten(&self) -> &Counts
+        ensures { result.now ≡ self.now.forgotten }
+    {
+        &self.forgotten
+    }
+
     /// The opening of a book of this plan and bound, before which nothing was booked.
     pub(crate) fn blank(alloc: Global, plan: Arc<Plan>, events_max: u32) -> Snapshot
         ensures { result ≡ blank (arc_value plan) events_max }
@@ -201,8 +292,9 @@ impl Snapshot {
     }
 
     /// What is remembered, in order of index.
-    pub(crate) fn remembered(&self) -> &[Remembered]
-        ensures { result.now ≡ self.now.remembered }
+    pub fn remembered(&self) -> &[Remembered]
+        ensures value { result.now ≡ self.now.remembered }
+        ensures places { IsStrictlyIncreasing (map (λ r. r.place) result.now) }
     {
         &self.remembered
     }

@@ -241,6 +241,20 @@ impl Deliveries {
         Ok(Deliveries { items })
     }
 
+    /// These deliveries, in the order of the routes.
+    ///
+    /// # Errors
+    ///
+    /// Where memory is refused.
+    pub fn of(alloc: Global, items: Vec<Delivery>) -> Result<Deliveries, AllocError>
+        requires { AreDeliveries items.items }
+        ensures { IfOk result (λ deliveries. deliveries ≡ items.items) }
+    {
+        Ok(Deliveries {
+            items: Kept::Several(Arc::new(alloc, items)?),
+        })
+    }
+
     /// The deliveries, in the order of the routes.
     pub fn as_slice(&self) -> &[Delivery]
         ensures value { result.now ≡ self.now }

@@ -1,1 +1,2 @@
+pub mod AddsUp
 pub mod SumLaws

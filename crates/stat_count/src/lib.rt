@@ -2,12 +2,13 @@
 //! of each destination.
 #![tactic(auto)]
 
-ghost use Rattle.std.specs.Prelude.{◌≡◌, ◌≢◌, ◌+◌, ◌<◌, ◌≤◌, ℕ, length};
+ghost use Rattle.std.specs.Prelude.{◌≡◌, ◌≢◌, ◌+◌, ◌<◌, ◌≤◌, ◌&&◌, ℕ, IfNone, IfSome, false, length};
+ghost use Rattle.std.specs.List.{list_all};
 ghost use Rattle.stat_count.specs.declared.ChannelCounts.{ChannelCounts};
 ghost use Rattle.stat_count.specs.declared.DestinationCounts.{DestinationCounts};
 ghost use Rattle.stat_count.specs.Sums.{arrivals, takes, settlements};
 ghost use Rattle.stat_count.specs.Statistics.{Statistics, channel_at, destination_at};
-ghost use Rattle.stat_count.specs.inner.Statistics.{empty, on_channel, on_destination, slots_of};
+ghost use Rattle.stat_count.specs.inner.Statistics.{are_statistics, can_be, empty, is_sum, on_channel, on_destination, slots_of};
 ghost use Rattle.stat_count.specs.inner.Statistics.{filtered_one, accepted_one, refused_one, repeated_one};
 ghost use Rattle.stat_count.specs.inner.Statistics.{waits_one, taken_one, delivered_one, failed_one, again_one, cancelled_one};
 ghost use Rattle.stat_count.specs.inner.Statistics.{one_less_waiting, one_less_inflight, one_less_delivered, one_less_failed};
@@ -39,6 +40,16 @@ impl ChannelCounts {
         refused: 0,
         repeats: 0,
     };
+
+    /// Whether the messages received are those filtered, accepted and refused.
+    fn adds_up(&self) -> bool
+        ensures { result ≡ is_sum self.now }
+    {
+        let decided = u128::from(self.filtered)
+            + u128::from(self.accepted)
+            + u128::from(self.refused);
+        u128::from(self.received) == decided
+    }
 }
 
 /// The states of the messages of a destination, counted.
@@ -65,6 +76,29 @@ impl DestinationCounts {
         failed: 0,
         attempts: 0,
     };
+
+    /// Whether what is in flight or delivered was taken, and what named the destination can be counted.
+    fn adds_up(&self) -> bool
+        ensures { result ≡ can_be self.now }
+    {
+        let taken = u128::from(self.inflight) + u128::from(self.delivered);
+        let slots = u128::from(self.waiting) + taken + u128::from(self.failed);
+        taken <= u128::from(self.attempts) && slots <= u128::from(u64::MAX)
+    }
+}
+
+/// Whether the messages received on each of these channels are those filtered, accepted and refused.
+fn are_sums(channels: &[ChannelCounts]) -> bool
+    ensures { result ≡ list_all is_sum channels.now }
+{
+    channels.iter().all(|counts| counts.adds_up())
+}
+
+/// Whether at each of these destinations what is in flight or delivered was taken, and its messages can be counted.
+fn can_all_be(destinations: &[DestinationCounts]) -> bool
+    ensures { result ≡ list_all can_be destinations.now }
+{
+    destinations.iter().all(|counts| counts.adds_up())
 }
 
 /// The counters of each channel and each destination. Every message received is counted as filtered, accepted or
@@ -97,6 +131,47 @@ impl Counts {
             channels: [ChannelCounts::NONE; CHANNELS as usize],
             destinations: [DestinationCounts::NONE; DESTINATIONS as usize],
         }
+    }
+
+    /// These counters: of 64 channels and of 32 destinations. Nothing where they are more or fewer, or where they contradict
+    /// one another: a message received is filtered, accepted or refused, one in flight or delivered was taken, and what named
+    /// a destination can be counted in 64 bits.
+    #[tactic(auto, using(crate::proofs::AddsUp::statistics_of))]
+    pub fn of(channels: &[ChannelCounts], destinations: &[DestinationCounts]) -> Option<Counts>
+        ensures channels { IfSome result (λ counts. counts.channels ≡ channels.now) }
+        ensures destinations { IfSome result (λ counts. counts.destinations ≡ destinations.now) }
+        ensures refused { IfNone result
+            (are_statistics (record { channels = channels.now; destinations = destinations.now }) ≡ false) }
+    {
+        let is_whole = channels.len() == CHANNELS as usize
+            && destinations.len() == DESTINATIONS as usize;
+        if !is_whole || !are_sums(channels) || !can_all_be(destinations) {
+            return None;
+        }
+        let mut of_channels = [ChannelCounts::NONE; CHANNELS as usize];
+        let mut of_destinations = [DestinationCounts::NONE; DESTINATIONS as usize];
+        of_channels.copy_from_slice(channels);
+        of_destinations.copy_from_slice(destinations);
+        Some(Counts {
+            channels: of_channels,
+            destinations: of_destinations,
+        })
+    }
+
+    /// The counters of all channels, in the order of their indices.
+    pub fn channels(&self) -> &[ChannelCounts]
+        ensures value { result.now ≡ self.now.channels }
+        ensures all { length result.now ≡ 64 }
+    {
+        &self.channels
+    }
+
+    /// The counters of all destinations, in the order of their indices.
+    pub fn destinations(&self) -> &[DestinationCounts]
+        ensures value { result.now ≡ self.now.destinations }
+        ensures all { length result.now ≡ 32 }
+    {
+        &self.destinations
     }
 
     /// The counters of a channel.

@@ -1,5 +1,6 @@
 -- What proofs use beside the page Statistics.
-use Rattle.std.specs.Prelude.{ℕ, ◌+◌, ◌-◌, ◌≡◌, ◌<◌, ◌≤◌, ◌^◌, length, All, slice_set, replicate}
+use Rattle.std.specs.Prelude.{ℕ, Bool, ◌+◌, ◌-◌, ◌≡◌, ◌==◌, ◌&&◌, ◌<◌, ◌≤◌, ◌^◌, length, nat_lt, All, slice_set, replicate}
+use Rattle.std.specs.List.{list_all}
 use Rattle.stat_count.specs.declared.ChannelCounts.{ChannelCounts}
 use Rattle.stat_count.specs.declared.DestinationCounts.{DestinationCounts}
 use Rattle.stat_count.specs.Statistics.{Statistics, no_arrivals, no_slots, channel_at, destination_at}
@@ -84,3 +85,16 @@ pub record IsStatistics (statistics : Statistics) : Type 0 where
   pub received_is_sum : All (λ counts. counts.received ≡ counts.filtered + counts.accepted + counts.refused) statistics.channels
   pub were_taken : All (λ counts. counts.inflight + counts.delivered ≤ counts.attempts) statistics.destinations
   pub slots_fit : All (λ counts. slots_of counts < 2 ^ 64) statistics.destinations
+
+-- each message received on a channel was filtered, accepted or refused
+abbrev pub is_sum : ChannelCounts → Bool
+is_sum counts = counts.received == counts.filtered + counts.accepted + counts.refused
+
+-- each message in flight to a destination or delivered was taken, and all that named it can be counted
+abbrev pub can_be : DestinationCounts → Bool
+can_be counts = nat_lt (counts.inflight + counts.delivered) (counts.attempts + 1) && nat_lt (slots_of counts) (2 ^ 64)
+
+-- whether they are what the statistics of a book always are
+abbrev pub are_statistics : Statistics → Bool
+are_statistics statistics = (length statistics.channels == 64) && (length statistics.destinations == 32)
+    && list_all is_sum statistics.channels && list_all can_be statistics.destinations
