@@ -366,11 +366,11 @@ def strays(said, crate, functions):
     return found
 
 
-def next_batch(edits):
+def next_batch(edits, most):
     """Edits that may be tried together: each in functions of its own. One outside of any function is tried by itself."""
     taken, batch = set(), []
     for edit in edits:
-        if not edit.is_single and not edit.places & taken:
+        if not edit.is_single and not edit.places & taken and len(batch) < most:
             batch.append(edit)
             taken |= edit.places
     return batch or edits[:1]
@@ -387,10 +387,13 @@ class Trial:
     def run(self):
         """Tries the edits, and returns what was found."""
         with tempfile.TemporaryDirectory(prefix='rt-edits-') as kept:
-            singly = self.alone
+            # A batch of which nothing can be judged is halved: one edit that can't be read takes the others with it.
+            most = 1 if self.alone else len(self.left)
             while self.left:
-                batch = self.left[:1] if singly else next_batch(self.left)
-                singly = not self.judge(batch, kept) or singly
+                batch = next_batch(self.left, most)
+                got_on = self.judge(batch, kept)
+                if not self.alone:
+                    most = 2 * most if got_on else max(1, len(batch) // 2)
         return self.found
 
     def judge(self, batch, kept):

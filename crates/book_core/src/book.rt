@@ -37,8 +37,8 @@ use dest_queue::{
 };
 use dup_index::Keys;
 use event_log::{
-    CancelRefusal, DEPLOYMENTS_MAX, DeployRefusal, EVENTS_MAX, Entry, Log, PruneRefusal,
-    Snapshot, TakeRefusal, Ticket, Told, attempts_max, front_answer, interval, keeps_destination,
+    CancelRefusal, DEPLOYMENTS_MAX, DeployRefusal, EVENTS_MAX, Entry, Log, PruneRefusal, Snapshot,
+    TakeRefusal, Ticket, Told, attempts_max, front_answer, interval, keeps_destination,
     same_channels, slot_owed,
 };
 use hl7_head::Moment;
@@ -97,7 +97,14 @@ impl<S: BookRows> Book<S> {
 
     /// The book of this history, of whose messages these are the rows, the keys and the statistics; `flights` is how many
     /// attempts are under way.
-    pub fn of_parts(alloc: Global, log: Log, rows: S, keys: Keys, counts: Counts, flights: u32) -> Book<S>
+    pub fn of_parts(
+        alloc: Global,
+        log: Log,
+        rows: S,
+        keys: Keys,
+        counts: Counts,
+        flights: u32,
+    ) -> Book<S>
         requires { IsKept log.history (S.rows rows) keys.known counts flights log.room }
         ensures { result ≡ log.history }
     {

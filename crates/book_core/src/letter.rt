@@ -264,7 +264,7 @@ impl Outbound {
     }
 
     /// The text for destination `d`, if there is one.
-    pub(crate) fn payload(&self, d: u32) -> Option<&Text>
+    pub fn payload(&self, d: u32) -> Option<&Text>
         ensures { option_copied result ≡ option_map (λ x. x.payload)
             (find (λ x. x.destination == d) self.now.deliveries) }
     {

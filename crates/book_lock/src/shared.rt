@@ -17,7 +17,7 @@ ghost use Rattle.book_lock.specs.Callers.{IsClosedBy};
 ghost use Rattle.book_lock.specs.inner.Arriving.{ArrivesAtDesk};
 ghost use Rattle.book_lock.specs.inner.Log.{new_seats};
 ghost use Rattle.book_lock.specs.inner.Planning.{WasInForce};
-ghost use Rattle.book_lock.specs.inner.Reading.{IsFound, IsGaugeOf, IsStatusOf, failed_among, first_live_at, found_among, waiting_among};
+ghost use Rattle.book_lock.specs.inner.Reading.{IsFound, IsGaugeOf, IsStatusOf, failed_among, first_live_at, found_among, text_for, waiting_among};
 ghost use Rattle.book_lock.specs.inner.Shares.{no_calls, with_settlement, with_take};
 ghost use Rattle.book_lock.specs.Shares.{seats_of};
 ghost use Rattle.book_lock.specs.inner.Tidies.{ArrivesAtTidied, IsHeldBackAt};
@@ -28,7 +28,7 @@ use crate::crowding::Crowded;
 use crate::desks::{Desk, Station, open_desks, open_stations};
 use crate::locked::{Closed, Locked, Sharing, add_up};
 use crate::log_entry::LogEntry;
-use crate::message::{Found, Message};
+use crate::message::{Found, Message, text_of};
 use crate::status::{Gauge, Status};
 use crate::tidying::Tidied;
 use book_core::{
@@ -38,7 +38,7 @@ use book_core::{
 use dest_queue::{Outcome, SettleRefusal, SlotState};
 use ghost_log::{BlankLog, GhostLog};
 use hl7_head::Moment;
-use judge_core::{Delivery, Judged, Verdict};
+use judge_core::{Delivery, Judged, Text, Verdict};
 use plan_text::Plan;
 use row_store::QUEUES;
 use stat_count::Counts;
@@ -545,6 +545,20 @@ impl<A: Sharing, S: BookRows> Shared<A, S> {
             raw: letter.raw().share()?,
             states: states_of(book, number),
         }))
+    }
+
+    /// The text of message `number` for destination `d`, as the steps of its route left it, where the message is remembered and
+    /// goes there.
+    ///
+    /// # Errors
+    ///
+    /// Where the text has more owners than can be counted.
+    pub fn text_for<H: Wait>(&self, rt: &H, number: u32, d: u32) -> Result<Option<Text>, AllocError>
+        ensures { IfOk result (λ text. IsReadOf A.opening (λ book. text ≡ text_for book number d)) }
+    {
+        let locked = self.locked.lock(rt);
+        locked.book_is_logged();
+        text_of(locked.book(), number, d)
     }
 
     /// The messages that are still to be delivered to destination `d`, of the `most` numbers from `from` on, in order, with

@@ -1,5 +1,5 @@
 -- Counters that were tested are those of statistics.
-use Rattle.std.proofs.Common.{◌≡◌, ◌+◌, ◌<◌, ◌≤◌, ◌^◌, true, List, length}
+use Rattle.std.proofs.Common.{◌≡◌, ◌+◌, ◌<◌, ◌≤◌, ◌^◌, Bool, true, List, length}
 use native.Mathlib.Omega.{arith}
 use Rattle.std.specs.List.{All, list_all}
 use Rattle.std.specs.Prelude.{slice_index_or}

@@ -1,8 +1,8 @@
 -- What is read of a shared book by a call that no seat makes, and that adds nothing to the log.
-use Rattle.std.specs.Prelude.{◌≡◌, ◌<◌, ◌+◌, ◌-◌, ℕ, List, Option, None, Some, IfSome, filter, if◌then◌else◌, min, nat_lt, option_and_then, slice_get}
+use Rattle.std.specs.Prelude.{◌≡◌, ◌<◌, ◌+◌, ◌-◌, ℕ, List, Option, None, Some, IfSome, filter, find, ◌==◌, if◌then◌else◌, min, nat_lt, option_and_then, slice_get}
 use Rattle.std.specs.List.{filter_map, range_with_len}
 use Rattle.std.specs.Option.{option_map}
-use Rattle.event_log.specs.History.{History, message_at, message_count, plan_in_force, slot}
+use Rattle.event_log.specs.History.{History, deliveries, message_at, message_count, plan_in_force, slot}
 use Rattle.plan_text.specs.Entries.{PlanEntry}
 use Rattle.book_core.specs.declared.questions.Failure.{Failure}
 use Rattle.book_core.specs.declared.questions.Front.{Front}
@@ -47,6 +47,10 @@ failed_among h d from most = filter_map (failed_as h d) (window h from most)
 -- the remembered messages among these whose control id (MSH-10, raw) is this one
 abbrev pub found_among : History → List ℕ → ℕ → ℕ → List ℕ
 found_among h id from most = filter (has_control_id h id) (window h from most)
+
+-- the text of message n for destination d, if it is remembered and goes there
+abbrev pub text_for : History → ℕ → ℕ → Option (List ℕ)
+text_for h n d = option_map (λ x. x.payload) (find (λ x. x.destination == d) (deliveries h n))
 
 -- what is said of a remembered message: as it arrived, and its state at each destination
 pub record IsMessage (h : History) (n : ℕ) (m : Message) : Type 0 where
