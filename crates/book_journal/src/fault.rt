@@ -14,6 +14,9 @@ pub enum JournalError {
     /// Memory was refused before anything was written. The step may be made again.
     #[error("out of memory")]
     NoMemory,
+    /// The disk has no room for what was to be written, and what was written of it was dropped. The step may be made again.
+    #[error("no room on the disk of the store")]
+    NoRoom,
     /// Changes were folded before the journal had copied them. They can't be written any more.
     #[error("changes of the book were pruned before they were written to the store")]
     Pruned,
@@ -25,9 +28,9 @@ pub enum JournalError {
 impl JournalError {
     /// Whether no later step can succeed, so that the journal of the book has failed.
     pub fn is_final(self) -> bool
-        ensures { IsTrue result ↔ (self ≢ JournalError.NoMemory) }
+        ensures { IsTrue result ↔ (self ≢ JournalError.NoMemory) × (self ≢ JournalError.NoRoom) }
     {
-        !matches!(self, JournalError::NoMemory)
+        !matches!(self, JournalError::NoMemory | JournalError::NoRoom)
     }
 }
 

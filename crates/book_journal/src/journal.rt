@@ -10,6 +10,7 @@ ghost use Rattle.book_journal.specs.inner.Held.{AreHeld};
 ghost use Rattle.book_journal.specs.inner.Order.{HasCopied, is_store};
 
 use crate::fault::JournalError;
+use crate::figures::StoreFigures;
 use crate::held::{Held, HeldChanges};
 use crate::write::{rows_of, write_all};
 use book_core::BookRows;
@@ -23,7 +24,7 @@ use std::marker::{Brand, Model};
 use std::sync::atomic::{AtomicBool, Ordering};
 use std::sync::{Arc, Wait};
 use std::thread;
-use std::time::{Clock, Duration};
+use std::time::{Clock, Duration, Instant};
 
 /// How long a journal waits where there was nothing to write and no thread waits for it, in milliseconds: a settlement that nobody
 /// waits for is written within this time.
@@ -31,6 +32,9 @@ const IDLE_MILLIS: u64 = 20;
 
 /// How long a journal waits where memory was refused, in milliseconds.
 const PAUSE_MILLIS: u64 = 2;
+
+/// How long a journal waits where the disk had no room, in milliseconds.
+const ROOM_MILLIS: u64 = 1_000;
 
 /// How a book is shared that is written to a store.
 pub trait Journaling: Sharing {
@@ -60,6 +64,8 @@ pub struct Journal<A: Journaling, S: Store> {
     plan: Arc<Plan>,
     /// What failed, once the store has.
     failure: Option<StoreError>,
+    /// Whether the last step found no room on the disk.
+    found_no_room: bool,
 }
 
 impl<A: Journaling, S: Store> Model for Journal<A, S> {
@@ -78,7 +84,8 @@ impl<A: Journaling, S: Store> Model for Journal<A, S> {
     } };
 
     ghost invariant = { λ j. IsInOrder A.opening A.before (S.Store.view j.store.store)
-        (S.Store.recovers j.store.store) j.reader.seat.seen j.unwritten.items (is_some j.failure) };
+        (S.Store.recovers j.store.store) j.reader.seat.seen j.unwritten.items (is_some j.failure)
+        j.found_no_room };
 }
 
 /// Publishes that all that the reader has copied is durable. The store holds just that.
@@ -158,6 +165,7 @@ impl<A: Journaling, S: Store> Journal<A, S> {
             unwritten: Vec::new(alloc),
             plan,
             failure: None,
+            found_no_room: false,
         }
     }
 
@@ -167,8 +175,9 @@ impl<A: Journaling, S: Store> Journal<A, S> {
     ///
     /// # Errors
     ///
-    /// `NoMemory` before anything is written, so the step may be made again; `Pruned` where changes are lost; and `Store`
-    /// where the store has failed, in this step or in an earlier one. Nothing is published.
+    /// `NoMemory` before anything is written, and `NoRoom` where the disk has no room and what was written is dropped: the step
+    /// may be made again then. `Pruned` where changes are lost; and `Store` where the store has failed, in this step or in an
+    /// earlier one. Nothing is published.
     pub fn step<B: BookRows, H: Wait + Clock>(
         &mut self,
         rt: &H,
@@ -195,6 +204,7 @@ impl<A: Journaling, S: Store> Journal<A, S> {
         // Where memory is refused, nothing is written, and the step may be made again. A store that failed is used no more.
         ensures refused { result ≡ Err JournalError.NoMemory
             → (self.new.store ≡ self.old.store) × (self.new.has_failed ≡ self.old.has_failed) }
+        ensures no_room { result ≡ Err JournalError.NoRoom → self.new.has_failed ≡ false }
         ensures pruned { result ≡ Err JournalError.Pruned → self.new ≡ self.old }
         ensures failed { IfErr result (λ e. IsTrue (is_store e) → IsTrue self.new.has_failed) }
         ensures stays { IsTrue self.old.has_failed → self.new ≡ self.old }
@@ -216,8 +226,13 @@ impl<A: Journaling, S: Store> Journal<A, S> {
             at,
         ) {
             Ok(count) => {
+                self.found_no_room = false;
                 publish::<A, B, S, Brand, H>(rt, shared, &mut self.reader, &self.store);
                 Ok(count)
+            }
+            Err(StoreError::Full) => {
+                self.found_no_room = true;
+                Err(JournalError::NoRoom)
             }
             Err(error) => {
                 self.failure = Some(error);
@@ -227,18 +242,21 @@ impl<A: Journaling, S: Store> Journal<A, S> {
     }
 
     /// Makes steps until it is noted that nothing more will be booked, and all that was booked is written. Where a step found
-    /// nothing to write, it waits until a thread waits for the journal, or for 20 ms; where memory was refused, for 2 ms. Where
-    /// no later step can succeed, it notes that the journal has failed, which wakes the threads that wait for it.
+    /// nothing to write, it waits until a thread waits for the journal, or for 20 ms; where memory was refused, for 2 ms; and
+    /// where the disk had no room, for a second. Where no later step is made, it notes that the journal has failed, which wakes
+    /// the threads that wait for it. What it has written it notes in `figures`.
     ///
     /// # Errors
     ///
-    /// That of the last step: `NoMemory` only once nothing more will be booked.
+    /// That of the last step: `NoMemory` only once nothing more will be booked, and `NoRoom` only then or where `figures` says
+    /// that the service ends.
     pub fn run<B: BookRows, H: Wait + Clock>(
         &mut self,
         rt: &H,
         alloc: Global,
         shared: &Shared<A, B>,
         ended: &AtomicBool,
+        figures: &StoreFigures,
     ) -> Result<(), JournalError>
         requires committed { (store : S) (changes : List LogEntry)
             → AreHeld (S.Store.view store) (S.Store.recovers store) A.before changes
@@ -250,12 +268,17 @@ impl<A: Journaling, S: Store> Journal<A, S> {
     {
         'steps: for _ in rt.forever() {
             let is_last = ended.load(Ordering::SeqCst);
+            let began = Instant::now(rt).ok();
             match self.step(rt, alloc, shared) {
                 Ok(0) if is_last => return Ok(()),
                 Ok(0) => shared.wait_wanted(rt, Duration::from_millis(IDLE_MILLIS)),
-                Ok(_) => {}
+                Ok(changes) => figures.note_commit(rt, changes, began),
                 Err(JournalError::NoMemory) if !is_last => {
                     thread::sleep(rt, Duration::from_millis(PAUSE_MILLIS));
+                }
+                Err(JournalError::NoRoom) if !is_last && !figures.gives_up() => {
+                    figures.note_room(false);
+                    thread::sleep(rt, Duration::from_millis(ROOM_MILLIS));
                 }
                 Err(error) => {
                     shared.fail_journal(rt);

@@ -6,6 +6,7 @@
 
 mod encode;
 mod fault;
+mod figures;
 mod held;
 mod journal;
 mod laws;
@@ -13,6 +14,7 @@ mod row;
 mod write;
 
 pub use fault::JournalError;
+pub use figures::{StoreFigures, StoreReport};
 pub use held::{Held, HeldChanges};
 pub use journal::{Journal, Journaling};
 pub use laws::{crash_rules, journal_rules};

@@ -1,12 +1,12 @@
 //! Changes are written as rows, and committed.
 
-ghost use Rattle.std.specs.Prelude.{◌≡◌, ◌≤◌, [], ◌∷◌, IfOk, OnErr, OnOk, length, map};
+ghost use Rattle.std.specs.Prelude.{◌≡◌, ◌≤◌, [], ◌∷◌, IfOk, IsTrue, OnErr, OnOk, length, map};
 ghost use Rattle.sqlite_trees.specs.Tree.{Trees};
 ghost use Rattle.sqlite_trees.specs.View.{IsClean, doubt};
 ghost use Rattle.event_store.specs.Records.{records_in};
 ghost use Rattle.book_lock.specs.Journal.{change_copied};
 ghost use Rattle.book_journal.specs.inner.Held.{HasRows};
-ghost use Rattle.book_journal.specs.inner.Rows.{Adds, AreReady};
+ghost use Rattle.book_journal.specs.inner.Rows.{Adds, AreReady, IsRolledBack};
 
 use crate::row::{Row, row_of};
 use book_lock::Copied;
@@ -55,6 +55,10 @@ fn append<S: Store>(store: &mut EventStore<S>, row: &Row, at: i64) -> Result<(),
         (records_in (S.Store.view store.new.store).trees)) }
     ensures clean { doubt (S.Store.view store.old.store).is_clean
         ≤ doubt (S.Store.view store.new.store).is_clean }
+    ensures committed { IsTrue (S.Store.view store.new.store).is_open
+        → (S.Store.view store.new.store).committed ≡ (S.Store.view store.old.store).committed }
+    ensures shut { IsTrue (S.Store.view store.new.store).is_open
+        → IsTrue (S.Store.view store.old.store).is_open }
 {
     store.append(row.body.as_slice(), &row.columns(at))?;
     Ok(())
@@ -67,6 +71,10 @@ fn append_all<S: Store>(store: &mut EventStore<S>, rows: &[Row], at: i64) -> Res
         (records_in (S.Store.view store.new.store).trees)) }
     ensures clean { doubt (S.Store.view store.old.store).is_clean
         ≤ doubt (S.Store.view store.new.store).is_clean }
+    ensures committed { IsTrue (S.Store.view store.new.store).is_open
+        → (S.Store.view store.new.store).committed ≡ (S.Store.view store.old.store).committed }
+    ensures shut { IsTrue (S.Store.view store.new.store).is_open
+        → IsTrue (S.Store.view store.old.store).is_open }
 {
     for row in rows {
         append(store, row, at)?;
@@ -84,6 +92,12 @@ fn commit_all<S: Store>(store: &mut EventStore<S>, rows: &[Row], at: i64) -> Res
         → Adds (records_in (S.Store.view store.old.store).trees) rows.now (records_in db)) }
     ensures clean { doubt (S.Store.view store.old.store).is_clean
         ≤ doubt (S.Store.view store.new.store).is_clean }
+    ensures open { OnOk result (IsClean (S.Store.view store.new.store)
+        → IsTrue (S.Store.view store.old.store).is_open) }
+    ensures committed { OnErr result (IsTrue (S.Store.view store.new.store).is_open
+        → (S.Store.view store.new.store).committed ≡ (S.Store.view store.old.store).committed) }
+    ensures shut { IsTrue (S.Store.view store.new.store).is_open
+        → IsTrue (S.Store.view store.old.store).is_open }
 {
     append_all(store, rows, at)?;
     store.commit()?;
@@ -113,6 +127,10 @@ pub(crate) fn write_all<S: Store>(
         (records_in db) (map change_copied changes.old.items)) }
     ensures clean { doubt (S.Store.view store.old.store).is_clean
         ≤ doubt (S.Store.view store.new.store).is_clean }
+    ensures open { OnOk result (IsClean (S.Store.view store.new.store)
+        → IsTrue (S.Store.view store.old.store).is_open) }
+    ensures dropped { OnErr result (IsTrue (S.Store.view store.new.store).is_open
+        → IsRolledBack (S.Store.view store.old.store) (S.Store.view store.new.store)) }
     ensures count { IfOk result (λ count. count ≡ length changes.old.items) }
     ensures written { OnOk result (changes.new.items ≡ []) }
     ensures kept { OnErr result (changes.new.items ≡ changes.old.items) }

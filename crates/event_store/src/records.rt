@@ -81,6 +81,9 @@ impl<S: Store> EventStore<S> {
         ensures added { OnOk result
             (AddsRecord (S.Store.view self.old.store) (S.Store.view self.new.store)
             (record_of body.now columns.now)) }
+        // A store that is shut takes no record.
+        ensures open { OnOk result (IsClean (S.Store.view self.new.store)
+            → IsTrue (S.Store.view self.old.store).is_open) }
         ensures committed { IsTrue (S.Store.view self.new.store).is_open
             → (S.Store.view self.new.store).committed ≡ (S.Store.view self.old.store).committed }
         // A crash leaves nothing that it could not leave before.
@@ -115,6 +118,9 @@ impl<S: Store> EventStore<S> {
     pub fn commit(&mut self) -> Result<(), StoreError>
         ensures durable { OnOk result (AreDurable (S.Store.view self.new.store)
             (S.Store.recovers self.new.store) (records_in (S.Store.view self.old.store).trees)) }
+        // A store that is shut commits nothing.
+        ensures open { OnOk result (IsClean (S.Store.view self.new.store)
+            → IsTrue (S.Store.view self.old.store).is_open) }
         ensures seen { OnOk result (IsClean (S.Store.view self.new.store)
             → (S.Store.view self.new.store).trees ≡ (S.Store.view self.old.store).trees) }
         ensures undone { OnErr result (IsTrue (S.Store.view self.new.store).is_open

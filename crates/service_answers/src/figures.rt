@@ -22,6 +22,28 @@ pub struct Dropped {
     pub broken: u64,
 }
 
+/// What a service has written to its store since the start.
+#[derive(Clone, Copy, Debug, PartialEq, Eq)]
+pub struct StoreNumbers {
+    /// How many commits were made.
+    pub commits: u64,
+    /// How many changes of the book were written with them.
+    pub changes: u64,
+    /// How long all commits took, in microseconds.
+    pub micros: u64,
+    /// How long the longest of them took, in microseconds.
+    pub longest: u64,
+    /// Whether the disk has no room, so that nothing is acknowledged.
+    pub has_no_room: bool,
+}
+
+impl StoreNumbers {
+    /// How long a commit took in the mean, in microseconds; 0 where there was none.
+    pub fn average(&self) -> u64 {
+        self.micros.checked_div(self.commits).unwrap_or(0)
+    }
+}
+
 /// What a service counts beside its book.
 #[derive(Clone, Copy, Debug, PartialEq, Eq)]
 pub struct Figures {
@@ -51,6 +73,8 @@ pub struct Figures {
     pub delivered: [u64; 32],
     /// How many messages were sent to each destination a second time within one attempt, by index.
     pub sent_again: [u64; 32],
+    /// What was written to the store, where the service has one.
+    pub store: Option<StoreNumbers>,
 }
 
 impl Figures {

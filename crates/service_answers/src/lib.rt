@@ -23,7 +23,7 @@ pub use cancellations::{
 };
 pub use contents::{contents_text, document_text, exported_text};
 pub use echoes::echo_text;
-pub use figures::{Dropped, Figures, Unbooked};
+pub use figures::{Dropped, Figures, StoreNumbers, Unbooked};
 pub use ids::unescaped;
 pub use live::{Live, live_of, state_at};
 pub use messages::{

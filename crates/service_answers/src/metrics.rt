@@ -1,6 +1,6 @@
 //! The numbers of a service in the text format of Prometheus, version 0.0.4.
 
-use crate::figures::{Dropped, Figures, Unbooked};
+use crate::figures::{Dropped, Figures, StoreNumbers, Unbooked};
 use book_lock::{Gauge, Status};
 use fixed_numbers::{DEPLOYMENTS_MAX, PRUNINGS_MAX};
 use plan_text::Plan;
@@ -413,6 +413,59 @@ fn add_connections(text: &mut String, admitted: u32, figures: &Figures) -> Resul
     )
 }
 
+/// Microseconds as seconds, with six decimals.
+#[derive(Clone, Copy)]
+struct Seconds(u64);
+
+impl fmt::Display for Seconds {
+    fn fmt<W: fmt::Write>(&self, f: &mut fmt::Formatter<W>) -> fmt::Result {
+        let Seconds(micros) = self;
+        write!(f, "{}.{:06}", micros / 1_000_000, micros % 1_000_000)
+    }
+}
+
+/// Adds how long commits took.
+fn add_commit_times(text: &mut String, store: &StoreNumbers) -> Result<(), AllocError> {
+    let (all, longest) = (Seconds(store.micros), Seconds(store.longest));
+    let name = "hl7_store_commit_seconds_total";
+    let help = "How long the commits of the store took.";
+    add_head(&mut *text, name, Kind::Counter, help)?;
+    writeln!(text, "{name} {all}")?;
+    let name = "hl7_store_longest_commit_seconds";
+    let help = "How long the longest commit of the store took since the start.";
+    add_head(&mut *text, name, Kind::Gauge, help)?;
+    writeln!(text, "{name} {longest}")
+}
+
+/// Adds what was written to the store, where there is one.
+fn add_store(text: &mut String, store: Option<StoreNumbers>) -> Result<(), AllocError> {
+    let Some(store) = store else {
+        return Ok(());
+    };
+    add_one(
+        &mut *text,
+        "hl7_store_commits_total",
+        Kind::Counter,
+        "Commits of the store since the start.",
+        store.commits,
+    )?;
+    add_one(
+        &mut *text,
+        "hl7_store_changes_total",
+        Kind::Counter,
+        "Changes of the book that were written to the store since the start.",
+        store.changes,
+    )?;
+    add_commit_times(&mut *text, &store)?;
+    add_one(
+        &mut *text,
+        "hl7_store_full",
+        Kind::Gauge,
+        "Whether the disk of the store has no room, so that nothing is acknowledged.",
+        u64::from(store.has_no_room),
+    )
+}
+
 /// The numbers of a service in the text format of Prometheus, version 0.0.4.
 ///
 /// # Errors
@@ -440,6 +493,7 @@ pub fn metrics_text(
     add_entries(&mut text, status.gauge)?;
     add_messages(&mut text, status.gauge, figures.keep)?;
     add_left(&mut text, status.gauge)?;
+    add_store(&mut text, figures.store)?;
     add_connections(&mut text, status.gauge.admitted, figures)?;
     add_unbooked(&mut text, figures.unbooked)?;
     add_dropped(&mut text, figures.dropped)?;

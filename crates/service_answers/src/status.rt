@@ -1,6 +1,6 @@
 //! The status of a service.
 
-use crate::figures::{Dropped, Figures, Unbooked};
+use crate::figures::{Dropped, Figures, StoreNumbers, Unbooked};
 use crate::messages::add_state;
 use crate::time::Utc;
 use book_core::Front;
@@ -149,8 +149,32 @@ fn add_destinations(
     Ok(())
 }
 
-/// The status of a service: the lines of the statistics, and then those of the book, the connections, the channels and the
-/// destinations.
+/// Adds a line of the store, where there is one: how often it committed how many changes, and how long a commit took in the mean
+/// and at most; and a line where its disk has no room.
+fn add_store(text: &mut String, store: Option<StoreNumbers>) -> Result<(), AllocError> {
+    let Some(store) = store else {
+        return Ok(());
+    };
+    let StoreNumbers {
+        commits,
+        changes,
+        longest,
+        has_no_room,
+        ..
+    } = store;
+    let average = store.average();
+    writeln!(
+        text,
+        "store commits {commits} changes {changes} microseconds {average} longest {longest}"
+    )?;
+    if has_no_room {
+        writeln!(text, "store has no room: nothing is acknowledged")?;
+    }
+    Ok(())
+}
+
+/// The status of a service: the lines of the statistics, and then those of the book, the store, the connections, the channels and
+/// the destinations.
 ///
 /// # Errors
 ///
@@ -163,6 +187,7 @@ pub fn status_text(
 ) -> Result<String, AllocError> {
     let mut text = statistics_text(alloc, plan, &status.counts)?;
     add_book(&mut text, status.gauge, figures)?;
+    add_store(&mut text, figures.store)?;
     add_connections(&mut text, status.gauge.admitted, figures)?;
     add_channels(&mut text, plan, figures)?;
     add_destinations(&mut text, plan, status, figures)?;

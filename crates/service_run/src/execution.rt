@@ -3,6 +3,7 @@
 use crate::cancelling::{
     ask_cancel_waiting, do_cancel, do_cancel_all, do_cancel_at, do_cancel_through,
 };
+use crate::figures::Watch;
 use crate::origin::{PlanOrigin, ask_plan, ask_plan_text};
 use crate::output::{answer, say};
 use crate::questions::{
@@ -114,13 +115,13 @@ fn execute<A: Sharing, H: Crew>(
     site: &Site<'_, A, H>,
     workers: &Workers<A>,
     settings: &Settings,
-    started: u64,
+    watch: Watch<'_>,
     origin: &mut PlanOrigin<'_>,
     command: Command<&[u8]>,
 ) {
     match command {
-        Command::Status => answer(rt, ask_status(site, started)),
-        Command::Metrics => answer(rt, ask_metrics(site, started)),
+        Command::Status => answer(rt, ask_status(site, watch)),
+        Command::Metrics => answer(rt, ask_metrics(site, watch)),
         Command::Message(number) => answer(rt, ask_message(site, number)),
         Command::Show(number) => answer(rt, ask_show(site, settings, number)),
         Command::Export(number, path) => export(rt, site, settings, number, path),
@@ -179,17 +180,17 @@ pub(crate) fn execute_all<A: Sharing, H: Crew>(
     site: &Site<'_, A, H>,
     workers: &Workers<A>,
     settings: &Settings,
-    started: u64,
+    watch: Watch<'_>,
 ) {
     let mut reader = StandardInput::new(site, rt.stdin());
     let mut line = [0u8; LINE_BYTES];
-    let mut origin = PlanOrigin::new(settings, started);
+    let mut origin = PlanOrigin::new(settings, watch.started);
     for _ in site.rt.forever() {
         match read_line(&mut reader, &mut line) {
             Ok(Input::Line(len)) => {
                 echo(rt, site, &line[..len]);
                 let command = read_command(&line[..len]);
-                execute(rt, site, workers, settings, started, &mut origin, command);
+                execute(rt, site, workers, settings, watch, &mut origin, command);
             }
             Ok(Input::TooLong) => {
                 say(rt, UNSHOWN);

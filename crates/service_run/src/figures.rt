@@ -1,11 +1,33 @@
 //! What a service counts beside its book.
 
+use book_journal::StoreFigures;
 use book_lock::Sharing;
-use service_answers::{Dropped, Figures, Unbooked};
+use service_answers::{Dropped, Figures, StoreNumbers, Unbooked};
 use service_workers::{Crew, Site};
 
+/// What is counted of a service beside its workers.
+#[derive(Clone, Copy)]
+pub(crate) struct Watch<'s> {
+    /// When the service started, in seconds since 1970.
+    pub(crate) started: u64,
+    /// What its journal has written, where it has a store.
+    pub(crate) store: Option<&'s StoreFigures>,
+}
+
+/// The figures of a store, as they are shown.
+fn numbers_of(figures: &StoreFigures) -> StoreNumbers {
+    let report = figures.report();
+    StoreNumbers {
+        commits: report.commits,
+        changes: report.changes,
+        micros: report.micros,
+        longest: report.longest,
+        has_no_room: report.has_no_room,
+    }
+}
+
 /// What the workers of a service have counted so far.
-pub(crate) fn figures_of<A: Sharing, H: Crew>(site: &Site<'_, A, H>, started: u64) -> Figures {
+pub(crate) fn figures_of<A: Sharing, H: Crew>(site: &Site<'_, A, H>, watch: Watch<'_>) -> Figures {
     let (unbooked, dropped) = (site.unbooked(), site.dropped());
     let mut received = [0; 64];
     for (moment, channel) in received.iter_mut().zip(0..u32::MAX) {
@@ -27,7 +49,7 @@ pub(crate) fn figures_of<A: Sharing, H: Crew>(site: &Site<'_, A, H>, started: u6
         *count = site.sent_again(destination);
     }
     Figures {
-        started,
+        started: watch.started,
         now: site.seconds(),
         keep: site.keep,
         open: site.open(),
@@ -48,5 +70,6 @@ pub(crate) fn figures_of<A: Sharing, H: Crew>(site: &Site<'_, A, H>, started: u6
         received,
         delivered,
         sent_again,
+        store: watch.store.map(numbers_of),
     }
 }

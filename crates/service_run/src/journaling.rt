@@ -7,11 +7,12 @@ ghost use Rattle.book_lock.specs.Durable.{changes_of};
 ghost use Rattle.book_lock.specs.declared.log_entry.LogEntry.{LogEntry};
 
 use crate::execution::execute_all;
+use crate::figures::Watch;
 use crate::settings::Settings;
 use crate::stored::STORE_FAILED;
 use crate::threads::{STACK_BYTES, halt, start_all};
 use crate::workers::Workers;
-use book_journal::{Journal, JournalError, Journaling};
+use book_journal::{Journal, JournalError, Journaling, StoreFigures, StoreReport};
 use book_lock::Sharing;
 use log::{Log, info, warn};
 use service_store::ConnectionNumbers;
@@ -36,6 +37,8 @@ pub(crate) struct Operation<'s, A: Sharing> {
     workers: &'s Workers<A>,
     settings: Settings<'s>,
     started: u64,
+    /// What the journal has written.
+    figures: StoreFigures,
     /// Whether all workers have ended, so that nothing more is booked.
     has_ended: AtomicBool,
 }
@@ -45,6 +48,8 @@ pub(crate) struct Operation<'s, A: Sharing> {
 pub(crate) struct Reserving<'s> {
     rt: &'s HostRuntime,
     numbers: Mutex<ConnectionNumbers>,
+    /// What the journal has written.
+    figures: &'s StoreFigures,
 }
 
 /// How a service with a store has worked.
@@ -65,17 +70,44 @@ fn operate<A: Sharing, H: Crew>(site: &Site<'_, A, H>, operation: &Operation<'_,
         workers,
         settings,
         started,
+        figures,
         has_ended,
     } = operation;
-    execute_all(rt, site, workers, settings, *started);
+    let watch = Watch {
+        started: *started,
+        store: Some(figures),
+    };
+    execute_all(rt, site, workers, settings, watch);
     has_ended.store(true, Ordering::SeqCst);
 }
 
-/// Reserves more numbers of connections in the store whenever few are left, until all workers have ended.
+/// Logs where the disk of the store has no room any more, and where it has some again. Returns whether it has none.
+fn watch_room<H: Log>(handle: &H, figures: &StoreFigures, had_no_room: bool) -> bool {
+    let StoreReport {
+        has_no_room,
+        changes,
+        ..
+    } = figures.report();
+    if has_no_room && !had_no_room {
+        warn!(handle; target: "always", changes; "the disk of the store has no room: nothing is acknowledged until it has");
+    }
+    if had_no_room && !has_no_room {
+        info!(handle; target: "always", changes; "the disk of the store has room again");
+    }
+    has_no_room
+}
+
+/// Reserves more numbers of connections in the store whenever few are left, and watches whether its disk has room, until all
+/// workers have ended. A journal without room gives up once the service stops.
 fn reserve_numbers<A: Sharing, H: Crew>(site: &Site<'_, A, H>, reserving: &Reserving<'_>) {
+    let mut has_no_room = false;
     for _ in site.rt.forever() {
-        if site.stage() != Stage::Open && has_ended(site) {
-            return;
+        has_no_room = watch_room(site.rt, reserving.figures, has_no_room);
+        if site.stage() != Stage::Open {
+            reserving.figures.give_up();
+            if has_ended(site) {
+                return;
+            }
         }
         if site.numbers_left() < FEW_NUMBERS {
             let mut numbers = reserving.numbers.lock(site.rt);
@@ -147,7 +179,13 @@ fn work_journaled_within<
         return Ending::NoThreads;
     }
     info!(site.rt; "the service is ready");
-    match journal.run(site.rt, site.alloc, site.shared, &operation.has_ended) {
+    match journal.run(
+        site.rt,
+        site.alloc,
+        site.shared,
+        &operation.has_ended,
+        &operation.figures,
+    ) {
         Ok(()) => Ending::Written,
         Err(error) => {
             let status = STORE_FAILED;
@@ -170,6 +208,7 @@ pub(crate) fn operation_of<'s, A: Sharing>(
         workers,
         settings: *settings,
         started,
+        figures: StoreFigures::new(),
         has_ended: AtomicBool::new(false),
     }
 }
@@ -195,6 +234,7 @@ pub(crate) fn work_journaled<
     let reserving = Reserving {
         rt: operation.rt,
         numbers: Mutex::new(numbers),
+        figures: &operation.figures,
     };
     let shared = &reserving;
     let mut ending = Ending::NoThreads;

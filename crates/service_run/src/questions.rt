@@ -2,7 +2,7 @@
 
 ghost use Rattle.std.specs.Prelude.{◌<◌, IfSome};
 
-use crate::figures::figures_of;
+use crate::figures::{Watch, figures_of};
 use crate::origin::PlanOrigin;
 use book_core::{Failure, Front};
 use book_lock::{Gauge, Sharing, Status};
@@ -37,10 +37,10 @@ pub const SLICE: u32 = 4_096;
 /// Where memory is refused, or the plan has more owners than can be counted.
 pub(crate) fn ask_status<A: Sharing, H: Crew>(
     site: &Site<'_, A, H>,
-    started: u64,
+    watch: Watch<'_>,
 ) -> Result<String, AllocError> {
     let (status, plan) = site.shared.status(site.rt)?;
-    status_text(site.alloc, &plan, &status, &figures_of(site, started))
+    status_text(site.alloc, &plan, &status, &figures_of(site, watch))
 }
 
 /// The service's numbers for Prometheus.
@@ -50,10 +50,10 @@ pub(crate) fn ask_status<A: Sharing, H: Crew>(
 /// Where memory is refused, or the plan has more owners than can be counted.
 pub(crate) fn ask_metrics<A: Sharing, H: Crew>(
     site: &Site<'_, A, H>,
-    started: u64,
+    watch: Watch<'_>,
 ) -> Result<String, AllocError> {
     let (status, plan) = site.shared.status(site.rt)?;
-    metrics_text(site.alloc, &plan, &status, &figures_of(site, started))
+    metrics_text(site.alloc, &plan, &status, &figures_of(site, watch))
 }
 
 /// Where a message is.

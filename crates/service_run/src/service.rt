@@ -5,6 +5,7 @@ ghost use Rattle.event_log.specs.History.{next_place, plan_in_force};
 ghost use Rattle.event_log.specs.Counting.{counted};
 
 use crate::ending::{conclude, name_left};
+use crate::figures::Watch;
 use crate::listeners::open_gates;
 use crate::settings::Settings;
 use crate::stored::run_stored;
@@ -65,10 +66,13 @@ fn run_workers<A: Sharing + Send + Sync, H: Crew + Threads + Sync>(
     workers: &Workers<A>,
 ) -> Worked {
     let alloc = rt.alloc();
-    let started = seconds_now(handle);
+    let watch = Watch {
+        started: seconds_now(handle),
+        store: None,
+    };
     let Settings { keep, idle, .. } = *settings;
     let site = Site::new(handle, alloc, shared, keep, idle, History::Memory);
-    let is_staffed = work(rt, handle, &site, workers, settings, started);
+    let is_staffed = work(rt, handle, &site, workers, settings, watch);
     if let Ok(undelivered) = name_left(rt, &site)
         && undelivered > 0
     {

@@ -1,6 +1,7 @@
 //! The threads of a service.
 
 use crate::execution::execute_all;
+use crate::figures::Watch;
 use crate::settings::Settings;
 use crate::workers::Workers;
 use book_lock::Sharing;
@@ -119,12 +120,12 @@ fn work_within<'s, 'x: 's, E: 's, A: Sharing + Send + Sync + 's, H: Crew + Sync 
     site: &'s Site<'x, A, H>,
     workers: &'s Workers<A>,
     settings: &Settings,
-    started: u64,
+    watch: Watch<'_>,
 ) -> bool {
     let is_staffed = start_all(scope, site, workers);
     if is_staffed {
         info!(site.rt; "the service is ready");
-        execute_all(rt, site, workers, settings, started);
+        execute_all(rt, site, workers, settings, watch);
     } else {
         halt(site, workers);
     }
@@ -138,12 +139,12 @@ pub(crate) fn work<'y, 'x: 'y, A: Sharing + Send + Sync, H: Crew + Threads + Syn
     site: &'y Site<'x, A, H>,
     workers: &'y Workers<A>,
     settings: &Settings,
-    started: u64,
+    watch: Watch<'_>,
 ) -> bool {
     let mut is_staffed = false;
     let staffed = &mut is_staffed;
     thread::scope(thread::scope_env(), handle, |scope| {
-        *staffed = work_within(scope, rt, site, workers, settings, started);
+        *staffed = work_within(scope, rt, site, workers, settings, watch);
     });
     is_staffed
 }

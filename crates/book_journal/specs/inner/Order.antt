@@ -1,5 +1,5 @@
 -- What holds of a journal between its steps.
-use Rattle.std.specs.Prelude.{◌≡◌, ℕ, Bool, false, true, List, [], ◌++◌, map, refl}
+use Rattle.std.specs.Prelude.{◌≡◌, ℕ, Bool, false, true, IsTrue, List, [], ◌++◌, map, refl}
 use Rattle.std.specs.Coded.{Coded, code_by, coded×, coded_ℕ, coded_bool}
 use Rattle.sqlite_trees.specs.Tree.{Trees}
 use Rattle.sqlite_trees.specs.View.{View, IsClean}
@@ -15,7 +15,7 @@ use Rattle.book_lock.specs.Shares.{DeskView}
 use Rattle.book_lock.specs.inner.Coding.{desk_code}
 use Rattle.book_journal.specs.inner.Held.{AreHeld, HasRows}
 use Rattle.book_journal.specs.declared.fault.JournalError.{JournalError}
-use Rattle.book_journal.specs.declared.fault.JournalError.TheVariants.{NoMemory, Pruned, Store}
+use Rattle.book_journal.specs.declared.fault.JournalError.TheVariants.{NoMemory, NoRoom, Pruned, Store}
 
 -- a journal: its seat at the book, how many changes it has copied that are not written, whether its store has failed, and
 -- the store
@@ -31,15 +31,22 @@ journal_code {S} store =
     (λ j. (j.desk, (j.unwritten, (j.has_failed, j.store))))
     (λ p. record { desk = p.0; unwritten = p.1.0; has_failed = p.1.1.0; store = p.1.1.1 }) (λ _. refl)
 
+-- A store may be used after a step, unless the step found no room: it may then only be used while it is open.
+abbrev pub MayBeUsed : Bool → View → Type 0
+MayBeUsed true v = IsTrue v.is_open
+MayBeUsed false v = Unit {0}
+
 -- The log that the journal has seen is legal. Its changes are those that are held, and then those that are not written.
--- While the store has not failed, its transaction sees just the rows of those that are held, and a crash leaves these.
+-- While the store has not failed and may be used, its transaction sees just the rows of those that are held, and a crash
+-- leaves these. The last step found no room only where some changes are not written.
 pub record IsInOrder (opening : History) (before : List Row) (v : View) (recovers : Trees → Type 0) (seen : Log)
-    (unwritten : List Copied) (failed : Bool) : Type 0 where
+    (unwritten : List Copied) (failed no_room : Bool) : Type 0 where
   pub held : List LogEntry
   pub split : changes_of seen ≡ held ++ map change_copied unwritten
   pub legal : IsLegalLog opening seen
-  pub sees : failed ≡ false → IsClean v → HasRows before (records_in v.trees) held
-  pub leaves : failed ≡ false → AreHeld v recovers before held
+  pub sees : failed ≡ false → MayBeUsed no_room v → IsClean v → HasRows before (records_in v.trees) held
+  pub leaves : failed ≡ false → MayBeUsed no_room v → AreHeld v recovers before held
+  pub whole : failed ≡ false → unwritten ≡ [] → no_room ≡ false
 
 -- A reader has seen more of the log, none of it its own, and the changes in that were copied behind those that it had copied.
 pub record HasCopied (opening : History) (old new : SeatView) (before after : List Copied) : Type 0 where
@@ -55,5 +62,6 @@ pub record HasCopied (opening : History) (old new : SeatView) (before after : Li
 -- whether a step failed for its store
 abbrev pub is_store : JournalError → Bool
 is_store NoMemory = false
+is_store NoRoom = false
 is_store Pruned = false
 is_store (Store error) = true

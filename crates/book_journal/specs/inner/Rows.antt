@@ -1,5 +1,6 @@
 -- Rows before they are written.
-use Rattle.std.specs.Prelude.{◌≡◌, List, [], ◌∷◌}
+use Rattle.std.specs.Prelude.{◌≡◌, IsTrue, List, [], ◌∷◌}
+use Rattle.sqlite_trees.specs.View.{View}
 use Rattle.event_store.specs.Records.{Record as Stored}
 use Rattle.book_lock.specs.declared.log_entry.LogEntry.{LogEntry}
 use Rattle.book_journal.specs.inner.Held.{HasRows, IsBodyOf, kind_of, number_of, outcome_of}
@@ -22,3 +23,9 @@ AreReady (row ∷ rows) (x ∷ xs) = IsReady row x × AreReady rows xs
 -- behind what was stored, all are the rows that were ready, whatever the changes are that they were ready for
 pub record Adds (before : List Stored) (rows : List Row) (all : List Stored) : Type 0 where
   pub each : (xs : List LogEntry) → AreReady rows xs → HasRows before all xs
+
+-- what was written since the last commit is dropped, of a store that was open
+pub record IsRolledBack (old new : View) : Type 0 where
+  pub was_open : IsTrue old.is_open
+  pub trees : new.trees ≡ old.committed
+  pub committed : new.committed ≡ old.committed

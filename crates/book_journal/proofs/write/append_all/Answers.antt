@@ -1,4 +1,4 @@
-use Rattle.std.proofs.Common.{List, arith, subst}
+use Rattle.std.proofs.Common.{List, arith, refl, subst, ◌∙◌}
 use Rattle.std.proofs.lemmas.List.{take_all}
 use Rattle.sqlite_trees.specs.View.{IsClean}
 use Rattle.event_store.specs.Records.{records_in}
@@ -10,6 +10,8 @@ use Rattle.book_journal.proofs.write.append_all.Goals as goal
 pub loop-row-init : goal.loop-row-init
 loop-row-init g c = record {
   added = λ _. adds_none (records_in (g.S.Store.view c.args.store.now.store).trees);
+  committed = λ _. refl;
+  shut = λ is_open. is_open;
   clean = omega arith;
 }
 
@@ -26,6 +28,8 @@ loop-row-preserved g c =
     record {
       added = λ (clean : IsClean last). adds_next (records_in first.trees) (records_in mid.trees) (records_in last.trees) rows i row found
           (before.added (omega (arith, clean, c.append.ensures.clean))) (c.in_ok-append.ensures.added clean);
+      committed = λ is_open. c.append.ensures.committed is_open ∙ before.committed (c.append.ensures.shut is_open);
+      shut = λ is_open. before.shut (c.append.ensures.shut is_open);
       clean = omega (arith, before.clean, c.append.ensures.clean);
     }
 

@@ -10,5 +10,5 @@ invariant_of-result g c =
     let before = g.A.Journaling.before in
     let store = c.args.store.store in
     let seen = c.args.reader.seat.seen in
-    subst (λ (l : List Copied). IsInOrder opening before (g.S.Store.view store) (g.S.Store.recovers store) seen l false) (sym c.new.ensures.items)
+    subst (λ (l : List Copied). IsInOrder opening before (g.S.Store.view store) (g.S.Store.recovers store) seen l false false) (sym c.new.ensures.items)
     (in_order_first opening before (g.S.Store.view store) (g.S.Store.recovers store) seen c.requires.unread c.requires.durable c.requires.sees)

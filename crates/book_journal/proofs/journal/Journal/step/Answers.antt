@@ -13,17 +13,17 @@ returns-then-is_empty-clause-held g c =
     let store = c.self.inside.store.store in
     let new = c.copy_more.new in
     let failed = is_some c.self.inside.failure in
-    let order = in_order_copied g.A.Sharing.opening g.A.Journaling.before (g.S.Store.view store) (g.S.Store.recovers store) c.self.inside.reader.seat new.reader.seat c.self.inside.unwritten.items new.unwritten.items failed
+    let order = in_order_copied g.A.Sharing.opening g.A.Journaling.before (g.S.Store.view store) (g.S.Store.recovers store) c.self.inside.reader.seat new.reader.seat c.self.inside.unwritten.items new.unwritten.items failed c.self.inside.found_no_room
     c.self.invariant c.in_ok-copy_more.ensures.copied in
     let sound : failed ≡ false = search rules in
     let none : length new.unwritten.items ≡ 0 = search rules in
-    held_all g.A.Sharing.opening g.A.Journaling.before (g.S.Store.view store) (g.S.Store.recovers store) new.reader.seat.seen new.unwritten.items failed order sound none
+    held_all g.A.Sharing.opening g.A.Journaling.before (g.S.Store.view store) (g.S.Store.recovers store) new.reader.seat.seen new.unwritten.items failed c.self.inside.found_no_room order sound none
 
 pub invariant_of-self-in_err-batch : goal.invariant_of-self-in_err-batch
 invariant_of-self-in_err-batch g c =
     let store = c.self.inside.store.store in
     let new = c.copy_more.new in
-    in_order_copied g.A.Sharing.opening g.A.Journaling.before (g.S.Store.view store) (g.S.Store.recovers store) c.self.inside.reader.seat new.reader.seat c.self.inside.unwritten.items new.unwritten.items (is_some c.self.inside.failure)
+    in_order_copied g.A.Sharing.opening g.A.Journaling.before (g.S.Store.view store) (g.S.Store.recovers store) c.self.inside.reader.seat new.reader.seat c.self.inside.unwritten.items new.unwritten.items (is_some c.self.inside.failure) c.self.inside.found_no_room
     c.self.invariant c.in_ok-copy_more.ensures.copied
 
 pub publish-requires-clause-held : goal.publish-requires-clause-held
@@ -36,9 +36,9 @@ publish-requires-clause-held g c =
     let failed = is_some c.self.inside.failure in
     let sound : failed ≡ false = search rules in
     let wrote = c.in-Ok.ensures in
-    let order = in_order_after opening before (g.S.Store.view old) (g.S.Store.view store) (g.S.Store.recovers old) (g.S.Store.recovers store) c.self.inside.reader.seat copied.reader.seat c.self.inside.unwritten.items copied.unwritten.items failed
-    c.self.invariant c.in_ok-copy_more.ensures.copied sound c.write_all.ensures.clean wrote.seen wrote.left in
-    held_all opening before (g.S.Store.view store) (g.S.Store.recovers store) copied.reader.seat.seen [] false order refl refl
+    let order = in_order_after opening before (g.S.Store.view old) (g.S.Store.view store) (g.S.Store.recovers old) (g.S.Store.recovers store) c.self.inside.reader.seat copied.reader.seat c.self.inside.unwritten.items copied.unwritten.items failed c.self.inside.found_no_room
+    c.self.invariant c.in_ok-copy_more.ensures.copied sound c.write_all.ensures.clean wrote.open wrote.seen wrote.left in
+    held_all opening before (g.S.Store.view store) (g.S.Store.recovers store) copied.reader.seat.seen [] false false order refl refl
 
 pub publish-requires-clause-committed : goal.publish-requires-clause-committed
 publish-requires-clause-committed g c =
@@ -50,9 +50,9 @@ publish-requires-clause-committed g c =
     let failed = is_some c.self.inside.failure in
     let sound : failed ≡ false = search rules in
     let wrote = c.in-Ok.ensures in
-    let order = in_order_after opening before (g.S.Store.view old) (g.S.Store.view store) (g.S.Store.recovers old) (g.S.Store.recovers store) c.self.inside.reader.seat copied.reader.seat c.self.inside.unwritten.items copied.unwritten.items failed
-    c.self.invariant c.in_ok-copy_more.ensures.copied sound c.write_all.ensures.clean wrote.seen wrote.left in
-    c.requires.committed store (changes_of copied.reader.seat.seen) (held_all opening before (g.S.Store.view store) (g.S.Store.recovers store) copied.reader.seat.seen [] false order refl refl)
+    let order = in_order_after opening before (g.S.Store.view old) (g.S.Store.view store) (g.S.Store.recovers old) (g.S.Store.recovers store) c.self.inside.reader.seat copied.reader.seat c.self.inside.unwritten.items copied.unwritten.items failed c.self.inside.found_no_room
+    c.self.invariant c.in_ok-copy_more.ensures.copied sound c.write_all.ensures.clean wrote.open wrote.seen wrote.left in
+    c.requires.committed store (changes_of copied.reader.seat.seen) (held_all opening before (g.S.Store.view store) (g.S.Store.recovers store) copied.reader.seat.seen [] false false order refl refl)
 
 pub invariant_of-self-in-Ok : goal.invariant_of-self-in-Ok
 invariant_of-self-in-Ok g c =
@@ -64,11 +64,11 @@ invariant_of-self-in-Ok g c =
     let failed = is_some c.self.inside.failure in
     let sound : failed ≡ false = search rules in
     let wrote = c.in-Ok.ensures in
-    let order = in_order_after opening before (g.S.Store.view old) (g.S.Store.view store) (g.S.Store.recovers old) (g.S.Store.recovers store) c.self.inside.reader.seat copied.reader.seat c.self.inside.unwritten.items copied.unwritten.items failed
-    c.self.invariant c.in_ok-copy_more.ensures.copied sound c.write_all.ensures.clean wrote.seen wrote.left in
-    subst (λ (d : DeskView). IsInOrder opening before (g.S.Store.view store) (g.S.Store.recovers store) d.seat.seen c.write_all.new.changes.items failed) (sym {A = DeskView} c.publish.ensures)
-    (subst (λ (l : List Copied). IsInOrder opening before (g.S.Store.view store) (g.S.Store.recovers store) copied.reader.seat.seen l failed) (sym {A = List Copied} wrote.written)
-    (subst (λ (b : Bool). IsInOrder opening before (g.S.Store.view store) (g.S.Store.recovers store) copied.reader.seat.seen [] b) (sym {A = Bool} sound) order))
+    let order = in_order_after opening before (g.S.Store.view old) (g.S.Store.view store) (g.S.Store.recovers old) (g.S.Store.recovers store) c.self.inside.reader.seat copied.reader.seat c.self.inside.unwritten.items copied.unwritten.items failed c.self.inside.found_no_room
+    c.self.invariant c.in_ok-copy_more.ensures.copied sound c.write_all.ensures.clean wrote.open wrote.seen wrote.left in
+    subst (λ (d : DeskView). IsInOrder opening before (g.S.Store.view store) (g.S.Store.recovers store) d.seat.seen c.write_all.new.changes.items failed false) (sym {A = DeskView} c.publish.ensures)
+    (subst (λ (l : List Copied). IsInOrder opening before (g.S.Store.view store) (g.S.Store.recovers store) copied.reader.seat.seen l failed false) (sym {A = List Copied} wrote.written)
+    (subst (λ (b : Bool). IsInOrder opening before (g.S.Store.view store) (g.S.Store.recovers store) copied.reader.seat.seen [] b false) (sym {A = Bool} sound) order))
 
 pub returns-in-Ok-clause-held : goal.returns-in-Ok-clause-held
 returns-in-Ok-clause-held g c =
@@ -80,7 +80,7 @@ returns-in-Ok-clause-held g c =
     let failed = is_some c.self.inside.failure in
     let sound : failed ≡ false = search rules in
     let wrote = c.in-Ok.ensures in
-    let order = in_order_after opening before (g.S.Store.view old) (g.S.Store.view store) (g.S.Store.recovers old) (g.S.Store.recovers store) c.self.inside.reader.seat copied.reader.seat c.self.inside.unwritten.items copied.unwritten.items failed
-    c.self.invariant c.in_ok-copy_more.ensures.copied sound c.write_all.ensures.clean wrote.seen wrote.left in
+    let order = in_order_after opening before (g.S.Store.view old) (g.S.Store.view store) (g.S.Store.recovers old) (g.S.Store.recovers store) c.self.inside.reader.seat copied.reader.seat c.self.inside.unwritten.items copied.unwritten.items failed c.self.inside.found_no_room
+    c.self.invariant c.in_ok-copy_more.ensures.copied sound c.write_all.ensures.clean wrote.open wrote.seen wrote.left in
     subst (λ (d : DeskView). AreHeld (g.S.Store.view store) (g.S.Store.recovers store) before (changes_of d.seat.seen)) (sym {A = DeskView} c.publish.ensures)
-    (held_all opening before (g.S.Store.view store) (g.S.Store.recovers store) copied.reader.seat.seen [] false order refl refl)
+    (held_all opening before (g.S.Store.view store) (g.S.Store.recovers store) copied.reader.seat.seen [] false false order refl refl)
