@@ -5,6 +5,7 @@ import random
 import shutil
 import stat
 import subprocess
+import time
 
 from engine import checks_accesses, one_channel
 from mllp import Destination, Sender, field, free_ports, message
@@ -17,6 +18,16 @@ FLIPS, FLIPS_SLOWLY = 12, 4
 def tail(lines):
     """The last lines of a log, for a failure."""
     return lines[-4:]
+
+
+def within(check, limit=LIMIT):
+    """Whether a check holds within the limit, looked at every tenth of a second."""
+    deadline = time.monotonic() + limit
+    while not check():
+        if time.monotonic() > deadline:
+            return False
+        time.sleep(0.1)
+    return True
 
 
 def codes(replies):
@@ -226,9 +237,8 @@ def flip(path, at, bit):
         file.write(bytes([byte ^ bit]))
 
 
-def full_disk(program, folder):
-    """On a disk that fills, no message is acknowledged CA that isn't there after a restart with room: the service ends with status 6
-    and a line that says why. Tried where a tmpfs can be mounted."""
+def on_small_disk(program, folder, scene):
+    """Plays a scene on a disk of 2 MB, where a tmpfs can be mounted."""
     disk = os.path.join(folder, 'disk')
     os.mkdir(disk)
     mounted = shutil.which('mount') and subprocess.run(['mount', '-t', 'tmpfs', '-o', 'size=2m', 'tmpfs', disk], capture_output=True,
@@ -237,36 +247,84 @@ def full_disk(program, folder):
         print('full disk: not tried, since no tmpfs can be mounted here')
         return []
     try:
-        return filled(program, folder, disk)
+        return scene(program, folder, disk)
     finally:
         subprocess.run(['umount', '-l', disk], capture_output=True, timeout=LIMIT, check=False)
 
 
+def full_disk(program, folder):
+    """On a disk that fills nothing is acknowledged until it has room, and no message that was acknowledged CA is missing."""
+    return on_small_disk(program, folder, filled)
+
+
+def full_at_stop(program, folder):
+    """A service that is stopped while its disk has no room waits for none: it ends with status 6, and goes on at the next start."""
+    return on_small_disk(program, folder, stopped_without_room)
+
+
+def enlarge(disk):
+    """Gives the small disk room."""
+    subprocess.run(['mount', '-o', 'remount,size=64m', disk], capture_output=True, timeout=LIMIT, check=True)
+
+
+def filling(service, port):
+    """Sends to a service until its disk has no room: the messages, their sender, and whether `status` says that there is none."""
+    texts = [message(b'A%d' % number, patient=b'X' * 2_000) for number in range(4_000)]
+    sender = Sender(port, texts, in_flight=16)
+    sender.start()
+    full = within(lambda: any('no room' in line for line in service.ask('status') or []))
+    return texts, sender, full
+
+
 def filled(program, folder, disk):
-    """The scene of a full disk, once the disk is mounted."""
+    """The scene of a disk that fills and gets room again, once it is mounted."""
     port, lab, store = free_ports(1)[0], Destination(lambda text, before: b'AA', up=False), os.path.join(disk, 'store')
     text = one_channel(port, [('LAB', lab.port, ['interval = 1'])])
-    texts = [message(b'A%d' % number, patient=b'X' * 2_000) for number in range(4_000)]
     with Service(program, text, folder, store=store) as service:
-        sender = Sender(port, texts, in_flight=16)
-        sender.start()
+        texts, sender, full = filling(service, port)
+        held, gauge = len(sender.replies), [line for line in service.ask('metrics') if line.startswith('hl7_store_full ')]
+        lab.open()
+        sent = wait_received(lab, held)
+        waiting = held, len(sender.replies)
+        enlarge(disk)
+        sender.join(2 * LIMIT)
+        whole, status = wait_received(lab, len(texts)), stopped(service)
+        log = service.log
+    lab.close()
+    if not full or gauge != ['hl7_store_full 1'] or not sent or waiting[0] != waiting[1] or not 0 < held < len(texts):
+        return [f'full disk: {full}, {gauge}, acknowledged {waiting} of {len(texts)}, delivered {sent}']
+    if set(codes(sender.replies)) != {b'CA'} or not whole or lab.received != texts or status != 0:
+        return [f'full disk: with room again {len(sender.replies)} replies, {len(lab.received)} received, status {status}']
+    if sum('has no room' in line for line in log) != 1 or sum('has room again' in line for line in log) != 1:
+        return [f'full disk: the log says {[line for line in log if "room" in line]}']
+    return []
+
+
+def stopped_without_room(program, folder, disk):
+    """The scene of a stop on a full disk, once it is mounted."""
+    port, lab, store = free_ports(1)[0], Destination(lambda text, before: b'AA', up=False), os.path.join(disk, 'store')
+    text = one_channel(port, [('LAB', lab.port, ['interval = 1'])])
+    with Service(program, text, folder, store=store) as service:
+        texts, sender, full = filling(service, port)
+        service.ask('stop now')
         status, lines = service.ended()
         sender.join(LIMIT)
         log = service.log
     taken = [sent for sent, reply in zip(texts, sender.replies) if field(reply, b'MSA', 1) == b'CA']
-    subprocess.run(['mount', '-o', 'remount,size=64m', disk], capture_output=True, timeout=LIMIT, check=True)
+    enlarge(disk)
     lab.open()
     with Service(program, text, folder, store=store) as service:
         whole, last = wait_received(lab, len(taken)), stopped(service)
     lab.close()
     lines, missing = log[-2:], [sent for sent in taken if sent not in set(lab.received)]
-    if status != 6 or not any(line.startswith('store: ') for line in lines):
-        return [f'full disk: status {status}, {lines}']
+    if not full or status != 6 or not any(line.startswith('store: ') for line in lines):
+        return [f'full disk at a stop: {full}, status {status}, {lines}']
     if not taken or len(taken) == len(texts) or not whole or missing or last != 0 or lab.received != texts[:len(lab.received)]:
-        return [f'full disk: {len(taken)} acknowledged CA, {len(lab.received)} received, {len(missing)} missing, status {last}']
+        return [f'full disk at a stop: {len(taken)} acknowledged CA, {len(lab.received)} received, {len(missing)} missing, status {last}']
     return []
 
 
 STORES = [('in use by another process', in_use), ('another --events', other_bound), ('no folder', no_folder), ('no place', no_place),
           ('modes', modes), ('stop now, and on', stopped_now), ('numbers go on', numbers_go_on), ('repeats', repeats),
-          ('what a command answered', commanded), ('damaged', damaged), ('a full disk', full_disk)]
+          ('what a command answered', commanded), ('damaged', damaged), ('a full disk', full_disk),
+          ('a stop on a full disk', full_at_stop)]

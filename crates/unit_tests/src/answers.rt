@@ -6,8 +6,8 @@ use dest_queue::SlotState;
 use log_text::Shown;
 use plan_text::{Plan, PlanFault};
 use service_answers::{
-    Dropped, Figures, Unbooked, Utc, found_text, metrics_text, pruned_text, rename_at, status_text,
-    unescaped, unpruned_text, waiting_text,
+    Dropped, Figures, StoreNumbers, Unbooked, Utc, found_text, metrics_text, pruned_text,
+    rename_at, status_text, unescaped, unpruned_text, waiting_text,
 };
 use stat_count::Counts;
 use std::alloc::{AllocError, Global};
@@ -75,6 +75,13 @@ fn state() -> (Status, Figures) {
         received,
         delivered: [0; 32],
         sent_again,
+        store: Some(StoreNumbers {
+            commits: 4,
+            changes: 10,
+            micros: 6_000_004,
+            longest: 3_000_000,
+            has_no_room: true,
+        }),
     };
     (
         Status {
@@ -112,6 +119,8 @@ fn status_has_all(rt: HostRuntime) -> Result<(), Fail> {
     for line in [
         "book held 12 owed 3 left 385 messages 9 remembered 4\n",
         "prunings 4 left 996 for 996 hours\n",
+        "store commits 4 changes 10 microseconds 1500001 longest 3000000\n",
+        "store has no room: nothing is acknowledged\n",
         "connections ADT open 3 of 8\n",
         "deployments 1 left 999\n",
         "connections open 1 taken 2 refused 0\n",
@@ -137,6 +146,11 @@ fn metrics_have_all(rt: HostRuntime) -> Result<(), Fail> {
         "hl7_unbooked_messages_total{cause=\"full\"} 8\n",
         "hl7_dropped_blocks_total{cause=\"broken\"} 3\n",
         "hl7_book_prunings_left 996\n",
+        "hl7_store_commits_total 4\n",
+        "hl7_store_changes_total 10\n",
+        "hl7_store_commit_seconds_total 6.000004\n",
+        "hl7_store_longest_commit_seconds 3.000000\n",
+        "hl7_store_full 1\n",
         "hl7_destination_sent_again_total{destination=\"LAB\"} 2\n",
     ] {
         assert!(rt; text.contains(line), "{line} {text}");
