@@ -15,7 +15,7 @@ use crate::workers::Workers;
 use book_journal::{Journal, JournalError, Journaling, StoreFigures, StoreReport};
 use book_lock::Sharing;
 use log::{Log, info, warn};
-use service_store::ConnectionNumbers;
+use service_store::{ConnectionNumbers, Witness};
 use service_workers::{Crew, Site, Stage, has_ended};
 use sqlite_trees::store::Store;
 use std::sync::atomic::{AtomicBool, Ordering};
@@ -26,6 +26,9 @@ use std::time::Duration;
 
 /// How many milliseconds pass between two looks at the numbers of connections.
 const LOOK_MILLIS: u64 = 20;
+
+/// After how many looks at the numbers of connections a second has passed.
+const LOOKS_OF_A_SECOND: u32 = 50;
 
 /// How few numbers of connections are left where more are reserved.
 const FEW_NUMBERS: u32 = 500;
@@ -48,6 +51,8 @@ pub(crate) struct Operation<'s, A: Sharing> {
 pub(crate) struct Reserving<'s> {
     rt: &'s HostRuntime,
     numbers: Mutex<ConnectionNumbers>,
+    /// How many records the store has had at least.
+    witness: Mutex<Witness>,
     /// What the journal has written.
     figures: &'s StoreFigures,
 }
@@ -97,11 +102,21 @@ fn watch_room<H: Log>(handle: &H, figures: &StoreFigures, had_no_room: bool) -> 
     has_no_room
 }
 
-/// Reserves more numbers of connections in the store whenever few are left, and watches whether its disk has room, until all
-/// workers have ended. A journal without room gives up once the service stops.
+/// Notes how many records the store has now. Where that can't be written, the number of before is still a lower bound.
+fn note_records<H: Wait>(handle: &H, reserving: &Reserving<'_>) {
+    let written = reserving.figures.report().changes;
+    let _ = reserving.witness.lock(handle).note(reserving.rt, written);
+}
+
+/// Reserves more numbers of connections in the store whenever few are left, notes each second how many records it has, and watches
+/// whether its disk has room, until all workers have ended. A journal without room gives up once the service stops.
 fn reserve_numbers<A: Sharing, H: Crew>(site: &Site<'_, A, H>, reserving: &Reserving<'_>) {
-    let mut has_no_room = false;
+    let (mut has_no_room, mut looks) = (false, 0u32);
     for _ in site.rt.forever() {
+        looks = (looks + 1) % LOOKS_OF_A_SECOND;
+        if looks == 0 {
+            note_records(site.rt, reserving);
+        }
         has_no_room = watch_room(site.rt, reserving.figures, has_no_room);
         if site.stage() != Stage::Open {
             reserving.figures.give_up();
@@ -225,6 +240,7 @@ pub(crate) fn work_journaled<
     site: &'y Site<'x, A, H>,
     operation: &'y Operation<'y, A>,
     numbers: ConnectionNumbers,
+    witness: Witness,
     journal: &mut Journal<A, S>,
 ) -> Ending
     requires committed { (store : S) (changes : List LogEntry)
@@ -234,6 +250,7 @@ pub(crate) fn work_journaled<
     let reserving = Reserving {
         rt: operation.rt,
         numbers: Mutex::new(numbers),
+        witness: Mutex::new(witness),
         figures: &operation.figures,
     };
     let shared = &reserving;

@@ -28,7 +28,7 @@ use log_text::Escaped;
 use plan_text::Plan;
 use service_answers::Origin;
 use service_store::{
-    ConnectionNumbers, ServiceStore, StartError, StartRequest, Started, close_store,
+    ConnectionNumbers, ServiceStore, StartError, StartRequest, Started, Witness, close_store,
     start_in_folder,
 };
 use service_workers::{Crew, Gate, History, ServiceRows, Site};
@@ -58,6 +58,8 @@ struct Beginning<S: Store> {
 struct Connections {
     /// The numbers of connections.
     numbers: ConnectionNumbers,
+    /// How many records the store has had at least.
+    witness: Witness,
     /// The last moment in the store, in seconds since 1970.
     last_second: u64,
 }
@@ -104,6 +106,7 @@ fn run_journaled<A: Journaling + Send + Sync, S: Store, H: Crew + Threads + Sync
 {
     let Connections {
         numbers,
+        witness,
         last_second,
     } = connections;
     let history = History::Store {
@@ -114,7 +117,7 @@ fn run_journaled<A: Journaling + Send + Sync, S: Store, H: Crew + Threads + Sync
     let Settings { keep, idle, .. } = *settings;
     let site = Site::new(handle, rt.alloc(), shared, keep, idle, history);
     let operation = operation_of(rt, workers, settings, seconds_now(handle));
-    let ending = work_journaled(handle, &site, &operation, numbers, journal);
+    let ending = work_journaled(handle, &site, &operation, numbers, witness, journal);
     Journaled {
         ending,
         cut: site.cut(),
@@ -319,6 +322,7 @@ fn serve_started<'f, S: Store + Drop, H: Crew + Threads + Sync>(
     settings: &Settings,
     started: Started<S, ServiceRows>,
     numbers: ConnectionNumbers,
+    mut witness: Witness,
 ) -> Result<(Result<RunEnd, Trouble<'f>>, EventStore<S>), Trouble<'f>>
     requires durable { AreDurable (S.Store.view started.store.store)
         (S.Store.recovers started.store.store) (records_in (S.Store.view started.store.store).trees) }
@@ -330,14 +334,17 @@ fn serve_started<'f, S: Store + Drop, H: Crew + Threads + Sync>(
         book,
         store,
         last_second,
+        appended,
         ..
     } = started;
+    witness.count_appended(appended);
     let beginning = Beginning {
         gates,
         book,
         store,
         connections: Connections {
             numbers,
+            witness,
             last_second,
         },
     };
@@ -367,8 +374,9 @@ fn serve_found<'f, H: Crew + Threads + Sync>(
     let ServiceStore {
         started,
         connections,
+        witness,
     } = found;
-    match serve_started(rt, handle, folder, settings, started, connections) {
+    match serve_started(rt, handle, folder, settings, started, connections, witness) {
         Ok((ended, store)) => {
             close(handle, folder, store);
             ended

@@ -100,6 +100,17 @@ pub enum StartFault {
     /// The disk failed while the store was opened or made.
     #[error("{0}: see to the disk and its room, and start again")]
     Disk(StoreError),
+    /// The store has had more records than it has.
+    #[error("damaged: {found} records are left of {noted}: restore it, or remove the file records beside it to start with what is left")]
+    Lost {
+        /// How many were found.
+        found: u64,
+        /// How many it has had at least.
+        noted: u64,
+    },
+    /// The file that says how many records the store has had says no number, or can't be read.
+    #[error("damaged: remove it to start without it")]
+    BadWitness,
     /// The book of the store isn't started.
     #[error("{0}")]
     Book(BookFault),
@@ -219,6 +230,7 @@ impl StartFault {
             | StartFault::NotAFolder
             | StartFault::Folder(_) => "",
             StartFault::Numbers(_) => "/connections",
+            StartFault::BadWitness => "/records",
             _ => "/events.db",
         }
     }
@@ -235,7 +247,11 @@ impl StartFault {
             | StartFault::Folder(_)
             | StartFault::File(_) => 3,
             StartFault::InUse => 8,
-            StartFault::NotAStore | StartFault::HotJournal | StartFault::OtherFormat(_) => 7,
+            StartFault::NotAStore
+            | StartFault::HotJournal
+            | StartFault::OtherFormat(_)
+            | StartFault::Lost { .. }
+            | StartFault::BadWitness => 7,
             StartFault::Disk(_) => 6,
             StartFault::Book(fault) => fault.status(),
             StartFault::Numbers(fault) => fault.status(),

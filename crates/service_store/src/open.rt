@@ -9,7 +9,8 @@ ghost use Rattle.event_store.specs.Records.{AreDurable, records_in};
 use crate::fault::{StartError, StartFault};
 use crate::folder::{make_folder, set_modes};
 use crate::numbers::ConnectionNumbers;
-use crate::start::{StartRequest, Started, start_book};
+use crate::start::{StartRequest, Started, found, start_book};
+use crate::witness::Witness;
 use book_core::BookRows;
 use book_recovery::VERSION_MAX;
 use event_file::{FileError, create_at, open_at};
@@ -30,6 +31,8 @@ pub struct ServiceStore<B: BookRows> {
     pub started: Started<FileStore<File>, B>,
     /// The numbers of its connections, of which some are reserved.
     pub connections: ConnectionNumbers,
+    /// How many records it has had at least.
+    pub witness: Witness,
 }
 
 impl StartFault {
@@ -143,6 +146,7 @@ fn with_numbers<B: BookRows + Drop>(
     rt: &HostRuntime,
     folder: &str,
     started: Started<FileStore<File>, B>,
+    witness: Witness,
 ) -> Result<ServiceStore<B>, StartFault>
     ensures started { IfOk result (λ s. s.started ≡ started) }
     ensures reserved { IfOk result (λ s. s.connections.first < s.connections.end) }
@@ -152,6 +156,7 @@ fn with_numbers<B: BookRows + Drop>(
     Ok(ServiceStore {
         started,
         connections,
+        witness,
     })
 }
 
@@ -176,8 +181,9 @@ fn start<B: BookRows + Drop>(
         return Err(StartFault::NoRandom);
     };
     let opened = open_events(rt, folder, &seeder)?;
+    let witness = Witness::open(rt, folder, found(&opened))?;
     match start_book(rt.alloc(), opened, request, hasher) {
-        Ok(started) => with_numbers(rt, folder, started),
+        Ok(started) => with_numbers(rt, folder, started, witness),
         Err(fault) => Err(StartFault::Book(fault)),
     }
 }

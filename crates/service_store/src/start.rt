@@ -50,6 +50,8 @@ pub struct Started<S: Store, B: BookRows> {
     pub last_second: u64,
     /// How many records were behind the header when the store was opened: 0 for a new store.
     pub records: usize,
+    /// How many records were appended at the start, that of a new store's header too.
+    pub appended: usize,
     /// The highest number of a connection over which a message had arrived, if one had.
     pub last_connection: Option<u32>,
     /// How many attempts were in flight when the last process ended.
@@ -67,6 +69,11 @@ struct CaughtUp {
     interrupted: usize,
     failed: Vec<Ticket>,
     kept_plan: Option<DeployRefusal>,
+}
+
+/// How many records a store had when it was opened.
+pub(crate) fn found<S: Store>(opened: &Opened<S>) -> u64 {
+    opened.1.len() as u64
 }
 
 /// A moment in milliseconds since 1970.
@@ -169,6 +176,7 @@ fn begin<S: Store + Drop, B: BookRows + Drop>(
         store: events,
         last_second: now.secs(),
         records: 0,
+        appended: 1,
         last_connection: None,
         interrupted: 0,
         failed: Vec::new(alloc),
@@ -249,16 +257,17 @@ fn resume<S: Store + Drop, B: BookRows + Drop>(
         Err(fault) => return Err(fault),
     }
     let CaughtUp {
+        records: added,
         interrupted,
         failed,
         kept_plan,
-        ..
     } = caught_up;
     Ok(Started {
         book,
         store: events,
         last_second: last_second.max(now.secs()),
         records,
+        appended: added.len(),
         last_connection,
         interrupted,
         failed,
