@@ -237,6 +237,34 @@ def flip(path, at, bit):
         file.write(bytes([byte ^ bit]))
 
 
+def lost(program, folder):
+    """One flipped bit in the log of a store that was killed: what lies behind it is gone, and a service doesn't start as if it had never
+    been. It ends with status 7 and a line with both numbers; without the file `records` it starts with what is left."""
+    lab, port, store = Destination(lambda text, before: b'AA'), free_ports(1)[0], os.path.join(folder, 'store')
+    text, texts = one_channel(port, [('LAB', lab.port, [])]), [message(b'A%d' % number, patient=b'X' * 600) for number in range(60)]
+    with Service(program, text, folder, store=store) as service:
+        replies = exchange(port, texts)
+        wait_received(lab, len(texts))
+        time.sleep(2.5)
+        service.process.kill()
+        service.process.wait(LIMIT)
+    path = os.path.join(store, 'events.db-wal')
+    flip(path, os.path.getsize(path) // 3, 4)
+    status, printed = refused(program, folder, text, '--store', store)
+    os.remove(os.path.join(store, 'records'))
+    with Service(program, text, folder, store=store) as service:
+        again = exchange(port, [message(b'B0')])
+        last = stopped(service)
+    lab.close()
+    line = last_line(printed)
+    numbers = [int(word) for word in line.split() if word.isdigit()]
+    if status != 7 or 'events.db: damaged' not in line or len(numbers) != 2 or not numbers[0] < numbers[1]:
+        return [f'lost records: status {status}, {line}']
+    if set(codes(replies + again)) != {b'CA'} or last != 0:
+        return [f'lost records: {codes(replies + again)[-3:]}, status {last} with what is left']
+    return []
+
+
 def on_small_disk(program, folder, scene):
     """Plays a scene on a disk of 2 MB, where a tmpfs can be mounted."""
     disk = os.path.join(folder, 'disk')
@@ -326,5 +354,5 @@ def stopped_without_room(program, folder, disk):
 
 STORES = [('in use by another process', in_use), ('another --events', other_bound), ('no folder', no_folder), ('no place', no_place),
           ('modes', modes), ('stop now, and on', stopped_now), ('numbers go on', numbers_go_on), ('repeats', repeats),
-          ('what a command answered', commanded), ('damaged', damaged), ('a full disk', full_disk),
+          ('what a command answered', commanded), ('damaged', damaged), ('lost records', lost), ('a full disk', full_disk),
           ('a stop on a full disk', full_at_stop)]

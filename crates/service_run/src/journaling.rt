@@ -113,7 +113,7 @@ fn note_records<H: Wait>(handle: &H, reserving: &Reserving<'_>) {
 fn reserve_numbers<A: Sharing, H: Crew>(site: &Site<'_, A, H>, reserving: &Reserving<'_>) {
     let (mut has_no_room, mut looks) = (false, 0u32);
     for _ in site.rt.forever() {
-        looks = (looks + 1) % LOOKS_OF_A_SECOND;
+        looks = looks.saturating_add(1) % LOOKS_OF_A_SECOND;
         if looks == 0 {
             note_records(site.rt, reserving);
         }
