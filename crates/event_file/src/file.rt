@@ -3,7 +3,7 @@ ghost use Rattle.sqlite_trees.specs.View.{IsClean};
 ghost use Rattle.sqlite_store.specs.Unopened.{AreUsable, image};
 ghost use Rattle.sqlite_store.specs.FileStore.{view};
 ghost use Rattle.sqlite_wal.specs.Files.{seen_image};
-ghost use Rattle.event_store.specs.Records.{records_in, contents_of};
+ghost use Rattle.event_store.specs.Records.{records_in, contents_in, contents_of};
 ghost use Rattle.event_file.specs.Found.{AreHeldBy};
 
 use crate::{FORMAT, FileError, PAGE_SIZE};
@@ -75,6 +75,8 @@ pub fn open<D: Disk>(
     requires { AreUsable files }
     ensures held { IfOk result (λ r. IsClean (view r.0.store)
         → AreHeldBy files (map contents_of r.1.items)) }
+    ensures read { IfOk result (λ r. IsClean (view r.0.store)
+        → map contents_of r.1.items ≡ contents_in (view r.0.store).trees) }
     ensures first { IfOk result (λ r. r.0.first ≡ first) }
 {
     let store = match files.open() {
@@ -105,6 +107,8 @@ pub fn create<D: Disk>(
     requires { AreUsable files }
     ensures empty { IfOk result (λ r. IsClean (view r.0.store)
         → records_in (view r.0.store).trees ≡ []) }
+    ensures read { IfOk result (λ r. IsClean (view r.0.store)
+        → map contents_of r.1.items ≡ contents_in (view r.0.store).trees) }
     ensures first { IfOk result (λ r. r.0.first ≡ first) }
 {
     let store = match files.create() {

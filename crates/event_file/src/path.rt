@@ -3,7 +3,7 @@ ghost use Rattle.sqlite_wal.specs.Files.{image_at};
 ghost use Rattle.sqlite_trees.specs.View.{IsClean};
 ghost use Rattle.sqlite_store.specs.Unopened.{AreUsable, image};
 ghost use Rattle.sqlite_store.specs.FileStore.{view};
-ghost use Rattle.event_store.specs.Records.{records_in, contents_of};
+ghost use Rattle.event_store.specs.Records.{records_in, contents_in, contents_of};
 ghost use Rattle.event_file.specs.Found.{AreHeldIn};
 
 use crate::{FileError, create, open, prepare};
@@ -42,6 +42,8 @@ pub fn open_at<S: Start>(
 ) -> Result<Opened<FileStore<FileFrom<S>>>, FileError>
     ensures held { IfOk result (λ r. IsClean (view r.0.store)
         → AreHeldIn (image_at S.Start) (map contents_of r.1.items)) }
+    ensures read { IfOk result (λ r. IsClean (view r.0.store)
+        → map contents_of r.1.items ≡ contents_in (view r.0.store).trees) }
     ensures first { IfOk result (λ r. r.0.first ≡ first) }
 {
     let files = files_at(rt, path, seed, start)?;
@@ -66,6 +68,8 @@ pub fn create_at<S: Start>(
 ) -> Result<Opened<FileStore<FileFrom<S>>>, FileError>
     ensures empty { IfOk result (λ r. IsClean (view r.0.store)
         → records_in (view r.0.store).trees ≡ []) }
+    ensures read { IfOk result (λ r. IsClean (view r.0.store)
+        → map contents_of r.1.items ≡ contents_in (view r.0.store).trees) }
     ensures first { IfOk result (λ r. r.0.first ≡ first) }
 {
     let files = files_at(rt, path, seed, start)?;

@@ -89,10 +89,10 @@ impl Log {
         }
     }
 
-    /// The history that goes on from an opening, with none booked since. `owed` is what the slots of its messages owe.
-    pub fn resume(alloc: Global, opening: Snapshot, owed: u32) -> Log
-        requires owed { owed ≡ owed (begun opening) }
-        requires within { owed ≤ opening.events_max }
+    /// The history that goes on from an opening, with none booked since. `still_owed` is what the slots of its messages owe.
+    pub fn resume(alloc: Global, opening: Snapshot, still_owed: u32) -> Log
+        requires owed { still_owed ≡ owed (begun opening) }
+        requires within { still_owed ≤ opening.events_max }
         requires few { opening.events_max ≤ EVENTS_MAX }
         requires few_places { opening.places ≤ 1000000000 }
         requires few_messages { opening.messages ≤ 1000000000 }
@@ -103,7 +103,7 @@ impl Log {
             deployments: opening.deployments,
             messages: opening.messages,
             entries: Vec::new(alloc),
-            owed,
+            owed: still_owed,
             opening,
         }
     }

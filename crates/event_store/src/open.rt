@@ -40,6 +40,8 @@ impl<S: Store> EventStore<S> {
         ensures now { IfOk result (λ r. IsClean (S.Store.view r.0.store)
             → records_in (S.Store.view r.0.store).trees
             ≡ records_in (S.Store.view store).committed) }
+        ensures read { IfOk result (λ r. IsClean (S.Store.view r.0.store)
+            → map contents_of r.1.items ≡ contents_in (S.Store.view r.0.store).trees) }
         ensures committed { IfOk result (λ r. IsClean (S.Store.view r.0.store)
             → (S.Store.view r.0.store).committed ≡ (S.Store.view store).committed) }
         ensures open { IfOk result (λ r. IsClean (S.Store.view r.0.store)
