@@ -4,7 +4,10 @@ ghost use Rattle.std.specs.Prelude.{◌≡◌, ◌≤◌, ◌<◌, ◌↔◌, No
 ghost use Rattle.std.specs.Arc.{arc_value};
 ghost use Rattle.sqlite_store.specs.FileStore.{recovers, view};
 ghost use Rattle.event_log.specs.History.{plan_in_force};
+ghost use Rattle.sqlite_trees.specs.View.{IsClean};
 ghost use Rattle.event_store.specs.Records.{AreDurable, records_in};
+ghost use Rattle.book_recovery.specs.inner.File.{IsRecovered};
+ghost use Rattle.service_store.specs.inner.Starting.{AreReadOf, bodies_in};
 
 use crate::fault::{StartError, StartFault};
 use crate::folder::{make_folder, set_modes};
@@ -92,7 +95,9 @@ fn open_or_create(
     rt: &HostRuntime,
     path: &str,
     seed: u64,
-) -> Result<Opened<FileStore<File>>, StartFault> {
+) -> Result<Opened<FileStore<File>>, StartFault>
+    ensures { IfOk result (λ r. AreReadOf (view r.0.store) r.1.items) }
+{
     match open_at(rt, path, FIRST_RECORD, seed, Unknown) {
         Ok(opened) => Ok(opened),
         // A file that holds a database is left as it is.
@@ -111,7 +116,9 @@ fn open_events(
     rt: &HostRuntime,
     folder: &str,
     hasher: &RandomState,
-) -> Result<Opened<FileStore<File>>, StartFault> {
+) -> Result<Opened<FileStore<File>>, StartFault>
+    ensures { IfOk result (λ r. AreReadOf (view r.0.store) r.1.items) }
+{
     let Ok(path) = format!(in rt.alloc(); "{folder}/events.db") else {
         return Err(StartFault::NoMemory);
     };
@@ -168,6 +175,8 @@ fn start<B: BookRows + Drop>(
     requires some { 1 ≤ request.events_max }
     requires few { request.events_max ≤ 1000000 }
     requires version { length request.version.now ≤ VERSION_MAX }
+    ensures recovered { IfOk result (λ s. IsClean (view s.started.store.store)
+        → IsRecovered (bodies_in (view s.started.store.store).trees) s.started.book) }
     ensures durable { IfOk result (λ s. AreDurable (view s.started.store.store)
         (recovers s.started.store.store) (records_in (view s.started.store.store).trees)) }
     ensures plan { IfOk result (λ s. (s.started.kept_plan ≡ None)
@@ -203,7 +212,9 @@ pub fn start_in_folder<'a, B: BookRows + Drop>(
     requires few { request.events_max ≤ 1000000 }
     requires version { length request.version.now ≤ VERSION_MAX }
 
-    // A crash leaves just what the store has.
+    // The book is what is recovered from just the records that the store has, and a crash leaves just these.
+    ensures recovered { IfOk result (λ s. IsClean (view s.started.store.store)
+        → IsRecovered (bodies_in (view s.started.store.store).trees) s.started.book) }
     ensures durable { IfOk result (λ s. AreDurable (view s.started.store.store)
         (recovers s.started.store.store) (records_in (view s.started.store.store).trees)) }
     ensures plan { IfOk result (λ s. (s.started.kept_plan ≡ None)
