@@ -237,6 +237,15 @@ def flip(path, at, bit):
         file.write(bytes([byte ^ bit]))
 
 
+def witnessed(store):
+    """How many records the file `records` of a store says that it has had."""
+    try:
+        with open(os.path.join(store, 'records'), encoding='ascii') as file:
+            return int(file.read() or 0)
+    except FileNotFoundError:
+        return 0
+
+
 def lost(program, folder):
     """One flipped bit in the log of a store that was killed: what lies behind it is gone, and a service doesn't start as if it had never
     been. It ends with status 7 and a line with both numbers; without the file `records` it starts with what is left."""
@@ -245,7 +254,7 @@ def lost(program, folder):
     with Service(program, text, folder, store=store) as service:
         replies = exchange(port, texts)
         wait_received(lab, len(texts))
-        time.sleep(2.5)
+        noted = within(lambda: witnessed(store) >= len(texts))
         service.process.kill()
         service.process.wait(LIMIT)
     path = os.path.join(store, 'events.db-wal')
@@ -258,7 +267,7 @@ def lost(program, folder):
     lab.close()
     line = last_line(printed)
     numbers = [int(word) for word in line.split() if word.isdigit()]
-    if status != 7 or 'events.db: damaged' not in line or len(numbers) != 2 or not numbers[0] < numbers[1]:
+    if not noted or status != 7 or 'events.db: damaged' not in line or len(numbers) != 2 or not numbers[0] < numbers[1]:
         return [f'lost records: status {status}, {line}']
     if set(codes(replies + again)) != {b'CA'} or last != 0:
         return [f'lost records: {codes(replies + again)[-3:]}, status {last} with what is left']
@@ -297,7 +306,7 @@ def enlarge(disk):
 
 def filling(service, port):
     """Sends to a service until its disk has no room: the messages, their sender, and whether `status` says that there is none."""
-    texts = [message(b'A%d' % number, patient=b'X' * 2_000) for number in range(4_000)]
+    texts = [message(b'A%d' % number, patient=b'X' * 4_000) for number in range(700)]
     sender = Sender(port, texts, in_flight=16)
     sender.start()
     full = within(lambda: any('no room' in line for line in service.ask('status') or []))
@@ -315,7 +324,7 @@ def filled(program, folder, disk):
         sent = wait_received(lab, held)
         waiting = held, len(sender.replies)
         enlarge(disk)
-        sender.join(2 * LIMIT)
+        sender.join(4 * LIMIT)
         whole, status = wait_received(lab, len(texts)), stopped(service)
         log = service.log
     lab.close()
