@@ -78,7 +78,12 @@ may_be_used true v is_open = is_open
 may_be_used false v is_open = tt
 
 was_clean : (v : View) → (v.is_clean ≡ false → v.is_open ≡ false) → IsTrue v.is_open → IsClean v
-was_clean v shut is_open = grind (arith, shut, is_open)
+unfolding doubt
+was_clean v shut is_open = by v.is_clean refl
+  where
+    by : (b : Bool) → v.is_clean ≡ b → doubt b ≡ 0
+    by true is = refl
+    by false is = absurd (true≢false (sym is_open ∙ shut is))
 
 module _ (opening : History) (before : List Row) where
   pub in_order_copied : (v : View) (recovers : Trees → Type 0) (old new : SeatView) (unwritten after : List Copied) (failed no_room : Bool)

@@ -35,7 +35,7 @@ cause_again cause.NoMemory = refl
 cause_again cause.Full = refl
 cause_again cause.PlanChanged = refl
 
-told_again : (t : Told) → told_of (told_kind t) (told_number t) ≡ Ok t
+pub told_again : (t : Told) → told_of (told_kind t) (told_number t) ≡ Ok t
 unfolding told_of
 told_again (told.Accepted number) = refl
 told_again told.Filtered = refl

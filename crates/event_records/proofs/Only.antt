@@ -17,21 +17,21 @@ use Rattle.event_records.specs.inner.Decoding.{◌>>=◌, number_at, numbers_at,
 
 -- ---- what follows of a step that succeeds
 
-record Bound {A B : Type 0} (x : Result A RecordFault) (f : A → Result B RecordFault) (b : B) : Type 0 where
-  value : A
-  first : x ≡ Ok value
-  then : f value ≡ Ok b
+pub record Bound {A B : Type 0} (x : Result A RecordFault) (f : A → Result B RecordFault) (b : B) : Type 0 where
+  pub value : A
+  pub first : x ≡ Ok value
+  pub then : f value ≡ Ok b
 
-bound : {A B : Type 0} (x : Result A RecordFault) (f : A → Result B RecordFault) (b : B) → (x >>= f) ≡ Ok b → Bound x f b
+pub bound : {A B : Type 0} (x : Result A RecordFault) (f : A → Result B RecordFault) (b : B) → (x >>= f) ≡ Ok b → Bound x f b
 bound (Ok a) f b e = record { value = a; first = refl; then = e }
 bound (Err z) f b e = absurd cc
 
-got : {A : Type 0} (x y : A) → ◌≡◌ {A = Result A RecordFault} (Ok x) (Ok y) → x ≡ y
+pub got : {A : Type 0} (x y : A) → ◌≡◌ {A = Result A RecordFault} (Ok x) (Ok y) → x ≡ y
 got x y e = cc
 
 -- ---- bytes
 
-bytes_taken : (n : ℕ) (bytes : List ℕ) → n ≤ length bytes → AreBytes bytes → AreBytes (take n bytes)
+pub bytes_taken : (n : ℕ) (bytes : List ℕ) → n ≤ length bytes → AreBytes bytes → AreBytes (take n bytes)
 bytes_taken n bytes le are i = by (nat_lt i n) refl
   where
     by : (b : Bool) → nat_lt i n ≡ b → get_or (take n bytes) i 0 < 256
@@ -43,28 +43,28 @@ bytes_dropped n bytes are i = subst (λ x. x < 256) (sym (get_or-drop n bytes i 
 
 -- ---- numbers
 
-record IsExact (w : Width) : Type 0 where
-  again : (bs : List ℕ) → length bs ≡ byte_len w → AreBytes bs → to_be_bytes w (from_be_bytes w bs) ≡ bs
+pub record IsExact (w : Width) : Type 0 where
+  pub again : (bs : List ℕ) → length bs ≡ byte_len w → AreBytes bs → to_be_bytes w (from_be_bytes w bs) ≡ bs
 
-exact32 : IsExact w32
+pub exact32 : IsExact w32
 exact32 = record { again = λ bs len are. be_bytes_4 bs (from_be_bytes w32 bs) len are refl }
 
-exact64 : IsExact w64
+pub exact64 : IsExact w64
 exact64 = record { again = λ bs len are. be_bytes_8 bs (from_be_bytes w64 bs) len are refl }
 
 -- bytes are these, and others behind them, which are bytes too
-record Splits (bytes front rest : List ℕ) : Type 0 where
-  is : bytes ≡ front ++ rest
-  are : AreBytes rest
+pub record Splits (bytes front rest : List ℕ) : Type 0 where
+  pub is : bytes ≡ front ++ rest
+  pub are : AreBytes rest
 
-split_at : (n : ℕ) (bytes front rest : List ℕ) → AreBytes bytes → take n bytes ≡ front → drop n bytes ≡ rest → Splits bytes front rest
+pub split_at : (n : ℕ) (bytes front rest : List ℕ) → AreBytes bytes → take n bytes ≡ front → drop n bytes ≡ rest → Splits bytes front rest
 split_at n bytes front rest are first second =
     record { is = sym (take-append-drop n bytes) ∙ (ap (λ x. x ++ drop n bytes) first ∙ ap (λ x. front ++ x) second); are = subst AreBytes second (bytes_dropped n bytes are) }
 
 abbrev number_by : Width → List ℕ → Bool → Result (ℕ × List ℕ) RecordFault
 number_by w bytes short = cond short (Err Truncated) (Ok (from_be_bytes w (take (byte_len w) bytes), drop (byte_len w) bytes))
 
-number_only : (w : Width) → IsExact w → (bytes : List ℕ) (n : ℕ) (rest : List ℕ) → AreBytes bytes → number_at w bytes ≡ Ok (n, rest) → Splits bytes (to_be_bytes w n) rest
+pub number_only : (w : Width) → IsExact w → (bytes : List ℕ) (n : ℕ) (rest : List ℕ) → AreBytes bytes → number_at w bytes ≡ Ok (n, rest) → Splits bytes (to_be_bytes w n) rest
 number_only w exact bytes n rest are e = by (nat_lt (length bytes) (byte_len w)) refl e
   where
     by : (b : Bool) → nat_lt (length bytes) (byte_len w) ≡ b
@@ -78,7 +78,7 @@ number_only w exact bytes n rest are e = by (nat_lt (length bytes) (byte_len w))
         split_at (byte_len w) bytes (to_be_bytes w n) rest are (sym front) (ap (λ (p : ℕ × List ℕ). p.1) pair)
 
 -- two splits, one behind the other
-behind : (bytes a middle b rest : List ℕ) → Splits bytes a middle → Splits middle b rest → Splits bytes (a ++ b) rest
+pub behind : (bytes a middle b rest : List ℕ) → Splits bytes a middle → Splits middle b rest → Splits bytes (a ++ b) rest
 behind bytes a middle b rest p q = record { is = p.is ∙ (ap (λ x. a ++ x) q.is ∙ sym (append_assoc a b rest)); are = q.are }
 
 -- ---- texts
@@ -86,7 +86,7 @@ behind bytes a middle b rest p q = record { is = p.is ∙ (ap (λ x. a ++ x) q.i
 abbrev text_by : ℕ → List ℕ → Bool → Result (List ℕ × List ℕ) RecordFault
 text_by n bytes short = cond short (Err Truncated) (Ok (take n bytes, drop n bytes))
 
-text_only : (bytes text rest : List ℕ) → AreBytes bytes → text_at bytes ≡ Ok (text, rest) → Splits bytes (text_bytes text) rest
+pub text_only : (bytes text rest : List ℕ) → AreBytes bytes → text_at bytes ≡ Ok (text, rest) → Splits bytes (text_bytes text) rest
 unfolding text_at
 text_only bytes text rest are e =
     let step = bound (number_at w32 bytes) (λ (n : ℕ × List ℕ). text_by n.0 n.1 (nat_lt (length n.1) n.0)) (text, rest) e in
@@ -162,7 +162,7 @@ same_fields a b e =
     let moment = eqb-true a.moment b.moment p.1 in
     rw (kind, part, first, second, third, moment) refl
 
-same_bytes : (a b : List ℕ) → bytes_eq a b ≡ true → a ≡ b
+pub same_bytes : (a b : List ℕ) → bytes_eq a b ≡ true → a ≡ b
 same_bytes a b same = search (rules, bytes_eq-Decides)
 
 exactly_only : (h : Head) (text : List ℕ) (x r : Record) → exactly h text x ≡ Ok r → (head_of r ≡ h) × (text_of r ≡ text)

@@ -15,6 +15,6 @@ mod writing;
 pub use fault::{ReadError, RecordFault};
 pub use head::Head;
 pub use laws::record_rules;
-pub use reading::{read_batch, read_record};
+pub use reading::{read_batch, read_record, text_at, told_of, u32_at, u64_at};
 pub use record::Record;
-pub use writing::{put_record, write_batch};
+pub use writing::{put_record, told_parts, write_batch};

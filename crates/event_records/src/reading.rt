@@ -16,7 +16,11 @@ use judge_core::Text;
 use std::alloc::Global;
 
 /// A number of four bytes, and the bytes behind it.
-fn u32_at(bytes: &[u8]) -> Result<(u32, &[u8]), ReadError>
+///
+/// # Errors
+///
+/// `Truncated` where there are fewer bytes.
+pub fn u32_at(bytes: &[u8]) -> Result<(u32, &[u8]), ReadError>
     ensures { Gives (λ x. (x.0, x.1.now)) result (number_at w32 bytes.now) }
 {
     if bytes.len() < 4 {
@@ -28,7 +32,11 @@ fn u32_at(bytes: &[u8]) -> Result<(u32, &[u8]), ReadError>
 }
 
 /// A number of eight bytes, and the bytes behind it.
-fn u64_at(bytes: &[u8]) -> Result<(u64, &[u8]), ReadError>
+///
+/// # Errors
+///
+/// `Truncated` where there are fewer bytes.
+pub fn u64_at(bytes: &[u8]) -> Result<(u64, &[u8]), ReadError>
     ensures { Gives (λ x. (x.0, x.1.now)) result (number_at w64 bytes.now) }
 {
     if bytes.len() < 8 {
@@ -42,8 +50,12 @@ fn u64_at(bytes: &[u8]) -> Result<(u64, &[u8]), ReadError>
 }
 
 /// A text behind its length, and the bytes behind it.
+///
+/// # Errors
+///
+/// `Truncated` where the bytes end within the length or the text.
 #[tactic(auto, unfolding(crate::specs::inner::Decoding::text_at))]
-fn text_at(bytes: &[u8]) -> Result<(&[u8], &[u8]), ReadError>
+pub fn text_at(bytes: &[u8]) -> Result<(&[u8], &[u8]), ReadError>
     ensures { Gives (λ x. (x.0.now, x.1.now)) result (text_at bytes.now) }
 {
     let (len, rest) = u32_at(bytes)?;
@@ -108,8 +120,12 @@ fn cause_of(number: u32) -> Result<Cause, ReadError>
 }
 
 /// The answer of this kind and number.
+///
+/// # Errors
+///
+/// `Unknown` where no answer has them.
 #[tactic(auto, unfolding(crate::specs::inner::Decoding::told_of))]
-fn told_of(kind: u8, number: u32) -> Result<Told, ReadError>
+pub fn told_of(kind: u8, number: u32) -> Result<Told, ReadError>
     ensures { Gives (λ x. x) result (told_of kind number) }
 {
     match kind {

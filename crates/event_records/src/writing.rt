@@ -14,7 +14,7 @@ use judge_core::offset_32;
 use std::alloc::{AllocError, Global};
 
 /// An answer as a kind and a number.
-fn told_parts(told: Told) -> (u8, u32)
+pub fn told_parts(told: Told) -> (u8, u32)
     ensures { result ≡ (told_kind told, told_number told) }
 {
     match told {

@@ -1,11 +1,11 @@
-use Rattle.std.proofs.Common.{◌≡◌, false, Bool, List, [], length, refl, sym, subst, rules}
+use Rattle.std.proofs.Common.{◌≡◌, false, true, Bool, List, [], length, refl, sym, subst, rules}
 use Rattle.std.specs.Option.{is_some}
 use Rattle.book_lock.specs.declared.copied.Copied.{Copied}
 use Rattle.book_lock.specs.Durable.{changes_of}
 use Rattle.book_lock.specs.Shares.{DeskView}
 use Rattle.book_journal.specs.inner.Held.{AreHeld}
 use Rattle.book_journal.specs.inner.Order.{IsInOrder}
-use Rattle.book_journal.proofs.Steps.{held_all, in_order_after, in_order_copied}
+use Rattle.book_journal.proofs.Steps.{held_all, in_order_after, in_order_copied, in_order_without_room}
 use Rattle.book_journal.proofs.journal.Journal.step.Goals as goal
 
 pub returns-then-is_empty-clause-held : goal.returns-then-is_empty-clause-held
@@ -84,3 +84,22 @@ returns-in-Ok-clause-held g c =
     c.self.invariant c.in_ok-copy_more.ensures.copied sound c.write_all.ensures.clean wrote.open wrote.seen wrote.left in
     subst (λ (d : DeskView). AreHeld (g.S.Store.view store) (g.S.Store.recovers store) before (changes_of d.seat.seen)) (sym {A = DeskView} c.publish.ensures)
     (held_all opening before (g.S.Store.view store) (g.S.Store.recovers store) copied.reader.seat.seen [] false false order refl refl)
+
+pub invariant_of-self-in-Err-Full : goal.invariant_of-self-in-Err-Full
+invariant_of-self-in-Err-Full g c =
+    let opening = g.A.Sharing.opening in
+    let before = g.A.Journaling.before in
+    let old = c.self.inside.store.store in
+    let store = c.write_all.new.store.store in
+    let copied = c.copy_more.new in
+    let failed = is_some c.self.inside.failure in
+    let no_room = c.self.inside.found_no_room in
+    let sound : failed ≡ false = search rules in
+    let order = in_order_copied opening before (g.S.Store.view old) (g.S.Store.recovers old) c.self.inside.reader.seat copied.reader.seat c.self.inside.unwritten.items copied.unwritten.items failed no_room
+    c.self.invariant c.in_ok-copy_more.ensures.copied in
+    let some : copied.unwritten.items ≡ [] → ⊥ = search rules in
+    let held = in_order_without_room opening before (g.S.Store.view old) (g.S.Store.view store) (g.S.Store.recovers old) (g.S.Store.recovers store) copied.reader.seat.seen copied.unwritten.items no_room
+    (subst (λ (b : Bool). IsInOrder opening before (g.S.Store.view old) (g.S.Store.recovers old) copied.reader.seat.seen copied.unwritten.items b no_room) sound order)
+    some c.in-Err-Full.ensures.dropped (g.met.S.Store.shut_if_dirty old) (g.met.S.Store.stays old) (g.met.S.Store.settled store) in
+    subst (λ (l : List Copied). IsInOrder opening before (g.S.Store.view store) (g.S.Store.recovers store) copied.reader.seat.seen l failed true) (sym {A = List Copied} c.in-Err-Full.ensures.kept)
+    (subst (λ (b : Bool). IsInOrder opening before (g.S.Store.view store) (g.S.Store.recovers store) copied.reader.seat.seen copied.unwritten.items b true) (sym {A = Bool} sound) held)
