@@ -7,8 +7,8 @@ Usage: peers/crash.py [PROGRAM] [--seed N] [--kills N] [--cuts N] [--only WORD]
 
 PROGRAM is the built service, by default crates/hl7_service/out/hl7_service ('rt run' in crates/hl7_service builds it). The moments of
 the kills, what a power cut leaves, and the messages are drawn by the seed, which is printed; without --seed it is drawn too. Power cuts
-need a C compiler, and are skipped without one. Plain Python 3, no packages, bounded in time. The exit status is 0 if every check passes, else 1. Each failure is printed on a line of
-its own.
+need a C compiler, and are skipped without one. Plain Python 3, no packages, bounded in time. The exit status is 0 if every check
+passes, else 1. Each failure is printed on a line of its own.
 """
 import argparse
 import os
@@ -34,8 +34,9 @@ EVENTS = '3000'
 KILLS, CUTS = 40, 10
 # For how many seconds a service runs at most before it is killed: from its start, from when it is ready, and from when it is stopped.
 FROM_START, FROM_READY, FROM_STOP = 0.3, 0.8, 0.1
-# For how long a service that kills itself is waited for at most, from when it is ready and from when it is stopped.
-BY_ITSELF = 2.0
+# For how long a service that kills itself is waited for at most, from when it is ready and from when it is stopped; and for how long a
+# start may take, since a slow program on a busy machine takes a while over its store.
+BY_ITSELF, STARTING = 2.0, 120
 # In which of its calls on a file it kills itself, one of so many: a commit is four calls on the log, and what is stopped writes to
 # events.db.
 LOG_CALLS, FILE_CALLS, NUMBER_CALLS = 100, 40, 4
@@ -204,7 +205,7 @@ def lived(program, plan_path, store, moment, env=None, endings=()):
         reader = threading.Thread(target=read, daemon=True)
         reader.start()
         if moment.is_ready:
-            is_ready.wait(LIMIT)
+            is_ready.wait(STARTING)
         if not has_ended(process, moment.seconds) and moment.stop_seconds is not None:
             os.write(process.stdin.fileno(), b'stop now\n')
             has_ended(process, moment.stop_seconds)
@@ -212,7 +213,7 @@ def lived(program, plan_path, store, moment, env=None, endings=()):
         process.kill()
         process.wait()
         reader.join(LIMIT)
-    return [] if is_up and status in (None, *endings) else [f'status {status}, or not ready in {LIMIT} seconds: {tail(log)}']
+    return [] if is_up and status in (None, *endings) else [f'status {status}, or not ready in {STARTING} seconds: {tail(log)}']
 
 
 def begun(port, seed, longest):
@@ -228,6 +229,7 @@ def begun(port, seed, longest):
 def drained(program, text, folder, store, senders):
     """Runs the service until all that the senders have sent is acknowledged and delivered. What is wrong with its end."""
     with Service(program, text, folder, '--events', EVENTS, store=store) as service:
+        service.ready.wait(STARTING)
         if not any('listening on ' in line for line in service.log):
             return [f'the end: it does not start: {tail(service.log)}']
         for sender in senders:

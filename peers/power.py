@@ -51,10 +51,10 @@ def noting(path, folder, log, name='', number=0):
                 POWER_CALL=str(number))
 
 
-def calls_in(log):
-    """The calls that a log has, in order. What a kill has cut off at its end is left out."""
+def calls_in(log, size=-1):
+    """The calls that a log has, or that its first bytes have, in order. What a kill has cut off at its end is left out."""
     with open(log, 'rb') as file:
-        held = file.read()
+        held = file.read(size)
     calls, at, index = {}, 0, 0
     while at + HEADER.size <= len(held):
         kind, serial, number, place, size = HEADER.unpack_from(held, at)
