@@ -3,13 +3,14 @@
 in turns. Messages a second from 64 connections, acknowledged and delivered; one message alone; times at a moderate rate; processor
 time; what the file has for each message, take and settlement; how many messages share a commit; and a start over what was kept.
 
-Usage: bench/store.py [PROGRAM] [--turns N] [--messages N] [--rate N] [--start N] [--disk FOLDER] [--ram FOLDER]
+Usage: bench/store.py [PROGRAM] [--turns N] [--messages N] [--rate N] [--growth N] [--start N] [--disk FOLDER] [--ram FOLDER]
 
 PROGRAM is the built service, by default crates/hl7_service/out/hl7_service ('rt run' in crates/hl7_service builds it). --messages is
-how many a turn sends at full speed, --rate how many a second at the moderate rate, --start over how many messages a start is
-timed (0: none), --disk a folder on the disk to measure, and --ram one in memory. The commits are counted by peers/power.c, for which a
-C compiler is needed. Plain Python 3, no packages. Senders and the destination are processes of their own. It prints what is
-wanted beside what was measured, and judges nothing: the exit status is 0.
+how many a turn sends at full speed, --rate how many a second at the moderate rate, --growth by how many the file is measured, --start
+over how many messages a start is timed (0: none), --disk a folder on the disk to measure, and --ram one in memory. The commits
+are counted by peers/power.c, for which a C compiler is needed. Plain Python 3, no packages. Senders and the destination are
+processes of their own. It prints what is wanted beside what was measured, and judges nothing: the exit status is 0 once all of it
+was measured.
 """
 import argparse
 import multiprocessing
@@ -38,8 +39,8 @@ from served import Service  # noqa: E402
 CONNECTIONS, IN_FLIGHT, SIZE = 64, 16, 700
 # How many messages are sent one at a time in a turn, and for how long a moderate rate lasts, over how many connections.
 ALONE, PACED_SECONDS, PACED_CONNECTIONS = 100, 3.0, 8
-# How many messages are sent to measure the file, and at most to count commits.
-GROWTH, COUNTED = 5_000, 10_000
+# How many messages are sent at most to count commits.
+COUNTED = 10_000
 SYNCS, STARTS, LIMIT = 200, 3, 600
 
 
@@ -263,14 +264,14 @@ def rows(store):
     return found
 
 
-def growth(program, folder, store):
+def growth(program, folder, store, messages):
     """What the file grows by for each message, and for its one take and its settlement: first the destination is down, then up."""
     port, to = free_ports(2)
     with Service(program, one_channel(port, [('LAB', to, ['attempts = 2'])]), folder, store=store) as service:
         stopped(service, 'stop now')
     sizes = [size_of(store)]
     with Service(program, one_channel(port, [('LAB', to, ['attempts = 2'])]), folder, store=store) as service:
-        number = sent(port, GROWTH, b'G')[2]
+        number = sent(port, messages, b'G')[2]
         stopped(service, 'stop now')
     sizes.append(size_of(store))
     with Lab() as lab, Service(program, one_channel(port, [('LAB', lab.port, ['attempts = 2'])]), folder, store=store) as service:
@@ -305,10 +306,10 @@ def commits(program, folder, store, messages, library):
             lab.wait(number)
             noted = os.path.getsize(log)
             stopped(service)
-    name = os.stat(os.path.join(store, 'events.db-wal')).st_ino
     calls = power.calls_in(log, noted)
     os.remove(log)
-    return Commits(number, sum(count for _, count, _ in rows(store)), sum(call.kind == power.SYNC and call.number == name for call in calls),
+    own = next(call.result for call in calls if call.kind == power.MADE and call.data == b'events.db-wal')
+    return Commits(number, sum(count for _, count, _ in rows(store)), sum(call.kind == power.SYNC and call.number == own for call in calls),
                    sum(len(call.written()) for call in calls if call.kind == power.WRITE))
 
 
@@ -407,7 +408,7 @@ def of_the_file(program, places, args):
     """Measures and prints what the file takes, how many messages share a commit, and a start."""
     where = list(places.values())[-1]
     with tempfile.TemporaryDirectory(dir=where) as folder:
-        message_bytes, step_bytes, kinds = growth(program, folder, os.path.join(folder, 'growth'))
+        message_bytes, step_bytes, kinds = growth(program, folder, os.path.join(folder, 'growth'), args.growth)
         for kind, count, size in kinds:
             print(f'rows of the kind {kind}: {count:,}, {size:.1f} bytes in their columns')
         wanted(f'at most 1.25 bytes of the file for a byte of a message of {SIZE} bytes', f'{message_bytes:.3f}')
@@ -432,6 +433,7 @@ def main():
     parser.add_argument('--turns', type=int, default=5)
     parser.add_argument('--messages', type=int, default=40_000)
     parser.add_argument('--rate', type=int, default=500)
+    parser.add_argument('--growth', type=int, default=5_000)
     parser.add_argument('--start', type=int, default=100_000)
     parser.add_argument('--disk', default=tempfile.gettempdir())
     parser.add_argument('--ram', default='/dev/shm')

@@ -39,7 +39,7 @@ FROM_START, FROM_READY, FROM_STOP = 0.3, 0.8, 0.1
 BY_ITSELF, STARTING = 2.0, 120
 # In which of its calls on a file it kills itself, one of so many: a commit is four calls on the log, and what is stopped writes to
 # events.db.
-LOG_CALLS, FILE_CALLS, NUMBER_CALLS = 100, 40, 4
+LOG_CALLS, FILE_CALLS, NUMBER_CALLS = 50, 30, 4
 # Each sender has at most so many messages unacknowledged.
 WINDOWS = (1, 2, 5, 10)
 # With power cuts a tenth of the messages has up to so many bytes, so that the log is copied into events.db now and then.
@@ -299,9 +299,10 @@ def power_cuts(program, folder, seed, times):
         log, left, files = f'{store}.log', f'{store}-', power.Files(store)
         moment, name, number = cut_moment(chance)
         moments.append(f'{name} {number}' if name else 'stopped' if moment.stop_seconds is not None else 'any')
-        wrong = lived(program, plan_path, store, moment, power.noting(library, store, log, name, number), (0, -signal.SIGKILL))
+        endings = [0] * (moment.stop_seconds is not None) + [-signal.SIGKILL] * bool(name)
+        wrong = lived(program, plan_path, store, moment, power.noting(library, store, log, name, number), endings)
         calls = power.calls_in(log)
-        wrong += power.unnoted(files.copy(), calls, store)
+        wrong += power.unnoted(files, calls, store)
         fates.update(power.cut(files, calls, chance))
         power.put(files, left)
         return wrong, left

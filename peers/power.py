@@ -1,5 +1,6 @@
 """What a power cut may leave of the files in a folder: each write that a sync has covered is there, and each later one is lost, kept
 or torn. peers/power.c, a library that is loaded into the program, notes its calls on these files."""
+import copy
 import os
 import shutil
 import struct
@@ -26,7 +27,7 @@ class Call:
 
     def has_happened(self):
         """Whether it may have changed something, wholly or in part."""
-        return self.kind != SYNC and (self.result is None or self.result >= 0) and not (self.kind == WRITE and self.result == 0)
+        return self.kind != SYNC and self.result != -1 and not (self.kind == WRITE and self.result == 0)
 
     def written(self):
         """The bytes that a write has put into the file."""
@@ -55,36 +56,32 @@ def calls_in(log, size=-1):
     """The calls that a log has, or that its first bytes have, in order. What a kill has cut off at its end is left out."""
     with open(log, 'rb') as file:
         held = file.read(size)
-    calls, at, index = {}, 0, 0
+    calls, made, at, index = {}, Counter(), 0, 0
     while at + HEADER.size <= len(held):
         kind, serial, number, place, size = HEADER.unpack_from(held, at)
         at += HEADER.size
         if at + size > len(held):
             break
         if kind == RETURNED:
-            calls[serial].end, calls[serial].result = index, number
+            # An inode number may be given again: a file that is made has it with how often that was.
+            is_made = calls[serial].kind == MADE and number >= 0
+            made[number] += is_made
+            calls[serial].end, calls[serial].result = index, (number, made[number]) if is_made else number
         else:
-            calls[serial] = Call(kind, number, place, held[at:at + size], index)
+            calls[serial] = Call(kind, (number, made[number]), place, held[at:at + size], index)
         at, index = at + size, index + 1
     return list(calls.values())
 
 
 class Files:
-    """The files of a folder by inode number, and their names."""
+    """The files of a folder by number, and their names. The number of a file is that of its inode, and how often it was given anew."""
 
     def __init__(self, folder):
-        self.number, self.names, self.contents = os.stat(folder).st_ino, {}, {}
+        self.number, self.names, self.contents = (os.stat(folder).st_ino, 0), {}, {}
         for name in os.listdir(folder):
             with open(os.path.join(folder, name), 'rb') as file:
-                self.names[name] = os.stat(file.fileno()).st_ino
+                self.names[name] = os.stat(file.fileno()).st_ino, 0
                 self.contents[self.names[name]] = bytearray(file.read())
-
-    def copy(self):
-        """The same files once more."""
-        other = Files.__new__(Files)
-        other.number, other.names = self.number, dict(self.names)
-        other.contents = {number: bytearray(held) for number, held in self.contents.items()}
-        return other
 
     def by_name(self):
         """The bytes of each file."""
@@ -161,7 +158,7 @@ def tear(files, call, chance):
 
 def cut(files, calls, chance):
     """Makes of files as they were at the start of a program what a power cut may leave after its calls. Returns how many of them were
-    covered by a sync, lost, kept and torn. Calls on names are kept up to one, as a journal of a file system has them."""
+    covered by a sync, kept, torn and lost. Calls on names are kept up to one, as a journal of a file system has them."""
     is_covered, counts = covered(calls, files.number), Counter()
     made = [call for call in calls if call.has_happened()]
     loss = chance.choice((0.0, 1.0, chance.random(), chance.random(), chance.random()))
@@ -175,7 +172,7 @@ def cut(files, calls, chance):
         elif chance.random() < loss:
             fate = LOST
         else:
-            fate = TORN if call.kind == WRITE and len(pieces(call)) > 1 and chance.random() < loss else KEPT
+            fate = TORN if call.kind == WRITE and len(pieces(call)) > 1 and loss > 0 and chance.random() < 0.5 else KEPT
         counts[fate] += 1
         if fate == TORN:
             tear(files, call, chance)
@@ -192,9 +189,10 @@ def differ(held, due, call):
     return held[:begin] != due[:begin] or held[end:] != due[end:]
 
 
-def unnoted(files, calls, folder):
+def unnoted(before, calls, folder):
     """What the files of a killed program have that its noted calls, made on them as they were at its start, don't explain: a call that
     power.c doesn't know would show here."""
+    files = copy.deepcopy(before)
     under_way = {call.number: call for call in calls if call.end is None and call.has_happened()}
     for call in calls:
         if call.has_happened():
@@ -205,9 +203,8 @@ def unnoted(files, calls, folder):
     for name in found.names.keys() ^ files.names.keys():
         wrong.append(f'{name} is {"there" if name in found.names else "not there"}')
     for name in found.names.keys() & files.names.keys():
-        number = found.names[name]
-        held, due = found.contents[number], files.contents.get(files.names[name], b'')
-        if number != files.names[name] or differ(held, due, under_way.get(number)):
+        held, due = found.contents[found.names[name]], files.contents.get(files.names[name], b'')
+        if differ(held, due, under_way.get(files.names[name])):
             wrong.append(f'{name} has {len(held)} bytes, and not the {len(due)} that were noted')
     return wrong
 
