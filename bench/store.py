@@ -37,8 +37,9 @@ from mllp import block, free_ports, message  # noqa: E402
 from served import Service  # noqa: E402
 
 CONNECTIONS, IN_FLIGHT, SIZE = 64, 16, 700
-# How many messages are sent one at a time in a turn, and for how long a moderate rate lasts, over how many connections.
-ALONE, PACED_SECONDS, PACED_CONNECTIONS = 100, 3.0, 8
+# How many messages are sent one at a time in a turn, and how many seconds pass before each that is alone: a store writes what nobody
+# waits for, as a settlement, within 20 ms. For how long a moderate rate lasts, over how many connections.
+ALONE, QUIET, PACED_SECONDS, PACED_CONNECTIONS = 60, 0.03, 3.0, 8
 # How many messages are sent at most to count commits.
 COUNTED = 10_000
 SYNCS, STARTS, LIMIT = 200, 3, 600
@@ -160,13 +161,14 @@ def sent(port, messages, turn):
     return min(began for began, _ in times), max(ended for _, ended in times), each * CONNECTIONS
 
 
-def alone(port):
-    """Seconds for the acknowledgment of each of ALONE messages, one at a time."""
+def alone(port, name, quiet):
+    """Seconds for the acknowledgment of each of ALONE messages, one at a time, with so many seconds between."""
     times = []
     with socket.create_connection(('127.0.0.1', port), timeout=LIMIT) as peer:
         peer.setsockopt(socket.IPPROTO_TCP, socket.TCP_NODELAY, 1)
         for number in range(ALONE):
-            text, began = numbered(b'ALONE', number), time.monotonic()
+            time.sleep(quiet)
+            text, began = numbered(name, number), time.monotonic()
             peer.sendall(text)
             while b'\x1c' not in peer.recv(65_536):
                 pass
@@ -207,6 +209,7 @@ class Turn(NamedTuple):
     delivered: float
     processor: float
     alone: list
+    chained: list
     paced: list
 
 
@@ -215,15 +218,15 @@ def turned(program, folder, store, name, messages, rate):
     with Lab() as lab:
         port, = free_ports(1)
         with Service(program, one_channel(port, [('LAB', lab.port, ['attempts = 2'])]), folder, store=store) as service:
-            one, many = alone(port), paced(port, rate)
-            before = len(one) + len(many)
+            one, chained, many = alone(port, b'ALONE', QUIET), alone(port, b'CHAINED', 0), paced(port, rate)
+            before = len(one) + len(chained) + len(many)
             lab.wait(before)
             used = seconds_of(service.process)
             began, acknowledged, number = sent(port, messages, b'T%d-' % name)
             delivered = lab.wait(before + number)
             used = seconds_of(service.process) - used
             stopped(service)
-    return Turn(number / (acknowledged - began), number / (delivered - began), used / number, one, many)
+    return Turn(number / (acknowledged - began), number / (delivered - began), used / number, one, chained, many)
 
 
 def stopped(service, command='stop'):
@@ -386,6 +389,8 @@ def told(turns, syncs):
          '{:.1f}')
     ones = {place: 1e6 * statistics.median(time for turn in turns[place] for time in turn.alone) for place in places}
     line('one message alone until CA, median, microseconds', [ones[place] for place in places])
+    line('one behind another until CA, median, microseconds',
+         [1e6 * statistics.median(time for turn in turns[place] for time in turn.chained) for place in places])
     line('one fdatasync by itself, median, microseconds', [syncs.get(place) for place in places])
     many = {place: [time for turn in turns[place] for time in turn.paced] for place in places}
     for part, name in ((0.5, 'median'), (0.99, '99th'), (0.999, '99.9th')):
@@ -449,7 +454,7 @@ def main():
     if checks_accesses(program):
         print('the program checks its memory accesses (./build --unproved), so it is slower than a proved one')
     print(f'medians of {args.turns} turns: {args.messages:,} messages of {SIZE} bytes over {CONNECTIONS} connections, {IN_FLIGHT} at a time '
-          f'on each; {args.rate:,} a second for {PACED_SECONDS:g} seconds; {ALONE} alone', flush=True)
+          f'on each; {args.rate:,} a second for {PACED_SECONDS:g} seconds; {ALONE} alone, and {ALONE} one behind another', flush=True)
     turns = measured(program, places, args)
     syncs = {place: 1e6 * one_sync(folder) for place, folder in list(places.items())[1:]}
     ratios, ones = told(turns, syncs)
