@@ -292,11 +292,18 @@ class Commits(NamedTuple):
     written: int
 
 
+def syncs_and_bytes(log, size):
+    """How many syncs of events.db-wal the first bytes of a log of peers/power.c have, and how many bytes were written."""
+    calls = power.calls_in(log, size)
+    own = next(call.result for call in calls if call.kind == power.MADE and call.data == b'events.db-wal')
+    return (sum(call.kind == power.SYNC and call.number == own for call in calls),
+            sum(len(call.written()) for call in calls if call.kind == power.WRITE))
+
+
 def commits(program, folder, store, messages, library):
     """Counts commits by the library of peers/power.c: each makes one sync of the log, seldom two."""
     os.mkdir(store, 0o700)
-    log, (port,) = f'{store}.log', free_ports(1)
-    before = dict(os.environ)
+    log, (port,), before = f'{store}.log', free_ports(1), dict(os.environ)
     with Lab() as lab:
         try:
             os.environ.update(power.noting(library, store, log))
@@ -305,15 +312,14 @@ def commits(program, folder, store, messages, library):
             os.environ.clear()
             os.environ.update(before)
         with service:
+            begun = os.path.getsize(log)
             number = sent(port, min(messages, COUNTED), b'C')[2]
             lab.wait(number)
-            noted = os.path.getsize(log)
+            ended = os.path.getsize(log)
             stopped(service)
-    calls = power.calls_in(log, noted)
+    (syncs, written), (first_syncs, first_written) = syncs_and_bytes(log, ended), syncs_and_bytes(log, begun)
     os.remove(log)
-    own = next(call.result for call in calls if call.kind == power.MADE and call.data == b'events.db-wal')
-    return Commits(number, sum(count for _, count, _ in rows(store)), sum(call.kind == power.SYNC and call.number == own for call in calls),
-                   sum(len(call.written()) for call in calls if call.kind == power.WRITE))
+    return Commits(number, sum(count for _, count, _ in rows(store)), max(1, syncs - first_syncs), written - first_written)
 
 
 def started(words):
