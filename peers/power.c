@@ -24,7 +24,7 @@
 #include <sys/syscall.h>
 #include <unistd.h>
 
-/* What a record is of: the first five are calls, by their file's inode number or, for names, the bytes behind the record. */
+/* What a record is of: a call, which has its file's inode number or, where it is on names, these behind the record; or its return. */
 enum { WRITE = 'w', LENGTH = 't', SYNC = 's', MADE = 'c', RENAMED = 'r', UNLINKED = 'u', RETURNED = 'd' };
 
 struct record {
