@@ -213,11 +213,18 @@ class Turn(NamedTuple):
     paced: list
 
 
+def serving(program, folder, store, port, to):
+    """The service once it listens, with one channel and one destination."""
+    service = Service(program, one_channel(port, [('LAB', to, ['attempts = 2'])]), folder, store=store)
+    service.ready.wait(LIMIT)
+    return service
+
+
 def turned(program, folder, store, name, messages, rate):
     """One turn, with a store at this path or in memory alone."""
     with Lab() as lab:
         port, = free_ports(1)
-        with Service(program, one_channel(port, [('LAB', lab.port, ['attempts = 2'])]), folder, store=store) as service:
+        with serving(program, folder, store, port, lab.port) as service:
             one, chained, many = alone(port, b'ALONE', QUIET), alone(port, b'CHAINED', 0), paced(port, rate)
             before = len(one) + len(chained) + len(many)
             lab.wait(before)
@@ -270,14 +277,14 @@ def rows(store):
 def growth(program, folder, store, messages):
     """What the file grows by for each message, and for its one take and its settlement: first the destination is down, then up."""
     port, to = free_ports(2)
-    with Service(program, one_channel(port, [('LAB', to, ['attempts = 2'])]), folder, store=store) as service:
+    with serving(program, folder, store, port, to) as service:
         stopped(service, 'stop now')
     sizes = [size_of(store)]
-    with Service(program, one_channel(port, [('LAB', to, ['attempts = 2'])]), folder, store=store) as service:
+    with serving(program, folder, store, port, to) as service:
         number = sent(port, messages, b'G')[2]
         stopped(service, 'stop now')
     sizes.append(size_of(store))
-    with Lab() as lab, Service(program, one_channel(port, [('LAB', lab.port, ['attempts = 2'])]), folder, store=store) as service:
+    with Lab() as lab, serving(program, folder, store, port, lab.port) as service:
         lab.wait(number)
         stopped(service)
     sizes.append(size_of(store))
@@ -307,7 +314,7 @@ def commits(program, folder, store, messages, library):
     with Lab() as lab:
         try:
             os.environ.update(power.noting(library, store, log))
-            service = Service(program, one_channel(port, [('LAB', lab.port, ['attempts = 2'])]), folder, store=store)
+            service = serving(program, folder, store, port, lab.port)
         finally:
             os.environ.clear()
             os.environ.update(before)
@@ -346,7 +353,7 @@ def starting(program, folder, store, messages):
     """Rows of a store through which messages went, and the median time of a start over it."""
     with Lab() as lab:
         port, = free_ports(1)
-        with Service(program, one_channel(port, [('LAB', lab.port, ['attempts = 2'])]), folder, store=store) as service:
+        with serving(program, folder, store, port, lab.port) as service:
             number = sent(port, messages, b'S')[2]
             lab.wait(number)
             stopped(service)

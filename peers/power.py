@@ -53,7 +53,10 @@ def noting(path, folder, log, name='', number=0):
 
 
 def calls_in(log, size=-1):
-    """The calls that a log has, or that its first bytes have, in order. What a kill has cut off at its end is left out."""
+    """The calls that a log has, or that its first bytes have, in order. What a kill has cut off at its end is left out. There is no log
+    where the program was killed before its first instruction."""
+    if not os.path.exists(log):
+        return []
     with open(log, 'rb') as file:
         held = file.read(size)
     calls, made, at, index = {}, Counter(), 0, 0
