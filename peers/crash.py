@@ -1,24 +1,29 @@
 #!/usr/bin/env python3
 """Kills the built service with a store, again and again, among senders and destinations over loopback, and starts it again on the
-same folder: what was acknowledged is delivered. Then plays what else a store has to do (stores.py).
+same folder: what was acknowledged is delivered. The same with a power cut in place of each kill: the service goes on from what the
+disk may have then, where no sync has covered what was written (power.py). Then plays what else a store has to do (stores.py).
 
-Usage: peers/crash.py [PROGRAM] [--seed N] [--kills N] [--only WORD]
+Usage: peers/crash.py [PROGRAM] [--seed N] [--kills N] [--cuts N] [--only WORD]
 
 PROGRAM is the built service, by default crates/hl7_service/out/hl7_service ('rt run' in crates/hl7_service builds it). The moments of
-the kills and the messages are drawn by the seed, which is printed; without --seed it is drawn too.
-Plain Python 3, no packages, bounded in time. The exit status is 0 if every check passes, else 1. Each failure is printed on a line of
-its own.
+the kills, what a power cut leaves, and the messages are drawn by the seed, which is printed; without --seed it is drawn too. Power cuts
+need a C compiler, and are skipped without one. Plain Python 3, no packages, bounded in time. The exit status is 0 if every check
+passes, else 1. Each failure is printed on a line of its own.
 """
 import argparse
 import os
 import random
+import signal
 import socket
 import subprocess
 import sys
 import tempfile
 import threading
 import time
+from collections import Counter
+from typing import NamedTuple
 
+import power
 from engine import checks_accesses, one_channel
 from mllp import Destination, block, blocks, field, free_ports, message
 from served import LIMIT, Service
@@ -26,15 +31,23 @@ from stores import STORES, tail
 
 PROGRAM = os.path.join(os.path.dirname(os.path.abspath(__file__)), '..', 'crates', 'hl7_service', 'out', 'hl7_service')
 EVENTS = '3000'
-KILLS = 40
-# For how many seconds a service runs at most before it is killed: from its start, and from when it is ready.
-FROM_START, FROM_READY = 0.3, 0.8
+KILLS, CUTS = 40, 10
+# For how many seconds a service runs at most before it is killed: from its start, from when it is ready, and from when it is stopped.
+FROM_START, FROM_READY, FROM_STOP = 0.3, 0.8, 0.1
+# For how long a service that kills itself is waited for at most, from when it is ready and from when it is stopped; and for how long a
+# start may take, since a slow program on a busy machine takes a while over its store.
+BY_ITSELF, STARTING = 2.0, 120
+# In which of its calls on a file it kills itself, one of so many: a commit is four calls on the log, and what is stopped writes to
+# events.db.
+LOG_CALLS, FILE_CALLS, NUMBER_CALLS = 50, 30, 4
 # Each sender has at most so many messages unacknowledged.
 WINDOWS = (1, 2, 5, 10)
+# With power cuts a tenth of the messages has up to so many bytes, so that the log is copied into events.db now and then.
+LONGEST, PRINTABLE = 200_000, bytes(0x20 + number % 0x5B for number in range(256))
 # A sender repeats one of so many of its last messages, which the book remembers: it keeps as many as a quarter of its entries.
 REMEMBERED = 15
-# The kills end after so many seconds, with a slow program before all are made.
-KILLING, KILLING_SLOWLY = 60, 30
+# The kills end after so many seconds, with a slow program before all are made, and so do the power cuts.
+KILLING, KILLING_SLOWLY, CUTTING = 60, 30, 30
 # What is sent and not settled durably was sent during one commit, which takes some milliseconds. A slow program needs longer.
 MOST_TWICE, MOST_TWICE_SLOWLY = 100, 1_000
 
@@ -78,9 +91,9 @@ class Persistent(threading.Thread):
     """A sender of new messages, which connects anew where its connection ends, and then sends again what has no answer, in order and
     with the same control ids. Now and then it sends one of the last messages that were acknowledged again."""
 
-    def __init__(self, name, port, window, chance):
+    def __init__(self, name, port, window, chance, longest):
         super().__init__(daemon=True)
-        self.name, self._port, self._window, self._chance = name, port, window, chance
+        self.name, self._port, self._window, self._chance, self._longest = name, port, window, chance, longest
         self.texts, self.answered, self.repeats, self.ids, self.wrong = [], 0, 0, [], []
         self._is_last = threading.Event()
 
@@ -127,8 +140,9 @@ class Persistent(threading.Thread):
         self.ids.append(field(reply, b'MSH', 10))
 
     def _message(self, number):
-        note = bytes(self._chance.choices(range(0x20, 0x7B), k=self._chance.randrange(1_000)))
-        return message(b'%s-%d' % (self.name.encode(), number)) + b'NTE|1||' + note.translate(None, b'|^~\\&') + b'\r'
+        size = self._chance.randrange(self._longest if self._chance.random() < 0.1 else 1_000)
+        note = self._chance.randbytes(size).translate(PRINTABLE).translate(None, b'|^~\\&')
+        return message(b'%s-%d' % (self.name.encode(), number)) + b'NTE|1||' + note + b'\r'
 
 
 def twice(name, lab, most):
@@ -141,22 +155,45 @@ def twice(name, lab, most):
         again = sum(text in had for text in got)
         counts.append(again)
         if len(set(got)) != len(got):
-            found.append(f'kills: {name}: run {number} sent {len(got) - len(set(got))} of {len(got)} messages twice within it')
+            found.append(f'{name}: run {number} sent {len(got) - len(set(got))} of {len(got)} messages twice within it')
         if not got:
             continue
         at = had.get(got[0], len(order))
         order += [text for text in got if text not in had]
         if got != order[at:at + len(got)] or not begun <= at or not ended - at <= most:
-            found.append(f'kills: {name}: run {number} sent {again} messages again, from the one with index {at} on, not in order or too '
+            found.append(f'{name}: run {number} sent {again} messages again, from the one with index {at} on, not in order or too '
                          f'many: runs before it began at {begun} and the last one ended at {ended}')
         begun, ended = at, at + len(got)
     return order, counts, found
 
 
-def lived(program, plan_path, store, chance):
-    """Starts the service, and kills it at a random moment: during its start, or once it is ready. What is wrong with its end."""
+class Moment(NamedTuple):
+    """When a service is killed: so many seconds after its start, or after it is ready; and where it is stopped then, so many seconds
+    after that."""
+    is_ready: bool
+    seconds: float
+    stop_seconds: float | None = None
+
+
+def any_moment(chance):
+    """A moment during the start, or once it is ready."""
+    waits = chance.random() < 0.75
+    return Moment(waits, chance.uniform(0, FROM_READY if waits else FROM_START))
+
+
+def has_ended(process, seconds):
+    """Whether a process ends within so many seconds."""
+    try:
+        process.wait(seconds)
+    except subprocess.TimeoutExpired:
+        return False
+    return True
+
+
+def lived(program, plan_path, store, moment, env=None, endings=()):
+    """Starts the service, and kills it at a moment, if it hasn't ended with one of these statuses before. What is wrong with its end."""
     words = [program, 'run', plan_path, '--store', store, '--events', EVENTS]
-    with subprocess.Popen(words, stdin=subprocess.PIPE, stdout=subprocess.DEVNULL, stderr=subprocess.PIPE) as process:
+    with subprocess.Popen(words, stdin=subprocess.PIPE, stdout=subprocess.DEVNULL, stderr=subprocess.PIPE, env=env) as process:
         log, is_ready = [], threading.Event()
 
         def read():
@@ -167,76 +204,138 @@ def lived(program, plan_path, store, chance):
             is_ready.set()
         reader = threading.Thread(target=read, daemon=True)
         reader.start()
-        waits = chance.random() < 0.75
-        if waits:
-            is_ready.wait(LIMIT)
-        time.sleep(chance.uniform(0, FROM_READY if waits else FROM_START))
-        status, is_up = process.poll(), is_ready.is_set() or not waits
+        if moment.is_ready:
+            is_ready.wait(STARTING)
+        if not has_ended(process, moment.seconds) and moment.stop_seconds is not None:
+            os.write(process.stdin.fileno(), b'stop now\n')
+            has_ended(process, moment.stop_seconds)
+        status, is_up = process.poll(), is_ready.is_set() or not moment.is_ready
         process.kill()
         process.wait()
         reader.join(LIMIT)
-    return [] if status is None and is_up else [f'kills: status {status}, or not ready in {LIMIT} seconds: {tail(log)}']
+    return [] if is_up and status in (None, *endings) else [f'status {status}, or not ready in {STARTING} seconds: {tail(log)}']
 
 
-def kills(program, folder, seed, times):
-    """Messages from several connections to two destinations, through a service that is killed at random moments: each message that was
-    acknowledged comes to each destination, byte for byte; all come to both in one order, which is that of each sender; what comes
-    once more is what was not settled durably before a kill; no repeat is delivered; and each acknowledgment has its own MSH-10."""
-    chance, port, store = random.Random(seed), free_ports(1)[0], os.path.join(folder, 'store')
-    labs = {name: Recorder(slowness, random.Random(seed + 1)) for name, slowness in (('LAB', 0), ('ARCHIVE', 0.004))}
-    text = one_channel(port, [(name, lab.port, ['attempts = 6', 'interval = 0', 'timeout = 10']) for name, lab in labs.items()])
-    plan_path = os.path.join(folder, 'plan.toml')
-    with open(plan_path, 'w', encoding='utf-8') as file:
-        file.write(text)
-    senders = [Persistent(f'S{number}', port, window, random.Random(seed + 2 + number)) for number, window in enumerate(WINDOWS)]
+def begun(port, seed, longest):
+    """Two destinations, and senders to a port, which have begun to send messages of up to so many bytes."""
+    labs = {lab: Recorder(slowness, random.Random(seed + 1)) for lab, slowness in (('LAB', 0), ('ARCHIVE', 0.004))}
+    senders = [Persistent(f'S{number}', port, window, random.Random(seed + 2 + number), longest)
+               for number, window in enumerate(WINDOWS)]
     for sender in senders:
         sender.start()
-    is_slow = checks_accesses(program)
-    found, made, until = [], 0, time.monotonic() + (KILLING_SLOWLY if is_slow else KILLING)
-    while made < times and not found and time.monotonic() < until:
-        found += lived(program, plan_path, store, chance)
-        made += 1
-        for lab in labs.values():
-            lab.mark()
+    return labs, senders
+
+
+def drained(program, text, folder, store, senders):
+    """Runs the service until all that the senders have sent is acknowledged and delivered. What is wrong with its end."""
     with Service(program, text, folder, '--events', EVENTS, store=store) as service:
+        service.ready.wait(STARTING)
+        if not any('listening on ' in line for line in service.log):
+            return [f'the end: it does not start: {tail(service.log)}']
         for sender in senders:
             sender.finish()
         for sender in senders:
             sender.join(LIMIT)
         answer = service.ask('stop')
         status, lines = service.ended()
-    if answer != ['stopping'] or status != 0:
-        found.append(f'kills: the end: {answer}, status {status}, {lines}, {tail(service.log)}')
+    return [] if answer == ['stopping'] and status == 0 else [f'the end: {answer}, status {status}, {lines}, {tail(service.log)}']
+
+
+def among_peers(name, program, folder, seed, times, life, seconds, longest):
+    """Messages from several connections to two destinations, through a service whose lives end at random moments: each message that was
+    acknowledged comes to each destination, byte for byte; all come to both in one order, which is that of each sender; what comes
+    once more is what was not settled durably before such an end; no repeat is delivered; and each acknowledgment has its own MSH-10.
+    `life` is a function of the plan's path, the store and what is drawn. It returns what is wrong, and the store for the next life."""
+    chance, port, store = random.Random(seed), free_ports(1)[0], os.path.join(folder, 'store')
+    labs, senders = begun(port, seed, longest)
+    text = one_channel(port, [(lab, peer.port, ['attempts = 6', 'interval = 0', 'timeout = 10']) for lab, peer in labs.items()])
+    plan_path = os.path.join(folder, 'plan.toml')
+    with open(plan_path, 'w', encoding='utf-8') as file:
+        file.write(text)
+    found, made, until = [], 0, time.monotonic() + seconds
+    while made < times and not found and time.monotonic() < until:
+        found, store = life(plan_path, store, chance)
+        made += 1
+        for lab in labs.values():
+            lab.mark()
+    found = [f'{name}: {line}' for line in found + drained(program, text, folder, store, senders)]
     for lab in labs.values():
         lab.close()
-    print(f'kills: {made} of {times} made, {os.path.getsize(os.path.join(store, "events.db"))} bytes in events.db at the end')
-    return found + compared(labs, senders, MOST_TWICE_SLOWLY if is_slow else MOST_TWICE)
+    print(f'{name}: {made} of {times} made, {os.path.getsize(os.path.join(store, "events.db"))} bytes in events.db at the end')
+    return found + compared(name, labs, senders, MOST_TWICE_SLOWLY if checks_accesses(program) else MOST_TWICE)
 
 
-def compared(labs, senders, most):
+def kills(program, folder, seed, times):
+    """The service is killed again and again, and goes on with the files as they are."""
+    def life(plan_path, store, chance):
+        return lived(program, plan_path, store, any_moment(chance)), store
+    return among_peers('kills', program, folder, seed, times, life, KILLING_SLOWLY if checks_accesses(program) else KILLING, 1_000)
+
+
+def cut_moment(chance):
+    """When the power is cut: at any moment, at the end, or in a call on a file, of which the name and the number are returned too."""
+    kind = chance.choice(('any', 'end', 'log', 'log', 'file', 'numbers'))
+    if kind == 'log':
+        return Moment(True, BY_ITSELF), 'events.db-wal', chance.randint(1, LOG_CALLS)
+    if kind == 'file':
+        return Moment(True, chance.uniform(0, FROM_READY), BY_ITSELF), 'events.db', chance.randint(1, FILE_CALLS)
+    if kind == 'numbers':
+        return Moment(True, FROM_READY), 'connections.new', chance.randint(1, NUMBER_CALLS)
+    if kind == 'end':
+        return Moment(True, chance.uniform(0, FROM_READY), chance.uniform(0, FROM_STOP)), '', 0
+    return any_moment(chance), '', 0
+
+
+def power_cuts(program, folder, seed, times):
+    """The power is cut again and again, and the service goes on with what the disk may have then: what a sync has covered, and of
+    each later write all, a part or nothing."""
+    library, fates, moments = power.library(folder), Counter(), []
+    if library is None:
+        print('power cuts: skipped, since no C compiler is installed: they are not tried')
+        return []
+
+    def life(plan_path, store, chance):
+        os.makedirs(store, 0o700, exist_ok=True)
+        log, left, files = f'{store}.log', f'{store}-', power.Files(store)
+        moment, name, number = cut_moment(chance)
+        moments.append(f'{name} {number}' if name else 'stopped' if moment.stop_seconds is not None else 'any')
+        endings = [0] * (moment.stop_seconds is not None) + [-signal.SIGKILL] * bool(name)
+        wrong = lived(program, plan_path, store, moment, power.noting(library, store, log, name, number), endings)
+        calls = power.calls_in(log)
+        wrong += power.unnoted(files, calls, store)
+        fates.update(power.cut(files, calls, chance))
+        power.put(files, left)
+        return wrong, left
+    found = among_peers('power cuts', program, folder, seed, times, life, CUTTING * max(1, times / CUTS), LONGEST)
+    print(f'power cuts: in which call on which file, or when: {", ".join(moments)}')
+    print(f'power cuts: of the calls that changed a file, {", ".join(f"{fates[fate]} {fate}" for fate in power.FATES)}')
+    return found
+
+
+def compared(name, labs, senders, most):
     """What is wrong with what was received and acknowledged. Prints how much that was."""
     found, orders = [], []
-    for name, lab in labs.items():
-        order, counts, wrong = twice(name, lab, most)
+    for lab, peer in labs.items():
+        order, counts, wrong = twice(f'{name}: {lab}', peer, most)
         found += wrong
         orders.append(order)
-        print(f'kills: {name} received {len(order)} messages; once more, in each run: {counts}')
+        print(f'{name}: {lab} received {len(order)} messages; once more, in each run: {counts}')
         for sender in senders:
             own = [text for text in order if text.startswith(b'MSH|') and field(text, b'MSH', 10).startswith(sender.name.encode() + b'-')]
             if own != sender.texts:
                 missing = len(set(sender.texts) - set(own))
-                found.append(f'kills: {name}: {len(own)} of the {len(sender.texts)} messages of {sender.name}, {missing} missing, '
+                found.append(f'{name}: {lab}: {len(own)} of the {len(sender.texts)} messages of {sender.name}, {missing} missing, '
                              f'{len(set(own) - set(sender.texts))} that it never sent, or not in its order')
     if orders[0] != orders[1]:
-        found.append('kills: the two destinations got the messages in different orders')
+        found.append(f'{name}: the two destinations got the messages in different orders')
     ids = [one for sender in senders for one in sender.ids]
     for sender in senders:
-        found += [f'kills: {line}' for line in sender.wrong[:3]]
+        found += [f'{name}: {line}' for line in sender.wrong[:3]]
         if sender.is_alive() or sender.answered != len(sender.texts):
-            found.append(f'kills: {sender.name}: {sender.answered} of {len(sender.texts)} messages were acknowledged')
-    print(f'kills: {len(ids)} acknowledgments, {sum(sender.repeats for sender in senders)} of them of repeats')
+            found.append(f'{name}: {sender.name}: {sender.answered} of {len(sender.texts)} messages were acknowledged')
+    print(f'{name}: {len(ids)} acknowledgments, {sum(sender.repeats for sender in senders)} of them of repeats')
     if len(set(ids)) != len(ids):
-        found.append(f'kills: {len(ids)} acknowledgments have {len(set(ids))} different ids')
+        found.append(f'{name}: {len(ids)} acknowledgments have {len(set(ids))} different ids')
     return found
 
 
@@ -246,11 +345,13 @@ def main():
     parser.add_argument('program', nargs='?', default=PROGRAM)
     parser.add_argument('--seed', type=int, default=int.from_bytes(os.urandom(4), 'big'))
     parser.add_argument('--kills', type=int, default=KILLS)
+    parser.add_argument('--cuts', type=int, default=CUTS)
     parser.add_argument('--only', default='')
     args = parser.parse_args()
     program, lines = os.path.abspath(args.program), []
     print(f'seed {args.seed}', flush=True)
-    scenes = [(f'{args.kills} kills', lambda program, folder: kills(program, folder, args.seed, args.kills)), *STORES]
+    scenes = [(f'{args.kills} kills', lambda program, folder: kills(program, folder, args.seed, args.kills)),
+              (f'{args.cuts} power cuts', lambda program, folder: power_cuts(program, folder, args.seed, args.cuts)), *STORES]
     for name, scene in scenes:
         if args.only not in name:
             continue

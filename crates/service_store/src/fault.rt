@@ -108,9 +108,6 @@ pub enum StartFault {
         /// How many it has had at least.
         noted: u64,
     },
-    /// The file that says how many records the store has had says no number, or can't be read.
-    #[error("damaged: remove it to start without it")]
-    BadWitness,
     /// The book of the store isn't started.
     #[error("{0}")]
     Book(BookFault),
@@ -230,7 +227,6 @@ impl StartFault {
             | StartFault::NotAFolder
             | StartFault::Folder(_) => "",
             StartFault::Numbers(_) => "/connections",
-            StartFault::BadWitness => "/records",
             _ => "/events.db",
         }
     }
@@ -250,8 +246,7 @@ impl StartFault {
             StartFault::NotAStore
             | StartFault::HotJournal
             | StartFault::OtherFormat(_)
-            | StartFault::Lost { .. }
-            | StartFault::BadWitness => 7,
+            | StartFault::Lost { .. } => 7,
             StartFault::Disk(_) => 6,
             StartFault::Book(fault) => fault.status(),
             StartFault::Numbers(fault) => fault.status(),

@@ -90,7 +90,8 @@ impl From<FileError> for StartFault {
     }
 }
 
-/// Opens the file of a store, or makes it where there is no database in it.
+/// Makes the file of a store, or opens it where a database is in it. A file whose making was cut off is made: what opens it first
+/// would take it for a damaged one.
 fn open_or_create(
     rt: &HostRuntime,
     path: &str,
@@ -98,12 +99,12 @@ fn open_or_create(
 ) -> Result<Opened<FileStore<File>>, StartFault>
     ensures { IfOk result (λ r. AreReadOf (view r.0.store) r.1.items) }
 {
-    match open_at(rt, path, FIRST_RECORD, seed, Unknown) {
-        Ok(opened) => Ok(opened),
+    match create_at(rt, path, FIRST_RECORD, seed, Unknown) {
+        Ok(created) => Ok(created),
         // A file that holds a database is left as it is.
         Err(FileError::Database(sqlite_store::OpenError::Refused)) => {
-            match create_at(rt, path, FIRST_RECORD, seed, Unknown) {
-                Ok(created) => Ok(created),
+            match open_at(rt, path, FIRST_RECORD, seed, Unknown) {
+                Ok(opened) => Ok(opened),
                 Err(error) => Err(StartFault::from(error)),
             }
         }

@@ -12,8 +12,8 @@ const FILE_MODE: u32 = 0o600;
 /// How many records a store has had at least, in the file `records` beside it. Damage in the log of a store isn't noticed when it is
 /// opened: what lies behind it is gone without a word. A start compares this number with the records that it finds.
 ///
-/// The file has one line of fixed length that is written in place, and no sync: after a power cut it may be some seconds old, and
-/// is a lower bound still.
+/// The file has one line of fixed length, which lies in one sector and is written in place. It is synced once: after a power cut it
+/// may be some seconds old, and is a lower bound still.
 #[derive(Drop)]
 pub struct Witness {
     /// The path of the file.
@@ -22,28 +22,23 @@ pub struct Witness {
     base: u64,
     /// The number in the file.
     noted: u64,
+    /// Whether this process has synced the file.
+    is_synced: bool,
 }
 
-/// The number that the bytes of the file say; an empty file says 0.
+/// The number that the bytes of the file say.
 fn number_in(bytes: &[u8]) -> Option<u64> {
-    if bytes.is_empty() {
-        return Some(0);
-    }
     let digits = bytes.strip_suffix(b"\n")?;
     str::from_utf8(digits).ok()?.parse::<u64>().ok()
 }
 
-/// How many records the store in a folder has had at least; 0 where there is no file.
+/// How many records the store in a folder has had at least; 0 where there is no file that says it.
 fn noted(rt: &HostRuntime, path: &str) -> Result<u64, StartFault> {
     match fs::read(rt, path) {
-        Ok(bytes) => match number_in(bytes.as_slice()) {
-            Some(number) => Ok(number),
-            None => Err(StartFault::BadWitness),
-        },
+        Ok(bytes) => Ok(number_in(bytes.as_slice()).unwrap_or(0)),
         Err(error) => match error.kind() {
-            io::ErrorKind::NotFound => Ok(0),
             io::ErrorKind::OutOfMemory => Err(StartFault::NoMemory),
-            _ => Err(StartFault::BadWitness),
+            _ => Ok(0),
         },
     }
 }
@@ -53,7 +48,7 @@ impl Witness {
     ///
     /// # Errors
     ///
-    /// `Lost` where it has had more, `BadWitness` where the file can't be read or says no number.
+    /// `Lost` where it has had more.
     pub(crate) fn open(rt: &HostRuntime, folder: &str, found: u64) -> Result<Witness, StartFault> {
         let Ok(path) = format!(in rt.alloc(); "{folder}/records") else {
             return Err(StartFault::NoMemory);
@@ -66,6 +61,7 @@ impl Witness {
             path,
             base: found,
             noted,
+            is_synced: false,
         })
     }
 
@@ -75,7 +71,7 @@ impl Witness {
     }
 
     /// Writes the number into the file.
-    fn write(&self, rt: &HostRuntime, number: u64) -> io::Result<()> {
+    fn write(&mut self, rt: &HostRuntime, number: u64) -> io::Result<()> {
         let text = format!(in rt.alloc(); "{number:020}\n")?;
         let mut file = OpenOptions::new()
             .write(true)
@@ -83,7 +79,12 @@ impl Witness {
             .mode(FILE_MODE)
             .open(rt, self.path.as_str())?;
         file.set_permissions(Permissions::from_mode(FILE_MODE))?;
-        file.write_all(text.as_bytes())
+        file.write_all(text.as_bytes())?;
+        if !self.is_synced {
+            file.sync_all()?;
+            self.is_synced = true;
+        }
+        Ok(())
     }
 
     /// Notes that this many records were committed since the start, where these are more than at the last note.

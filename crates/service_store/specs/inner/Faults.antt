@@ -75,6 +75,5 @@ start_status start.HotJournal = 7
 start_status (start.OtherFormat format) = 7
 start_status (start.Disk error) = 6
 start_status (start.Lost found noted) = 7
-start_status start.BadWitness = 7
 start_status (start.Book fault) = book_status fault
 start_status (start.Numbers fault) = numbers_status fault
