@@ -266,7 +266,7 @@ def lost(program, folder):
         last = stopped(service)
     lab.close()
     line = last_line(printed)
-    numbers = [int(word) for word in line.split() if word.isdigit()]
+    numbers = [int(word) for word in line.replace(':', ' ').split() if word.isdigit()]
     if not noted or status != 7 or 'events.db: damaged' not in line or len(numbers) != 2 or not numbers[0] < numbers[1]:
         return [f'lost records: status {status}, {line}']
     if set(codes(replies + again)) != {b'CA'} or last != 0:
