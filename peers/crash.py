@@ -46,6 +46,8 @@ WINDOWS = (1, 2, 5, 10)
 LONGEST, PRINTABLE = 200_000, bytes(0x20 + number % 0x5B for number in range(256))
 # A sender repeats one of so many of its last messages, which the book remembers: it keeps as many as a quarter of its entries.
 REMEMBERED = 15
+# In which calls on events.db the making of a store is cut off: it takes some ten. Fewer with a slow program.
+MAKING, MAKING_SLOWLY = range(1, 15), (5, 8)
 # The kills end after so many seconds, with a slow program before all are made, and so do the power cuts.
 KILLING, KILLING_SLOWLY, CUTTING = 60, 30, 30
 # What is sent and not settled durably was sent during one commit, which takes some milliseconds. A slow program needs longer.
@@ -312,6 +314,31 @@ def power_cuts(program, folder, seed, times):
     return found
 
 
+def cut_off(program, folder):
+    """A store whose making is cut off, in one call on events.db or another, is made by the next start."""
+    library, found = power.library(folder), []
+    if library is None:
+        print('cut off in its making: skipped, since no C compiler is installed: it is not tried')
+        return []
+    plan_path = os.path.join(folder, 'plan.toml')
+    with open(plan_path, 'w', encoding='utf-8') as file:
+        file.write(one_channel(free_ports(1)[0], [('LAB', free_ports(1)[0], [])]))
+    killed, calls = 0, MAKING_SLOWLY if checks_accesses(program) else MAKING
+    for number in calls:
+        store = os.path.join(folder, f'store{number}')
+        os.mkdir(store, 0o700)
+        words, statuses = [program, 'run', plan_path, '--store', store, '--events', EVENTS], []
+        for env in (power.noting(library, store, f'{store}.log', 'events.db', number), None):
+            done = subprocess.run(words, input=b'stop now\n', capture_output=True, timeout=STARTING, env=env, check=False)
+            statuses.append(done.returncode)
+        killed += statuses[0] == -signal.SIGKILL
+        if statuses[0] not in (-signal.SIGKILL, 0) or statuses[1] != 0:
+            found.append(f'cut off in its making: in call {number} on events.db: statuses {statuses}, '
+                         f'{tail(done.stderr.decode(errors="replace").splitlines())}')
+    print(f'cut off in its making: {killed} times in {len(calls)} calls on events.db')
+    return found if killed else [*found, 'cut off in its making: never']
+
+
 def compared(name, labs, senders, most):
     """What is wrong with what was received and acknowledged. Prints how much that was."""
     found, orders = [], []
@@ -351,7 +378,8 @@ def main():
     program, lines = os.path.abspath(args.program), []
     print(f'seed {args.seed}', flush=True)
     scenes = [(f'{args.kills} kills', lambda program, folder: kills(program, folder, args.seed, args.kills)),
-              (f'{args.cuts} power cuts', lambda program, folder: power_cuts(program, folder, args.seed, args.cuts)), *STORES]
+              (f'{args.cuts} power cuts', lambda program, folder: power_cuts(program, folder, args.seed, args.cuts)),
+              ('cut off in its making', cut_off), *STORES]
     for name, scene in scenes:
         if args.only not in name:
             continue

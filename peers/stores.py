@@ -11,6 +11,8 @@ from engine import checks_accesses, one_channel
 from mllp import Destination, Sender, field, free_ports, message
 from served import LIMIT, Service, exchange, wait_received
 
+# Where the first frame of a log begins: behind a header of 32 bytes.
+FIRST_FRAME = 32
 # How many bits of a store are flipped, one after another; fewer with a slow program.
 FLIPS, FLIPS_SLOWLY = 12, 4
 
@@ -258,7 +260,7 @@ def lost(program, folder):
         service.process.kill()
         service.process.wait(LIMIT)
     path = os.path.join(store, 'events.db-wal')
-    flip(path, os.path.getsize(path) // 3, 4)
+    flip(path, FIRST_FRAME + 200, 4)
     status, printed = refused(program, folder, text, '--store', store)
     os.remove(os.path.join(store, 'records'))
     with Service(program, text, folder, store=store) as service:
@@ -266,7 +268,7 @@ def lost(program, folder):
         last = stopped(service)
     lab.close()
     line = last_line(printed)
-    numbers = [int(word) for word in line.split() if word.isdigit()]
+    numbers = [int(word) for word in line.replace(':', ' ').split() if word.isdigit()]
     if not noted or status != 7 or 'events.db: damaged' not in line or len(numbers) != 2 or not numbers[0] < numbers[1]:
         return [f'lost records: status {status}, {line}']
     if set(codes(replies + again)) != {b'CA'} or last != 0:

@@ -27,11 +27,10 @@ impl<'a, R: Net<Stream = TcpStream> + Log + Clock, W: Way> TcpLink<'a, R, W> {
         info!(self.rt; destination = self.name(), address = self.address(); "{words}");
     }
 
-    /// Notes that a connection was opened, and logs it where none was before or the last one was lost.
+    /// Logs that a connection was opened, where none was before or the last one was lost.
     pub(crate) fn tell_connected(&mut self)
         ensures { self.new ≡ self.old }
     {
-        self.way.note_connected();
         match self.logged {
             LoggedState::Nothing => self.tell("connected"),
             LoggedState::Lost => self.tell("connected again"),
@@ -50,8 +49,8 @@ impl<'a, R: Net<Stream = TcpStream> + Log + Clock, W: Way> TcpLink<'a, R, W> {
         }
     }
 
-    /// Notes and logs why no connection could be opened between attempts, and that no other is tried for this many seconds.
-    pub(crate) fn tell_unconnected(&mut self, wait: u32)
+    /// Logs why no connection could be opened between attempts.
+    pub(crate) fn tell_unconnected(&mut self)
         ensures { self.new ≡ self.old }
     {
         if matches!(self.cause, None | Some(Cause::Halted)) {
@@ -59,19 +58,15 @@ impl<'a, R: Net<Stream = TcpStream> + Log + Clock, W: Way> TcpLink<'a, R, W> {
         }
         self.tell_lost();
         if let Some(cause) = &self.cause {
-            self.way.note_fault(cause, Some(wait));
             warn!(self.rt; destination = self.name(), address = self.address(); "{cause}");
         }
     }
 
-    /// Logs an attempt that failed, and a connection that was lost by it, and notes why that was.
+    /// Logs an attempt that failed, and a connection that was lost by it.
     pub(crate) fn tell_attempt(&mut self, job: &Job, reply: Reply)
         ensures { self.new ≡ self.old }
     {
         self.tell_lost();
-        if let Some(cause) = &self.cause {
-            self.way.note_fault(cause, None);
-        }
         let failure = Failure {
             reply,
             cause: self.cause.as_ref(),

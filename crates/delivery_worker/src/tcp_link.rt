@@ -495,7 +495,6 @@ impl<'a, R: Net<Stream = TcpStream> + Log + Clock, W: Way> TcpLink<'a, R, W> {
         let drops = self.drops_answers();
         if self.way.renew() || self.drops_answers() != drops {
             self.end(drops);
-            self.way.note_moved();
             self.logged = LoggedState::Nothing;
             self.retry_at = None;
             self.watch = 0;
@@ -532,9 +531,8 @@ impl<'a, R: Net<Stream = TcpStream> + Log + Clock, W: Way> TcpLink<'a, R, W> {
         ensures { self.new ≡ with_fault true self.old }
     {
         let fault = self.fault(Call::Prepare, error);
-        let wait = self.interval();
-        self.retry_at = self.after(Duration::from_secs(u64::from(wait)));
-        self.tell_unconnected(wait);
+        self.retry_at = self.after(Duration::from_secs(u64::from(self.interval())));
+        self.tell_unconnected();
         fault
     }
 }

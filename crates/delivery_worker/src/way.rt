@@ -1,6 +1,5 @@
 //! Where a link leads.
 
-use crate::words::Cause;
 use dest_queue::Outcome;
 use plan_text::Destination;
 
@@ -32,16 +31,6 @@ pub trait Way {
 
     /// Is called for a message that failed since its last attempt was cut off by a halt.
     fn note_cut(&mut self) {}
-
-    /// Is called for each connection that is opened.
-    fn note_connected(&mut self) {}
-
-    /// Is called where the connection failed or none could be opened: why, and for how many seconds no other is tried; none where an
-    /// attempt failed by it, and the next one tries.
-    fn note_fault(&mut self, _cause: &Cause, _wait: Option<u32>) {}
-
-    /// Is called once the connection was ended since the link leads elsewhere.
-    fn note_moved(&mut self) {}
 }
 
 /// The destination of a plan that stays in force. Nothing cuts a wait short.

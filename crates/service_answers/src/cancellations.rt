@@ -1,6 +1,5 @@
 //! The results of a cancellation, as texts.
 
-use crate::contents::elsewhere_text;
 use crate::live::{Live, live_of};
 use crate::messages::{add_id, add_state, header_of};
 use book_lock::Found;
@@ -149,7 +148,7 @@ pub fn not_cancelled_at_text(
     state: Option<SlotState>,
 ) -> Result<String, AllocError> {
     match state {
-        None => elsewhere_text(alloc, number, name),
+        None => format!(in alloc; "refused: message {number} does not go to {name}\n\n"),
         Some(SlotState::Waiting { .. } | SlotState::InFlight { .. }) => format!(in alloc;
             "refused: message {number} is in flight at {name}: cancel it where it waits again after that attempt\n\n"
         ),

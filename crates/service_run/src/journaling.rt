@@ -15,7 +15,7 @@ use crate::workers::Workers;
 use book_journal::{Journal, JournalError, Journaling, StoreFigures, StoreReport};
 use book_lock::Sharing;
 use log::{Log, info, warn};
-use service_store::{ConnectionNumbers, HoldsFile, Witness};
+use service_store::{ConnectionNumbers, Witness};
 use service_workers::{Crew, Site, Stage, has_ended};
 use sqlite_trees::store::Store;
 use std::sync::atomic::{AtomicBool, Ordering};
@@ -42,8 +42,6 @@ pub(crate) struct Operation<'s, A: Sharing> {
     started: u64,
     /// What the journal has written.
     figures: StoreFigures,
-    /// The file that keeps the names of the destinations that are held.
-    holds: HoldsFile,
     /// Whether all workers have ended, so that nothing more is booked.
     has_ended: AtomicBool,
 }
@@ -78,14 +76,13 @@ fn operate<A: Sharing, H: Crew>(site: &Site<'_, A, H>, operation: &Operation<'_,
         settings,
         started,
         figures,
-        holds,
         has_ended,
     } = operation;
     let watch = Watch {
         started: *started,
         store: Some(figures),
     };
-    execute_all(rt, site, workers, settings, watch, Some(holds));
+    execute_all(rt, site, workers, settings, watch);
     has_ended.store(true, Ordering::SeqCst);
 }
 
@@ -188,11 +185,7 @@ fn work_journaled_within<
         return Ending::Failed(error);
     }
     let workers = operation.workers;
-    let watch = Watch {
-        started: operation.started,
-        store: Some(&operation.figures),
-    };
-    if !start_all(scope, site, workers, watch)
+    if !start_all(scope, site, workers)
         || !start_reserving(scope, site, reserving)
         || !start_operator(scope, site, operation)
     {
@@ -224,7 +217,6 @@ pub(crate) fn operation_of<'s, A: Sharing>(
     workers: &'s Workers<A>,
     settings: &Settings<'s>,
     started: u64,
-    holds: HoldsFile,
 ) -> Operation<'s, A> {
     Operation {
         rt,
@@ -232,7 +224,6 @@ pub(crate) fn operation_of<'s, A: Sharing>(
         settings: *settings,
         started,
         figures: StoreFigures::new(),
-        holds,
         has_ended: AtomicBool::new(false),
     }
 }

@@ -11,9 +11,8 @@ ghost use Rattle.book_lock.specs.declared.log_entry.LogEntry.{LogEntry as Change
 ghost use Rattle.book_lock.specs.inner.Log.{new_seats};
 
 use crate::ending::conclude;
-use crate::holding::log_held;
 use crate::journaling::{Ending, operation_of, work_journaled};
-use crate::listeners::{Listeners, open_listeners};
+use crate::listeners::open_gates;
 use crate::service::{POSTS, RunEnd, VERSION, log_descriptors, log_start, seconds_now};
 use crate::settings::Settings;
 use crate::workers::Workers;
@@ -29,10 +28,10 @@ use log_text::Escaped;
 use plan_text::Plan;
 use service_answers::Origin;
 use service_store::{
-    ConnectionNumbers, ServiceStore, StartError, StartRequest, Started, StoredHolds, Witness,
-    close_store, start_in_folder,
+    ConnectionNumbers, ServiceStore, StartError, StartRequest, Started, Witness, close_store,
+    start_in_folder,
 };
-use service_workers::{Crew, HeldNames, History, ServiceRows, Site};
+use service_workers::{Crew, Gate, History, ServiceRows, Site};
 use sqlite_std_file::File;
 use sqlite_store::FileStore;
 use sqlite_trees::store::Store;
@@ -44,17 +43,17 @@ use std::thread::Threads;
 /// What a service with a store begins with.
 #[derive(Drop)]
 struct Beginning<S: Store> {
-    /// The listeners.
-    listeners: Listeners,
+    /// The listeners of the channels.
+    gates: Vec<Gate>,
     /// The book, as it was recovered.
     book: Book<ServiceRows>,
     /// The store that has the records from which the book was recovered.
     store: EventStore<S>,
-    /// From where connections go on, and the destinations that are held.
+    /// From where connections go on.
     connections: Connections,
 }
 
-/// From where the connections, the moments and the holds of a service with a store go on.
+/// From where the connections and the moments of a service with a store go on.
 #[derive(Drop)]
 struct Connections {
     /// The numbers of connections.
@@ -63,8 +62,6 @@ struct Connections {
     witness: Witness,
     /// The last moment in the store, in seconds since 1970.
     last_second: u64,
-    /// The destinations that are held.
-    holds: StoredHolds,
 }
 
 /// The exit status where a write or a sync of the store has failed.
@@ -101,7 +98,6 @@ fn run_journaled<A: Journaling + Send + Sync, S: Store, H: Crew + Threads + Sync
     shared: &Shared<A, ServiceRows>,
     workers: &Workers<A>,
     connections: Connections,
-    plan: &Plan,
     journal: &mut Journal<A, S>,
 ) -> Journaled
     requires committed { (store : S) (changes : List Change)
@@ -112,7 +108,6 @@ fn run_journaled<A: Journaling + Send + Sync, S: Store, H: Crew + Threads + Sync
         numbers,
         witness,
         last_second,
-        holds: StoredHolds { file, names },
     } = connections;
     let history = History::Store {
         first_connection: numbers.first(),
@@ -121,10 +116,7 @@ fn run_journaled<A: Journaling + Send + Sync, S: Store, H: Crew + Threads + Sync
     };
     let Settings { keep, idle, .. } = *settings;
     let site = Site::new(handle, rt.alloc(), shared, keep, idle, history);
-    let names = HeldNames::new(names);
-    log_held(handle, plan, &names);
-    site.set_held(names, plan);
-    let operation = operation_of(rt, workers, settings, seconds_now(handle), file);
+    let operation = operation_of(rt, workers, settings, seconds_now(handle));
     let ending = work_journaled(handle, &site, &operation, numbers, witness, journal);
     Journaled {
         ending,
@@ -183,7 +175,7 @@ fn serve_stored<'f, A: Journaling + Send + Sync, S: Store + Drop, H: Crew + Thre
 {
     let alloc = rt.alloc();
     let Beginning {
-        listeners,
+        gates,
         book,
         store,
         connections,
@@ -201,9 +193,10 @@ fn serve_stored<'f, A: Journaling + Send + Sync, S: Store + Drop, H: Crew + Thre
     else {
         return Err(Trouble::Engine(Fault::Memory));
     };
-    let reader = JournalReader::new(journal_desk(&mut seated, desks)?, next, prunings);
-    let mut journal = Journal::new(alloc, reader, store, Arc::try_clone(&plan)?);
-    let workers = Workers::new(alloc, listeners, seated, stations)?;
+    let own = journal_desk(&mut seated, desks)?;
+    let reader = JournalReader::new(own, next, prunings);
+    let mut journal = Journal::new(alloc, reader, store, plan);
+    let workers = Workers::new(alloc, gates, seated, stations)?;
     let worked = run_journaled(
         rt,
         handle,
@@ -211,7 +204,6 @@ fn serve_stored<'f, A: Journaling + Send + Sync, S: Store + Drop, H: Crew + Thre
         &shared,
         &workers,
         connections,
-        &plan,
         &mut journal,
     );
     let plan = shared.plan(handle)?;
@@ -297,7 +289,7 @@ fn open_store<'f, H: Crew>(
 /// The listeners of a service, and among how many desks its book is shared.
 #[derive(Drop)]
 struct Listening {
-    listeners: Listeners,
+    gates: Vec<Gate>,
     desks: usize,
 }
 
@@ -314,9 +306,9 @@ fn listen<'f, S: Store, H: Crew>(
 ) -> Result<Listening, Fault<'f>> {
     let plan = started.book.plan();
     let connections = connections_of(plan, settings.connections)?;
-    log_descriptors(handle, plan, connections, settings);
+    log_descriptors(handle, plan, connections);
     Ok(Listening {
-        listeners: open_listeners(rt, handle, plan, settings)?,
+        gates: open_gates(rt, handle, plan)?,
         // Two desks more are the operator's and the journal's.
         desks: connections.saturating_add(2) as usize,
     })
@@ -331,14 +323,13 @@ fn serve_started<'f, S: Store + Drop, H: Crew + Threads + Sync>(
     started: Started<S, ServiceRows>,
     numbers: ConnectionNumbers,
     mut witness: Witness,
-    holds: StoredHolds,
 ) -> Result<(Result<RunEnd, Trouble<'f>>, EventStore<S>), Trouble<'f>>
     requires durable { AreDurable (S.Store.view started.store.store)
         (S.Store.recovers started.store.store) (records_in (S.Store.view started.store.store).trees) }
 {
     log_found(handle, folder, &started);
     let settings = &began_with(settings, started.kept_plan.is_some());
-    let Listening { listeners, desks } = listen(rt, handle, settings, &started)?;
+    let Listening { gates, desks } = listen(rt, handle, settings, &started)?;
     let Started {
         book,
         store,
@@ -348,14 +339,13 @@ fn serve_started<'f, S: Store + Drop, H: Crew + Threads + Sync>(
     } = started;
     witness.count_appended(appended);
     let beginning = Beginning {
-        listeners,
+        gates,
         book,
         store,
         connections: Connections {
             numbers,
             witness,
             last_second,
-            holds,
         },
     };
     let log = BlankLog::new(rt.alloc())?;
@@ -385,18 +375,8 @@ fn serve_found<'f, H: Crew + Threads + Sync>(
         started,
         connections,
         witness,
-        holds,
     } = found;
-    match serve_started(
-        rt,
-        handle,
-        folder,
-        settings,
-        started,
-        connections,
-        witness,
-        holds,
-    ) {
+    match serve_started(rt, handle, folder, settings, started, connections, witness) {
         Ok((ended, store)) => {
             close(handle, folder, store);
             ended

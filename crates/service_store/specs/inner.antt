@@ -2,4 +2,3 @@
 pub mod Starting
 pub mod Faults
 pub mod Numbers
-pub mod Holds

@@ -2,23 +2,20 @@
 //! numbers for its connections that no earlier start used.
 //!
 //! The folder has the files `events.db` and `events.db-wal`, the store; `connections`, the first number of a connection that was
-//! never reserved; `records`, how many records the store has had at least; and `holds`, the names of the destinations that are held.
+//! never reserved; and `records`, how many records the store has had at least.
 #![tactic(auto)]
 
 mod close;
 mod fault;
 mod folder;
-mod holds;
 mod keep;
 mod numbers;
 mod open;
-mod replacing;
 mod start;
 mod witness;
 
 pub use close::close_store;
-pub use fault::{BookFault, HoldsFault, NumbersFault, StartError, StartFault};
-pub use holds::{HoldsFile, StoredHolds};
+pub use fault::{BookFault, NumbersFault, StartError, StartFault};
 pub use numbers::ConnectionNumbers;
 pub use open::{ServiceStore, start_in_folder};
 pub use start::{StartRequest, Started, start_book};

@@ -1,4 +1,2 @@
 pub mod Masks
 pub mod Closed
-pub mod HeldMask
-pub mod Named

@@ -2,4 +2,3 @@
 pub mod Pauses
 pub mod Prunings
 pub mod Stages
-pub mod Held

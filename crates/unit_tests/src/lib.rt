@@ -1,4 +1,4 @@
-//! Tests of single crates, each over the crates below it alone: the notes on a plan, the answers to commands, the page and the JSON of a service, what the workers of
+//! Tests of single crates, each over the crates below it alone: the notes on a plan, the answers to commands, what the workers of
 //! a service decide without a socket, the engine on one thread where memory is refused, and the items of linked rows.
 #![tactic(auto)]
 
@@ -13,10 +13,6 @@ mod decisions;
 #[cfg(test)]
 mod dropped;
 #[cfg(test)]
-mod holds;
-#[cfg(test)]
 mod notes;
-#[cfg(test)]
-mod pages;
 #[cfg(test)]
 mod refused;

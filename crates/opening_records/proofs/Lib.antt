@@ -1,9 +1,0 @@
-pub mod Numbers
-pub mod Lists
-pub mod Loop
-pub mod Joined
-pub mod Deliveries
-pub mod Back
-pub mod Only
-pub mod Openings
-pub mod Snapshots

@@ -1,5 +1,0 @@
--- The words of single clauses: no claim rests on these pages.
-pub mod Decoding
-pub mod Lengths
-pub mod Faults
-pub mod Reading

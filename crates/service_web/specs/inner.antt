@@ -1,2 +1,0 @@
--- What proofs alone use: no claim rests on these pages.
-pub mod Probes
