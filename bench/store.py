@@ -92,7 +92,7 @@ class Lab:
         return int(self._counted[0])
 
     def wait(self, number):
-        """Waits until it has received so many messages. When it received the last one."""
+        """Waits until it has received this many messages. When it received the last one."""
         until = time.monotonic() + LIMIT
         while self.received() < number:
             if time.monotonic() > until:
@@ -162,7 +162,7 @@ def sent(port, messages, turn):
 
 
 def alone(port, name, quiet):
-    """Seconds for the acknowledgment of each of ALONE messages, one at a time, with so many seconds between."""
+    """Seconds for the acknowledgment of each of ALONE messages, one at a time, with this many seconds between."""
     times = []
     with socket.create_connection(('127.0.0.1', port), timeout=LIMIT) as peer:
         peer.setsockopt(socket.IPPROTO_TCP, socket.TCP_NODELAY, 1)

@@ -37,18 +37,18 @@ FROM_START, FROM_READY, FROM_STOP = 0.3, 0.8, 0.1
 # For how long a service that kills itself is waited for at most, from when it is ready and from when it is stopped; and for how long a
 # start may take, since a slow program on a busy machine takes a while over its store.
 BY_ITSELF, STARTING = 2.0, 120
-# In which of its calls on a file it kills itself, one of so many: a commit is four calls on the log, and what is stopped writes to
+# In which of its calls on a file it kills itself, one of this many: a commit is four calls on the log, and what is stopped writes to
 # events.db.
 LOG_CALLS, FILE_CALLS, NUMBER_CALLS = 50, 30, 4
-# Each sender has at most so many messages unacknowledged.
+# Each sender has at most this many messages unacknowledged.
 WINDOWS = (1, 2, 5, 10)
-# With power cuts a tenth of the messages has up to so many bytes, so that the log is copied into events.db now and then.
+# With power cuts a tenth of the messages has up to this many bytes, so that the log is copied into events.db now and then.
 LONGEST, PRINTABLE = 200_000, bytes(0x20 + number % 0x5B for number in range(256))
-# A sender repeats one of so many of its last messages, which the book remembers: it keeps as many as a quarter of its entries.
+# A sender repeats one of this many of its last messages, which the book remembers: it keeps as many as a quarter of its entries.
 REMEMBERED = 15
 # In which calls on events.db the making of a store is cut off: it takes some ten. Fewer with a slow program.
 MAKING, MAKING_SLOWLY = range(1, 15), (5, 8)
-# The kills end after so many seconds, with a slow program before all are made, and so do the power cuts.
+# The kills end after this many seconds, with a slow program before all are made, and so do the power cuts.
 KILLING, KILLING_SLOWLY, CUTTING = 60, 30, 30
 # What is sent and not settled durably was sent during one commit, which takes some milliseconds. A slow program needs longer.
 MOST_TWICE, MOST_TWICE_SLOWLY = 100, 1_000
@@ -170,7 +170,7 @@ def twice(name, lab, most):
 
 
 class Moment(NamedTuple):
-    """When a service is killed: so many seconds after its start, or after it is ready; and where it is stopped then, so many seconds
+    """When a service is killed: this many seconds after its start, or after it is ready; and where it is stopped then, this many seconds
     after that."""
     is_ready: bool
     seconds: float
@@ -184,7 +184,7 @@ def any_moment(chance):
 
 
 def has_ended(process, seconds):
-    """Whether a process ends within so many seconds."""
+    """Whether a process ends within this many seconds."""
     try:
         process.wait(seconds)
     except subprocess.TimeoutExpired:
@@ -219,7 +219,7 @@ def lived(program, plan_path, store, moment, env=None, endings=()):
 
 
 def begun(port, seed, longest):
-    """Two destinations, and senders to a port, which have begun to send messages of up to so many bytes."""
+    """Two destinations, and senders to a port, which have begun to send messages of up to this many bytes."""
     labs = {lab: Recorder(slowness, random.Random(seed + 1)) for lab, slowness in (('LAB', 0), ('ARCHIVE', 0.004))}
     senders = [Persistent(f'S{number}', port, window, random.Random(seed + 2 + number), longest)
                for number, window in enumerate(WINDOWS)]
