@@ -1,7 +1,7 @@
 #!/usr/bin/env python3
 """Tries the wrong bodies of crates/NAME/must-fail/*.edit: the prover has to refuse each of them.
 
-Usage: tests/edits.py [--apply] [--alone] [--built FOLDER] [NAME | NAME/EDIT]..
+Usage: tests/edits.py [--apply] [--alone] [--anew] [--built FOLDER] [NAME | NAME/EDIT]..
 
 `rt ci` tries one edit at a time, over a crate that it proves once more for that. Here many edits of a crate are applied to one
 copy, each in a function of its own, and the prover is asked for these functions. The proofs of the others are left out of the
@@ -16,6 +16,7 @@ crate, whose proof refuses it.
 
 --apply     only whether each edit can be applied: each of its texts is in the file once
 --alone     one edit at a time
+--anew      also those that an earlier run on this machine has refused, and of which nothing has changed since (tests/kept.py)
 --built     where the crates' libraries lie, built: a folder with crates/NAME/out/rlib; the repository by default
 
 The number of checks beside one another is RT_JOBS, by default the number of processors. The last line is 'N passed, M failed'.
@@ -31,6 +32,8 @@ import subprocess
 import sys
 import tempfile
 import threading
+
+from kept import Kept
 
 ROOT = os.path.dirname(os.path.dirname(os.path.abspath(__file__)))
 PARTS = ('src', 'specs', 'proofs')
@@ -474,8 +477,9 @@ def read_all(names):
 class Trials:
     """Trials of the edits of several crates, some beside one another, those of the crates with the most edits first."""
 
-    def __init__(self, prover, by_crate, beside=None, alone=False):
+    def __init__(self, prover, by_crate, beside=None, alone=False, anew=False):
         self.prover, self.by_crate, self.alone = prover, by_crate, alone
+        self.kept = Kept(ROOT, prover.built, prover.rows, anew)
         self.lanes = int(os.environ.get('RT_JOBS') or len(os.sched_getaffinity(0)))
         self.free = min(beside or self.lanes, self.lanes)
         self.held = self.lanes - self.free
@@ -522,23 +526,29 @@ class Trials:
                     return
                 crate = self.waiting.pop()
                 self.free -= 1
-            trial = Trial(self.prover, crate, self.by_crate[crate], self.alone)
+            kept = {it.name: self.kept.why(crate, it.name) for it in self.by_crate[crate]}
+            trial = Trial(self.prover, crate, [it for it in self.by_crate[crate] if not kept[it.name]], self.alone)
             try:
                 found = trial.run()
             except OSError as error:
                 found = trial.found | {it.name: (False, f'it was not tried: {error}') for it in trial.left}
+            for name in (name for name, (is_refused, _) in found.items() if is_refused):
+                self.kept.keep(crate, name, found[name][1])
             with self.change:
                 self.free += 1
-                self.show(crate, found, trial.checks)
+                self.show(crate, found, {name: why for name, why in kept.items() if why}, trial.checks)
                 self.change.notify_all()
 
-    def show(self, crate, found, checks):
-        """Prints what was found, and notes what was not refused."""
+    def show(self, crate, found, kept, checks):
+        """Prints what was found and what was kept, and notes what was not refused."""
         for name, (is_refused, why) in sorted(found.items()):
             print(f'edit {crate}/{name}: {"refused" if is_refused else "NOT REFUSED"}: {why[:200]}')
             if not is_refused:
                 self.failed.append(f'{crate}/{name}')
-        print(f'edits of {crate}: {len(found)} in {checks} checks', flush=True)
+        for name, why in sorted(kept.items()):
+            print(f'edit {crate}/{name}: refused by an earlier run on this machine: {why[:160]}')
+        also = f', {len(kept)} by earlier runs on this machine' if kept else ''
+        print(f'edits of {crate}: {len(found)} in {checks} checks{also}', flush=True)
 
 
 def main():
@@ -548,13 +558,14 @@ def main():
         built = os.path.abspath(words[at + 1])
         del words[at:at + 2]
     flags, names = {it for it in words if it.startswith('--')}, [it for it in words if not it.startswith('--')]
-    if flags - {'--apply', '--alone'}:
+    if flags - {'--apply', '--alone', '--anew'}:
         sys.exit(f'usage: {__doc__.split("Usage: ")[1].splitlines()[0]}')
     by_crate, bad = read_all(names)
     for it in bad:
         print(it)
     count = sum(map(len, by_crate.values()))
-    failed = [] if '--apply' in flags else Trials(Prover(built), by_crate, alone='--alone' in flags).end()
+    failed = [] if '--apply' in flags else Trials(
+        Prover(built), by_crate, alone='--alone' in flags, anew='--anew' in flags).end()
     print(f'{count - len(failed)} passed, {len(failed) + len(bad)} failed')
     return 1 if failed or bad else 0
 
