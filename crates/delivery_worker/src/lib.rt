@@ -29,4 +29,5 @@ pub use taking::TakeRule;
 pub use tcp_link::TcpLink;
 pub use until::{Halt, deliver_until};
 pub use way::Way;
+pub use words::Cause;
 pub use worker::deliver;

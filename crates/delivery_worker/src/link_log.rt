@@ -27,10 +27,11 @@ impl<'a, R: Net<Stream = TcpStream> + Log + Clock, W: Way> TcpLink<'a, R, W> {
         info!(self.rt; destination = self.name(), address = self.address(); "{words}");
     }
 
-    /// Logs that a connection was opened, where none was before or the last one was lost.
+    /// Notes that a connection was opened, and logs it where none was before or the last one was lost.
     pub(crate) fn tell_connected(&mut self)
         ensures { self.new ≡ self.old }
     {
+        self.way.note_connected();
         match self.logged {
             LoggedState::Nothing => self.tell("connected"),
             LoggedState::Lost => self.tell("connected again"),
@@ -49,24 +50,37 @@ impl<'a, R: Net<Stream = TcpStream> + Log + Clock, W: Way> TcpLink<'a, R, W> {
         }
     }
 
-    /// Logs why no connection could be opened between attempts.
-    pub(crate) fn tell_unconnected(&mut self)
+    /// Notes why the connection failed, if it did, and for how many seconds no other is tried.
+    fn note_cause(&mut self, wait: Option<u32>)
+        ensures { self.new ≡ self.old }
+    {
+        let cause = self.cause.take();
+        if let Some(cause) = &cause {
+            self.way.note_fault(cause, wait);
+        }
+        self.cause = cause;
+    }
+
+    /// Notes and logs why no connection could be opened between attempts, and that no other is tried for this many seconds.
+    pub(crate) fn tell_unconnected(&mut self, wait: u32)
         ensures { self.new ≡ self.old }
     {
         if matches!(self.cause, None | Some(Cause::Halted)) {
             return;
         }
         self.tell_lost();
+        self.note_cause(Some(wait));
         if let Some(cause) = &self.cause {
             warn!(self.rt; destination = self.name(), address = self.address(); "{cause}");
         }
     }
 
-    /// Logs an attempt that failed, and a connection that was lost by it.
+    /// Logs an attempt that failed, and a connection that was lost by it, and notes the cause of the loss.
     pub(crate) fn tell_attempt(&mut self, job: &Job, reply: Reply)
         ensures { self.new ≡ self.old }
     {
         self.tell_lost();
+        self.note_cause(None);
         let failure = Failure {
             reply,
             cause: self.cause.as_ref(),

@@ -14,6 +14,8 @@ pub enum DeliverEnd {
     TurnsSpent,
     /// It was halted. What was not taken yet is still queued.
     Halted,
+    /// No arrival will follow, and the queue was held. What was not taken yet is still queued.
+    Held,
 }
 
 /// The outcomes of the attempts to deliver messages, and why delivering ended.

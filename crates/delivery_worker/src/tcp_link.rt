@@ -495,6 +495,7 @@ impl<'a, R: Net<Stream = TcpStream> + Log + Clock, W: Way> TcpLink<'a, R, W> {
         let drops = self.drops_answers();
         if self.way.renew() || self.drops_answers() != drops {
             self.end(drops);
+            self.way.note_moved();
             self.logged = LoggedState::Nothing;
             self.retry_at = None;
             self.watch = 0;
@@ -531,8 +532,9 @@ impl<'a, R: Net<Stream = TcpStream> + Log + Clock, W: Way> TcpLink<'a, R, W> {
         ensures { self.new ≡ with_fault true self.old }
     {
         let fault = self.fault(Call::Prepare, error);
-        self.retry_at = self.after(Duration::from_secs(u64::from(self.interval())));
-        self.tell_unconnected();
+        let wait = self.interval();
+        self.retry_at = self.after(Duration::from_secs(u64::from(wait)));
+        self.tell_unconnected(wait);
         fault
     }
 }

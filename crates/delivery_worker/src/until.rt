@@ -1,6 +1,6 @@
 //! Delivering the messages of a destination's queue until that is halted.
 
-ghost use Rattle.std.specs.Prelude.{◌≡◌, ◌+◌, ◌*◌, ◌≤◌, [], ◌∷◌, Some, map, IfOk, OnOk, OnErr};
+ghost use Rattle.std.specs.Prelude.{◌≡◌, ◌+◌, ◌*◌, ◌≤◌, [], ◌∷◌, Some, true, map, IfOk, IsErr, OnOk, OnErr};
 ghost use Rattle.std.specs.Io.KnownBytes.{Keeps};
 ghost use Rattle.fixed_numbers.specs.declared.serving.TheConstants.{RECEIVES_MAX};
 ghost use Rattle.mllp_frame.specs.inner.Framed.{blank};
@@ -31,14 +31,19 @@ const COMMIT_WAIT: u64 = 2;
 pub trait Halt {
     /// Whether the work is to end now.
     fn is_halted(&self) -> bool;
+
+    /// Whether no further message of queue `d` is to be taken now.
+    fn is_held(&self, _d: u32) -> bool {
+        false
+    }
 }
 
 /// Why a turn made no attempt.
 #[derive(Clone, Copy)]
 enum Pause {
-    /// No arrival will follow, and the queue was empty after that was noted.
-    Drained,
-    /// Nothing is due, or the destination can't be reached.
+    /// No arrival will follow, and the queue is empty or held: delivering ends.
+    Ended(DeliverEnd),
+    /// The queue is held, nothing is due, or the destination can't be reached.
     NotYet,
     /// The first message is due, and is not durable yet.
     NotDurable,
@@ -57,8 +62,8 @@ fn is_due<C: Clock>(front: Option<Front>, clock: &mut C) -> bool {
     }
 }
 
-/// Readies the connection, and makes one attempt to deliver the message at the front of a queue.
-fn deliver_afresh<H: Wait, A: Sharing, S: BookRows, L: Link, C: Clock>(
+/// Readies the connection, and makes one attempt to deliver the message at the front of a queue, unless that is held by then.
+fn deliver_afresh<H: Wait, A: Sharing, S: BookRows, L: Link, C: Clock, E: Halt>(
     rt: &H,
     shared: &Shared<A, S>,
     station: &mut Station<A>,
@@ -67,6 +72,7 @@ fn deliver_afresh<H: Wait, A: Sharing, S: BookRows, L: Link, C: Clock>(
     d: u32,
     rule: TakeRule,
     clock: &mut C,
+    halt: &E,
 ) -> Result<Outcome, Pause>
     ensures taken { OnOk result (station.new.counts.takes ≡ station.old.counts.takes + 1) }
     ensures settled { OnOk result (
@@ -91,6 +97,10 @@ fn deliver_afresh<H: Wait, A: Sharing, S: BookRows, L: Link, C: Clock>(
         Ok(()) => {}
         Err(_) => return Err(Pause::NotYet),
     }
+    // Connecting may have taken a while, so the hold is read again.
+    if halt.is_held(d) {
+        return Err(Pause::NotYet);
+    }
     match take_turn(rt, shared, station, connection, link, d, rule, clock) {
         Ok(outcome) => Ok(outcome),
         Err(TakeDurableRefusal::NotDurable) => Err(Pause::NotDurable),
@@ -98,8 +108,9 @@ fn deliver_afresh<H: Wait, A: Sharing, S: BookRows, L: Link, C: Clock>(
     }
 }
 
-/// Makes one attempt to deliver the message at the front of a queue, if it is due and the destination can be reached.
-fn turn_afresh<H: Wait, A: Sharing, S: BookRows, L: Link, C: Clock>(
+/// Makes one attempt to deliver the message at the front of a queue, if it is due, the queue is not held, and the destination can be
+/// reached.
+fn turn_afresh<H: Wait, A: Sharing, S: BookRows, L: Link, C: Clock, E: Halt>(
     rt: &H,
     shared: &Shared<A, S>,
     station: &mut Station<A>,
@@ -108,7 +119,10 @@ fn turn_afresh<H: Wait, A: Sharing, S: BookRows, L: Link, C: Clock>(
     d: u32,
     rule: TakeRule,
     clock: &mut C,
+    halt: &E,
+    is_held: bool,
 ) -> Result<Outcome, Pause>
+    ensures held { is_held ≡ true → IsErr result }
     ensures taken { OnOk result (station.new.counts.takes ≡ station.old.counts.takes + 1) }
     ensures settled { OnOk result (
         (station.old.counts.settlements ≤ station.new.counts.settlements)
@@ -132,22 +146,28 @@ fn turn_afresh<H: Wait, A: Sharing, S: BookRows, L: Link, C: Clock>(
     let is_finished = shared.is_finished();
     let front = shared.front(rt, d);
     if front.is_none() && is_finished {
-        return Err(Pause::Drained);
+        return Err(Pause::Ended(DeliverEnd::Drained));
+    }
+    if is_held && is_finished {
+        return Err(Pause::Ended(DeliverEnd::Held));
+    }
+    if is_held {
+        return Err(Pause::NotYet);
     }
     if !is_due(front, clock) {
         return Err(Pause::NotYet);
     }
-    deliver_afresh(rt, shared, station, connection, link, d, rule, clock)
+    deliver_afresh(rt, shared, station, connection, link, d, rule, clock, halt)
 }
 
 /// Delivers the messages of queue `d`, one after another, over one link, until that is halted: each that is due is
 /// taken, sent as a block, and settled by what the destination answers (HL7 v2.5.1, 2.9.2 and 2.9.3). By the rule
 /// `Durable` a message is taken only once its arrival is durable. A message is taken only once its connection is
 /// ready, so a destination that can't be reached costs no attempt. No answer is read but one that was received after
-/// the connection was readied for the attempt. Where nothing can be sent, the worker waits for a change at the queue,
-/// or a short while, and then flushes the log.
+/// the connection was readied for the attempt. Where nothing can be sent, or the queue is held, the worker waits for a change
+/// at the queue, or a short while, and then flushes the log.
 ///
-/// It ends where it is halted, or where no arrival will follow and the queue is empty.
+/// It ends where it is halted, or where no arrival will follow and the queue is empty or held.
 pub fn deliver_until<
     H: Wait + time::Clock + Log,
     A: Sharing,
@@ -193,10 +213,22 @@ pub fn deliver_until<
             link.finish();
             return report;
         }
-        match turn_afresh(rt, shared, station, &mut connection, link, d, rule, clock) {
+        let is_held = halt.is_held(d);
+        match turn_afresh(
+            rt,
+            shared,
+            station,
+            &mut connection,
+            link,
+            d,
+            rule,
+            clock,
+            halt,
+            is_held,
+        ) {
             Ok(outcome) => report.count(outcome),
-            Err(Pause::Drained) => {
-                report.end = DeliverEnd::Drained;
+            Err(Pause::Ended(end)) => {
+                report.end = end;
                 link.finish();
                 return report;
             }

@@ -1,5 +1,6 @@
 //! Where a link leads.
 
+use crate::words::Cause;
 use dest_queue::Outcome;
 use plan_text::Destination;
 
@@ -31,6 +32,17 @@ pub trait Way {
 
     /// Is called for a message that failed since its last attempt was cut off by a halt.
     fn note_cut(&mut self) {}
+
+    /// Is called for each connection that was opened.
+    fn note_connected(&mut self) {}
+
+    /// Is called where the connection failed or none could be opened, with the cause and the number of seconds before which no other
+    /// connection is tried. The number is None where an attempt failed, since the next attempt connects at once.
+    fn note_fault(&mut self, _cause: &Cause, _wait: Option<u32>) {}
+
+    /// Is called once the connection was ended because the plan that was taken up has another address or timeout for the
+    /// destination, or awaits its answers otherwise.
+    fn note_moved(&mut self) {}
 }
 
 /// The destination of a plan that stays in force. Nothing cuts a wait short.

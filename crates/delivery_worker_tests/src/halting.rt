@@ -34,7 +34,7 @@ struct Case {
     states: [Option<SlotState>; 2],
 }
 
-const CASES: [Case; 7] = [
+const CASES: [Case; 9] = [
     Case {
         name: "all is delivered",
         messages: 2,
@@ -96,6 +96,24 @@ const CASES: [Case; 7] = [
         course: Course::Looks(0),
         attempts: (0, 0, 0),
         end: DeliverEnd::Halted,
+        states: [UNSENT, None],
+    },
+    Case {
+        name: "a queue that is held is not taken from",
+        messages: 2,
+        plays: &[ACCEPTED, SECOND_ACCEPTED],
+        course: Course::Held(2),
+        attempts: (1, 1, 0),
+        end: DeliverEnd::Held,
+        states: [DELIVERED, UNSENT],
+    },
+    Case {
+        name: "nor is one that is held while its destination is connected",
+        messages: 1,
+        plays: &[ACCEPTED],
+        course: Course::Held(1),
+        attempts: (0, 0, 0),
+        end: DeliverEnd::Held,
         states: [UNSENT, None],
     },
 ];

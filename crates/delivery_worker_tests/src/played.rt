@@ -181,10 +181,18 @@ impl Link for Played<'_> {
     }
 }
 
-/// A halt after a number of looks.
+/// A halt, or a hold, after a number of looks.
 #[derive(Drop)]
 pub struct Looks {
     left: Cell<u32>,
+    left_until_held: Cell<u32>,
+}
+
+/// Whether no look is left. Each look takes one.
+fn is_over(left: &Cell<u32>) -> bool {
+    let looks = left.get();
+    left.set(looks.saturating_sub(1));
+    looks == 0
 }
 
 impl Looks {
@@ -192,15 +200,26 @@ impl Looks {
     pub fn new(looks: u32) -> Looks {
         Looks {
             left: Cell::new(looks),
+            left_until_held: Cell::new(u32::MAX),
+        }
+    }
+
+    /// A hold of each queue with this many looks before it, and no halt.
+    pub fn held_after(looks: u32) -> Looks {
+        Looks {
+            left: Cell::new(u32::MAX),
+            left_until_held: Cell::new(looks),
         }
     }
 }
 
 impl Halt for Looks {
     fn is_halted(&self) -> bool {
-        let left = self.left.get();
-        self.left.set(left.saturating_sub(1));
-        left == 0
+        is_over(&self.left)
+    }
+
+    fn is_held(&self, _d: u32) -> bool {
+        is_over(&self.left_until_held)
     }
 }
 

@@ -84,6 +84,8 @@ pub enum Course {
     Turns(u64),
     /// Until it is halted, after this many looks.
     Looks(u32),
+    /// Until it is held, after this many looks.
+    Held(u32),
 }
 
 /// The result of delivering, and the book after it.
@@ -105,23 +107,24 @@ fn deliver_at<A: Sharing, S: BookRows, H: Wait + time::Clock + Log, C: Clock>(
 ) -> Option<DeliverReport> {
     let station = stations.last_mut()?;
     shared.finish(rt);
-    Some(match course {
-        Course::Turns(turns) => deliver(rt, alloc, shared, station, link, 0, clock, turns),
-        Course::Looks(looks) => {
-            let halt = Looks::new(looks);
-            deliver_until(
-                rt,
-                alloc,
-                shared,
-                station,
-                link,
-                0,
-                TakeRule::Any,
-                clock,
-                &halt,
-            )
+    let halt = match course {
+        Course::Turns(turns) => {
+            return Some(deliver(rt, alloc, shared, station, link, 0, clock, turns));
         }
-    })
+        Course::Looks(looks) => Looks::new(looks),
+        Course::Held(looks) => Looks::held_after(looks),
+    };
+    Some(deliver_until(
+        rt,
+        alloc,
+        shared,
+        station,
+        link,
+        0,
+        TakeRule::Any,
+        clock,
+        &halt,
+    ))
 }
 
 /// Shares a book, delivers what waits in it, and closes it. None where memory was refused for sharing it.

@@ -1,5 +1,6 @@
 //! The results of a cancellation, as texts.
 
+use crate::contents::elsewhere_text;
 use crate::live::{Live, live_of};
 use crate::messages::{add_id, add_state, header_of};
 use book_lock::Found;
@@ -148,7 +149,7 @@ pub fn not_cancelled_at_text(
     state: Option<SlotState>,
 ) -> Result<String, AllocError> {
     match state {
-        None => format!(in alloc; "refused: message {number} does not go to {name}\n\n"),
+        None => elsewhere_text(alloc, number, name),
         Some(SlotState::Waiting { .. } | SlotState::InFlight { .. }) => format!(in alloc;
             "refused: message {number} is in flight at {name}: cancel it where it waits again after that attempt\n\n"
         ),

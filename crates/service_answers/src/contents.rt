@@ -43,8 +43,9 @@ impl fmt::Display for DocumentLine<'_> {
     }
 }
 
-/// The text of a message as it was received, a segment a line, with two spaces before each, so that no line is empty. Segments end
-/// with a carriage return (HL7 v2.5.1, 2.5.4). Every byte that is no printing ASCII character and no space is shown as `\xHH`.
+/// The text of a message as it was received, or as it is sent to a destination, a segment a line, with two spaces before each, so
+/// that no line is empty. Segments end with a carriage return (HL7 v2.5.1, 2.5.4). Every byte that is no printing ASCII character
+/// and no space is shown as `\xHH`.
 ///
 /// # Errors
 ///
@@ -73,6 +74,15 @@ pub fn document_text(alloc: Global, document: &str) -> Result<String, AllocError
     }
     writeln!(text, "")?;
     Ok(text)
+}
+
+/// The answer about a message at a destination to which it does not go.
+///
+/// # Errors
+///
+/// Where memory is refused.
+pub fn elsewhere_text(alloc: Global, number: u32, name: &str) -> Result<String, AllocError> {
+    format!(in alloc; "refused: message {number} does not go to {name}\n\n")
 }
 
 /// The answer to a message whose bytes are written to a file.

@@ -63,6 +63,8 @@ pub struct Figures {
     pub dropped: Dropped,
     /// The channels that are not read at this time, as a mask.
     pub paused: u64,
+    /// The destinations that are held, as a mask.
+    pub held: u32,
     /// How many connections of each channel are open, by index.
     pub open_by_channel: [u64; 64],
     /// How many connections of each channel can be served at once, by index.
@@ -90,6 +92,11 @@ impl Figures {
     /// Whether the channel at this index is not read at this time.
     pub fn is_paused(&self, channel: u32) -> bool {
         self.paused.checked_shr(channel).unwrap_or(0) % 2 == 1
+    }
+
+    /// Whether the destination at this index is held.
+    pub fn is_held(&self, destination: u32) -> bool {
+        self.held.checked_shr(destination).unwrap_or(0) % 2 == 1
     }
 
     /// How many connections of a channel are open.

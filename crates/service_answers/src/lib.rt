@@ -6,7 +6,9 @@ mod cancellations;
 mod contents;
 mod echoes;
 mod figures;
+mod holds;
 mod ids;
+mod links;
 mod live;
 mod messages;
 mod metrics;
@@ -21,10 +23,12 @@ pub use cancellations::{
     Places, Series, cancellable_text, cancelled_text, control_id_of, not_cancelled_at_text,
     not_cancelled_text, series_cancelled_text, several_text,
 };
-pub use contents::{contents_text, document_text, exported_text};
+pub use contents::{contents_text, document_text, elsewhere_text, exported_text};
 pub use echoes::echo_text;
 pub use figures::{Dropped, Figures, StoreNumbers, Unbooked};
+pub use holds::{add_held_without, held_already_text, held_text, not_held_text, released_text};
 pub use ids::unescaped;
+pub use links::{LinkState, LinkView, links_text};
 pub use live::{Live, live_of, state_at};
 pub use messages::{
     Listed, ListedFailure, SHOWN_MAX, failed_text, found_text, left_behind, message_text,

@@ -1,6 +1,7 @@
 //! What is kept of messages.
 
 use crate::cancellations::control_id_of;
+use crate::holds::add_held;
 use crate::time::Utc;
 use book_core::{Failure, Front};
 use book_lock::{Found, Message};
@@ -149,13 +150,22 @@ fn add_listed(alloc: Global, text: &mut String, listed: &Listed) -> Result<(), A
     add_state(&mut *text, state)
 }
 
-/// The first messages in a destination's queue, in order, and how many it has.
+/// The first messages in a destination's queue, in order, and how many it has. Where the destination is held, its name is given, and
+/// the text begins with that.
 ///
 /// # Errors
 ///
 /// Where memory is refused.
-pub fn waiting_text(alloc: Global, listed: &[Listed], all: u64) -> Result<String, AllocError> {
+pub fn waiting_text(
+    alloc: Global,
+    held: Option<&str>,
+    listed: &[Listed],
+    all: u64,
+) -> Result<String, AllocError> {
     let mut text = String::new(alloc);
+    if let Some(name) = held {
+        add_held(&mut text, name)?;
+    }
     for message in listed {
         add_listed(alloc, &mut text, message)?;
         writeln!(text, "")?;

@@ -240,7 +240,7 @@ fn add_places(text: &mut String, plan: &Plan, figures: &Figures) -> Result<(), A
     )
 }
 
-/// Adds when channels and destinations were last used, and which channels are not read at this time.
+/// Adds when channels and destinations were last used, which channels are not read at this time, and which destinations are held.
 fn add_moments(text: &mut String, plan: &Plan, figures: &Figures) -> Result<(), AllocError> {
     add_by_channel(
         &mut *text,
@@ -265,6 +265,14 @@ fn add_moments(text: &mut String, plan: &Plan, figures: &Figures) -> Result<(), 
         Kind::Gauge,
         "When the last message was delivered, in seconds since 1970; 0: none was.",
         |index| figures.delivered(index),
+    )?;
+    add_by_destination(
+        &mut *text,
+        plan,
+        "hl7_destination_held",
+        Kind::Gauge,
+        "1 while an operator holds the destination, so that nothing is sent to it, else 0.",
+        |index| u64::from(figures.is_held(index)),
     )
 }
 

@@ -1,6 +1,7 @@
 //! The status of a service.
 
 use crate::figures::{Dropped, Figures, StoreNumbers, Unbooked};
+use crate::holds::add_held;
 use crate::messages::add_state;
 use crate::time::Utc;
 use book_core::Front;
@@ -128,8 +129,8 @@ fn add_sent_again(text: &mut String, name: &str, count: u64) -> Result<(), Alloc
     writeln!(text, "sent again {name} {count}")
 }
 
-/// Adds lines for each destination: when the last message was delivered, how many were sent a second time within one attempt,
-/// where there were any, and the front of its queue.
+/// Adds lines for each destination: when the last message was delivered, whether it is held, how many were sent a second time within
+/// one attempt, where there were any, and the front of its queue.
 fn add_destinations(
     text: &mut String,
     plan: &Plan,
@@ -141,6 +142,9 @@ fn add_destinations(
             let name = destination.name();
             write!(text, "last delivered {name} ")?;
             add_moment(&mut *text, figures.delivered(index))?;
+            if figures.is_held(index) {
+                add_held(&mut *text, name)?;
+            }
             add_sent_again(&mut *text, name, figures.sent_again(index))?;
             write!(text, "front {name} ")?;
             add_front(&mut *text, *front)?;

@@ -4,7 +4,7 @@ use std::fmt;
 
 /// The answer to a line that is no command: the commands there are.
 pub const UNKNOWN: &str = "\
-unknown: status, metrics, message N, show N, export N PATH, find ID, waiting NAME, failed NAME, plan, plan text, deploy PATH, prune, cancel N, cancel N NAME, cancel N all, cancel waiting NAME, stop, stop now, help
+unknown: status, metrics, links, message N, show N, show N NAME, export N PATH, find ID, waiting NAME, failed NAME, hold NAME, release NAME, plan, plan text, deploy PATH, prune, cancel N, cancel N NAME, cancel N all, cancel waiting NAME, stop, stop now, help
 
 ";
 
@@ -12,12 +12,16 @@ unknown: status, metrics, message N, show N, export N PATH, find ID, waiting NAM
 pub const HELP: &str = "\
 status        counts of channels and destinations, the book, connections, and the front of each queue
 metrics       the same numbers in Prometheus' text format
+links         for each destination whether it is connected and since when, its last fault, and when it is tried next
 message N     where message N is
 show N        the text of message N as it was received, a segment a line
+show N NAME   the text of message N as it is or was sent to destination NAME
 export N PATH the bytes of message N as they were received, into a new file
 find ID       the numbers of the messages with this control id (MSH-10), as received or as the log shows it
 waiting NAME  the first messages in the queue of destination NAME
 failed NAME   the last messages that failed at destination NAME, newest first, and why
+hold NAME     sends destination NAME no further message: what it would be sent waits
+release NAME  sends messages to destination NAME again
 plan          where the plan in force comes from, since when it is, and its SHA-256
 plan text     the document of the plan in force
 deploy PATH   puts the plan in the file PATH in force

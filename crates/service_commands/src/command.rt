@@ -2,7 +2,7 @@
 
 ghost use Rattle.std.specs.Prelude.{◌≡◌, ◌≤◌, ◌<◌, ◌==◌, IfSome, length, option_map};
 ghost use Rattle.std.specs.List.{position};
-ghost use Rattle.service_commands.specs.inner.Commands.{argument, cancel_of, cancel_waiting_of, cancelling, command_of, exporting, named, numbered, number_of, seen, single, trimmed, with_digit, without_return, word_len};
+ghost use Rattle.service_commands.specs.inner.Commands.{argument, cancel_of, cancel_waiting_of, cancelling, command_of, exporting, listing, named, numbered, number_of, seen, show_of, showing, single, trimmed, with_digit, without_return, word_len};
 
 /// The command that a line is. Texts are of type `T`, the bytes as they are in the line.
 #[derive(Clone, Copy, Debug, PartialEq, Eq)]
@@ -15,6 +15,8 @@ pub enum Command<T> {
     Message(u32),
     /// The text of the message of this number as it was received.
     Show(u32),
+    /// The text of the message of this number for the destination of this name, at least one byte.
+    ShowAt(u32, T),
     /// The bytes of the message of this number, as they were received, into a new file of this path, at least one byte.
     Export(u32, T),
     /// The numbers of the messages with this control id (MSH-10, HL7 v2.5.1, 2.15.9.10), at least one byte.
@@ -31,6 +33,12 @@ pub enum Command<T> {
     Prune,
     /// The messages that failed at the destination of this name, at least one byte.
     Failed(T),
+    /// No further message is sent to the destination of this name, at least one byte.
+    Hold(T),
+    /// Messages are sent again to the destination of this name, at least one byte, which is held.
+    Release(T),
+    /// What is known of the connection to each destination.
+    Links,
     /// The message of this number is not delivered at the one destination where it waits.
     Cancel(u32),
     /// The message of this number is not delivered wherever it waits.
@@ -175,7 +183,31 @@ fn exporting(text: &[u8]) -> Command<&[u8]>
     }
 }
 
-/// The command of a line that begins with none of the words that a text follows.
+/// The command that shows a message, by what follows its number: nothing, or a space and a destination's name.
+fn show_of(number: u32, rest: &[u8]) -> Command<&[u8]>
+    ensures { seen result ≡ show_of number rest.now }
+{
+    if rest.is_empty() {
+        Command::Show(number)
+    } else if let Some(name) = argument(rest, b" ") {
+        Command::ShowAt(number, name)
+    } else {
+        Command::Unknown
+    }
+}
+
+/// The command of a line behind `show `: a number, and a space and a destination's name behind it or nothing.
+fn showing(text: &[u8]) -> Command<&[u8]>
+    ensures { seen result ≡ showing text.now }
+{
+    let (word, rest) = text.split_at(word_len(text));
+    match number_of(word) {
+        Some(number) => show_of(number, rest),
+        None => Command::Unknown,
+    }
+}
+
+/// The command of a line that begins with none of the words that a name follows.
 fn numbered(line: &[u8]) -> Command<&[u8]>
     ensures { seen result ≡ numbered line.now }
 {
@@ -186,10 +218,7 @@ fn numbered(line: &[u8]) -> Command<&[u8]>
         };
     }
     if let Some(text) = argument(line, b"show ") {
-        return match number_of(text) {
-            Some(number) => Command::Show(number),
-            None => Command::Unknown,
-        };
+        return showing(text);
     }
     if let Some(text) = argument(line, b"cancel ") {
         return cancelling(text);
@@ -202,6 +231,23 @@ fn trimmed(line: &[u8]) -> &[u8]
     ensures { result.now ≡ trimmed line.now }
 {
     line.trim_ascii_end()
+}
+
+/// The command of a line that is no single word or two: a word and a destination's name, or a word and a number.
+fn listing(line: &[u8]) -> Command<&[u8]>
+    ensures { seen result ≡ listing line.now }
+{
+    if let Some(text) = argument(line, b"waiting ") {
+        Command::Waiting(text)
+    } else if let Some(text) = argument(line, b"failed ") {
+        Command::Failed(text)
+    } else if let Some(text) = argument(line, b"hold ") {
+        Command::Hold(text)
+    } else if let Some(text) = argument(line, b"release ") {
+        Command::Release(text)
+    } else {
+        numbered(line)
+    }
 }
 
 /// The command of a line without white space at its end that begins with none of `find `, `deploy ` and `export `.
@@ -224,12 +270,10 @@ fn single(line: &[u8]) -> Command<&[u8]>
         Command::StopNow
     } else if line == b"help".as_slice() {
         Command::Help
-    } else if let Some(text) = argument(line, b"waiting ") {
-        Command::Waiting(text)
-    } else if let Some(text) = argument(line, b"failed ") {
-        Command::Failed(text)
+    } else if line == b"links".as_slice() {
+        Command::Links
     } else {
-        numbered(line)
+        listing(line)
     }
 }
 
@@ -277,6 +321,7 @@ mod tests {
         (b"metrics", Command::Metrics),
         (b"message 4294967295", Command::Message(4_294_967_295)),
         (b"show 0", Command::Show(0)),
+        (b"show 1 LAB", Command::ShowAt(1, b"LAB")),
         (b"export 7 /tmp/a b", Command::Export(7, b"/tmp/a b")),
         (b"find A 1", Command::Find(b"A 1")),
         (b"waiting LAB", Command::Waiting(b"LAB")),
@@ -285,6 +330,9 @@ mod tests {
         (b"plan text", Command::PlanText),
         (b"prune", Command::Prune),
         (b"failed LAB", Command::Failed(b"LAB")),
+        (b"hold LAB", Command::Hold(b"LAB")),
+        (b"release LAB", Command::Release(b"LAB")),
+        (b"links", Command::Links),
         (b"cancel 0", Command::Cancel(0)),
         (b"stop", Command::Stop),
         (b"stop now", Command::StopNow),
@@ -331,6 +379,8 @@ mod tests {
         (b"deploy a.toml \r", Command::Deploy(b"a.toml ")),
         (b"export 7 a.hl7 \r", Command::Export(7, b"a.hl7 ")),
         (b"show 7 \r", Command::Show(7)),
+        (b"show 7 LAB \r", Command::ShowAt(7, b"LAB")),
+        (b"hold LAB \r", Command::Hold(b"LAB")),
         (b"find \r", Command::Unknown),
     ];
 
@@ -349,7 +399,12 @@ mod tests {
         (b"message 4294967296", Command::Unknown),
         (b"cancel 1x", Command::Unknown),
         (b"show", Command::Unknown),
-        (b"show 1 LAB", Command::Unknown),
+        (b"show LAB", Command::Unknown),
+        (b"show LAB 1", Command::Unknown),
+        (b"hold", Command::Unknown),
+        (b"hold ", Command::Unknown),
+        (b"release", Command::Unknown),
+        (b"links LAB", Command::Unknown),
         (b"export 1", Command::Unknown),
         (b"export 1 ", Command::Unknown),
         (b"export a.hl7 1", Command::Unknown),

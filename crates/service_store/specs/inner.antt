@@ -2,3 +2,4 @@
 pub mod Starting
 pub mod Faults
 pub mod Numbers
+pub mod Holds

@@ -3,7 +3,7 @@
 ghost use Rattle.std.specs.Prelude.{◌≡◌, ℕ, List};
 ghost use Rattle.book_recovery.specs.inner.File.{IsFailure};
 ghost use Rattle.service_store.specs.declared.fault.BookFault.TheVariants.{NoMemory};
-ghost use Rattle.service_store.specs.inner.Faults.{IsBookFailure, IsWriteFailure, book_status, numbers_status, start_status};
+ghost use Rattle.service_store.specs.inner.Faults.{IsBookFailure, IsWriteFailure, book_status, holds_status, numbers_status, start_status};
 
 use book_recovery::{HeaderFault, RecordProblem, RecoveryError, Stop};
 use book_replay::ReplayFault;
@@ -67,6 +67,23 @@ pub enum NumbersFault {
     Write(io::Error),
 }
 
+/// Why the names of the destinations that are held can't be read or kept.
+#[derive(Debug, Drop, Error)]
+pub enum HoldsFault {
+    /// An allocation was refused.
+    #[error("out of memory")]
+    NoMemory,
+    /// The file is there, and holds something else than names, each once.
+    #[error("damaged: write the name of each destination that is held into it, on a line of its own, or remove it")]
+    Damaged,
+    /// The file can't be read.
+    #[error("not read: {0}")]
+    Read(io::Error),
+    /// The file can't be replaced.
+    #[error("not written: {0}; see to the disk and its room")]
+    Write(io::Error),
+}
+
 /// What went wrong at a start.
 #[derive(Debug, Drop, Error)]
 pub enum StartFault {
@@ -114,6 +131,9 @@ pub enum StartFault {
     /// No number of a connection is reserved.
     #[error("{0}")]
     Numbers(NumbersFault),
+    /// It is not known which destinations are held.
+    #[error("{0}")]
+    Holds(HoldsFault),
 }
 
 /// Why a store isn't started, with the folder of the store. The text is one line that begins with the path of the folder or the file.
@@ -218,6 +238,27 @@ impl NumbersFault {
     }
 }
 
+impl HoldsFault {
+    /// What failed at a write of the file.
+    pub(crate) fn of_write(error: io::Error) -> HoldsFault {
+        match error.kind() {
+            io::ErrorKind::OutOfMemory => HoldsFault::NoMemory,
+            _ => HoldsFault::Write(error),
+        }
+    }
+
+    /// The exit status of a program that ends for it.
+    pub fn status(&self) -> u8
+        ensures { result ≡ holds_status self.now }
+    {
+        match self {
+            HoldsFault::NoMemory | HoldsFault::Read(_) => 3,
+            HoldsFault::Damaged => 7,
+            HoldsFault::Write(_) => 6,
+        }
+    }
+}
+
 impl StartFault {
     /// The end of the path of what it is about: nothing for the folder.
     fn file(&self) -> &'static str {
@@ -227,6 +268,7 @@ impl StartFault {
             | StartFault::NotAFolder
             | StartFault::Folder(_) => "",
             StartFault::Numbers(_) => "/connections",
+            StartFault::Holds(_) => "/holds",
             _ => "/events.db",
         }
     }
@@ -250,6 +292,7 @@ impl StartFault {
             StartFault::Disk(_) => 6,
             StartFault::Book(fault) => fault.status(),
             StartFault::Numbers(fault) => fault.status(),
+            StartFault::Holds(fault) => fault.status(),
         }
     }
 }

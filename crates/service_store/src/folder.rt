@@ -9,8 +9,8 @@ use std::{fs, io};
 /// Only its owner may enter the folder and list it.
 const FOLDER_MODE: u32 = 0o700;
 
-/// Only its owner may read the file and write to it.
-const FILE_MODE: u32 = 0o600;
+/// Only its owner may read a file of the store and write to it.
+pub(crate) const FILE_MODE: u32 = 0o600;
 
 /// Makes the folder, where nothing is at its path.
 fn make(rt: &HostRuntime, folder: &str) -> io::Result<()> {

@@ -2,20 +2,23 @@
 //! numbers for its connections that no earlier start used.
 //!
 //! The folder has the files `events.db` and `events.db-wal`, the store; `connections`, the first number of a connection that was
-//! never reserved; and `records`, how many records the store has had at least.
+//! never reserved; `records`, how many records the store has had at least; and `holds`, the names of the destinations that are held.
 #![tactic(auto)]
 
 mod close;
 mod fault;
 mod folder;
+mod holds;
 mod keep;
 mod numbers;
 mod open;
+mod replacing;
 mod start;
 mod witness;
 
 pub use close::close_store;
-pub use fault::{BookFault, NumbersFault, StartError, StartFault};
+pub use fault::{BookFault, HoldsFault, NumbersFault, StartError, StartFault};
+pub use holds::{HoldsFile, StoredHolds};
 pub use numbers::ConnectionNumbers;
 pub use open::{ServiceStore, start_in_folder};
 pub use start::{StartRequest, Started, start_book};

@@ -4,10 +4,8 @@ ghost use Rattle.std.specs.Prelude.{◌≡◌, ◌≢◌, ◌≤◌, ◌<◌, �
 ghost use Rattle.service_store.specs.inner.Numbers.{first_unused, number_text};
 
 use crate::fault::NumbersFault;
+use crate::replacing::replace;
 use std::alloc::{AllocError, Global};
-use std::fs::{File, OpenOptions, Permissions};
-use std::io::Write;
-use std::os::unix::fs::{OpenOptionsExt, PermissionsExt};
 use std::{fs, io, str};
 
 /// How many numbers are reserved at once.
@@ -77,22 +75,9 @@ fn next_end(end: u32) -> Option<u32>
 }
 
 /// Replaces the file with a number. The file has the old number or the new one at any moment, and the new one once this returns.
-fn replace(rt: &HostRuntime, folder: &str, number: u32) -> io::Result<()> {
-    let alloc = rt.alloc();
-    let path = format!(in alloc; "{folder}/connections")?;
-    let new_path = format!(in alloc; "{folder}/connections.new")?;
-    let text = text_of(alloc, number)?;
-    let mut file = OpenOptions::new()
-        .write(true)
-        .create(true)
-        .truncate(true)
-        .mode(0o600)
-        .open(rt, new_path.as_str())?;
-    file.set_permissions(Permissions::from_mode(0o600))?;
-    file.write_all(text.as_bytes())?;
-    file.sync_all()?;
-    fs::rename(rt, new_path.as_str(), path.as_str())?;
-    File::open(rt, folder)?.sync_all()
+fn replace_number(rt: &HostRuntime, folder: &str, number: u32) -> io::Result<()> {
+    let text = text_of(rt.alloc(), number)?;
+    replace(rt, folder, "connections", text.as_bytes())
 }
 
 /// The number in the file, or 0 where there is no file.
@@ -173,7 +158,7 @@ impl ConnectionNumbers {
         let Some(end) = next_end(self.end) else {
             return Err(NumbersFault::UsedUp);
         };
-        match replace(rt, self.folder.as_str(), end) {
+        match replace_number(rt, self.folder.as_str(), end) {
             Ok(()) => {
                 self.end = end;
                 Ok(end)

@@ -11,6 +11,7 @@ ghost use Rattle.service_store.specs.inner.Starting.{AreReadOf, bodies_in};
 
 use crate::fault::{StartError, StartFault};
 use crate::folder::{make_folder, set_modes};
+use crate::holds::StoredHolds;
 use crate::numbers::ConnectionNumbers;
 use crate::start::{StartRequest, Started, found, start_book};
 use crate::witness::Witness;
@@ -36,6 +37,8 @@ pub struct ServiceStore<B: BookRows> {
     pub connections: ConnectionNumbers,
     /// How many records it has had at least.
     pub witness: Witness,
+    /// The destinations that it holds.
+    pub holds: StoredHolds,
 }
 
 impl StartFault {
@@ -149,7 +152,7 @@ fn reserved(
     }
 }
 
-/// A store that was started, with numbers for its connections.
+/// A store that was started, with numbers for its connections, and the destinations that are held.
 fn with_numbers<B: BookRows + Drop>(
     rt: &HostRuntime,
     folder: &str,
@@ -160,11 +163,16 @@ fn with_numbers<B: BookRows + Drop>(
     ensures reserved { IfOk result (λ s. s.connections.first < s.connections.end) }
     ensures unused { IfOk result (λ s. IfSome started.last_connection (λ last. last < s.connections.first)) }
 {
+    let holds = match StoredHolds::open(rt, folder) {
+        Ok(holds) => holds,
+        Err(fault) => return Err(StartFault::Holds(fault)),
+    };
     let connections = reserved(rt, folder, started.last_connection)?;
     Ok(ServiceStore {
         started,
         connections,
         witness,
+        holds,
     })
 }
 

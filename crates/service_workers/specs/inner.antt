@@ -2,3 +2,4 @@
 pub mod Pauses
 pub mod Prunings
 pub mod Stages
+pub mod Held

@@ -12,8 +12,9 @@ use std::fmt;
 /// After how many looks it is logged again what is waited for: ten seconds.
 const LOOKS_OF_TEN_SECONDS: u32 = 200;
 
-/// How many messages of the destination at an index are waiting or in flight; 0 at an index that no plan has.
-fn left_at(counts: &Counts, destination: u32) -> u64 {
+/// How many messages of the destination at an index are waiting or in flight, or in flight alone where it is held; 0 at an index
+/// that no plan has.
+fn left_at(counts: &Counts, destination: u32, is_held: bool) -> u64 {
     if destination >= DESTINATIONS {
         return 0;
     }
@@ -22,20 +23,36 @@ fn left_at(counts: &Counts, destination: u32) -> u64 {
         inflight,
         ..
     } = counts.destination(destination);
-    waiting.saturating_add(inflight)
+    if is_held {
+        inflight
+    } else {
+        waiting.saturating_add(inflight)
+    }
 }
 
-/// The destinations for which messages are waiting or in flight, each with how many: `LAB:2,ARCHIVE:1`.
+/// The destinations for which messages are waiting or in flight, each with how many: `LAB:2,ARCHIVE:1`. Of one that is held nothing
+/// is waited for but what is in flight.
 #[derive(Clone, Copy)]
 struct Remainder<'a> {
     plan: &'a Plan,
     counts: &'a Counts,
+    /// The destinations that are held, one bit each.
+    held: u32,
 }
 
 impl Remainder<'_> {
+    /// How many messages of the destination at an index are waited for.
+    fn left_at(&self, index: u32) -> u64 {
+        left_at(
+            self.counts,
+            index,
+            self.held.checked_shr(index).unwrap_or(0) % 2 == 1,
+        )
+    }
+
     /// Whether there are any.
     fn is_any(&self) -> bool {
-        (0..self.plan.destinations()).any(|index| left_at(self.counts, index) > 0)
+        (0..self.plan.destinations()).any(|index| self.left_at(index) > 0)
     }
 }
 
@@ -43,7 +60,7 @@ impl fmt::Display for Remainder<'_> {
     fn fmt<W: fmt::Write>(&self, f: &mut fmt::Formatter<W>) -> fmt::Result {
         let mut before = "";
         for index in 0..self.plan.destinations() {
-            let left = left_at(self.counts, index);
+            let left = self.left_at(index);
             if left > 0
                 && let Some(destination) = self.plan.destination(index)
             {
@@ -83,7 +100,11 @@ impl Drain {
         plan: &Plan,
         counts: &Counts,
     ) {
-        let left = Remainder { plan, counts };
+        let left = Remainder {
+            plan,
+            counts,
+            held: site.held(),
+        };
         if site.stage() == Stage::Closing && left.is_any() && self.is_due() {
             info!(site.rt; target: "always", messages:% = left; "stopping: messages wait for delivery, or are in flight");
         }

@@ -1,7 +1,8 @@
 //! The workers of a service: places that accept connections, serve them and end them in order, one after another; posts that
 //! deliver, one for each queue; a warden, by which reading pauses where the book has no room; and how all of them end.
 //!
-//! What the workers share is a site. What is counted there is counted at once, and each counter is read by itself.
+//! What the workers share is a site. It has the destinations that an operator holds: a post takes nothing from the queue of one.
+//! What is counted there is counted at once, and each counter is read by itself.
 //!
 //! The book that `close_book` takes out of its lock is traced to the desks and stations at which they worked. No contract says
 //! that a connection is served, that a message is delivered, or that a worker ends.
@@ -12,7 +13,10 @@ mod draining;
 mod ending;
 mod gate;
 mod half;
+mod held;
 mod hold;
+mod holding;
+mod links;
 mod operator;
 mod pauses;
 mod place;
@@ -28,7 +32,9 @@ mod way;
 
 pub use ending::close_book;
 pub use gate::Gate;
+pub use held::HeldNames;
 pub use hold::Hold;
+pub use links::{LinkNote, LinkState, LinkTrouble};
 pub use operator::OperatorDesk;
 pub use pauses::{PauseCause, pause_cause, paused_by};
 pub use place::{Place, work_place};

@@ -61,14 +61,18 @@ impl<A: Sharing> Post<A> {
     }
 }
 
-/// The posts end once the service is halted.
+/// The posts end once the service is halted, and take nothing for a destination that is held.
 impl<A: Sharing, H: Crew> Halt for Site<'_, A, H> {
     fn is_halted(&self) -> bool {
         self.stage() == Stage::Halted
     }
+
+    fn is_held(&self, d: u32) -> bool {
+        self.is_held_at(d)
+    }
 }
 
-/// Delivers until no arrival follows and the queue is empty, or the service is halted. Where there is a report already,
+/// Delivers until no arrival follows and the queue is empty or held, or the service is halted. Where there is a report already,
 /// nothing is done.
 fn deliver_all<A: Sharing, H: Crew>(site: &Site<'_, A, H>, work: PostWork<A>) -> PostWork<A>
     ensures { result.destination ≡ work.destination }
@@ -100,7 +104,7 @@ fn deliver_all<A: Sharing, H: Crew>(site: &Site<'_, A, H>, work: PostWork<A>) ->
     }
 }
 
-/// Works at a post until no arrival follows and the queue is empty, or the service is halted.
+/// Works at a post until no arrival follows and the queue is empty or held, or the service is halted.
 pub fn work_post<A: Sharing, H: Crew>(site: &Site<'_, A, H>, post: &Post<A>) {
     let taken = post.work.lock(site.rt).take();
     if let Some(work) = taken {

@@ -1,17 +1,21 @@
 //! What all workers of a service share.
 
 use crate::half::{Half, Label, PAUSE_STEP};
+use crate::holding::Holding;
+use crate::links::{LinkNote, Links, is_other};
 use crate::stage::Stage;
 use crate::tallies::{Dropped, Tallies, Unbooked};
 use book_core::{NotBooked, Outbound};
 use book_lock::{Shared, Sharing};
-use delivery_worker::TakeRule;
+use delivery_worker::{Cause, TakeRule};
 use dest_queue::Queued;
+use fixed_numbers::DESTINATIONS;
 use judge_core::Judged;
 use log::Log;
+use plan_text::Plan;
 use record_list::RecordList;
 use socket_options::is_broken;
-use std::alloc::Global;
+use std::alloc::{AllocError, Global};
 use std::net::{Net, TcpListener, TcpStream};
 use std::sync::atomic::{AtomicU32, AtomicU64, Ordering};
 use std::sync::{Arc, Wait};
@@ -59,6 +63,9 @@ pub struct Site<'x, A: Sharing, H> {
     paused: AtomicU64,
     /// The channels whose arrivals are held back, one bit each.
     held_back: AtomicU64,
+    /// The destinations that are held.
+    pub(crate) holding: Holding,
+    links: Links,
     tallies: Tallies,
 }
 
@@ -132,6 +139,8 @@ impl<'x, A: Sharing, H: Crew> Site<'x, A, H> {
             stage: AtomicU32::new(0),
             paused: AtomicU64::new(0),
             held_back: AtomicU64::new(0),
+            holding: Holding::new(alloc),
+            links: Links::new(),
             tallies: Tallies::new(),
         }
     }
@@ -352,6 +361,44 @@ impl<'x, A: Sharing, H: Crew> Site<'x, A, H> {
     /// When the last message was delivered at the destination at this index, in seconds since 1970; 0 where none was.
     pub fn last_delivered(&self, destination: u32) -> u64 {
         self.tallies.delivered(destination)
+    }
+
+    /// Notes that a connection to the destination at this index was opened.
+    pub(crate) fn note_connected(&self, destination: u32) {
+        self.links
+            .note_connected(self.rt, destination, self.seconds());
+    }
+
+    /// Notes that the connection to the destination at this index failed or could not be opened, why, and for how many seconds no
+    /// other is tried.
+    pub(crate) fn note_fault(&self, destination: u32, cause: &Cause, wait: Option<u32>) {
+        let second = self.seconds();
+        self.links
+            .note_fault(self.rt, self.alloc, destination, second, cause, wait);
+    }
+
+    /// Notes that the destination at this index is another one by now, to which no connection was tried yet.
+    pub(crate) fn note_moved(&self, destination: u32) {
+        self.links.forget(self.rt, destination);
+    }
+
+    /// Notes that a plan has replaced another one: which destinations are held by it, and which are other ones than before.
+    pub fn note_deployed(&self, before: &Plan, now: &Plan) {
+        self.hold_by(now);
+        for destination in 0..DESTINATIONS {
+            if is_other(before, now, destination) {
+                self.note_moved(destination);
+            }
+        }
+    }
+
+    /// What is known of the connection to the destination at this index.
+    ///
+    /// # Errors
+    ///
+    /// Where memory is refused.
+    pub fn link(&self, destination: u32) -> Result<LinkNote, AllocError> {
+        self.links.at(self.rt, self.alloc, destination)
     }
 
     /// How many places work.

@@ -57,7 +57,7 @@ fn close<A: Sharing, H: Crew>(
 /// What becomes of the messages that wait for delivery when a service stops.
 #[derive(Clone, Copy, PartialEq, Eq)]
 pub enum StopMode {
-    /// They are delivered: the posts go on until nothing waits.
+    /// They are delivered: the posts go on until nothing waits but for destinations that are held.
     Drain,
     /// They are left: no further attempt begins. A wait for a destination ends within 250 ms, but a connect or a name lookup
     /// that is under way is waited for.

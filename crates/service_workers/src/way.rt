@@ -3,7 +3,7 @@
 use crate::site::{Crew, Site};
 use crate::stage::Stage;
 use book_lock::Sharing;
-use delivery_worker::Way;
+use delivery_worker::{Cause, Way};
 use dest_queue::Outcome;
 use plan_text::{Destination, Plan};
 use std::sync::Arc;
@@ -80,5 +80,17 @@ impl<A: Sharing, H: Crew> Way for PlanWay<'_, '_, A, H> {
 
     fn note_cut(&mut self) {
         self.site.count_cut();
+    }
+
+    fn note_connected(&mut self) {
+        self.site.note_connected(self.index);
+    }
+
+    fn note_fault(&mut self, cause: &Cause, wait: Option<u32>) {
+        self.site.note_fault(self.index, cause, wait);
+    }
+
+    fn note_moved(&mut self) {
+        self.site.note_moved(self.index);
     }
 }

@@ -6,7 +6,7 @@ use Rattle.std.specs.Char.{is_ascii_whitespace}
 use Rattle.std.specs.List.{position, suffix_len}
 use Rattle.std.specs.Str.{bytes_eq}
 use Rattle.service_commands.specs.declared.command.Command.{Command}
-use Rattle.service_commands.specs.declared.command.Command.TheVariants.{Status, Metrics, Message, Show, Export, Find, Waiting, Deploy, Plan, PlanText, Prune, Failed, Cancel, CancelAll, CancelAt, CancelWaiting, CancelThrough, Stop, StopNow, Help, Unknown}
+use Rattle.service_commands.specs.declared.command.Command.TheVariants.{Status, Metrics, Message, Show, ShowAt, Export, Find, Waiting, Deploy, Plan, PlanText, Prune, Failed, Hold, Release, Links, Cancel, CancelAll, CancelAt, CancelWaiting, CancelThrough, Stop, StopNow, Help, Unknown}
 
 -- a command by the bytes of its text
 abbrev pub seen : Command (Bor (List ℕ)) → Command (List ℕ)
@@ -14,6 +14,7 @@ seen Status = Status
 seen Metrics = Metrics
 seen (Message n) = Message n
 seen (Show n) = Show n
+seen (ShowAt n text) = ShowAt n text.now
 seen (Export n text) = Export n text.now
 seen (Find text) = Find text.now
 seen (Waiting text) = Waiting text.now
@@ -22,6 +23,9 @@ seen Plan = Plan
 seen PlanText = PlanText
 seen Prune = Prune
 seen (Failed text) = Failed text.now
+seen (Hold text) = Hold text.now
+seen (Release text) = Release text.now
+seen Links = Links
 seen (Cancel n) = Cancel n
 seen (CancelAll n) = CancelAll n
 seen (CancelAt n text) = CancelAt n text.now
@@ -85,11 +89,21 @@ exporting text =
     option_map_or (λ n. option_map_or (λ path. Export n path) (argument (codes " ") (drop (word_len text) text)) Unknown)
     (number_of (take (word_len text) text)) Unknown
 
--- message N, show N, and what begins with cancel
+-- show N, show N NAME, by what follows the number
+abbrev pub show_of : ℕ → List ℕ → Command (List ℕ)
+show_of n rest =
+    if length rest == 0 then Show n
+    else option_map_or (λ name. ShowAt n name) (argument (codes " ") rest) Unknown
+
+-- what follows the word show
+abbrev pub showing : List ℕ → Command (List ℕ)
+showing text = option_map_or (λ n. show_of n (drop (word_len text) text)) (number_of (take (word_len text) text)) Unknown
+
+-- message N, and what begins with show and with cancel
 abbrev pub numbered : List ℕ → Command (List ℕ)
 numbered line =
     option_map_or (λ text. option_map_or (λ n. Message n) (number_of text) Unknown) (argument (codes "message ") line)
-    (option_map_or (λ text. option_map_or (λ n. Show n) (number_of text) Unknown) (argument (codes "show ") line)
+    (option_map_or (λ text. showing text) (argument (codes "show ") line)
     (option_map_or (λ text. cancelling text) (argument (codes "cancel ") line) Unknown))
 
 -- a line without the carriage return at its end
@@ -99,6 +113,14 @@ without_return line = if bytes_eq (drop (length line - 1) line) (codes "\r") the
 -- a line without the white space at its end
 abbrev pub trimmed : List ℕ → List ℕ
 trimmed line = take (length line - suffix_len is_ascii_whitespace line) line
+
+-- waiting NAME, failed NAME, hold NAME, release NAME, and what a number follows
+abbrev pub listing : List ℕ → Command (List ℕ)
+listing line =
+    option_map_or (λ text. Waiting text) (argument (codes "waiting ") line)
+    (option_map_or (λ text. Failed text) (argument (codes "failed ") line)
+    (option_map_or (λ text. Hold text) (argument (codes "hold ") line)
+    (option_map_or (λ text. Release text) (argument (codes "release ") line) (numbered line))))
 
 -- the command of a line that is none of find ID, deploy PATH and export N PATH
 abbrev pub single : List ℕ → Command (List ℕ)
@@ -111,8 +133,8 @@ single line =
     else (if bytes_eq line (codes "stop") then Stop
     else (if bytes_eq line (codes "stop now") then StopNow
     else (if bytes_eq line (codes "help") then Help
-    else option_map_or (λ text. Waiting text) (argument (codes "waiting ") line)
-    (option_map_or (λ text. Failed text) (argument (codes "failed ") line) (numbered line)))))))))
+    else (if bytes_eq line (codes "links") then Links
+    else listing line))))))))
 
 -- find ID, deploy PATH, export N PATH, with all that follows the word; of any other command white space at its end is dropped
 abbrev pub named : List ℕ → Command (List ℕ)

@@ -7,6 +7,8 @@ use Rattle.book_recovery.specs.inner.Header.{Contents}
 use Rattle.book_recovery.specs.inner.File.{HasNoPlan, IsStopped, file_header}
 use Rattle.service_store.specs.declared.fault.BookFault.{BookFault}
 use Rattle.service_store.specs.declared.fault.BookFault.TheVariants as book
+use Rattle.service_store.specs.declared.fault.HoldsFault.{HoldsFault}
+use Rattle.service_store.specs.declared.fault.HoldsFault.TheVariants as holds
 use Rattle.service_store.specs.declared.fault.NumbersFault.{NumbersFault}
 use Rattle.service_store.specs.declared.fault.NumbersFault.TheVariants as numbers
 use Rattle.service_store.specs.declared.fault.StartFault.{StartFault}
@@ -62,6 +64,12 @@ numbers_status numbers.UsedUp = 3
 numbers_status (numbers.Read error) = 3
 numbers_status (numbers.Write error) = 6
 
+abbrev pub holds_status : HoldsFault → ℕ
+holds_status holds.NoMemory = 3
+holds_status holds.Damaged = 7
+holds_status (holds.Read error) = 3
+holds_status (holds.Write error) = 6
+
 -- and 8 where another process has the store open
 abbrev pub start_status : StartFault → ℕ
 start_status start.NoMemory = 3
@@ -77,3 +85,4 @@ start_status (start.Disk error) = 6
 start_status (start.Lost found noted) = 7
 start_status (start.Book fault) = book_status fault
 start_status (start.Numbers fault) = numbers_status fault
+start_status (start.Holds fault) = holds_status fault

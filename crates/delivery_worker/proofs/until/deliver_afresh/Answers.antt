@@ -8,6 +8,12 @@ use Rattle.delivery_worker.proofs.until.deliver_afresh.Goals as goal
 pub returns-in-Err-clause-uncalled : goal.returns-in-Err-clause-uncalled
 returns-in-Err-clause-uncalled g c = calls_up _ _ _ c.prepare.ensures.receives
 
+pub returns-then-is_held-clause-untaken : goal.returns-then-is_held-clause-untaken
+returns-then-is_held-clause-untaken g c = no_turn _ _ _ _ refl
+
+pub returns-then-is_held-clause-uncalled : goal.returns-then-is_held-clause-uncalled
+returns-then-is_held-clause-uncalled g c = calls_up _ _ _ c.prepare.ensures.receives
+
 pub returns-in-Ok-take_turn-clause-attempt : goal.returns-in-Ok-take_turn-clause-attempt
 returns-in-Ok-take_turn-clause-attempt g c =
     tries_afresh _ _ _ _ _ _ _ _ _ _ _ _ _ c.in-Ok.ensures.ready c.prepare.ensures.sent c.prepare.ensures.received c.in-Ok-take_turn.ensures.attempt

@@ -42,10 +42,10 @@ pub returns-then-is_halted-clause-attempts : goal.returns-then-is_halted-clause-
 returns-then-is_halted-clause-attempts g c =
     delivers _ _ _ _ _ _ _ _ _ _ _ _ _ _ c.turns.invariant.so_far (no_turn _ _ _ _ refl) c.finish.ensures.sent c.finish.ensures.received refl refl refl refl
 
-pub returns-in-Err-Drained-clause-attempts : goal.returns-in-Err-Drained-clause-attempts
-returns-in-Err-Drained-clause-attempts g c =
-    delivers _ _ _ _ _ _ _ _ _ _ _ _ _ _ c.turns.invariant.so_far c.in-Err-Drained.ensures.untaken (Keeps-trans _ _ _ c.in-Err-Drained.ensures.unused.0 c.finish-in-Err-Drained.ensures.sent)
-    (Keeps-trans _ _ _ c.in-Err-Drained.ensures.unused.1 c.finish-in-Err-Drained.ensures.received) refl refl refl refl
+pub returns-in-Err-Ended-clause-attempts : goal.returns-in-Err-Ended-clause-attempts
+returns-in-Err-Ended-clause-attempts g c =
+    delivers _ _ _ _ _ _ _ _ _ _ _ _ _ _ c.turns.invariant.so_far c.in-Err-Ended.ensures.untaken (Keeps-trans _ _ _ c.in-Err-Ended.ensures.unused.0 c.finish-in-Err-Ended.ensures.sent)
+    (Keeps-trans _ _ _ c.in-Err-Ended.ensures.unused.1 c.finish-in-Err-Ended.ensures.received) refl refl refl refl
 
 pub returns-clause-attempts : goal.returns-clause-attempts
 returns-clause-attempts g c = delivers _ _ _ _ _ _ _ _ _ _ _ _ _ _ c.turns.invariant.so_far (no_turn _ _ _ _ refl) c.finish-2.ensures.sent c.finish-2.ensures.received refl refl refl refl
@@ -53,8 +53,8 @@ returns-clause-attempts g c = delivers _ _ _ _ _ _ _ _ _ _ _ _ _ _ c.turns.invar
 pub returns-then-is_halted-clause-receives : goal.returns-then-is_halted-clause-receives
 returns-then-is_halted-clause-receives g c = calls_end _ _ _ _ _ c.turns.invariant.calls (calls_none _) c.finish.ensures.receives
 
-pub returns-in-Err-Drained-clause-receives : goal.returns-in-Err-Drained-clause-receives
-returns-in-Err-Drained-clause-receives g c = calls_end _ _ _ _ _ c.turns.invariant.calls c.in-Err-Drained.ensures.uncalled c.finish-in-Err-Drained.ensures.receives
+pub returns-in-Err-Ended-clause-receives : goal.returns-in-Err-Ended-clause-receives
+returns-in-Err-Ended-clause-receives g c = calls_end _ _ _ _ _ c.turns.invariant.calls c.in-Err-Ended.ensures.uncalled c.finish-in-Err-Ended.ensures.receives
 
 pub returns-clause-receives : goal.returns-clause-receives
 returns-clause-receives g c = calls_end _ _ _ _ _ c.turns.invariant.calls (calls_none _) c.finish-2.ensures.receives
@@ -62,8 +62,8 @@ returns-clause-receives g c = calls_end _ _ _ _ _ c.turns.invariant.calls (calls
 pub returns-then-is_halted-clause-by_rule : goal.returns-then-is_halted-clause-by_rule
 returns-then-is_halted-clause-by_rule g c = c.turns.invariant.by_rule
 
-pub returns-in-Err-Drained-clause-by_rule : goal.returns-in-Err-Drained-clause-by_rule
-returns-in-Err-Drained-clause-by_rule g c = taken_then _ _ _ _ _ c.turns.invariant.by_rule (none_taken _ _ _ _ _ c.in-Err-Drained.ensures.untaken)
+pub returns-in-Err-Ended-clause-by_rule : goal.returns-in-Err-Ended-clause-by_rule
+returns-in-Err-Ended-clause-by_rule g c = taken_then _ _ _ _ _ c.turns.invariant.by_rule (none_taken _ _ _ _ _ c.in-Err-Ended.ensures.untaken)
 
 pub returns-clause-by_rule : goal.returns-clause-by_rule
 returns-clause-by_rule g c = c.turns.invariant.by_rule
