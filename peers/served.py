@@ -81,3 +81,13 @@ def wait_received(destination, number, limit=LIMIT):
     while len(destination.received) < number and time.monotonic() < deadline:
         time.sleep(0.02)
     return len(destination.received) >= number
+
+
+def wait_status(service, beginning, limit=LIMIT):
+    """Waits until a line of the answer to `status` begins so, for `limit` seconds at most, and returns whether one does."""
+    deadline = time.monotonic() + limit
+    while time.monotonic() < deadline:
+        if any(line.startswith(beginning) for line in service.ask('status') or []):
+            return True
+        time.sleep(0.05)
+    return False

@@ -21,12 +21,14 @@ import time
 
 from cancels import CANCELS
 from engine import checks_accesses, one_channel, plan
+from holds import HOLDS
 from mllp import SILENCE, Destination, Sender, block, field, free_ports, message
 from operators import OPERATORS
 from outages import OUTAGES
 from room import ROOM
 from sendings import SENDINGS
 from served import LIMIT, Service, exchange, wait_received
+from web import WEB
 
 PROGRAM = os.path.join(os.path.dirname(os.path.abspath(__file__)), '..', 'crates', 'hl7_service', 'out', 'hl7_service')
 
@@ -643,7 +645,7 @@ SCENES = [('connections are accepted again', taken_again), ('commands', commands
           ('a destination closes', closing), ('a destination comes back', comes_back), ('unasked answers', unasked),
           ('a destination that sends all the time', chatting), ('the book forgets', forgets), ('reading pauses', pauses),
           ('a crowd', crowd), ('killed receivers', killed), ('nobody reads', unread), ('output that fails', unwritten),
-          ('stop now', stopped_now), ('few descriptors', few_descriptors), *OUTAGES, *SENDINGS, *OPERATORS, *ROOM, *CANCELS,
+          ('stop now', stopped_now), ('few descriptors', few_descriptors), *OUTAGES, *SENDINGS, *OPERATORS, *ROOM, *CANCELS, *HOLDS, *WEB,
           ('tools', tools), ('words', words)]
 
 

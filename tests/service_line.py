@@ -22,7 +22,7 @@ LOGIC = re.compile(r'logic `?([0-9a-f]{16})')
 HELP = [
     (['--help'], ['run ', 'try ', 'check ', 'The exit status:', *(f'\n  {status}  ' for status in range(9)), 'Example: hl7_service run']),
     (['run', '--help'], ['--store <FOLDER>', '--memory', '--connections <N>', '[default: 64]', '[default: 1000000]', '[default: 0]',
-                         '[default: 5]', '[default: on]', 'a quarter of --events]', 'deploy PATH', 'stop now', 'Example: hl7_service run']),
+                         '[default: 5]', '[default: on]', 'a quarter of --events]', '--http <ADDRESS>', '--http-name <NAMES>', 'deploy PATH', 'stop now', 'Example: hl7_service run']),
     (['try', '--help'], ['--channel <NAME>', "[default: the plan's first]", 'The status is 1', 'Example: hl7_service try']),
     (['check', '--help'], ['--verbose', 'plan ok: N channels, M destinations', 'plan: NAME at PATH', 'Example: hl7_service check']),
     (['help', 'check'], ['<PLAN>']),

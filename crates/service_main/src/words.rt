@@ -8,8 +8,8 @@ use crate::check::check;
 use crate::trying::try_messages;
 use engine_report::{Ended, Fault, Trouble, bounded_file, warned_service_plan};
 use service_answers::Origin;
-use service_run::{PLAN_BYTES, RunEnd, Settings, run};
-use service_words::{Keeping, Request, parse_args};
+use service_run::{HttpSettings, PLAN_BYTES, RunEnd, Settings, run};
+use service_words::{Keeping, Request, http_address, parse_args};
 use service_workers::Crew;
 use std::env;
 use std::io::ErrorKind;
@@ -68,6 +68,28 @@ fn serve<'a, H: Crew + Threads + Eprint + Copy + Sync>(
     }
 }
 
+/// Where requests over HTTP are answered, and for which hosts, by the words.
+///
+/// # Errors
+///
+/// `Words` where the address is none, and `Memory`.
+fn http_settings<'a, 'w>(
+    rt: &HostRuntime,
+    http: Option<&'w str>,
+    names: Option<&'w str>,
+) -> Result<Option<HttpSettings<'w>>, Trouble<'a>> {
+    let Some(word) = http else {
+        return Ok(None);
+    };
+    match http_address(rt.alloc(), word) {
+        Ok(address) => Ok(Some(HttpSettings {
+            address,
+            names: names.unwrap_or(""),
+        })),
+        Err(error) => Err(Trouble::Engine(Fault::from(error))),
+    }
+}
+
 /// Does what the words request. Threads are started, and waited for, by `handle`.
 ///
 /// # Errors
@@ -92,6 +114,8 @@ pub fn perform<'a, H: Crew + Threads + Eprint + Copy + Sync>(
                 idle,
                 grace,
                 show,
+                http,
+                http_names,
             },
         ) => {
             let settings = Settings {
@@ -102,6 +126,7 @@ pub fn perform<'a, H: Crew + Threads + Eprint + Copy + Sync>(
                 idle,
                 grace,
                 show,
+                http: http_settings(rt, http, http_names)?,
             };
             serve(rt, handle, plan, &settings, keeping)
         }

@@ -2,7 +2,7 @@
 
 ghost use Rattle.std.specs.Prelude.{◌<◌};
 
-use crate::questions::{SLICE, destination_named, no_destination_text};
+use crate::questions::no_destination_text;
 use book_core::Front;
 use book_lock::{Found, Sharing};
 use event_log::CancelRefusal;
@@ -14,6 +14,7 @@ use service_answers::{
     not_cancelled_at_text, not_cancelled_text, series_cancelled_text, several_text, state_at,
 };
 use service_commands::Refused;
+use service_web::{SLICE, destination_named};
 use service_workers::{Crew, Site};
 use std::alloc::AllocError;
 

@@ -1,13 +1,13 @@
 //! The end of a service: what was left undelivered, and the closed book.
 
 use crate::output::{tell, tell_text, write_text};
-use crate::questions::queued;
 use crate::service::RunEnd;
 use crate::workers::Returned;
 use book_lock::{Shared, Sharing};
 use engine_report::{Fault, Finding, statistics_text};
 use plan_text::Plan;
 use service_answers::{Listed, left_behind};
+use service_web::queued;
 use service_workers::{Crew, ServiceRows, Site, close_book};
 use stat_count::{Counts, DestinationCounts};
 use std::alloc::{AllocError, Global};

@@ -4,18 +4,20 @@ use crate::cancelling::{
     ask_cancel_waiting, do_cancel, do_cancel_all, do_cancel_at, do_cancel_through,
 };
 use crate::figures::Watch;
+use crate::holding::{ask_links, do_hold, do_release};
 use crate::origin::{PlanOrigin, ask_plan, ask_plan_text};
 use crate::output::{answer, say};
 use crate::questions::{
     ask_failed, ask_find, ask_message, ask_metrics, ask_status, ask_waiting, do_deploy, do_prune,
 };
 use crate::settings::Settings;
-use crate::showing::{ask_show, do_export};
+use crate::showing::{ask_show, ask_show_at, do_export};
 use crate::workers::Workers;
 use book_lock::Sharing;
 use log::{Log, info};
 use service_answers::echo_text;
 use service_commands::{Command, HELP, Input, UNKNOWN, read_command, read_line};
+use service_store::HoldsFile;
 use service_workers::{Crew, Site, Stage, StandardInput, StopMode, has_ended, stop};
 use std::alloc::AllocError;
 use std::str;
@@ -117,6 +119,7 @@ fn execute<A: Sharing, H: Crew>(
     settings: &Settings,
     watch: Watch<'_>,
     origin: &mut PlanOrigin<'_>,
+    holds: Option<&HoldsFile>,
     command: Command<&[u8]>,
 ) {
     match command {
@@ -124,10 +127,14 @@ fn execute<A: Sharing, H: Crew>(
         Command::Metrics => answer(rt, ask_metrics(site, watch)),
         Command::Message(number) => answer(rt, ask_message(site, number)),
         Command::Show(number) => answer(rt, ask_show(site, settings, number)),
+        Command::ShowAt(number, name) => answer(rt, ask_show_at(site, settings, number, name)),
         Command::Export(number, path) => export(rt, site, settings, number, path),
         Command::Find(id) => answer(rt, ask_find(site, id)),
         Command::Waiting(name) => answer(rt, ask_waiting(site, name)),
         Command::Failed(name) => answer(rt, ask_failed(site, name)),
+        Command::Hold(name) => answer(rt, do_hold(rt, site, holds, name)),
+        Command::Release(name) => answer(rt, do_release(rt, site, holds, name)),
+        Command::Links => answer(rt, ask_links(site)),
         Command::CancelWaiting(name) => answer(rt, ask_cancel_waiting(site, name)),
         Command::Plan => answer(rt, ask_plan(site, origin)),
         Command::PlanText => answer(rt, ask_plan_text(site)),
@@ -174,13 +181,14 @@ fn wait_for_end<A: Sharing, H: Crew>(site: &Site<'_, A, H>) {
 }
 
 /// Obeys the commands on standard input, one after another, until the workers have ended. Where no command can follow any more,
-/// it waits for that.
+/// it waits for that. Where there is a store, its file keeps the names of the destinations that are held.
 pub(crate) fn execute_all<A: Sharing, H: Crew>(
     rt: &HostRuntime,
     site: &Site<'_, A, H>,
     workers: &Workers<A>,
     settings: &Settings,
     watch: Watch<'_>,
+    holds: Option<&HoldsFile>,
 ) {
     let mut reader = StandardInput::new(site, rt.stdin());
     let mut line = [0u8; LINE_BYTES];
@@ -190,7 +198,16 @@ pub(crate) fn execute_all<A: Sharing, H: Crew>(
             Ok(Input::Line(len)) => {
                 echo(rt, site, &line[..len]);
                 let command = read_command(&line[..len]);
-                execute(rt, site, workers, settings, watch, &mut origin, command);
+                execute(
+                    rt,
+                    site,
+                    workers,
+                    settings,
+                    watch,
+                    &mut origin,
+                    holds,
+                    command,
+                );
             }
             Ok(Input::TooLong) => {
                 say(rt, UNSHOWN);

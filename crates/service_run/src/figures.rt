@@ -3,6 +3,7 @@
 use book_journal::StoreFigures;
 use book_lock::Sharing;
 use service_answers::{Dropped, Figures, StoreNumbers, Unbooked};
+use service_web::Counting;
 use service_workers::{Crew, Site};
 
 /// What is counted of a service beside its workers.
@@ -65,11 +66,25 @@ pub(crate) fn figures_of<A: Sharing, H: Crew>(site: &Site<'_, A, H>, watch: Watc
             broken: dropped.broken,
         },
         paused: site.paused(),
+        held: site.held(),
         open_by_channel,
         places,
         received,
         delivered,
         sent_again,
         store: watch.store.map(numbers_of),
+    }
+}
+
+/// What is counted of a service, for answers over HTTP.
+#[derive(Drop)]
+pub(crate) struct Counted<'s, 'x, A: Sharing, H> {
+    pub(crate) site: &'s Site<'x, A, H>,
+    pub(crate) watch: Watch<'s>,
+}
+
+impl<A: Sharing, H: Crew> Counting for Counted<'_, '_, A, H> {
+    fn figures(&self) -> Figures {
+        figures_of(self.site, self.watch)
     }
 }

@@ -15,7 +15,7 @@ use crate::workers::Workers;
 use book_journal::{Journal, JournalError, Journaling, StoreFigures, StoreReport};
 use book_lock::Sharing;
 use log::{Log, info, warn};
-use service_store::{ConnectionNumbers, Witness};
+use service_store::{ConnectionNumbers, HoldsFile, Witness};
 use service_workers::{Crew, Site, Stage, has_ended};
 use sqlite_trees::store::Store;
 use std::sync::atomic::{AtomicBool, Ordering};
@@ -42,6 +42,8 @@ pub(crate) struct Operation<'s, A: Sharing> {
     started: u64,
     /// What the journal has written.
     figures: StoreFigures,
+    /// The file that keeps the names of the destinations that are held.
+    holds: HoldsFile,
     /// Whether all workers have ended, so that nothing more is booked.
     has_ended: AtomicBool,
 }
@@ -76,13 +78,14 @@ fn operate<A: Sharing, H: Crew>(site: &Site<'_, A, H>, operation: &Operation<'_,
         settings,
         started,
         figures,
+        holds,
         has_ended,
     } = operation;
     let watch = Watch {
         started: *started,
         store: Some(figures),
     };
-    execute_all(rt, site, workers, settings, watch);
+    execute_all(rt, site, workers, settings, watch, Some(holds));
     has_ended.store(true, Ordering::SeqCst);
 }
 
@@ -185,7 +188,11 @@ fn work_journaled_within<
         return Ending::Failed(error);
     }
     let workers = operation.workers;
-    if !start_all(scope, site, workers)
+    let watch = Watch {
+        started: operation.started,
+        store: Some(&operation.figures),
+    };
+    if !start_all(scope, site, workers, watch)
         || !start_reserving(scope, site, reserving)
         || !start_operator(scope, site, operation)
     {
@@ -217,6 +224,7 @@ pub(crate) fn operation_of<'s, A: Sharing>(
     workers: &'s Workers<A>,
     settings: &Settings<'s>,
     started: u64,
+    holds: HoldsFile,
 ) -> Operation<'s, A> {
     Operation {
         rt,
@@ -224,6 +232,7 @@ pub(crate) fn operation_of<'s, A: Sharing>(
         settings: *settings,
         started,
         figures: StoreFigures::new(),
+        holds,
         has_ended: AtomicBool::new(false),
     }
 }

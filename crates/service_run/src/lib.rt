@@ -5,6 +5,7 @@ mod cancelling;
 mod ending;
 mod execution;
 mod figures;
+mod holding;
 mod journaling;
 mod listeners;
 mod origin;
@@ -19,4 +20,5 @@ mod workers;
 
 pub use questions::PLAN_BYTES;
 pub use service::{RunEnd, run};
+pub use service_web::HttpSettings;
 pub use settings::Settings;

@@ -1,10 +1,8 @@
 //! The commands that ask the book something, and those that change it.
 
-ghost use Rattle.std.specs.Prelude.{◌<◌, IfSome};
-
 use crate::figures::{Watch, figures_of};
+use crate::holding::add_held_gone;
 use crate::origin::PlanOrigin;
-use book_core::{Failure, Front};
 use book_lock::{Gauge, Sharing, Status};
 use log::{Log, info, warn};
 use log_text::Escaped;
@@ -14,9 +12,10 @@ use service_answers::{
     Listed, ListedFailure, Rename, SHOWN_MAX, add_listener, bad_plan_text, deployed_text,
     failed_text, few_prunings_text, found_text, frees_little_text, long_file_text, message_text,
     metrics_text, no_file_text, no_regular_file_text, pruned_text, refused_plan_text, rename_at,
-    status_text, unescaped, unpruned_text, waiting_text,
+    status_text, unpruned_text, waiting_text,
 };
 use service_commands::Refused;
+use service_web::{Failures, destination_named, failures_at, numbers_meant, queued};
 use service_workers::{Crew, Gate, PruneRefusal, Site, prune_refusal};
 use stat_count::{Counts, DESTINATIONS, DestinationCounts};
 use std::alloc::{AllocError, Global};
@@ -26,9 +25,6 @@ use std::sync::Arc;
 
 /// The most bytes of a file that is read as a plan.
 pub const PLAN_BYTES: u64 = 4_194_304;
-
-/// How many message numbers are looked at while the book's lock is held.
-pub const SLICE: u32 = 4_096;
 
 /// The service's status.
 ///
@@ -69,25 +65,6 @@ pub(crate) fn ask_message<A: Sharing, H: Crew>(
     message_text(site.alloc, &plan, &site.shared.message(site.rt, number)?)
 }
 
-/// The numbers of the remembered messages with a control id (MSH-10), looked for a slice at a time: all of them, or more than an
-/// answer shows.
-fn numbers_with<A: Sharing, H: Crew>(
-    site: &Site<'_, A, H>,
-    id: &[u8],
-) -> Result<Vec<u32>, AllocError> {
-    let gauge = site.shared.gauge(site.rt);
-    let mut found = Vec::new(site.alloc);
-    for from in (gauge.first..gauge.messages).step_by(SLICE as usize) {
-        if found.len() > SHOWN_MAX {
-            break;
-        }
-        for number in site.shared.find(site.rt, id, from, SLICE)? {
-            found.push(number)?;
-        }
-    }
-    Ok(found)
-}
-
 /// The remembered messages with a control id (MSH-10). Where none has the id as given, it is read as the log shows ids.
 ///
 /// # Errors
@@ -97,56 +74,7 @@ pub(crate) fn ask_find<A: Sharing, H: Crew>(
     site: &Site<'_, A, H>,
     id: &[u8],
 ) -> Result<String, AllocError> {
-    let mut found = numbers_with(site, id)?;
-    if found.is_empty() {
-        let meant = unescaped(site.alloc, id)?;
-        if meant.as_slice() != id {
-            found = numbers_with(site, &meant)?;
-        }
-    }
-    found_text(site.alloc, &found)
-}
-
-/// The messages in a destination's queue, at most `most` of them, looked for a slice at a time.
-///
-/// # Errors
-///
-/// Where memory is refused.
-pub(crate) fn queued<A: Sharing, H: Crew>(
-    site: &Site<'_, A, H>,
-    destination: u32,
-    most: usize,
-) -> Result<Vec<Front>, AllocError> {
-    let mut fronts = Vec::new(site.alloc);
-    let Some(first) = site.shared.front(site.rt, destination) else {
-        return Ok(fronts);
-    };
-    let messages = site.shared.gauge(site.rt).messages;
-    for from in (first.number..messages).step_by(SLICE as usize) {
-        if fronts.len() >= most {
-            break;
-        }
-        for front in site.shared.waiting(site.rt, destination, from, SLICE)? {
-            fronts.push(front)?;
-        }
-    }
-    fronts.truncate(most);
-    Ok(fronts)
-}
-
-/// The index of the destination of a name.
-pub(crate) fn destination_named(plan: &Plan, name: &[u8]) -> Option<u32>
-    ensures { IfSome result (λ index. index < 32) }
-{
-    plan.rules();
-    for index in 0..plan.destinations() {
-        if let Some(destination) = plan.destination(index)
-            && destination.name().as_bytes() == name
-        {
-            return Some(index);
-        }
-    }
-    None
+    found_text(site.alloc, &numbers_meant(site, id)?)
 }
 
 /// The answer to a command about a destination that the plan doesn't have.
@@ -171,6 +99,10 @@ pub(crate) fn ask_waiting<A: Sharing, H: Crew>(
     let Some(destination) = destination_named(&plan, name) else {
         return no_destination_text(site.alloc);
     };
+    let held = match plan.destination(destination) {
+        Some(named) if site.is_held_at(destination) => Some(named.name()),
+        _ => None,
+    };
     let DestinationCounts {
         waiting,
         inflight,
@@ -181,38 +113,7 @@ pub(crate) fn ask_waiting<A: Sharing, H: Crew>(
         let found = site.shared.message(site.rt, front.number)?;
         listed.push(Listed { front, found })?;
     }
-    waiting_text(site.alloc, &listed, waiting.saturating_add(inflight))
-}
-
-/// The messages that failed at a destination.
-#[derive(Drop)]
-struct Failures {
-    /// The last of them, newest first, as many as an answer shows.
-    newest: Vec<Failure>,
-    /// How many are remembered.
-    remembered: u64,
-}
-
-/// The remembered messages that failed at a destination, looked for a slice at a time, the newest slice first.
-fn failures_at<A: Sharing, H: Crew>(
-    site: &Site<'_, A, H>,
-    destination: u32,
-) -> Result<Failures, AllocError> {
-    let gauge = site.shared.gauge(site.rt);
-    let span = gauge.messages.saturating_sub(gauge.first);
-    let (mut newest, mut remembered) = (Vec::new(site.alloc), 0u64);
-    for back in (0..span).step_by(SLICE as usize) {
-        let most = SLICE.min(span.saturating_sub(back));
-        let from = gauge.messages.saturating_sub(back).saturating_sub(most);
-        let found = site.shared.failed(site.rt, destination, from, most)?;
-        remembered = remembered.saturating_add(found.len() as u64);
-        for failure in found.iter().rev() {
-            if newest.len() < SHOWN_MAX {
-                newest.push(*failure)?;
-            }
-        }
-    }
-    Ok(Failures { newest, remembered })
+    waiting_text(site.alloc, held, &listed, waiting.saturating_add(inflight))
 }
 
 /// What failed at the destination of a name: the last messages that are remembered, newest first, and how many there are. They are
@@ -345,7 +246,7 @@ fn read_plan<A: Sharing, H: Crew>(
 
 /// The answer to a plan that is deployed, where `before` is the plan in force until then: for each channel whose address it changes,
 /// that the listener stays; for each destination of which something was counted and whose name it changes, how that is shown from
-/// now on; and what `check` warns of.
+/// now on; each name that is held and that the plan has no destination of; and what `check` warns of.
 fn deployed<A: Sharing, H: Crew>(
     site: &Site<'_, A, H>,
     gates: &[Gate],
@@ -367,6 +268,7 @@ fn deployed<A: Sharing, H: Crew>(
             writeln!(text, "{rename}")?;
         }
     }
+    add_held_gone(site, &mut text, plan)?;
     for warning in &proposal.warnings {
         writeln!(text, "{warning}")?;
     }
@@ -420,13 +322,16 @@ pub(crate) fn do_deploy<A: Sharing, H: Crew>(
     let name = String::from_str(site.alloc, path)?;
     let path = Escaped(path);
     let shared = Arc::try_clone(&proposal.plan)?;
+    site.hold_by_either(&before, &proposal.plan);
     match site.shared.deploy(site.rt, shared) {
         Ok(()) => {
+            site.note_deployed(&before, &proposal.plan);
             origin.note(name, site.seconds());
             log_deployed(site, path, &before, &proposal.plan, &status.counts);
             Ok(text)
         }
         Err(refusal) => {
+            site.hold_by(&before);
             warn!(site.rt; target: "always", path:% = path; "plan not deployed: {refusal}");
             refused_plan_text(site.alloc, &before, refusal)
         }

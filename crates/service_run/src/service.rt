@@ -6,7 +6,7 @@ ghost use Rattle.event_log.specs.Counting.{counted};
 
 use crate::ending::{conclude, name_left};
 use crate::figures::Watch;
-use crate::listeners::open_gates;
+use crate::listeners::{Listeners, open_listeners};
 use crate::settings::Settings;
 use crate::stored::run_stored;
 use crate::threads::work;
@@ -20,7 +20,8 @@ use ghost_log::BlankLog;
 use log::{Log, info, warn};
 use log_text::Escaped;
 use plan_text::Plan;
-use service_workers::{Crew, Gate, History, ServiceRows, Site};
+use service_web::SOCKETS;
+use service_workers::{Crew, History, ServiceRows, Site};
 use std::alloc::AllocError;
 use std::marker::Brand;
 use std::sync::{Arc, Mutex};
@@ -89,7 +90,7 @@ fn serve<'f, A: Sharing + Send + Sync, H: Crew + Threads + Sync>(
     rt: &HostRuntime,
     handle: &H,
     settings: &Settings,
-    gates: Vec<Gate>,
+    listeners: Listeners,
     book: Book<ServiceRows>,
     desks: u32,
     log: BlankLog<LogEntry>,
@@ -113,7 +114,7 @@ fn serve<'f, A: Sharing + Send + Sync, H: Crew + Threads + Sync>(
     else {
         return Err(Fault::Memory);
     };
-    let workers = Workers::new(alloc, gates, desks, stations)?;
+    let workers = Workers::new(alloc, listeners, desks, stations)?;
     let worked = run_workers(rt, handle, settings, &shared, &workers);
     let plan = shared.plan(handle)?;
     let returned = workers.into_returned(alloc)?;
@@ -137,9 +138,21 @@ pub(crate) fn seconds_now<H: Crew>(handle: &H) -> u64 {
 
 /// Logs that the process may have fewer descriptors open than a service needs for a plan and this number of connections, where
 /// that is so.
-pub(crate) fn log_descriptors<H: Log>(handle: &H, plan: &Plan, connections: u32) {
+pub(crate) fn log_descriptors<H: Log>(
+    handle: &H,
+    plan: &Plan,
+    connections: u32,
+    settings: &Settings,
+) {
     let unused_queues = POSTS.saturating_sub(plan.destinations());
-    let needed = descriptors_of(plan, connections).saturating_add(u64::from(unused_queues));
+    let sockets = if settings.http.is_some() {
+        SOCKETS as u64
+    } else {
+        0
+    };
+    let needed = descriptors_of(plan, connections)
+        .saturating_add(u64::from(unused_queues))
+        .saturating_add(sockets);
     if let Some(allowed) = allowed()
         && allowed < needed
     {
@@ -175,18 +188,18 @@ fn run_in_memory<'f, H: Crew + Threads + Sync>(
     let alloc = rt.alloc();
     let connections = connections_of(plan, settings.connections)?;
     log_start(handle, path, plan, settings);
-    log_descriptors(handle, plan, connections);
+    log_descriptors(handle, plan, connections, settings);
     info!(handle; "the book is in memory alone: what is not delivered when the process ends is lost");
     // One desk more is the operator's.
     let desks = connections.saturating_add(1);
     let hasher = hasher(rt)?;
     let shared_plan = Arc::try_clone(plan)?;
-    let gates = open_gates(rt, handle, plan)?;
+    let listeners = open_listeners(rt, handle, plan, settings)?;
     // The words of the command line have these bounds already.
     let events = settings.events.clamp(1, EVENTS_MAX);
     let book = Book::<ServiceRows>::new(alloc, shared_plan, events, hasher);
     let log = BlankLog::new(alloc)?;
-    serve::<Brand, _>(rt, handle, settings, gates, book, desks, log)
+    serve::<Brand, _>(rt, handle, settings, listeners, book, desks, log)
 }
 
 /// Runs the service by a plan, with its book in a store where a folder is given.

@@ -1,6 +1,7 @@
 //! The settings of `run`.
 
 use service_answers::Origin;
+use service_web::HttpSettings;
 
 /// The settings of `run`, as the command line has them.
 #[derive(Clone, Copy, Debug, PartialEq, Eq)]
@@ -19,4 +20,6 @@ pub struct Settings<'a> {
     pub grace: u32,
     /// Whether the commands `show` and `export` give the text of messages.
     pub show: bool,
+    /// Where requests over HTTP are answered, if anywhere.
+    pub http: Option<HttpSettings<'a>>,
 }

@@ -11,8 +11,9 @@ ghost use Rattle.book_lock.specs.declared.log_entry.LogEntry.{LogEntry as Change
 ghost use Rattle.book_lock.specs.inner.Log.{new_seats};
 
 use crate::ending::conclude;
+use crate::holding::log_held;
 use crate::journaling::{Ending, operation_of, work_journaled};
-use crate::listeners::open_gates;
+use crate::listeners::{Listeners, open_listeners};
 use crate::service::{POSTS, RunEnd, VERSION, log_descriptors, log_start, seconds_now};
 use crate::settings::Settings;
 use crate::workers::Workers;
@@ -28,10 +29,10 @@ use log_text::Escaped;
 use plan_text::Plan;
 use service_answers::Origin;
 use service_store::{
-    ConnectionNumbers, ServiceStore, StartError, StartRequest, Started, Witness, close_store,
-    start_in_folder,
+    ConnectionNumbers, ServiceStore, StartError, StartRequest, Started, StoredHolds, Witness,
+    close_store, start_in_folder,
 };
-use service_workers::{Crew, Gate, History, ServiceRows, Site};
+use service_workers::{Crew, HeldNames, History, ServiceRows, Site};
 use sqlite_std_file::File;
 use sqlite_store::FileStore;
 use sqlite_trees::store::Store;
@@ -43,17 +44,17 @@ use std::thread::Threads;
 /// What a service with a store begins with.
 #[derive(Drop)]
 struct Beginning<S: Store> {
-    /// The listeners of the channels.
-    gates: Vec<Gate>,
+    /// The listeners.
+    listeners: Listeners,
     /// The book, as it was recovered.
     book: Book<ServiceRows>,
     /// The store that has the records from which the book was recovered.
     store: EventStore<S>,
-    /// From where connections go on.
+    /// From where connections go on, and the destinations that are held.
     connections: Connections,
 }
 
-/// From where the connections and the moments of a service with a store go on.
+/// From where the connections, the moments and the holds of a service with a store go on.
 #[derive(Drop)]
 struct Connections {
     /// The numbers of connections.
@@ -62,6 +63,8 @@ struct Connections {
     witness: Witness,
     /// The last moment in the store, in seconds since 1970.
     last_second: u64,
+    /// The destinations that are held.
+    holds: StoredHolds,
 }
 
 /// The exit status where a write or a sync of the store has failed.
@@ -98,6 +101,7 @@ fn run_journaled<A: Journaling + Send + Sync, S: Store, H: Crew + Threads + Sync
     shared: &Shared<A, ServiceRows>,
     workers: &Workers<A>,
     connections: Connections,
+    plan: &Plan,
     journal: &mut Journal<A, S>,
 ) -> Journaled
     requires committed { (store : S) (changes : List Change)
@@ -108,6 +112,7 @@ fn run_journaled<A: Journaling + Send + Sync, S: Store, H: Crew + Threads + Sync
         numbers,
         witness,
         last_second,
+        holds: StoredHolds { file, names },
     } = connections;
     let history = History::Store {
         first_connection: numbers.first(),
@@ -116,7 +121,10 @@ fn run_journaled<A: Journaling + Send + Sync, S: Store, H: Crew + Threads + Sync
     };
     let Settings { keep, idle, .. } = *settings;
     let site = Site::new(handle, rt.alloc(), shared, keep, idle, history);
-    let operation = operation_of(rt, workers, settings, seconds_now(handle));
+    let names = HeldNames::new(names);
+    log_held(handle, plan, &names);
+    site.set_held(names, plan);
+    let operation = operation_of(rt, workers, settings, seconds_now(handle), file);
     let ending = work_journaled(handle, &site, &operation, numbers, witness, journal);
     Journaled {
         ending,
@@ -175,7 +183,7 @@ fn serve_stored<'f, A: Journaling + Send + Sync, S: Store + Drop, H: Crew + Thre
 {
     let alloc = rt.alloc();
     let Beginning {
-        gates,
+        listeners,
         book,
         store,
         connections,
@@ -193,10 +201,9 @@ fn serve_stored<'f, A: Journaling + Send + Sync, S: Store + Drop, H: Crew + Thre
     else {
         return Err(Trouble::Engine(Fault::Memory));
     };
-    let own = journal_desk(&mut seated, desks)?;
-    let reader = JournalReader::new(own, next, prunings);
-    let mut journal = Journal::new(alloc, reader, store, plan);
-    let workers = Workers::new(alloc, gates, seated, stations)?;
+    let reader = JournalReader::new(journal_desk(&mut seated, desks)?, next, prunings);
+    let mut journal = Journal::new(alloc, reader, store, Arc::try_clone(&plan)?);
+    let workers = Workers::new(alloc, listeners, seated, stations)?;
     let worked = run_journaled(
         rt,
         handle,
@@ -204,6 +211,7 @@ fn serve_stored<'f, A: Journaling + Send + Sync, S: Store + Drop, H: Crew + Thre
         &shared,
         &workers,
         connections,
+        &plan,
         &mut journal,
     );
     let plan = shared.plan(handle)?;
@@ -289,7 +297,7 @@ fn open_store<'f, H: Crew>(
 /// The listeners of a service, and among how many desks its book is shared.
 #[derive(Drop)]
 struct Listening {
-    gates: Vec<Gate>,
+    listeners: Listeners,
     desks: usize,
 }
 
@@ -306,9 +314,9 @@ fn listen<'f, S: Store, H: Crew>(
 ) -> Result<Listening, Fault<'f>> {
     let plan = started.book.plan();
     let connections = connections_of(plan, settings.connections)?;
-    log_descriptors(handle, plan, connections);
+    log_descriptors(handle, plan, connections, settings);
     Ok(Listening {
-        gates: open_gates(rt, handle, plan)?,
+        listeners: open_listeners(rt, handle, plan, settings)?,
         // Two desks more are the operator's and the journal's.
         desks: connections.saturating_add(2) as usize,
     })
@@ -323,13 +331,14 @@ fn serve_started<'f, S: Store + Drop, H: Crew + Threads + Sync>(
     started: Started<S, ServiceRows>,
     numbers: ConnectionNumbers,
     mut witness: Witness,
+    holds: StoredHolds,
 ) -> Result<(Result<RunEnd, Trouble<'f>>, EventStore<S>), Trouble<'f>>
     requires durable { AreDurable (S.Store.view started.store.store)
         (S.Store.recovers started.store.store) (records_in (S.Store.view started.store.store).trees) }
 {
     log_found(handle, folder, &started);
     let settings = &began_with(settings, started.kept_plan.is_some());
-    let Listening { gates, desks } = listen(rt, handle, settings, &started)?;
+    let Listening { listeners, desks } = listen(rt, handle, settings, &started)?;
     let Started {
         book,
         store,
@@ -339,13 +348,14 @@ fn serve_started<'f, S: Store + Drop, H: Crew + Threads + Sync>(
     } = started;
     witness.count_appended(appended);
     let beginning = Beginning {
-        gates,
+        listeners,
         book,
         store,
         connections: Connections {
             numbers,
             witness,
             last_second,
+            holds,
         },
     };
     let log = BlankLog::new(rt.alloc())?;
@@ -375,8 +385,18 @@ fn serve_found<'f, H: Crew + Threads + Sync>(
         started,
         connections,
         witness,
+        holds,
     } = found;
-    match serve_started(rt, handle, folder, settings, started, connections, witness) {
+    match serve_started(
+        rt,
+        handle,
+        folder,
+        settings,
+        started,
+        connections,
+        witness,
+        holds,
+    ) {
         Ok((ended, store)) => {
             close(handle, folder, store);
             ended

@@ -1,11 +1,12 @@
 //! The threads of a service.
 
 use crate::execution::execute_all;
-use crate::figures::Watch;
+use crate::figures::{Counted, Watch};
 use crate::settings::Settings;
 use crate::workers::Workers;
 use book_lock::Sharing;
 use log::{Log, info, warn};
+use service_web::{Door, answer_requests};
 use service_workers::{
     Crew, Gate, Place, Post, Site, StopMode, stop, work_place, work_post, work_warden,
 };
@@ -77,14 +78,35 @@ fn start_warden<'s, 'x: 's, E: 's, A: Sharing + Send + Sync + 's, H: Crew + Sync
         .is_ok()
 }
 
-/// Starts all workers. Returns whether enough threads could be started: that of each post, the warden's, and that of the first
-/// place of each channel.
+/// Starts the thread that answers requests over HTTP. Returns whether it was started.
+fn start_answers<'s, 'x: 's, E: 's, A: Sharing + Send + Sync + 's, H: Crew + Sync + 's>(
+    scope: &Scope<'s, E>,
+    site: &'s Site<'x, A, H>,
+    door: &'s Door,
+    watch: Watch<'s>,
+) -> bool {
+    Builder::new()
+        .stack_size(STACK_BYTES)
+        .spawn_scoped(scope, move || {
+            answer_requests(site, door, Counted { site, watch })
+        })
+        .is_ok()
+}
+
+/// Starts all workers. Returns whether enough threads could be started: that of each post, the warden's, that of the first
+/// place of each channel, and the one that answers requests over HTTP, where there is an address for it.
 pub(crate) fn start_all<'s, 'x: 's, E: 's, A: Sharing + Send + Sync + 's, H: Crew + Sync + 's>(
     scope: &Scope<'s, E>,
     site: &'s Site<'x, A, H>,
     workers: &'s Workers<A>,
+    watch: Watch<'s>,
 ) -> bool {
     if start_posts(scope, site, &workers.posts) > 0 || !start_warden(scope, site) {
+        return false;
+    }
+    if let Some(door) = &workers.door
+        && !start_answers(scope, site, door, watch)
+    {
         return false;
     }
     let gates = &workers.gates;
@@ -120,12 +142,12 @@ fn work_within<'s, 'x: 's, E: 's, A: Sharing + Send + Sync + 's, H: Crew + Sync 
     site: &'s Site<'x, A, H>,
     workers: &'s Workers<A>,
     settings: &Settings,
-    watch: Watch<'_>,
+    watch: Watch<'s>,
 ) -> bool {
-    let is_staffed = start_all(scope, site, workers);
+    let is_staffed = start_all(scope, site, workers, watch);
     if is_staffed {
         info!(site.rt; "the service is ready");
-        execute_all(rt, site, workers, settings, watch);
+        execute_all(rt, site, workers, settings, watch, None);
     } else {
         halt(site, workers);
     }
@@ -139,7 +161,7 @@ pub(crate) fn work<'y, 'x: 'y, A: Sharing + Send + Sync, H: Crew + Threads + Syn
     site: &'y Site<'x, A, H>,
     workers: &'y Workers<A>,
     settings: &Settings,
-    watch: Watch<'_>,
+    watch: Watch<'y>,
 ) -> bool {
     let mut is_staffed = false;
     let staffed = &mut is_staffed;

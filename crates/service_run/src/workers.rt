@@ -3,7 +3,9 @@
 ghost use Rattle.std.specs.Prelude.{All};
 ghost use Rattle.delivery_worker.specs.Sent.{IsUnused};
 
+use crate::listeners::Listeners;
 use book_lock::{Desk, Sharing, Station};
+use service_web::Door;
 use service_workers::{Gate, OperatorDesk, Place, Post, PostWork};
 use std::alloc::{AllocError, Global};
 
@@ -12,6 +14,8 @@ use std::alloc::{AllocError, Global};
 pub struct Workers<A: Sharing> {
     /// The listeners, in the order of the plan's channels.
     pub gates: Vec<Gate>,
+    /// The listener of the HTTP address, where there is one.
+    pub door: Option<Door>,
     /// The place at index `k` is one of channel `k` modulo the number of channels.
     pub places: Vec<Place<A>>,
     /// The posts, by destination.
@@ -87,15 +91,17 @@ impl<A: Sharing> Workers<A> {
     /// Where memory is refused, or there is no desk.
     pub fn new(
         alloc: Global,
-        gates: Vec<Gate>,
+        listeners: Listeners,
         mut desks: Vec<Desk<A>>,
         stations: Vec<Station<A>>,
     ) -> Result<Self, AllocError>
         requires { All (λ s. IsUnused s.seat) stations.items }
     {
         let operator = OperatorDesk::new(desks.pop().ok_or(AllocError)?);
+        let Listeners { gates, door } = listeners;
         Ok(Workers {
             gates,
+            door,
             places: places_of(alloc, desks)?,
             posts: posts_of(alloc, stations)?,
             operator,

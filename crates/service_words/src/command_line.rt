@@ -5,14 +5,16 @@ ghost use Rattle.clap.specs.declared.builder.command.Command.TheViews.{out-Comma
 ghost use Rattle.clap.specs.declared.builder.value_parser.ValueParser.TheVariants as parser;
 ghost use Rattle.clap.specs.Words.{FailsBy, app_of, fault_of, found_of, kind_of, new_app, new_rule, one_text, rows_of, rule_of, subcommand_of, subcommand_rows_of, with_rule, with_subcommand};
 ghost use Rattle.service_words.specs.inner.Request.{IsWithinLimits};
-ghost use Rattle.service_words.specs.inner.Words.{bounded_run, channel_rule, check_app, connections_rule, events_rule, faults_of, grace_rule, has_memory, idle_rule, keep_rule, kept_run, keeping_fault, memory_rule, place_fault, plan_rule, program, run_app, run_fault, show_rule, store_rule, top, try_app, verbose_rule, Asks, AsksBy, AsksCheck, AsksRun, AsksTry, IsRefusedBy, IsWithin, IsKept, KeepsIn};
+ghost use Rattle.service_words.specs.inner.Words.{bounded_run, channel_rule, check_app, connections_rule, events_rule, faults_of, grace_rule, has_memory, http_name_rule, http_rule, idle_rule, keep_rule, kept_run, keeping_fault, memory_rule, place_fault, plan_rule, program, run_app, run_fault, show_rule, shown_run, store_rule, top, try_app, verbose_rule, Asks, AsksBy, AsksCheck, AsksRun, AsksTry, IsRefusedBy, IsWithin, IsKept, KeepsIn, ReadsAddress};
+ghost use Rattle.clap.specs.declared.error.kind.ErrorKind.TheVariants.{ValueValidation};
 
-use crate::help::{CHECKING, ONE_PLACE, RUN_USAGE, RUNNING, STATUSES, TRYING};
+use crate::help::{CHECKING, HTTP_ADDRESS, ONE_PLACE, RUN_USAGE, RUNNING, STATUSES, TRYING};
 use clap::builder::ValueParser;
 use clap::error::ErrorKind;
 use clap::{Arg, ArgAction, ArgMatches, Command, Error, value_parser};
 use fixed_numbers::EVENTS_MAX;
 use std::alloc::{AllocError, Global};
+use std::net::SocketAddr;
 
 /// What `--version` prints after the program's name: its version, and the toolchain's logic by which its proofs were checked.
 const VERSION: &str = "0.2.0 (toolchain logic dac8208d650f15bf)";
@@ -47,6 +49,10 @@ pub enum Request<'a> {
         grace: u32,
         /// Whether the commands `show` and `export` give the text of messages.
         show: bool,
+        /// The address at which requests over HTTP are answered; none where left out.
+        http: Option<&'a str>,
+        /// The names of hosts for which they are answered beside `localhost` and IP addresses, with commas between them.
+        http_names: Option<&'a str>,
     },
     /// Judge what comes on standard input by the plan in a file, and print what would be answered and sent.
     Try {
@@ -199,6 +205,30 @@ fn show_option<'a>(alloc: Global) -> Arg<'a>
         )
 }
 
+fn http_option<'a>(alloc: Global) -> Arg<'a>
+    ensures rule { rule_of result ≡ http_rule }
+    ensures local { result.global ≡ false }
+{
+    Arg::new(alloc, "http")
+        .long("http")
+        .value_name("ADDRESS")
+        .help(
+            "Answers requests over HTTP at this IP address and port, as 127.0.0.1:9180 [default: nowhere]",
+        )
+}
+
+fn http_name_option<'a>(alloc: Global) -> Arg<'a>
+    ensures rule { rule_of result ≡ http_name_rule }
+    ensures local { result.global ≡ false }
+{
+    Arg::new(alloc, "http-name")
+        .long("http-name")
+        .value_name("NAMES")
+        .help(
+            "Answers requests over HTTP for hosts of these names too, with commas between them [default: for IP addresses and localhost]",
+        )
+}
+
 fn channel_option<'a>(alloc: Global) -> Arg<'a>
     ensures rule { rule_of result ≡ channel_rule }
     ensures local { result.global ≡ false }
@@ -297,14 +327,24 @@ fn bounded_run<'a>(alloc: Global) -> Result<Command<'a>, AllocError>
     with_word(command, keep_option(alloc))
 }
 
-fn run_command<'a>(alloc: Global) -> Result<Command<'a>, AllocError>
-    ensures app { IfOk result (λ c. app_of c ≡ run_app) }
+/// `run` with what it says of time and of the text of messages besides.
+fn shown_run<'a>(alloc: Global) -> Result<Command<'a>, AllocError>
+    ensures app { IfOk result (λ c. app_of c ≡ shown_run) }
     ensures local { IfOk result (λ c. (fields_of c).has_globals ≡ false) }
 {
     let command = bounded_run(alloc)?;
     let command = with_word(command, idle_option(alloc))?;
     let command = with_word(command, grace_option(alloc))?;
     with_word(command, show_option(alloc))
+}
+
+fn run_command<'a>(alloc: Global) -> Result<Command<'a>, AllocError>
+    ensures app { IfOk result (λ c. app_of c ≡ run_app) }
+    ensures local { IfOk result (λ c. (fields_of c).has_globals ≡ false) }
+{
+    let command = shown_run(alloc)?;
+    let command = with_word(command, http_option(alloc))?;
+    with_word(command, http_name_option(alloc))
 }
 
 /// The program by its name, with its version and help, before it has any command.
@@ -420,6 +460,8 @@ fn run_request<'a>(matches: &ArgMatches<'a>) -> Result<Request<'a>, ErrorKind>
         idle: number_of(matches.get_one("idle"), 0, 86_400, 0),
         grace: number_of(matches.get_one("grace"), 0, 3_600, 5),
         show: shows(matches),
+        http: matches.get_str("http"),
+        http_names: matches.get_str("http-name"),
     })
 }
 
@@ -473,6 +515,28 @@ fn one_place_error(alloc: Global, kind: ErrorKind) -> Result<Error, AllocError>
 {
     let mut command = run_command(alloc)?;
     command.error(kind, ONE_PLACE)
+}
+
+/// The error of a `run` with an HTTP address that is no IP address and port.
+fn address_error(alloc: Global) -> Result<Error, AllocError>
+    ensures { IfOk result (λ error. kind_of error ≡ ValueValidation) }
+{
+    let mut command = run_command(alloc)?;
+    command.error(ErrorKind::ValueValidation, HTTP_ADDRESS)
+}
+
+/// The IP address and the port that a word writes.
+///
+/// # Errors
+///
+/// `ValueValidation` where it writes none. The error has the text to be printed.
+pub fn http_address(alloc: Global, word: &str) -> Result<SocketAddr, Error>
+    ensures { ReadsAddress word.now result }
+{
+    match word.parse::<SocketAddr>() {
+        Ok(address) => Ok(address),
+        Err(_) => Err(address_error(alloc)?),
+    }
 }
 
 /// The matches of the words, of which the first is the program's name.

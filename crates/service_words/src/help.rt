@@ -23,6 +23,10 @@ hl7_service run <PLAN> --store <FOLDER> [OPTIONS]
 /// What is wrong with a `run` that has neither of the options that say where the history is kept, or both.
 pub const ONE_PLACE: &str = "exactly one of '--store <FOLDER>' and '--memory' has to be given";
 
+/// What is wrong with a `run` with an HTTP address that is none.
+pub const HTTP_ADDRESS: &str =
+    "the address of '--http <ADDRESS>' has to be an IP address and a port, as 127.0.0.1:9180";
+
 /// The text after the words in the help of `run`.
 pub const RUNNING: &str = "\
 N connections times the channels of the plan are at most 9999; else 'limit: connections', status 2.
@@ -31,12 +35,16 @@ Commands are read from standard input, a line each, and answered on standard out
 line. The end of standard input ends nothing.
   status         what each channel, each destination, the book and the connections have done
   metrics        the same numbers in the text format of Prometheus
+  links          whether each destination is connected, its last fault, and when it is tried next
   message N      where message N is
   show N         the text of message N as it was received, a segment a line
+  show N NAME    the text of message N as it is or was sent to this destination
   export N PATH  the bytes of message N as they were received, into a new file
   find ID        the numbers of the messages with this control id (MSH-10), at most 100
   waiting NAME   the first 100 messages in a destination's queue
   failed NAME    the last 100 messages that failed at a destination, newest first, and why
+  hold NAME      sends this destination no further message: what it would be sent waits
+  release NAME   sends messages to this destination again
   plan           where the plan in force comes from, since when it is, and its SHA-256
   plan text      the document of the plan in force
   deploy PATH    takes the plan in this file in place of the one in force
@@ -48,6 +56,10 @@ line. The end of standard input ends nothing.
   cancel waiting NAME through N  does not deliver the messages up to N that wait at this destination
   stop           reads no further block, delivers what waits, and ends
   stop now       ends without waiting for deliveries
+
+With --http requests by GET are answered at that address, and nothing else: /metrics for Prometheus, /healthz and /readyz for
+probes, / for people, /status, /status.json, /messages/N, /messages?control_id=ID, /destinations/NAME/waiting and
+/destinations/NAME/failed. Whoever reaches the address can read them. No text of a message is among them.
 
 Standard error has a log: a line for each event that an operator has to know of.
 

@@ -13,7 +13,7 @@ use stat_count::Counts;
 use std::alloc::{AllocError, Global};
 
 #[derive(Debug, Drop)]
-enum Fail {
+pub(crate) enum Fail {
     Memory,
     Plan(PlanFault),
 }
@@ -30,7 +30,7 @@ impl From<PlanFault> for Fail {
     }
 }
 
-fn state() -> (Status, Figures) {
+pub(crate) fn state() -> (Status, Figures) {
     let mut fronts = [None; 32];
     fronts[0] = Some(Front {
         number: 7,
@@ -70,6 +70,7 @@ fn state() -> (Status, Figures) {
             broken: 3,
         },
         paused: 1,
+        held: 1,
         open_by_channel: [3; 64],
         places: [8; 64],
         received,
@@ -128,7 +129,7 @@ fn status_has_all(rt: HostRuntime) -> Result<(), Fail> {
         "dropped unreadable 2 acknowledgments 0 broken 3\n",
         "waiting attempts 2 due 2001-09-09T01:46:40Z\n",
         " 1970-01-02T00:00:00Z\n",
-        "sent again LAB 2\nfront LAB message 7 ",
+        "held LAB\nsent again LAB 2\nfront LAB message 7 ",
     ] {
         assert!(rt; text.contains(line), "{line} {text}");
     }
@@ -151,6 +152,7 @@ fn metrics_have_all(rt: HostRuntime) -> Result<(), Fail> {
         "hl7_store_commit_seconds_total 6.000004\n",
         "hl7_store_longest_commit_seconds 3.000000\n",
         "hl7_store_full 1\n",
+        "hl7_destination_held{destination=\"LAB\"} 1\n",
         "hl7_destination_sent_again_total{destination=\"LAB\"} 2\n",
     ] {
         assert!(rt; text.contains(line), "{line} {text}");
@@ -164,7 +166,10 @@ fn lists_end_with_their_number(rt: HostRuntime) -> Result<(), Fail> {
         found_text(rt.alloc(), &[3, 5])?.as_str(),
         "message 3\nmessage 5\nfound 2\n\n"
     );
-    assert_eq!(rt; waiting_text(rt.alloc(), &[], 0)?.as_str(), "waiting 0\n\n");
+    assert_eq!(rt;
+        waiting_text(rt.alloc(), None, &[], 0)?.as_str(),
+        "waiting 0\n\n"
+    );
     let many = found_text(rt.alloc(), &[1; 101])?;
     assert!(rt; many.ends_with("more than 100\n\n"));
     let text = pruned_text(rt.alloc(), 3, 2, None)?;

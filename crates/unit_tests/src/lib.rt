@@ -1,5 +1,6 @@
-//! Tests of single crates, each over the crates below it alone: the notes on a plan, the answers to commands, what the workers of
-//! a service decide without a socket, the engine on one thread where memory is refused, and the items of linked rows.
+//! Tests of single crates, each over the crates below it alone: the notes on a plan, the answers to commands, the page and the JSON
+//! of a service, what the workers of a service decide without a socket, the engine on one thread where memory is refused, and the
+//! items of linked rows.
 #![tactic(auto)]
 
 #[cfg(test)]
@@ -13,6 +14,10 @@ mod decisions;
 #[cfg(test)]
 mod dropped;
 #[cfg(test)]
+mod holds;
+#[cfg(test)]
 mod notes;
+#[cfg(test)]
+mod pages;
 #[cfg(test)]
 mod refused;

@@ -1,14 +1,17 @@
 -- The words of the command line: the program's commands, and what they ask.
-use Rattle.std.specs.Prelude.{◌≡◌, ◌≤◌, ◌<◌, ◌^◌, ◌/◌, ◌||◌, ℕ, Bool, List, MatchResult, Option, Result, None, Some, if◌then◌else◌, option_map, min, codes, false, pos, true, unwrap_or, [], ◌∷◌, ⊤}
+use Rattle.std.specs.Prelude.{◌≡◌, ◌≤◌, ◌<◌, ◌^◌, ◌/◌, ◌||◌, ◌⊎◌, ℕ, Bool, List, MatchResult, Option, Result, None, Some, if◌then◌else◌, option_map, min, codes, false, pos, true, unwrap_or, [], ◌∷◌, ⊤}
 use Rattle.std.specs.Option.{SomeIff, option_map_or}
 use Rattle.std.specs.Str.{bytes_eq}
 use Rattle.std.specs.Str.Parse.{IsNumeral, digits_value, without_leading_plus}
 use Rattle.clap.specs.declared.builder.action.ArgAction.TheVariants.{SetTrue}
 use Rattle.clap.specs.declared.builder.value_parser.ValueParser.TheVariants as parser
+use Rattle.std.specs.Net.Grammar.{IsSocketText}
+use Rattle.std.specs.declared.net.socket_addr.SocketAddr.{SocketAddr}
 use Rattle.clap.specs.Kinds.{or_else}
-use Rattle.clap.specs.Words.{App, Kinds, Row, Rule, Text, fault_of, first_of, new_app, new_rule, one_of, subcommand_of, with_rule, with_subcommand}
+use Rattle.clap.specs.declared.error.Error.{Error}
+use Rattle.clap.specs.Words.{App, Kinds, kind_of, Row, Rule, Text, fault_of, first_of, new_app, new_rule, one_of, subcommand_of, with_rule, with_subcommand}
 use Rattle.clap.specs.declared.error.kind.ErrorKind.{ErrorKind}
-use Rattle.clap.specs.declared.error.kind.ErrorKind.TheVariants.{ArgumentConflict, MissingRequiredArgument}
+use Rattle.clap.specs.declared.error.kind.ErrorKind.TheVariants.{ArgumentConflict, MissingRequiredArgument, OutOfMemory, ValueValidation}
 use Rattle.service_words.specs.declared.command_line.Keeping.{Keeping}
 use Rattle.service_words.specs.declared.command_line.Keeping.TheVariants.{Memory, Store}
 use Rattle.service_words.specs.declared.command_line.Request.{Request}
@@ -50,6 +53,14 @@ grace_rule = number_rule (codes "grace") 0 3_600
 abbrev pub show_rule : Rule
 show_rule = record (new_rule (codes "show")) { long = Some (codes "show"); value_names = 1; parser = Some parser.Boolish }
 
+-- an option and an address
+abbrev pub http_rule : Rule
+http_rule = record (new_rule (codes "http")) { long = Some (codes "http"); value_names = 1 }
+
+-- an option and the names of hosts
+abbrev pub http_name_rule : Rule
+http_name_rule = record (new_rule (codes "http-name")) { long = Some (codes "http-name"); value_names = 1 }
+
 -- an option and a name
 abbrev pub channel_rule : Rule
 channel_rule = record (new_rule (codes "channel")) { long = Some (codes "channel"); value_names = 1 }
@@ -66,9 +77,13 @@ kept_run = with_rule (with_rule (with_rule (new_app (codes "run")) plan_rule) st
 abbrev pub bounded_run : App
 bounded_run = with_rule (with_rule (with_rule kept_run connections_rule) events_rule) keep_rule
 
--- [--idle SECONDS] [--grace SECONDS] [--show ON|OFF] besides: all the words of `run`
+-- [--idle SECONDS] [--grace SECONDS] [--show ON|OFF] besides
+abbrev pub shown_run : App
+shown_run = with_rule (with_rule (with_rule bounded_run idle_rule) grace_rule) show_rule
+
+-- [--http ADDRESS] [--http-name NAMES] besides: all the words of `run`
 abbrev pub run_app : App
-run_app = with_rule (with_rule (with_rule bounded_run idle_rule) grace_rule) show_rule
+run_app = with_rule (with_rule shown_run http_rule) http_name_rule
 
 -- try PLAN [--channel NAME]
 abbrev pub try_app : App
@@ -139,6 +154,12 @@ abbrev pub keeping_fault : Option (Text × List Row) → Kinds
 keeping_fault None = []
 keeping_fault (Some (name, rows)) = if bytes_eq name (codes "check") || bytes_eq name (codes "try") then [] else run_fault rows
 
+-- the address and the port that a text writes, or an error where it writes none
+abbrev pub ReadsAddress : Text → Result SocketAddr Error → Type 0
+ReadsAddress text result =
+    MatchResult result (IsSocketText text)
+    (λ error. (kind_of error ≡ OutOfMemory) ⊎ ((kind_of error ≡ ValueValidation) × ((a : SocketAddr) → ¬ (IsSocketText text a))))
+
 -- an error exactly where there is a fault, and of its kind
 abbrev pub IsRefusedBy : {T : Type 0} → Kinds → Result T ErrorKind → Type 0
 IsRefusedBy kinds result = MatchResult result (λ _. kinds ≡ []) (λ kind. kinds ≡ kind ∷ [])
@@ -148,7 +169,7 @@ abbrev pub faults_of : List Text → Kinds
 faults_of words = or_else (fault_of program words) (keeping_fault (subcommand_of program words))
 
 -- what the words of `run` ask: the plan, where the history is kept, and each option as they are written
-pub record AsToRun (plan : Text) (keeping : Keeping) (connections events keep idle grace : ℕ) (show : Bool) (rows : List Row) : Type 0 where
+pub record AsToRun (plan : Text) (keeping : Keeping) (connections events keep idle grace : ℕ) (show : Bool) (http http_names : Option Text) (rows : List Row) : Type 0 where
   pub plan_is : plan ≡ unwrap_or (first_of (codes "PLAN") rows) []
   pub keeping_is : KeepsIn keeping (first_of (codes "store") rows) (has_memory rows)
   pub connections_are : IsWritten (codes "connections") rows (IsWithin 1 1_000 64) connections
@@ -157,9 +178,12 @@ pub record AsToRun (plan : Text) (keeping : Keeping) (connections events keep id
   pub idle_is : IsWritten (codes "idle") rows (IsWithin 0 86_400 0) idle
   pub grace_is : IsWritten (codes "grace") rows (IsWithin 0 3_600 5) grace
   pub show_is : IsYes (one_of (codes "show") rows) show
+  pub http_is : http ≡ first_of (codes "http") rows
+  pub http_names_are : http_names ≡ first_of (codes "http-name") rows
 
 abbrev pub AsksRun : Request → List Row → Type 0
-AsksRun (Run plan keeping connections events keep idle grace show) rows = AsToRun plan.now keeping connections events keep idle grace show rows
+AsksRun (Run plan keeping connections events keep idle grace show http http_names) rows =
+    AsToRun plan.now keeping connections events keep idle grace show (option_map (λ a. a.now) http) (option_map (λ n. n.now) http_names) rows
 AsksRun _ rows = ⊥
 
 -- what the words of `try` ask: the plan and the channel as they are written
@@ -183,8 +207,8 @@ AsksCheck _ rows = ⊥
 -- what the words of a command ask, by the command's name. Words without a command have a fault.
 abbrev pub AsksBy : Request → Option (Text × List Row) → Type 0
 AsksBy request None = ⊤
-AsksBy (Run plan keeping connections events keep idle grace show) (Some (name, rows)) =
-    (name ≡ codes "check" → ⊥) × (name ≡ codes "try" → ⊥) × AsksRun (Run plan keeping connections events keep idle grace show) rows
+AsksBy (Run plan keeping connections events keep idle grace show http http_names) (Some (name, rows)) =
+    (name ≡ codes "check" → ⊥) × (name ≡ codes "try" → ⊥) × AsksRun (Run plan keeping connections events keep idle grace show http http_names) rows
 AsksBy (Try plan channel) (Some (name, rows)) = (name ≡ codes "try") × AsksTry (Try plan channel) rows
 AsksBy (Check plan verbose) (Some (name, rows)) = (name ≡ codes "check") × AsksCheck (Check plan verbose) rows
 

@@ -1,0 +1,10 @@
+use Rattle.std.proofs.Common.{◌≡◌, ◌++◌, drop}
+use Rattle.std.specs.List.{flat_map}
+use Rattle.service_http.specs.inner.Escape.{html_byte}
+use Rattle.service_http.proofs.document.Document.text.Given as goal
+
+-- what is written and what the rest of the text becomes are together what the whole becomes
+abbrev pub invariant-loop-byte : goal.invariant-loop-byte
+invariant-loop-byte l =
+    l.self.bytes.items ++ flat_map html_byte (drop l.byte-index l.text)
+    ≡ l.initial.self.bytes.items ++ flat_map html_byte l.text
