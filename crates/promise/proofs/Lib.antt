@@ -1,0 +1,5 @@
+pub mod Kept
+pub mod Answered
+pub mod Positive
+pub mod Connections
+pub mod Found
