@@ -1,0 +1,10 @@
+pub mod Numbers
+pub mod Lists
+pub mod Loop
+pub mod Joined
+pub mod Deliveries
+pub mod Back
+pub mod Only
+pub mod Openings
+pub mod Snapshots
+pub mod Rising
