@@ -36,7 +36,7 @@ PROGRAM = os.path.join(TOP, 'crates', 'hl7_service', 'out', 'hl7_service')
 PAGES = ['../README.md', 'GUIDE.md', 'EXAMPLES.md', 'OPERATIONS.md', 'FROM_MIRTH.md']
 BLOCK = re.compile(r'(?:<!-- (file|printed by|typed) ?([^\n]*?) ?-->\n)?```(\w*)\n(.*?)```\n', re.S)
 PORT = re.compile(r'\b66[6-9]\d\b')
-OBEYED = re.compile(r'(status|metrics|message|show|export|plan|find|waiting|failed|deploy|prune|cancel|stop)\b')
+OBEYED = re.compile(r'(status|metrics|message|show|export|plan|find|waiting|failed|hold|release|links|deploy|prune|cancel|stop)\b')
 MACHINE = re.compile(r'(?<![\w.])/(?=(usr/local|etc|run|var)/)')
 LIMIT = 60
 # A systemctl that runs the commands of a unit, and does nothing else.
@@ -52,6 +52,7 @@ case "$1" in
     stop)
         MAINPID=$(cat "$MACHINE/pid") sh -c "$(lines ExecStop)"
         rm -r "$MACHINE/run/hl7-service" ;;
+    restart) "$0" stop && "$0" enable ;;
 esac
 '''
 

@@ -22,6 +22,7 @@ CRATES = os.path.join(os.path.dirname(os.path.abspath(__file__)), '..', 'crates'
 PAGE = os.path.join(CRATES, '..', 'docs', 'DEFINITIONS.md')
 # The pages in the order in which they are best read.
 ORDER = (
+    ('The promise', 'promise.Promise'),
     ('Framing and text', 'mllp_frame.Framing mllp_frame.Event er7_tree.Pieces er7_tree.Delims er7_tree.Tree er7_tree.Path '
      'er7_tree.Escape er7_tree.Edit'),
     ('Header, acknowledgments and moments', 'hl7_head.Header hl7_head.Msa hl7_head.Calendar hl7_head.Stamp hl7_head.Ack '
@@ -52,6 +53,8 @@ ORDER = (
 )
 # The claims of the promise, from the bytes of a sender to those of a destination.
 PROMISE = (
+    ('The promise', 'the law `ca_is_kept`: `empty_book`, `Arrival`, `IsPromised`, `IsHeld` and `IsPositive`, on top of all that follows',
+     ['promise.Promise.*']),
     ('What a message is, and what becomes of it', 'under the headline and under serving alike: `verdict` and `key_of`',
      ['judge_core.Judging.verdict', 'judge_core.Judging.key_of']),
     ('The headline', '`KeepsItsPromise`, on top of these',
