@@ -5,6 +5,8 @@
 #[cfg(test)]
 mod journals;
 #[cfg(test)]
+mod openings;
+#[cfg(test)]
 mod recoveries;
 #[cfg(test)]
 mod replays;

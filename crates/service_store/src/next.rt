@@ -1,0 +1,116 @@
+//! A store goes on in a new one, which begins with an opening.
+
+ghost use Rattle.std.specs.Prelude.{◌≡◌, ◌≤◌, ◌⊎◌, [], IfOk, OnErr, OnOk, length};
+ghost use Rattle.sqlite_trees.specs.View.{IsClean, doubt};
+ghost use Rattle.event_log.specs.Folding.{pruned};
+ghost use Rattle.event_store.specs.Records.{AreDurable, records_in};
+ghost use Rattle.book_recovery.specs.inner.File.{IsRecovered, rebound};
+ghost use Rattle.service_store.specs.inner.Starting.{bodies_in};
+
+use crate::fault::{BookFault, NextError};
+use crate::keep::{keep_first, keep_records};
+use book_core::{Book, BookRows};
+use book_recovery::{NextFault, VERSION_MAX, fold_all, next_file};
+use event_log::PruneRefusal;
+use event_store::EventStore;
+use sqlite_trees::store::Store;
+use std::alloc::Global;
+use std::hash::RandomState;
+use std::slice;
+
+/// How many records make a store long. A long one goes on in a new store.
+pub(crate) const RECORDS_LONG: u64 = 100_000;
+
+/// With fewer prunings than this a long store goes on in a new one, which takes one of the thousand that a book can have.
+pub(crate) const PRUNINGS_FEW: u32 = 900;
+
+/// What a new store is begun with.
+#[derive(Clone, Copy)]
+pub(crate) struct NextRequest<'a> {
+    /// The most entries that its book may hold.
+    pub(crate) events_max: u32,
+    /// The version of the program, at most `VERSION_MAX` bytes.
+    pub(crate) version: &'a str,
+    /// The highest number of a connection that a message can have come over, if one came.
+    pub(crate) last_connection: Option<u32>,
+    /// The moment, in milliseconds since 1970.
+    pub(crate) at: i64,
+}
+
+/// Folds all entries of the book of a store, if it has any, and keeps the record of that. Returns why they aren't folded, if they
+/// aren't: the store and the book are unchanged then.
+///
+/// # Errors
+///
+/// `Write` and `NoMemory` of the store: what was appended is dropped when it is opened again.
+pub(crate) fn fold_book<S: Store, B: BookRows>(
+    alloc: Global,
+    events: &mut EventStore<S>,
+    book: &mut Book<B>,
+    at: i64,
+) -> Result<Result<(), PruneRefusal>, BookFault>
+    // The book is recovered from what the store has, if it was before.
+    ensures recovered { IfOk result (λ folded. OnOk folded (IsClean (S.Store.view events.new.store)
+        → IsRecovered (bodies_in (S.Store.view events.old.store).trees) book.old
+        → IsRecovered (bodies_in (S.Store.view events.new.store).trees) book.new)) }
+    ensures folded { IfOk result (λ folded. OnOk folded (book.new.entries ≡ [])) }
+    ensures same { IfOk result (λ folded. OnOk folded ((book.new ≡ book.old) ⊎ (book.new ≡ pruned 0 book.old))) }
+    ensures unchanged { IfOk result (λ folded. OnErr folded ((book.new ≡ book.old) × (events.new ≡ events.old))) }
+    ensures clean { doubt (S.Store.view events.old.store).is_clean
+        ≤ doubt (S.Store.view events.new.store).is_clean }
+{
+    if book.is_empty() {
+        return Ok(Ok(()));
+    }
+    let item = match fold_all(book) {
+        Ok(item) => item,
+        Err(refusal) => return Ok(Err(refusal)),
+    };
+    match keep_records(alloc, events, book, slice::from_ref(&item), at) {
+        Ok(()) => Ok(Ok(())),
+        Err(fault) => Err(fault),
+    }
+}
+
+/// Begins a store that has no record, and goes on from a book whose entries are folded. What it holds is committed.
+///
+/// # Errors
+///
+/// Why no file goes on from the book, or the store isn't written.
+pub(crate) fn begin_next<S: Store, B: BookRows + Drop>(
+    alloc: Global,
+    events: &mut EventStore<S>,
+    book: &Book<B>,
+    request: NextRequest<'_>,
+    hasher: RandomState,
+) -> Result<(), NextError>
+    requires folded { book.now.entries ≡ [] }
+    requires some { 1 ≤ request.events_max }
+    requires few { request.events_max ≤ 1000000 }
+    requires version { length request.version.now ≤ VERSION_MAX }
+
+    // What is recovered from the new store is the book, but for the bound, and a crash leaves just that.
+    ensures recovered { OnOk result (IsClean (S.Store.view events.new.store)
+        → bodies_in (S.Store.view events.old.store).trees ≡ []
+        → IsRecovered (bodies_in (S.Store.view events.new.store).trees) (rebound request.entry.events_max book.now)) }
+    ensures durable { OnOk result (AreDurable (S.Store.view events.new.store)
+        (S.Store.recovers events.new.store) (records_in (S.Store.view events.new.store).trees)) }
+    ensures clean { doubt (S.Store.view events.old.store).is_clean
+        ≤ doubt (S.Store.view events.new.store).is_clean }
+{
+    let NextRequest {
+        events_max,
+        version,
+        last_connection,
+        at,
+    } = request;
+    let first = match next_file(alloc, book, events_max, version, last_connection, hasher) {
+        Ok(first) => first,
+        Err(NextFault::NoMemory) => return Err(NextError::NoMemory),
+        Err(fault) => return Err(NextError::Book(fault)),
+    };
+    match keep_first(events, "opening", first.as_slice(), at) {
+        Ok(()) => Ok(()),
+        Err(fault) => Err(NextError::of_write(fault)),
+    }
+}
