@@ -1,8 +1,7 @@
 #!/usr/bin/env python3
 """Kills the built service with a store, again and again, among senders and destinations over loopback, and starts it again on the
 same folder: what was acknowledged is delivered. The same with a power cut in place of each kill: the service goes on from what the
-disk may have then, where no sync has covered what was written (power.py). Then plays what else a store has to do (stores.py), and
-how one goes on in a new file (next_files.py).
+disk may have then, where no sync has covered what was written (power.py). Then plays what else a store has to do (stores.py).
 
 Usage: peers/crash.py [PROGRAM] [--seed N] [--kills N] [--cuts N] [--only WORD]
 
@@ -27,7 +26,6 @@ from typing import NamedTuple
 import power
 from engine import checks_accesses, one_channel
 from mllp import Destination, block, blocks, field, free_ports, message
-from next_files import NEXT_FILES
 from served import LIMIT, Service
 from stores import STORES, tail
 
@@ -380,7 +378,7 @@ def main():
     print(f'seed {args.seed}', flush=True)
     scenes = [(f'{args.kills} kills', lambda program, folder: kills(program, folder, args.seed, args.kills)),
               (f'{args.cuts} power cuts', lambda program, folder: power_cuts(program, folder, args.seed, args.cuts)),
-              ('cut off in its making', cut_off), *STORES, *NEXT_FILES]
+              ('cut off in its making', cut_off), *STORES]
     for name, scene in scenes:
         if args.only not in name:
             continue

@@ -29,7 +29,7 @@ use log_text::Escaped;
 use plan_text::Plan;
 use service_answers::Origin;
 use service_store::{
-    ConnectionNumbers, NextFile, ServiceStore, StartError, StartRequest, Started, StoredHolds, Witness,
+    ConnectionNumbers, ServiceStore, StartError, StartRequest, Started, StoredHolds, Witness,
     close_store, start_in_folder,
 };
 use service_workers::{Crew, HeldNames, History, ServiceRows, Site};
@@ -370,21 +370,6 @@ fn close<H: Log>(handle: &H, folder: &str, store: EventStore<FileStore<File>>) {
     }
 }
 
-/// Logs that a store goes on in a new file, or why it doesn't though it is long.
-fn log_next<H: Log>(handle: &H, folder: &str, next: NextFile) {
-    let store = Escaped(folder);
-    match next {
-        NextFile::Kept => {}
-        NextFile::Begun { archived } => {
-            let archived = Escaped(&archived);
-            info!(handle; store:% = store, archived:% = archived; "the store goes on in a new file, and the one before it is kept");
-        }
-        NextFile::Stayed(error) => {
-            warn!(handle; target: "always", store:% = store; "the store is long, and goes on in no new file: {error}");
-        }
-    }
-}
-
 /// Serves from the store in a folder, and closes it.
 fn serve_found<'f, H: Crew + Threads + Sync>(
     rt: &HostRuntime,
@@ -398,12 +383,10 @@ fn serve_found<'f, H: Crew + Threads + Sync>(
 {
     let ServiceStore {
         started,
-        next,
         connections,
         witness,
         holds,
     } = found;
-    log_next(handle, folder, next);
     match serve_started(
         rt,
         handle,

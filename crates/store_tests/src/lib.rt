@@ -5,8 +5,6 @@
 #[cfg(test)]
 mod journals;
 #[cfg(test)]
-mod openings;
-#[cfg(test)]
 mod recoveries;
 #[cfg(test)]
 mod replays;
