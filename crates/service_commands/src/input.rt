@@ -103,29 +103,3 @@ pub fn read_line<R: Read>(reader: &mut R, buffer: &mut [u8]) -> io::Result<Input
     }
     Err(io::Error::from(ErrorKind::Interrupted))
 }
-
-#[cfg(test)]
-mod tests {
-    use super::{Input, read_line};
-
-    /// What each read gives, and the bytes that the buffer begins with then.
-    const READS: &[(Input, &[u8])] = &[
-        (Input::Line(4), b"stop"),
-        (Input::Line(0), b""),
-        (Input::Line(8), b"12345678"),
-        (Input::TooLong, b""),
-        (Input::Line(8), b"stop now"),
-        (Input::End, b""),
-    ];
-
-    #[test]
-    fn lines_are_read_one_by_one(rt: HostRuntime) -> Result<(), std::io::Error> {
-        let mut reader = b"stop\n\n12345678\n123456789\nstop now".as_slice();
-        let mut buffer = [0u8; 8];
-        for (input, bytes) in READS {
-            assert_eq!(rt; read_line(&mut reader, &mut buffer)?, *input);
-            assert!(rt; buffer.starts_with(bytes), "not {bytes:?}");
-        }
-        Ok(())
-    }
-}

@@ -68,36 +68,3 @@ pub(crate) fn is_answered(names: &[String], host: &[u8]) -> bool
 {
     is_address(host) || is_named(host, b"localhost") || is_among(names, host)
 }
-
-#[cfg(test)]
-mod tests {
-    use super::is_answered;
-    use std::alloc::AllocError;
-
-    #[test]
-    fn hosts_are_judged(rt: HostRuntime) -> Result<(), AllocError> {
-        let names = vec![in rt.alloc(); "hl7.example.org".to_string(rt.alloc())?]?;
-        for host in [
-            b"127.0.0.1".as_slice(),
-            b"127.0.0.1:9180",
-            b"[::1]:9180",
-            b"localhost",
-            b"LocalHost:9180",
-            b"hl7.example.org:80",
-            b"HL7.example.org",
-        ] {
-            assert!(rt; is_answered(&names, host));
-        }
-        for host in [
-            b"".as_slice(),
-            b"example.org",
-            b"localhost.example.org",
-            b"127.0.0.1.example.org",
-            b"hl7.example.organ",
-            b"hl7",
-        ] {
-            assert!(rt; !is_answered(&names, host));
-        }
-        Ok(())
-    }
-}

@@ -151,32 +151,3 @@ impl Answer {
         with_body(head, body, has_body)
     }
 }
-
-#[cfg(test)]
-mod tests {
-    use super::{Answer, Kind, Status};
-    use std::alloc::AllocError;
-
-    #[test]
-    fn answers_are_written(rt: HostRuntime) -> Result<(), AllocError> {
-        let answer = Answer::line(rt.alloc(), Status::Ok, "ready")?;
-        let whole = answer.bytes(rt.alloc(), true)?;
-        let head = answer.bytes(rt.alloc(), false)?;
-        assert!(rt;
-            whole.starts_with(
-                b"HTTP/1.1 200 OK\r\nContent-Type: text/plain; charset=utf-8\r\nContent-Length: 6\r\n"
-            )
-        );
-        assert!(rt; whole.ends_with(b"Connection: close\r\n\r\nready\n"));
-        assert!(rt; whole.starts_with(&head));
-        assert_eq!(rt; head.len() + 6, whole.len());
-        let refused = Answer::refusal(rt.alloc(), Status::MethodNotAllowed)?;
-        let refused = refused.bytes(rt.alloc(), true)?;
-        assert!(rt;
-            refused.starts_with(b"HTTP/1.1 405 Method Not Allowed\r\nAllow: GET, HEAD\r\n")
-        );
-        let numbers = Answer::of_text(Status::Ok, Kind::Metrics, "n 1\n".to_string(rt.alloc())?);
-        assert_eq!(rt; numbers.body.as_slice(), b"n 1\n".as_slice());
-        Ok(())
-    }
-}
