@@ -1,5 +1,5 @@
-/* Notes what the program that it is loaded into, by LD_PRELOAD, does to the files of one folder, so that peers/power.py can make
- * of them what a power cut might leave.
+/* Notes what the program that it is loaded into, by LD_PRELOAD, does to the files of one folder and of the folders in it, so that
+ * peers/power.py can make of them what a power cut might leave. A file has the name by which its path goes on from the folder's.
  *
  * POWER_FOLDER is the folder, as realpath gives it, and POWER_LOG the file to which is appended. Each call has a record before it
  * is made, with the bytes that it writes, and one once it has returned: so a write of which the second record is there before the
@@ -25,12 +25,12 @@
 #include <unistd.h>
 
 /* What a record is of: a call, which has its file's inode number or, where it is on names, these behind the record; or its return. */
-enum { WRITE = 'w', LENGTH = 't', SYNC = 's', MADE = 'c', RENAMED = 'r', UNLINKED = 'u', RETURNED = 'd' };
+enum { WRITE = 'w', LENGTH = 't', SYNC = 's', MADE = 'c', FOLDER = 'f', RENAMED = 'r', UNLINKED = 'u', RETURNED = 'd' };
 
 struct record {
     int64_t kind;
     int64_t serial; /* which call */
-    int64_t number; /* the inode number; of RETURNED what the call returned, of MADE the inode number */
+    int64_t number; /* the inode number; of RETURNED what the call returned, of MADE and FOLDER the inode number */
     int64_t at;     /* the offset, or the length that a file gets */
     int64_t size;   /* of the bytes that follow */
 };
@@ -105,20 +105,24 @@ static int64_t note_of(int fd, int kind, int64_t at, const void *bytes, size_t s
     return fstat(fd, &found) ? 0 : note(kind, 0, found.st_ino, at, bytes, size, path[folder_size] ? path + folder_size + 1 : "");
 }
 
-/* The name that a path has in the folder, or NULL where it leads elsewhere. */
-static const char *name_in(const char *path)
+/* The name that a path has in the folder or in one in it, written into `name`, or NULL where it leads elsewhere. */
+static const char *name_in(const char *path, char name[PATH_MAX])
 {
     char parent[PATH_MAX], real[PATH_MAX];
     const char *slash = strrchr(path, '/');
     if (log_fd < 0 || !slash || slash == path || (size_t)(slash - path) >= sizeof parent) return NULL;
     memcpy(parent, path, slash - path);
     parent[slash - path] = 0;
-    return realpath(parent, real) && !strcmp(real, folder) ? slash + 1 : NULL;
+    if (!realpath(parent, real) || strncmp(real, folder, folder_size)) return NULL;
+    if (!real[folder_size]) return strcpy(name, slash + 1);
+    if (real[folder_size] != '/' || snprintf(name, PATH_MAX, "%s/%s", real + folder_size + 1, slash + 1) >= PATH_MAX) return NULL;
+    return name;
 }
 
 static int opened(const char *path, int flags, mode_t mode)
 {
-    const char *name = flags & (O_CREAT | O_TRUNC) ? name_in(path) : NULL;
+    char held[PATH_MAX];
+    const char *name = flags & (O_CREAT | O_TRUNC) ? name_in(path, held) : NULL;
     struct stat found;
     int64_t serial = 0;
     int is_there = name && !stat(path, &found);
@@ -179,18 +183,30 @@ int fdatasync(int fd)
 
 int rename(const char *from, const char *to)
 {
-    const char *old = name_in(from), *new = name_in(to);
-    char names[2 * NAME_MAX + 2];
-    int size = old && new ? snprintf(names, sizeof names, "%s/%s", old, new) : 0;
+    char first[PATH_MAX], second[PATH_MAX], names[2 * PATH_MAX];
+    const char *old = name_in(from, first), *new = name_in(to, second);
+    int size = old && new ? snprintf(names, sizeof names, "%s\n%s", old, new) : 0;
     int64_t serial = size > 0 && size < (int)sizeof names ? note(RENAMED, 0, 0, 0, names, size, old) : 0;
     return returned(serial, syscall(SYS_rename, from, to));
 }
 
 int unlink(const char *path)
 {
-    const char *name = name_in(path);
+    char held[PATH_MAX];
+    const char *name = name_in(path, held);
     int64_t serial = name ? note(UNLINKED, 0, 0, 0, name, strlen(name), name) : 0;
     return returned(serial, syscall(SYS_unlink, path));
+}
+
+int mkdir(const char *path, mode_t mode)
+{
+    char held[PATH_MAX];
+    const char *name = name_in(path, held);
+    struct stat found;
+    int64_t serial = name ? note(FOLDER, 0, 0, 0, name, strlen(name), name) : 0;
+    int result = syscall(SYS_mkdirat, AT_FDCWD, path, mode);
+    if (serial) returned(serial, result || stat(path, &found) ? -1 : (int64_t)found.st_ino);
+    return result;
 }
 
 int open(const char *path, int flags, ...)

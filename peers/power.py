@@ -1,5 +1,5 @@
-"""What a power cut may leave of the files in a folder: each write that a sync has covered is there, and each later one is lost, kept
-or torn. peers/power.c, a library that is loaded into the program, notes its calls on these files."""
+"""What a power cut may leave of the files in a folder and in those in it: each write that a sync has covered is there, and each later
+one is lost, kept or torn. peers/power.c, a library that is loaded into the program, notes its calls on these files."""
 import copy
 import os
 import shutil
@@ -10,8 +10,8 @@ from collections import Counter
 # A disk writes whole sectors: a torn write leaves some of them.
 SECTOR = 512
 HEADER = struct.Struct('<5q')
-WRITE, LENGTH, SYNC, MADE, RENAMED, UNLINKED, RETURNED = (ord(letter) for letter in 'wtscrud')
-NAMES = (MADE, RENAMED, UNLINKED)
+WRITE, LENGTH, SYNC, MADE, FOLDER, RENAMED, UNLINKED, RETURNED = (ord(letter) for letter in 'wtscfrud')
+NAMES = (MADE, FOLDER, RENAMED, UNLINKED)
 # What may become of a call that changed something.
 FATES = ('covered by a sync', 'kept', 'torn', 'lost')
 COVERED, KEPT, TORN, LOST = FATES
@@ -66,8 +66,8 @@ def calls_in(log, size=-1):
         if at + size > len(held):
             break
         if kind == RETURNED:
-            # An inode number may be given again: a file that is made has it with how often that was.
-            is_made = calls[serial].kind == MADE and number >= 0
+            # An inode number may be given again: what is made has it with how often that was.
+            is_made = calls[serial].kind in (MADE, FOLDER) and number >= 0
             made[number] += is_made
             calls[serial].end, calls[serial].result = index, (number, made[number]) if is_made else number
         else:
@@ -77,14 +77,18 @@ def calls_in(log, size=-1):
 
 
 class Files:
-    """The files of a folder by number, and their names. The number of a file is that of its inode, and how often it was given anew."""
+    """The files of a folder and of those in it by number, and their names: how their paths go on from the folder's. The number of a
+    file or of a folder is that of its inode, and how often it was given anew."""
 
     def __init__(self, folder):
-        self.number, self.names, self.contents = (os.stat(folder).st_ino, 0), {}, {}
-        for name in os.listdir(folder):
-            with open(os.path.join(folder, name), 'rb') as file:
-                self.names[name] = os.stat(file.fileno()).st_ino, 0
-                self.contents[self.names[name]] = bytearray(file.read())
+        self.folders, self.names, self.contents = {}, {}, {}
+        for path, _, names in os.walk(folder):
+            self.folders['' if path == folder else os.path.relpath(path, folder)] = os.stat(path).st_ino, 0
+            for name in names:
+                with open(os.path.join(path, name), 'rb') as file:
+                    number = os.stat(file.fileno()).st_ino, 0
+                    self.names[os.path.relpath(os.path.join(path, name), folder)] = number
+                    self.contents[number] = bytearray(file.read())
 
     def by_name(self):
         """The bytes of each file."""
@@ -92,9 +96,11 @@ class Files:
 
     def name(self, call):
         """Does what a call on a name does."""
-        name, _, new = call.data.decode().partition('/')
+        name, _, new = call.data.decode().partition('\n')
         if call.kind == MADE:
             self.names[name] = call.result
+        elif call.kind == FOLDER:
+            self.folders[name] = call.result
         elif call.kind == RENAMED and name in self.names:
             self.names[new] = self.names.pop(name)
         elif call.kind == UNLINKED:
@@ -132,16 +138,18 @@ def pieces(call):
     return parts
 
 
-def covered(calls, folder_number):
-    """Whether a sync that returned has covered a call: a function of the call. A call on a name is covered by a sync of the folder."""
-    last = {}
+def covered(calls, folders):
+    """Whether a sync that returned has covered a call: a function of the call. A call on a name is covered by a sync of one of the
+    folders with these numbers, or of one that was made."""
+    last, folders = {}, {*folders, *(call.result for call in calls if call.kind == FOLDER)}
     for call in calls:
         if call.kind == SYNC and call.result == 0:
             last[call.number] = max(last.get(call.number, -1), call.begin)
 
+    last_names = max((last.get(number, -1) for number in folders), default=-1)
+
     def is_covered(call):
-        number = folder_number if call.kind in NAMES else call.number
-        return call.end is not None and call.end < last.get(number, -1)
+        return call.end is not None and call.end < (last_names if call.kind in NAMES else last.get(call.number, -1))
     return is_covered
 
 
@@ -162,7 +170,7 @@ def tear(files, call, chance):
 def cut(files, calls, chance):
     """Makes of files as they were at the start of a program what a power cut may leave after its calls. Returns how many of them were
     covered by a sync, kept, torn and lost. Calls on names are kept up to one, as a journal of a file system has them."""
-    is_covered, counts = covered(calls, files.number), Counter()
+    is_covered, counts = covered(calls, files.folders.values()), Counter()
     made = [call for call in calls if call.has_happened()]
     loss = chance.choice((0.0, 1.0, chance.random(), chance.random(), chance.random()))
     loose_names = sum(call.kind in NAMES and not is_covered(call) for call in made)
@@ -214,7 +222,8 @@ def unnoted(before, calls, folder):
 
 def put(files, folder):
     """Writes files into a new folder."""
-    os.mkdir(folder, 0o700)
+    for name in sorted(files.folders):
+        os.mkdir(os.path.join(folder, name) if name else folder, 0o700)
     for name, held in files.by_name().items():
         with open(os.path.join(folder, name), 'wb') as file:
             file.write(held)

@@ -74,21 +74,6 @@ def in_use(program, folder):
     return []
 
 
-def other_bound(program, folder):
-    """A store that was begun with another --events isn't started: status 7, and the line says with which to start."""
-    port, store = free_ports(1)[0], os.path.join(folder, 'store')
-    text = one_channel(port, [('LAB', free_ports(1)[0], [])])
-    with Service(program, text, folder, '--events', '3000', store=store) as service:
-        first = stopped(service)
-    status, printed = refused(program, folder, text, '--events', '2000', '--store', store)
-    with Service(program, text, folder, '--events', '3000', store=store) as service:
-        again = stopped(service)
-    line = last_line(printed)
-    if (first, status, again) != (0, 7, 0) or not line.startswith('store: ') or '3000' not in line:
-        return [f'another --events: status {first}, {status}, {again}, {line}']
-    return []
-
-
 def no_folder(program, folder):
     """A path that is a file is no folder of a store: status 3, and the file is as it was."""
     path = os.path.join(folder, 'file')
@@ -363,7 +348,7 @@ def stopped_without_room(program, folder, disk):
     return []
 
 
-STORES = [('in use by another process', in_use), ('another --events', other_bound), ('no folder', no_folder), ('no place', no_place),
+STORES = [('in use by another process', in_use), ('no folder', no_folder), ('no place', no_place),
           ('modes', modes), ('stop now, and on', stopped_now), ('numbers go on', numbers_go_on), ('repeats', repeats),
           ('what a command answered', commanded), ('damaged', damaged), ('lost records', lost), ('a full disk', full_disk),
           ('a stop on a full disk', full_at_stop)]

@@ -12,8 +12,7 @@ use Rattle.book_lock.specs.declared.log_entry.LogEntry.{LogEntry}
 use Rattle.book_lock.specs.Durable.{changes_of}
 use Rattle.book_lock.specs.Log.{IsLegalLog, Log, after_log}
 use Rattle.book_replay.specs.Replay.{AreReplayed, after_record, after_records}
-use Rattle.book_recovery.specs.inner.Header.{header_bytes}
-use Rattle.book_recovery.specs.inner.File.{IsRecovered, file_header, file_records, record_in, records_in, start}
+use Rattle.book_recovery.specs.inner.File.{IsRecovered, file_records, record_in, records_in}
 use Rattle.book_recovery.proofs.Files.{records_again}
 use Rattle.restart_laws.specs.Restart.{AreRecordsOf}
 use Rattle.restart_laws.proofs.Redoing.{all_answered, all_redone}
@@ -49,10 +48,6 @@ replayed_both h [] more are behind = behind
 replayed_both h (r ∷ rs) more are behind = (are.0, replayed_both (after_record h r) rs more are.1 behind)
 
 -- a file with more bodies behind its own
-same_header : (bodies more : List (List ℕ)) (first : List ℕ) (rest : List (List ℕ)) → bodies ≡ first ∷ rest → file_header (bodies ++ more) ≡ file_header bodies
-same_header bodies more first rest is =
-    ap (λ (l : List (List ℕ)). file_header (l ++ more)) is ∙ sym (ap file_header is)
-
 more_records : (bodies more : List (List ℕ)) (first : List ℕ) (rest : List (List ℕ)) → bodies ≡ first ∷ rest
     → file_records (bodies ++ more) ≡ file_records bodies ++ records_in more
 more_records bodies more first rest is =
@@ -65,23 +60,23 @@ recovered before all opening entries has legal r =
     let found = records_of has.rows (changes_of entries) has.are in
     let rs = found.its in
     let old = bodies_of before in
-    let from = start r.header r.plan in
+    let from = r.beginning in
     let bodies : bodies_of all ≡ old ++ map encoding rs =
     ap bodies_of has.behind ∙ (map-append (λ (row : Row). row.body) before has.rows ∙ ap (λ l. old ++ l) found.encoded) in
     let again : records_in (map encoding rs) ≡ rs = records_again rs found.fit in
     let records : file_records (old ++ map encoding rs) ≡ file_records old ++ rs =
-    more_records old (map encoding rs) (header_bytes r.header) (map encoding (file_records old)) r.encoded ∙ ap (λ l. file_records old ++ l) again in
+    more_records old (map encoding rs) r.first (map encoding (file_records old)) r.encoded ∙ ap (λ l. file_records old ++ l) again in
     let replays : AreReplayed (after_records from (file_records old)) rs =
     subst (λ (h : History). AreReplayed h rs) r.history (all_answered opening entries rs legal found.are) in
     subst (λ (l : List (List ℕ)). IsRecovered l (after_log opening entries)) (sym bodies) (record {
-      header = r.header;
-      plan = r.plan;
-      read = same_header old (map encoding rs) (header_bytes r.header) (map encoding (file_records old)) r.encoded ∙ r.read;
-      planned = r.planned;
+      first = r.first;
+      version = r.version;
+      beginning = r.beginning;
+      begins = r.begins;
       encoded =
           ap (λ l. l ++ map encoding rs) r.encoded
-          ∙ (ap (λ l. header_bytes r.header ∷ l) (sym (map-append encoding (file_records old) rs))
-          ∙ ap (λ l. header_bytes r.header ∷ map encoding l) (sym records));
+          ∙ (ap (λ l. r.first ∷ l) (sym (map-append encoding (file_records old) rs))
+          ∙ ap (λ l. r.first ∷ map encoding l) (sym records));
       history =
           sym (all_redone opening entries rs legal found.are)
           ∙ (ap (λ (h : History). after_records h rs) r.history ∙ (sym (after_both from (file_records old) rs) ∙ ap (after_records from) (sym records)));

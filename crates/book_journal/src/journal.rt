@@ -41,8 +41,8 @@ pub trait Journaling: Sharing {
     ghost use Rattle.std.specs.Prelude.{List};
     ghost use Rattle.event_store.specs.Records.{Record};
 
-    /// The rows that the store had when the book was shared: that of the header, and those from which the book was
-    /// recovered.
+    /// The rows that the store had when the book was shared: that of the header or the preface, and those from which the book
+    /// was recovered.
     ghost before: { List Record };
 }
 

@@ -16,7 +16,7 @@ use Rattle.book_recovery.specs.inner.Header.{AreBytes, Contents, Fits, ◌>>=◌
 
 -- ---- what fits
 
-fit : (c : Contents) → Bool
+pub fit : (c : Contents) → Bool
 fit c = nat_le 1 c.events_max && nat_le c.events_max 1000000 && nat_le (length c.version) 255 && is_utf8 c.version
 
 abbrev fitting_by : Contents → Bool → Option Contents
@@ -87,16 +87,16 @@ back c fits =
 
 -- ---- bytes that are read are the encoding of what is read
 
-record Bound {A B : Type 0} (x : Option A) (f : A → Option B) (b : B) : Type 0 where
-  value : A
-  first : x ≡ Some value
-  then : f value ≡ Some b
+pub record Bound {A B : Type 0} (x : Option A) (f : A → Option B) (b : B) : Type 0 where
+  pub value : A
+  pub first : x ≡ Some value
+  pub then : f value ≡ Some b
 
-bound : {A B : Type 0} (x : Option A) (f : A → Option B) (b : B) → (x >>= f) ≡ Some b → Bound x f b
+pub bound : {A B : Type 0} (x : Option A) (f : A → Option B) (b : B) → (x >>= f) ≡ Some b → Bound x f b
 bound (Some a) f b e = record { value = a; first = refl; then = e }
 bound None f b e = absurd cc
 
-got : {A : Type 0} (x y : A) → ◌≡◌ {A = Option A} (Some x) (Some y) → x ≡ y
+pub got : {A : Type 0} (x y : A) → ◌≡◌ {A = Option A} (Some x) (Some y) → x ≡ y
 got x y e = cc
 
 bytes_taken : (n : ℕ) (bytes : List ℕ) → n ≤ length bytes → AreBytes bytes → AreBytes (take n bytes)
@@ -106,13 +106,13 @@ bytes_taken n bytes le are i = by (nat_lt i n) refl
     by true lt = subst (λ x. x < 256) (sym (get_or-take n bytes i 0 (grind arith))) (are i)
     by false ge = subst (λ x. x < 256) (sym (get_or_past (take n bytes) i 0 (omega (arith, length-take-le n bytes le, ltb-false i n ge)))) (omega arith)
 
-bytes_dropped : (n : ℕ) (bytes : List ℕ) → AreBytes bytes → AreBytes (drop n bytes)
+pub bytes_dropped : (n : ℕ) (bytes : List ℕ) → AreBytes bytes → AreBytes (drop n bytes)
 bytes_dropped n bytes are i = subst (λ x. x < 256) (sym (get_or-drop n bytes i 0)) (are (n + i))
 
 -- bytes are these, and others behind them, which are bytes too
-record Splits (bytes front rest : List ℕ) : Type 0 where
-  is : bytes ≡ front ++ rest
-  are : AreBytes rest
+pub record Splits (bytes front rest : List ℕ) : Type 0 where
+  pub is : bytes ≡ front ++ rest
+  pub are : AreBytes rest
 
 split_at : (n : ℕ) (bytes front rest : List ℕ) → AreBytes bytes → take n bytes ≡ front → drop n bytes ≡ rest → Splits bytes front rest
 split_at n bytes front rest are first second =
@@ -121,7 +121,7 @@ split_at n bytes front rest are first second =
 abbrev number_by : List ℕ → Bool → Option (ℕ × List ℕ)
 number_by bytes short = cond short None (Some (from_be_bytes w32 (take 4 bytes), drop 4 bytes))
 
-number_only : (bytes : List ℕ) (n : ℕ) (rest : List ℕ) → AreBytes bytes → number_at w32 bytes ≡ Some (n, rest) → Splits bytes (to_be_bytes w32 n) rest
+pub number_only : (bytes : List ℕ) (n : ℕ) (rest : List ℕ) → AreBytes bytes → number_at w32 bytes ≡ Some (n, rest) → Splits bytes (to_be_bytes w32 n) rest
 number_only bytes n rest are e = by (nat_lt (length bytes) 4) refl e
   where
     by : (b : Bool) → nat_lt (length bytes) 4 ≡ b → number_by bytes b ≡ Some (n, rest) → Splits bytes (to_be_bytes w32 n) rest
@@ -196,16 +196,16 @@ ending events_max version document =
     cond (length document.1 == 0) (fitting (record { events_max = events_max; version = version; document = document.0 })) None
 
 -- bytes are the encoding of contents that pass the tests
-record IsEncoded (bytes : List ℕ) (c : Contents) : Type 0 where
-  is : bytes ≡ contents_bytes c
-  fits : fit c ≡ true
-  short : length c.document < 2 ^ 32
+pub record IsEncoded (bytes : List ℕ) (c : Contents) : Type 0 where
+  pub is : bytes ≡ contents_bytes c
+  pub fits : fit c ≡ true
+  pub short : length c.document < 2 ^ 32
 
 no_bytes : (bytes : List ℕ) → length bytes ≡ 0 → bytes ≡ []
 no_bytes [] is = refl
 no_bytes (b ∷ bytes) is = absurd cc
 
-contents_only : (bytes : List ℕ) (c : Contents) → AreBytes bytes → contents_at bytes ≡ Some c → IsEncoded bytes c
+pub contents_only : (bytes : List ℕ) (c : Contents) → AreBytes bytes → contents_at bytes ≡ Some c → IsEncoded bytes c
 unfolding contents_at
 contents_only bytes c are e =
     let a = bound (number_at w32 bytes) (λ (x : ℕ × List ℕ). text_at x.1 >>= λ (y : List ℕ × List ℕ). text_at y.1 >>= ending x.0 y.0) c e in
@@ -235,7 +235,7 @@ contents_only bytes c are e =
 
 -- ---- headers
 
-same_bytes : (a b : List ℕ) → bytes_eq a b ≡ true → a ≡ b
+pub same_bytes : (a b : List ℕ) → bytes_eq a b ≡ true → a ≡ b
 same_bytes a b same = search (rules, bytes_eq-Decides)
 
 format_only : (bytes : List ℕ) (c : Contents) → AreBytes bytes → format_in bytes ≡ Ok c

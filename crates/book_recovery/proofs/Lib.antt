@@ -1,5 +1,7 @@
 pub mod Codec
+pub mod Prefaces
 pub mod Noting
 pub mod Bodies
 pub mod Deployed
 pub mod Files
+pub mod Opened

@@ -8,14 +8,14 @@ use event_records::RecordFault;
 use std::alloc::{AllocError, AllocFailed};
 use thiserror::Error;
 
-/// Why the first record of a file is no header.
+/// Why a file doesn't begin as one of a store does.
 #[derive(Clone, Copy, Debug, PartialEq, Eq, Error)]
 pub enum HeaderFault {
-    /// There is no record, or the first doesn't begin as a header does.
+    /// There is no record, or the first begins neither as a header does nor as a preface.
     #[error("the file doesn't begin with the header of a message store")]
     NoHeader,
     /// It has another format than this program reads.
-    #[error("the file has format {0}, and this program reads format 1")]
+    #[error("the file has format {0}, and this program reads formats 1 and 2")]
     OtherFormat(u32),
     /// It ends too early or too late, or a field has a value that no header has.
     #[error("the header of the file is damaged")]
@@ -54,9 +54,12 @@ pub enum RecoveryError<'a> {
     /// An allocation was refused.
     #[error("out of memory")]
     NoMemory,
-    /// The first record is no header.
+    /// The first record is neither a header nor a preface.
     #[error("{0}")]
     Header(HeaderFault),
+    /// The first record is a preface, with no opening that can be read and from which a book can go on.
+    #[error("the opening of the file can't be read, or no book can go on from it")]
+    NoOpening,
     /// The document in the header is no plan.
     #[error("the plan in the header of the file can't be read")]
     NoPlan,

@@ -3,7 +3,7 @@
 ghost use Rattle.std.specs.Prelude.{◌≡◌, ◌<◌, ◌^◌, ◌++◌, Ok, Err, IfOk, IfErr, OnOk, length};
 ghost use Rattle.std.specs.Int.{w32};
 ghost use Rattle.std.specs.Option.{option_map};
-ghost use Rattle.book_recovery.specs.inner.Header.{Fits, contents_at, contents_of, fitting, format_in, header_bytes, header_in, number_at, text_at, text_bytes};
+ghost use Rattle.book_recovery.specs.inner.Header.{Fits, contents_at, contents_bytes, contents_of, fitting, format_in, header_bytes, header_in, number_at, text_at, text_bytes};
 
 use crate::fault::HeaderFault;
 use fixed_numbers::EVENTS_MAX;
@@ -40,6 +40,16 @@ fn put_text(out: &mut Vec<u8>, text: &[u8]) -> Result<(), AllocError>
     out.extend_from_slice(text)
 }
 
+/// Appends what a header says behind the number of its format.
+pub(crate) fn put_contents(out: &mut Vec<u8>, header: &Header<'_>) -> Result<(), AllocError>
+    ensures bytes { OnOk result (out.new.items ≡ out.old.items ++ contents_bytes (contents_of header.now)) }
+    ensures document { OnOk result (length header.now.document.now < 2 ^ 32) }
+{
+    out.extend_from_slice(&header.events_max.to_be_bytes())?;
+    put_text(out, header.version.as_bytes())?;
+    put_text(out, header.document)
+}
+
 /// The header's encoding.
 ///
 /// # Errors
@@ -52,14 +62,12 @@ pub fn write_header(alloc: Global, header: &Header<'_>) -> Result<Vec<u8>, Alloc
     let mut out = Vec::new(alloc);
     out.extend_from_slice(&MAGIC)?;
     out.extend_from_slice(&FORMAT.to_be_bytes())?;
-    out.extend_from_slice(&header.events_max.to_be_bytes())?;
-    put_text(&mut out, header.version.as_bytes())?;
-    put_text(&mut out, header.document)?;
+    put_contents(&mut out, header)?;
     Ok(out)
 }
 
 /// A number of four bytes, and the bytes behind it.
-fn u32_at(bytes: &[u8]) -> Option<(u32, &[u8])>
+pub(crate) fn u32_at(bytes: &[u8]) -> Option<(u32, &[u8])>
     ensures { option_map (λ x. (x.0, x.1.now)) result ≡ number_at w32 bytes.now }
 {
     if bytes.len() < 4 {
@@ -103,7 +111,7 @@ fn fitting<'a>(events_max: u32, version: &'a [u8], document: &'a [u8]) -> Option
 
 /// What bytes say behind the format of a header.
 #[tactic(auto, unfolding(crate::specs::inner::Header::contents_at))]
-fn contents_at(bytes: &[u8]) -> Option<Header<'_>>
+pub(crate) fn contents_at(bytes: &[u8]) -> Option<Header<'_>>
     ensures { option_map contents_of result ≡ contents_at bytes.now }
 {
     let (events_max, rest) = u32_at(bytes)?;

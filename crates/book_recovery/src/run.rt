@@ -1,36 +1,34 @@
 //! A book is recovered from the records of a file.
 
 ghost use Rattle.std.specs.Prelude.{◌≡◌, ◌+◌, ◌<◌, ◌≤◌, ℕ, IfErr, IfOk, OnOk, Ok, Some, length, map, max};
-ghost use Rattle.std.specs.Arc.{arc_value};
-ghost use Rattle.plan_text.specs.Document.{plan_in};
 ghost use Rattle.event_log.specs.History.{History};
 ghost use Rattle.event_records.specs.inner.Encoding.{encoding};
 ghost use Rattle.book_replay.specs.Replay.{IsBooked, StopsAt};
-ghost use Rattle.book_recovery.specs.Seen.{last_connection, last_moment, last_second};
-ghost use Rattle.book_recovery.specs.inner.File.{IsFailure, IsPlanFailure, IsProblem, IsRecovered, StopsAtBody, bodies_of, file_records, last_second_in, record_in};
+ghost use Rattle.book_recovery.specs.Seen.{last_second};
+ghost use Rattle.book_recovery.specs.inner.File.{IsFailure, IsProblem, IsRecovered, StopsAtBody, bodies_of, last_connection_in, last_second_in, record_in};
+ghost use Rattle.book_recovery.specs.inner.Preface.{later_of};
 ghost use Rattle.book_recovery.specs.inner.Redone.{HasRedone, IsRedone};
 
 use crate::fault::{HeaderFault, RecordProblem, RecoveryError, Stop};
-use crate::header::read_header;
+use crate::opening::{Begun, beginning};
+use crate::preface::later_of;
 use crate::seen::{Seen, last_second};
 use book_core::{Book, BookRows};
 use book_replay::{ReplayFault, replay};
 use event_records::{ReadError, Record, read_record};
 use event_store::StoredRecord;
-use plan_text::{Plan, PlanFaultKind};
 use std::alloc::Global;
 use std::hash::RandomState;
-use std::sync::Arc;
-use std::{slice, str};
+use std::slice;
 
 /// A book that was recovered, with what its records say beside it.
 #[derive(Drop)]
 pub struct Recovered<S: BookRows> {
     /// The book.
     pub book: Book<S>,
-    /// How many records are behind the header.
+    /// How many records are behind the first, which is a header or a preface.
     pub records: usize,
-    /// The highest number of a connection over which a message arrived, if one did.
+    /// The highest number of a connection that a message can have come over, if one came.
     pub last_connection: Option<u32>,
     /// The last moment in the file, of a row, a take or a settlement, in seconds since 1970.
     pub last_second: u64,
@@ -108,41 +106,29 @@ fn redo_all<S: BookRows>(
     Ok(seen)
 }
 
-/// The plan of a document.
-fn plan_of<'a>(alloc: Global, document: &[u8]) -> Result<Arc<Plan>, RecoveryError<'a>>
-    ensures read { IfOk result (λ plan. plan_in document.now ≡ Ok (arc_value plan)) }
-    ensures no_plan { IfErr result (λ e. IsPlanFailure e document.now) }
-{
-    if str::from_utf8(document).is_err() {
-        return Err(RecoveryError::NoPlan);
-    }
-    match Plan::read(alloc, document) {
-        Ok(plan) => Ok(Arc::new(alloc, plan)?),
-        Err(fault) => Err(match fault.name {
-            PlanFaultKind::NoMemory => RecoveryError::NoMemory,
-            _ => RecoveryError::NoPlan,
-        }),
-    }
-}
-
 /// Gives up a book whose recovery has stopped.
 fn give_up<S: BookRows + Drop>(book: Book<S>) {
     drop(book);
 }
 
-/// What was recovered from rows, of which the first is the header's.
-fn with_seen<S: BookRows>(book: Book<S>, seen: Seen, rows: &[StoredRecord]) -> Recovered<S>
-    requires header { 1 ≤ length rows.now }
+/// What was recovered from rows, before the second of which this was the last connection, if there was one.
+fn with_seen<S: BookRows>(
+    book: Book<S>,
+    last_connection: Option<u32>,
+    seen: Seen,
+    rows: &[StoredRecord],
+) -> Recovered<S>
+    requires first { 1 ≤ length rows.now }
     ensures book { result.book ≡ book }
     ensures records { result.records + 1 ≡ length rows.now }
-    ensures connection { result.last_connection ≡ seen.connection }
+    ensures connection { result.last_connection ≡ later_of last_connection seen.connection }
     ensures second { result.last_second ≡ max (last_second (map (λ r. r.at) rows.now)) seen.moment }
 {
     let last = last_second(rows);
     Recovered {
         book,
         records: rows.len() - 1,
-        last_connection: seen.connection,
+        last_connection: later_of(last_connection, seen.connection),
         last_second: if last > seen.moment {
             last
         } else {
@@ -151,49 +137,50 @@ fn with_seen<S: BookRows>(book: Book<S>, seen: Seen, rows: &[StoredRecord]) -> R
     }
 }
 
-/// Recovers the book of a file from its records: makes an empty book of the plan and the bound in the file's header, which is
-/// the first record, and books the event of each other record again, in their order. Each arrival gets the answer that its
+/// Recovers the book of a file from its records: takes the book with which the file begins, and books the event of each record
+/// behind the first again, in their order. Where the first record is a header, the file begins with an empty book of the plan and
+/// the bound in it; where it is a preface, with the book that goes on from the opening in it. Each arrival gets the answer that its
 /// sender was given. The keys of the book are hashed by `hasher`.
 ///
 /// It holds one decoded record at a time.
 ///
 /// # Errors
 ///
-/// Where there is no header that can be read, the document in it is no plan, or memory is refused; and at the first record
-/// that can't be read, that the book refuses, or that it answers otherwise than its sender was answered.
+/// Where there is neither a header nor a preface that can be read, the document of a header is no plan, no book can go on from the
+/// opening of a preface, or memory is refused; and at the first record that can't be read, that the book refuses, or that it answers
+/// otherwise than its sender was answered.
 pub fn recover<S: BookRows + Drop>(
     alloc: Global,
     rows: &[StoredRecord],
     hasher: RandomState,
 ) -> Result<Recovered<S>, RecoveryError<'_>>
-    // The rows are the encodings of a header and of records, in order, and the history is what the sequential engine makes of
-    // these records.
+    // The rows are a header or a preface and the encodings of records, in order, and the history is what the sequential engine
+    // makes of these records.
     ensures recovered { IfOk result (λ r. IsRecovered (bodies_of rows.now) r.book) }
     ensures records { IfOk result (λ r. r.records + 1 ≡ length rows.now) }
-    ensures connection { IfOk result (λ r. r.last_connection ≡ last_connection (file_records (bodies_of rows.now))) }
+    ensures connection { IfOk result (λ r. r.last_connection ≡ last_connection_in (bodies_of rows.now)) }
     ensures second { IfOk result (λ r. r.last_second ≡ last_second_in rows.now) }
     ensures failure { IfErr result (IsFailure (bodies_of rows.now)) }
 {
     let [first, behind @ ..] = rows else {
         return Err(RecoveryError::Header(HeaderFault::NoHeader));
     };
-    let header = match read_header(first.body.as_slice()) {
-        Ok(header) => header,
-        Err(fault) => return Err(RecoveryError::Header(fault)),
-    };
-    let plan = match plan_of(alloc, header.document) {
-        Ok(plan) => plan,
+    let Begun {
+        mut book,
+        version,
+        last_connection,
+    } = match beginning::<S>(alloc, first.body.as_slice(), hasher) {
+        Ok(begun) => begun,
         Err(error) => return Err(error),
     };
-    let mut book = Book::new(alloc, plan, header.events_max, hasher);
     match redo_all(alloc, &mut book, behind) {
-        Ok(seen) => Ok(with_seen(book, seen, rows)),
+        Ok(seen) => Ok(with_seen(book, last_connection, seen, rows)),
         Err((index, problem)) => {
             give_up(book);
             Err(RecoveryError::Stopped(Stop {
                 index: index + 1,
                 problem,
-                version: header.version,
+                version,
             }))
         }
     }

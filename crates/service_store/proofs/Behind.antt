@@ -10,8 +10,7 @@ use Rattle.event_records.specs.declared.record.Record.{Record}
 use Rattle.event_records.specs.inner.Fields.{Fits}
 use Rattle.event_records.specs.inner.Encoding.{encoding}
 use Rattle.book_replay.specs.Replay.{AreReplayed, IsBooked, after_record, after_records}
-use Rattle.book_recovery.specs.inner.Header.{header_bytes}
-use Rattle.book_recovery.specs.inner.File.{IsRecovered, bodies_of, file_header, file_records, record_in, records_in, start}
+use Rattle.book_recovery.specs.inner.File.{IsRecovered, bodies_of, file_records, record_in, records_in}
 use Rattle.book_recovery.proofs.Files.{records_again}
 use Rattle.service_store.specs.inner.Starting.{AreBooked}
 
@@ -39,10 +38,6 @@ booked_both h m k rs more one two = record {
 
 -- ---- a file with more bodies behind its own
 
-same_header : (bodies more : List (List ℕ)) (first : List ℕ) (rest : List (List ℕ)) → bodies ≡ first ∷ rest → file_header (bodies ++ more) ≡ file_header bodies
-same_header bodies more first rest is =
-    ap (λ (l : List (List ℕ)). file_header (l ++ more)) is ∙ sym (ap file_header is)
-
 more_records : (bodies more : List (List ℕ)) (first : List ℕ) (rest : List (List ℕ)) → bodies ≡ first ∷ rest
     → file_records (bodies ++ more) ≡ file_records bodies ++ records_in more
 more_records bodies more first rest is =
@@ -52,21 +47,21 @@ more_records bodies more first rest is =
 pub recovered_behind : (bodies : List (List ℕ)) (h k : History) (rs : List Record) → IsRecovered bodies h → AreBooked h k rs → AllByRecursion Fits rs
     → IsRecovered (bodies ++ map encoding rs) k
 recovered_behind bodies h k rs r booked fits =
-    let from = start r.header r.plan in
+    let from = r.beginning in
     let old = file_records bodies in
     let records : file_records (bodies ++ map encoding rs) ≡ old ++ rs =
-    more_records bodies (map encoding rs) (header_bytes r.header) (map encoding old) r.encoded ∙ ap (λ l. old ++ l) (records_again rs fits) in
+    more_records bodies (map encoding rs) r.first (map encoding old) r.encoded ∙ ap (λ l. old ++ l) (records_again rs fits) in
     let all : AreBooked from k (old ++ rs) =
     booked_both from h k old rs (record { history = r.history; replayed = r.replayed }) booked in
     record {
-      header = r.header;
-      plan = r.plan;
-      read = same_header bodies (map encoding rs) (header_bytes r.header) (map encoding old) r.encoded ∙ r.read;
-      planned = r.planned;
+      first = r.first;
+      version = r.version;
+      beginning = r.beginning;
+      begins = r.begins;
       encoded =
           ap (λ l. l ++ map encoding rs) r.encoded
-          ∙ (ap (λ l. header_bytes r.header ∷ l) (sym (map-append encoding old rs))
-          ∙ ap (λ l. header_bytes r.header ∷ map encoding l) (sym records));
+          ∙ (ap (λ l. r.first ∷ l) (sym (map-append encoding old rs))
+          ∙ ap (λ l. r.first ∷ map encoding l) (sym records));
       history = all.history ∙ ap (after_records from) (sym records);
       replayed = subst (AreReplayed from) (sym records) all.replayed;
     }

@@ -19,7 +19,6 @@ use Rattle.event_records.specs.declared.record.Record.{Record}
 use Rattle.event_records.specs.declared.record.Record.TheVariants.{Arrival, Take, Settle, Cancel, Deploy, Prune}
 use Rattle.book_replay.specs.Replay.{after_reading, after_record, after_records}
 use Rattle.book_replay.specs.inner.Flights.{flights, settled_again}
-use Rattle.book_recovery.specs.inner.File.{IsRecovered, file_records, start}
 use Rattle.service_store.specs.inner.Starting.{IsCaughtUp, IsPlanned}
 
 -- ---- settlements leave the plan
@@ -75,9 +74,6 @@ record_bound h (Prune before) = refl
 pub records_bound : (h : History) (rs : List Record) → bound (after_records h rs) ≡ bound h
 records_bound h [] = refl
 records_bound h (r ∷ rs) = records_bound (after_record h r) rs ∙ record_bound h r
-
-pub recovered_bound : (bodies : List (List ℕ)) (h : History) → (r : IsRecovered bodies h) → bound h ≡ r.header.events_max
-recovered_bound bodies h r = ap bound r.history ∙ records_bound (start r.header r.plan) (file_records bodies)
 
 -- ---- what a start is caught up with
 

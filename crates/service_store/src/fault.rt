@@ -3,10 +3,11 @@
 ghost use Rattle.std.specs.Prelude.{◌≡◌, ℕ, List};
 ghost use Rattle.book_recovery.specs.inner.File.{IsFailure};
 ghost use Rattle.service_store.specs.declared.fault.BookFault.TheVariants.{NoMemory};
-ghost use Rattle.service_store.specs.inner.Faults.{IsBookFailure, IsWriteFailure, book_status, holds_status, numbers_status, start_status};
+ghost use Rattle.service_store.specs.inner.Faults.{IsBookFailure, IsWriteFailure, book_status, holds_status, next_status, numbers_status, start_status};
 
-use book_recovery::{HeaderFault, RecordProblem, RecoveryError, Stop};
+use book_recovery::{HeaderFault, NextFault, RecordProblem, RecoveryError, Stop};
 use book_replay::ReplayFault;
+use event_log::PruneRefusal;
 use sqlite_trees::error::StoreError;
 use std::alloc::{AllocError, AllocFailed, Global};
 use std::io;
@@ -18,9 +19,12 @@ pub enum BookFault {
     /// An allocation was refused.
     #[error("out of memory")]
     NoMemory,
-    /// The first record is no header.
+    /// The first record is neither a header nor a preface.
     #[error("{0}: name the folder of a store that this version of the program reads")]
     Header(HeaderFault),
+    /// The first record is a preface, with no opening that can be read and from which a book can go on.
+    #[error("the opening of the store can't be read, or no book can go on from it: restore the file")]
+    NoOpening,
     /// The document in the header is no plan.
     #[error("the plan in the header can't be read: start the version of the program that began the store")]
     NoPlan,
@@ -34,8 +38,8 @@ pub enum BookFault {
         /// The version of the program that began the store.
         version: String,
     },
-    /// The book of the store may hold another number of entries than the command line asks for.
-    #[error("the store was begun with --events {bound}, and the command line has {asked}: start with --events {bound}")]
+    /// The book of the store may hold another number of entries than the command line asks for, and can't go on with that.
+    #[error("the store was begun with --events {bound}, and can't go on with {asked}, as the command line has it: start with --events {bound}")]
     OtherBound {
         /// The most entries of the store's book.
         bound: u32,
@@ -84,6 +88,29 @@ pub enum HoldsFault {
     Write(io::Error),
 }
 
+/// Why a store doesn't go on in a new file.
+#[derive(Debug, Drop, Error)]
+pub enum NextError {
+    /// An allocation was refused.
+    #[error("out of memory")]
+    NoMemory,
+    /// No file goes on from the book.
+    #[error("{0}")]
+    Book(NextFault),
+    /// The entries of the book aren't folded.
+    #[error("{0}")]
+    Prune(PruneRefusal),
+    /// The new store can't be made or written.
+    #[error("{0}")]
+    Disk(StoreError),
+    /// What is at the path of the new store is no store.
+    #[error("something else is at its path")]
+    NotAStore,
+    /// A file can't be made, moved or removed.
+    #[error("{0}")]
+    File(io::Error),
+}
+
 /// What went wrong at a start.
 #[derive(Debug, Drop, Error)]
 pub enum StartFault {
@@ -128,6 +155,9 @@ pub enum StartFault {
     /// The book of the store isn't started.
     #[error("{0}")]
     Book(BookFault),
+    /// No new file, with the bound that the command line asks for, goes on from the store.
+    #[error("no new file goes on from it with the --events of the command line: {0}")]
+    Next(NextError),
     /// No number of a connection is reserved.
     #[error("{0}")]
     Numbers(NumbersFault),
@@ -164,7 +194,7 @@ impl<T: Drop> From<AllocFailed<T>> for BookFault {
 
 /// A recovery that stopped at a record.
 fn stopped(alloc: Global, stop: Stop<'_>) -> BookFault
-    ensures { (asked : ℕ) (bodies : List (List ℕ)) → IsFailure bodies (RecoveryError.Stopped stop.entry) → IsBookFailure asked bodies result }
+    ensures { (bodies : List (List ℕ)) → IsFailure bodies (RecoveryError.Stopped stop.entry) → IsBookFailure bodies result }
 {
     if stop.problem == RecordProblem::Replay(ReplayFault::NoMemory) {
         return BookFault::NoMemory;
@@ -182,11 +212,12 @@ fn stopped(alloc: Global, stop: Stop<'_>) -> BookFault
 impl BookFault {
     /// Why no book was recovered.
     pub(crate) fn of_recovery(alloc: Global, error: RecoveryError<'_>) -> BookFault
-        ensures { (asked : ℕ) (bodies : List (List ℕ)) → IsFailure bodies error.entry → IsBookFailure asked bodies result }
+        ensures { (bodies : List (List ℕ)) → IsFailure bodies error.entry → IsBookFailure bodies result }
     {
         match error {
             RecoveryError::NoMemory => BookFault::NoMemory,
             RecoveryError::Header(fault) => BookFault::Header(fault),
+            RecoveryError::NoOpening => BookFault::NoOpening,
             RecoveryError::NoPlan => BookFault::NoPlan,
             RecoveryError::Stopped(stop) => stopped(alloc, stop),
         }
@@ -209,6 +240,7 @@ impl BookFault {
         match self {
             BookFault::NoMemory => 3,
             BookFault::Header(_)
+            | BookFault::NoOpening
             | BookFault::NoPlan
             | BookFault::Stopped { .. }
             | BookFault::OtherBound { .. } => 7,
@@ -259,6 +291,43 @@ impl HoldsFault {
     }
 }
 
+impl NextError {
+    /// Why the entries of a book aren't folded.
+    pub(crate) fn of_refusal(refusal: PruneRefusal) -> NextError {
+        match refusal {
+            PruneRefusal::NoMemory => NextError::NoMemory,
+            refusal => NextError::Prune(refusal),
+        }
+    }
+
+    /// What failed at a write of the new store.
+    pub(crate) fn of_write(fault: BookFault) -> NextError {
+        match fault {
+            BookFault::Write(error) => NextError::Disk(error),
+            _ => NextError::NoMemory,
+        }
+    }
+
+    /// What the system said of a file.
+    pub(crate) fn of_io(error: io::Error) -> NextError {
+        match error.kind() {
+            io::ErrorKind::OutOfMemory => NextError::NoMemory,
+            _ => NextError::File(error),
+        }
+    }
+
+    /// The exit status of a program that ends for it.
+    pub fn status(&self) -> u8
+        ensures { result ≡ next_status self.now }
+    {
+        match self {
+            NextError::NoMemory => 3,
+            NextError::Book(_) | NextError::Prune(_) | NextError::NotAStore => 7,
+            NextError::Disk(_) | NextError::File(_) => 6,
+        }
+    }
+}
+
 impl StartFault {
     /// The end of the path of what it is about: nothing for the folder.
     fn file(&self) -> &'static str {
@@ -291,6 +360,7 @@ impl StartFault {
             | StartFault::Lost { .. } => 7,
             StartFault::Disk(_) => 6,
             StartFault::Book(fault) => fault.status(),
+            StartFault::Next(error) => error.status(),
             StartFault::Numbers(fault) => fault.status(),
             StartFault::Holds(fault) => fault.status(),
         }

@@ -13,7 +13,7 @@ const FOLDER_MODE: u32 = 0o700;
 pub(crate) const FILE_MODE: u32 = 0o600;
 
 /// Makes the folder, where nothing is at its path.
-fn make(rt: &HostRuntime, folder: &str) -> io::Result<()> {
+pub(crate) fn make(rt: &HostRuntime, folder: &str) -> io::Result<()> {
     match DirBuilder::new().mode(FOLDER_MODE).create(rt, folder) {
         // The mode is that whatever the umask of the process takes away.
         Ok(()) => fs::set_permissions(rt, folder, Permissions::from_mode(FOLDER_MODE)),

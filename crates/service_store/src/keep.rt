@@ -49,7 +49,7 @@ fn destination_name(plan: &Plan, index: u32) -> &str {
     }
 }
 
-/// What the row of a record of a start says to people: it is of a deployment, or of a settlement.
+/// What the row of a record of a start says to people: it is of a deployment, a settlement or a pruning.
 fn columns_of<'a, B: BookRows>(book: &'a Book<B>, item: &Record, at: i64) -> Columns<'a> {
     match item {
         Record::Settle { ticket, .. } => Columns {
@@ -62,6 +62,7 @@ fn columns_of<'a, B: BookRows>(book: &'a Book<B>, item: &Record, at: i64) -> Col
             destination: destination_name(book.plan(), ticket.destination),
             outcome: outcome_text(book.status(ticket.number, ticket.destination)),
         },
+        Record::Prune { .. } => bare("pruning", at),
         _ => bare("deployment", at),
     }
 }
@@ -158,19 +159,21 @@ fn commit<S: Store>(events: &mut EventStore<S>) -> Result<(), BookFault>
     }
 }
 
-/// Appends the header of a new store, as of this moment in milliseconds since 1970, and commits it.
+/// Appends the first record of a new store, a header or a preface, with its kind in its row, as of this moment in milliseconds since
+/// 1970, and commits it.
 ///
 /// # Errors
 ///
 /// `Write` and `NoMemory`: what was appended is dropped when the store is opened again.
-pub(crate) fn keep_header<S: Store>(
+pub(crate) fn keep_first<S: Store>(
     events: &mut EventStore<S>,
-    header: &[u8],
+    kind: &'static str,
+    first: &[u8],
     at: i64,
 ) -> Result<(), BookFault>
     ensures added { OnOk result (IsClean (S.Store.view events.new.store)
         → bodies_in (S.Store.view events.new.store).trees
-        ≡ bodies_in (S.Store.view events.old.store).trees ++ header.now ∷ []) }
+        ≡ bodies_in (S.Store.view events.old.store).trees ++ first.now ∷ []) }
     ensures durable { OnOk result (AreDurable (S.Store.view events.new.store)
         (S.Store.recovers events.new.store) (records_in (S.Store.view events.new.store).trees)) }
     ensures clean { doubt (S.Store.view events.old.store).is_clean
@@ -178,7 +181,7 @@ pub(crate) fn keep_header<S: Store>(
     ensures first { events.new.first ≡ events.old.first }
     ensures failure { IfErr result IsWriteFailure }
 {
-    append(events, header, &bare("header", at))?;
+    append(events, first, &bare(kind, at))?;
     commit(events)
 }
 

@@ -3,6 +3,7 @@
 //!
 //! The folder has the files `events.db` and `events.db-wal`, the store; `connections`, the first number of a connection that was
 //! never reserved; `records`, how many records the store has had at least; and `holds`, the names of the destinations that are held.
+//! While a store goes on in a new file, that is `next.db`; the old ones are in the folder `archive`.
 #![tactic(auto)]
 
 mod close;
@@ -10,16 +11,20 @@ mod fault;
 mod folder;
 mod holds;
 mod keep;
+mod next;
 mod numbers;
 mod open;
+mod reading;
 mod replacing;
 mod start;
+mod swap;
 mod witness;
 
 pub use close::close_store;
-pub use fault::{BookFault, HoldsFault, NumbersFault, StartError, StartFault};
+pub use fault::{BookFault, HoldsFault, NextError, NumbersFault, StartError, StartFault};
 pub use holds::{HoldsFile, StoredHolds};
 pub use numbers::ConnectionNumbers;
-pub use open::{ServiceStore, start_in_folder};
+pub use open::{NextFile, ServiceStore, start_in_folder};
+pub use reading::{StoppedBook, read_stopped};
 pub use start::{StartRequest, Started, start_book};
 pub use witness::Witness;

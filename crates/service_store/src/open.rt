@@ -1,38 +1,61 @@
 //! The folder of a service's store is opened.
 
-ghost use Rattle.std.specs.Prelude.{◌≡◌, ◌≤◌, ◌<◌, ◌↔◌, None, IfOk, IfSome, length};
+ghost use Rattle.std.specs.Prelude.{◌≡◌, ◌≤◌, ◌<◌, ◌↔◌, [], None, IfOk, IfSome, length};
 ghost use Rattle.std.specs.Arc.{arc_value};
 ghost use Rattle.sqlite_store.specs.FileStore.{recovers, view};
 ghost use Rattle.event_log.specs.History.{plan_in_force};
 ghost use Rattle.sqlite_trees.specs.View.{IsClean};
 ghost use Rattle.event_store.specs.Records.{AreDurable, records_in};
 ghost use Rattle.book_recovery.specs.inner.File.{IsRecovered};
-ghost use Rattle.service_store.specs.inner.Starting.{AreReadOf, bodies_in};
+ghost use Rattle.service_store.specs.inner.Starting.{AreReadOf, bodies_in, is_followed};
 
-use crate::fault::{StartError, StartFault};
+use crate::close::{close_store, settled};
+use crate::fault::{BookFault, NextError, StartError, StartFault};
 use crate::folder::{make_folder, set_modes};
 use crate::holds::StoredHolds;
+use crate::next::{
+    FoldError, Folded, NextRequest, PRUNINGS_FEW, RECORDS_LONG, begin_next, fold_book,
+};
 use crate::numbers::ConnectionNumbers;
-use crate::start::{StartRequest, Started, found, start_book};
+use crate::start::{StartRequest, Started, found, later, millis, of_bound, start_book};
+use crate::swap::{NEXT_NAME, finish_next, finish_swap, locked, swap};
 use crate::witness::Witness;
-use book_core::BookRows;
-use book_recovery::VERSION_MAX;
+use book_core::{Book, BookRows};
+use book_recovery::{NextFault, VERSION_MAX};
 use event_file::{FileError, create_at, open_at};
-use event_store::Opened;
+use event_store::{EventStore, Opened};
 use sqlite_std_file::{File, Unknown};
 use sqlite_store::FileStore;
 use sqlite_trees::error::StoreError;
+use sqlite_trees::store::Store;
 use std::hash::{BuildHasher, RandomState};
 use std::io;
+use std::sync::Arc;
 
 /// The number of the first record.
-const FIRST_RECORD: u64 = 1;
+pub(crate) const FIRST_RECORD: u64 = 1;
+
+/// Whether the file of a store is followed by a new one at a start.
+#[derive(Debug, Drop)]
+pub enum NextFile {
+    /// It isn't: it is not long, and its book may hold as many entries as the command line asks for.
+    Kept,
+    /// It is, and was moved to this path.
+    Begun {
+        /// The path.
+        archived: String,
+    },
+    /// It is long, and goes on all the same: this is why no new file was begun.
+    Stayed(NextError),
+}
 
 /// What a service starts from.
 #[derive(Drop)]
 pub struct ServiceStore<B: BookRows> {
     /// Its book, and its store.
     pub started: Started<FileStore<File>, B>,
+    /// Whether its file is a new one, which goes on from the last.
+    pub next: NextFile,
     /// The numbers of its connections, of which some are reserved.
     pub connections: ConnectionNumbers,
     /// How many records it has had at least.
@@ -53,7 +76,7 @@ impl StartFault {
     }
 
     /// What the system said of a file.
-    fn of_io(error: io::Error) -> StartFault {
+    pub(crate) fn of_io(error: io::Error) -> StartFault {
         match error.kind() {
             io::ErrorKind::OutOfMemory => StartFault::NoMemory,
             _ => StartFault::File(error),
@@ -93,6 +116,18 @@ impl From<FileError> for StartFault {
     }
 }
 
+impl NextError {
+    /// Why a new file isn't made.
+    fn of_file(error: FileError) -> NextError {
+        match StartFault::from(error) {
+            StartFault::NoMemory => NextError::NoMemory,
+            StartFault::File(error) => NextError::File(error),
+            StartFault::Disk(error) => NextError::Disk(error),
+            _ => NextError::NotAStore,
+        }
+    }
+}
+
 /// Makes the file of a store, or opens it where a database is in it. A file whose making was cut off is made: what opens it first
 /// would take it for a damaged one.
 fn open_or_create(
@@ -115,7 +150,7 @@ fn open_or_create(
     }
 }
 
-/// Opens the file of the store in a folder, or makes it.
+/// Opens the file of the store in a folder, or makes it. What an earlier start has left half done is finished first.
 fn open_events(
     rt: &HostRuntime,
     folder: &str,
@@ -126,6 +161,9 @@ fn open_events(
     let Ok(path) = format!(in rt.alloc(); "{folder}/events.db") else {
         return Err(StartFault::NoMemory);
     };
+    if let Err(error) = finish_swap(rt, folder) {
+        return Err(StartFault::of_io(error));
+    }
     let opened = open_or_create(rt, path.as_str(), hasher.hash_one(&0u8))?;
     match set_modes(rt, path.as_str()) {
         Ok(()) => Ok(opened),
@@ -152,30 +190,333 @@ fn reserved(
     }
 }
 
+/// A store that was opened and started.
+#[derive(Drop)]
+struct Opening<B: BookRows> {
+    started: Started<FileStore<File>, B>,
+    witness: Witness,
+    /// How many records were found in it.
+    found: u64,
+}
+
+/// Opens the store in a folder, and starts its book.
+fn open_book<B: BookRows + Drop>(
+    rt: &HostRuntime,
+    folder: &str,
+    request: StartRequest<'_>,
+) -> Result<Opening<B>, StartFault>
+    requires some { 1 ≤ request.events_max }
+    requires few { request.events_max ≤ 1000000 }
+    requires version { length request.version.now ≤ VERSION_MAX }
+    ensures recovered { IfOk result (λ s. IsClean (view s.started.store.store)
+        → IsRecovered (bodies_in (view s.started.store.store).trees) s.started.book) }
+    ensures durable { IfOk result (λ s. AreDurable (view s.started.store.store)
+        (recovers s.started.store.store) (records_in (view s.started.store.store).trees)) }
+    ensures plan { IfOk result (λ s. (s.started.kept_plan ≡ None)
+        ↔ (plan_in_force s.started.book ≡ arc_value request.entry.plan)) }
+{
+    let (Ok(seeder), Ok(hasher)) = (RandomState::new(rt), RandomState::new(rt)) else {
+        return Err(StartFault::NoRandom);
+    };
+    let opened = open_events(rt, folder, &seeder)?;
+    let found = found(&opened);
+    let witness = Witness::open(rt, folder, found)?;
+    match start_book(rt.alloc(), opened, request, hasher) {
+        Ok(started) => Ok(Opening {
+            started,
+            witness,
+            found,
+        }),
+        Err(fault) => Err(StartFault::Book(fault)),
+    }
+}
+
+/// Makes the new file of a store, whole, under the name that it has until the old one is moved.
+fn write_next<B: BookRows + Drop>(
+    rt: &HostRuntime,
+    folder: &str,
+    book: &Book<B>,
+    request: NextRequest<'_>,
+) -> Result<(), NextError>
+    requires folded { book.now.entries ≡ [] }
+    requires some { 1 ≤ request.events_max }
+    requires few { request.events_max ≤ 1000000 }
+    requires version { length request.version.now ≤ VERSION_MAX }
+{
+    let (Ok(seeder), Ok(hasher)) = (RandomState::new(rt), RandomState::new(rt)) else {
+        return Err(NextError::NoMemory);
+    };
+    let Ok(path) = format!(in rt.alloc(); "{folder}/{NEXT_NAME}") else {
+        return Err(NextError::NoMemory);
+    };
+    let seed = seeder.hash_one(&0u8);
+    let (events, _) = match create_at(rt, path.as_str(), FIRST_RECORD, seed, Unknown) {
+        Ok(created) => created,
+        Err(error) => return Err(NextError::of_file(error)),
+    };
+    if let Err(error) = set_modes(rt, path.as_str()) {
+        return Err(NextError::of_io(error));
+    }
+    let events = match begin_next(rt.alloc(), events, book, request, hasher) {
+        Ok(events) => events,
+        Err(error) => return Err(error),
+    };
+    if let Err(error) = close_store(events) {
+        return Err(NextError::Disk(error));
+    }
+    match finish_next(rt, folder) {
+        Ok(()) => Ok(()),
+        Err(error) => Err(NextError::of_io(error)),
+    }
+}
+
+/// The store alone. Its book is given up.
+fn without_book<S: Store, B: BookRows + Drop>(folded: Folded<S, B>) -> EventStore<S> {
+    let Folded { store, book } = folded;
+    drop(book);
+    store
+}
+
+/// Gives up a store and its book. The store is opened again.
+fn give_up<S: Store + Drop, B: BookRows + Drop>(folded: Folded<S, B>) {
+    drop(folded);
+}
+
+/// Closes a store, and puts the new file in the place of its file.
+///
+/// # Errors
+///
+/// Where the old store isn't closed in order.
+fn close_and_swap(
+    rt: &HostRuntime,
+    folder: &str,
+    second: u64,
+    store: EventStore<FileStore<File>>,
+) -> Result<NextFile, StartFault> {
+    let _files = match settled(store) {
+        Ok(files) => files,
+        Err(error) => return Err(StartFault::Disk(error)),
+    };
+    match swap(rt, folder, second) {
+        Ok(archived) => Ok(NextFile::Begun { archived }),
+        Err(error) => Ok(NextFile::Stayed(NextError::of_io(error))),
+    }
+}
+
+/// Puts a new file, with this bound, in the place of a store's file: folds the entries of its book, makes the new file, and moves the
+/// old one. The store is closed.
+///
+/// # Errors
+///
+/// Where the old store isn't written or closed in order. It is opened again by a later start.
+fn follow<B: BookRows + Drop>(
+    rt: &HostRuntime,
+    folder: &str,
+    events: EventStore<FileStore<File>>,
+    book: Book<B>,
+    second: u64,
+    request: NextRequest<'_>,
+) -> Result<NextFile, StartFault>
+    requires some { 1 ≤ request.events_max }
+    requires few { request.events_max ≤ 1000000 }
+    requires version { length request.version.now ≤ VERSION_MAX }
+{
+    let folded = match fold_book(rt.alloc(), events, book, request.at) {
+        Ok(folded) => folded,
+        Err(FoldError::Refused(refusal)) => {
+            return Ok(NextFile::Stayed(NextError::of_refusal(refusal)));
+        }
+        Err(FoldError::Store(fault)) => return Err(StartFault::Book(fault)),
+    };
+    match write_next(rt, folder, &folded.book, request) {
+        Ok(()) => close_and_swap(rt, folder, second, without_book(folded)),
+        Err(error) => {
+            give_up(folded);
+            Ok(NextFile::Stayed(error))
+        }
+    }
+}
+
+/// Whether a store in which this many records were found goes on in a new file, where the command line asks for this bound.
+fn is_followed<B: BookRows>(book: &Book<B>, found: u64, events_max: u32) -> bool
+    ensures { result ≡ is_followed book.now found events_max }
+{
+    book.events_max() != events_max || (found >= RECORDS_LONG && book.prunings() < PRUNINGS_FEW)
+}
+
+/// The same request once more.
+fn again<'a>(request: &StartRequest<'a>) -> Result<StartRequest<'a>, StartFault>
+    ensures plan { IfOk result (λ r. arc_value r.plan ≡ arc_value request.entry.now.plan) }
+    ensures bound { IfOk result (λ r. r.events_max ≡ request.entry.now.events_max) }
+    ensures version { IfOk result (λ r. r.version.now ≡ request.entry.now.version.now) }
+{
+    match Arc::try_clone(&request.plan) {
+        Ok(plan) => Ok(StartRequest {
+            plan,
+            events_max: request.events_max,
+            version: request.version,
+            now: request.now,
+        }),
+        Err(_) => Err(StartFault::NoMemory),
+    }
+}
+
+/// A store that was started, whose file may be a new one.
+#[derive(Drop)]
+struct StartedFile<B: BookRows> {
+    started: Started<FileStore<File>, B>,
+    witness: Witness,
+    next: NextFile,
+}
+
+/// Why a store of this bound isn't started, where the command line asks for another and no new file was begun.
+fn not_followed(error: NextError, bound: u32, asked: u32) -> StartFault {
+    match error {
+        NextError::Book(NextFault::NotGood) | NextError::Prune(_) => {
+            StartFault::Book(BookFault::OtherBound { bound, asked })
+        }
+        error => StartFault::Next(error),
+    }
+}
+
+/// What became of a store of this bound, where the command line asks for one. It goes on without a new file where that is the same.
+fn followed(next: NextFile, bound: u32, asked: u32) -> Result<NextFile, StartFault> {
+    match next {
+        NextFile::Stayed(error) => {
+            if bound == asked {
+                Ok(NextFile::Stayed(error))
+            } else {
+                Err(not_followed(error, bound, asked))
+            }
+        }
+        next => Ok(next),
+    }
+}
+
+/// Goes on in a new file from a store that was started.
+fn go_on<B: BookRows + Drop>(
+    rt: &HostRuntime,
+    folder: &str,
+    started: Started<FileStore<File>, B>,
+    request: StartRequest<'_>,
+) -> Result<StartedFile<B>, StartFault>
+    requires some { 1 ≤ request.events_max }
+    requires few { request.events_max ≤ 1000000 }
+    requires version { length request.version.now ≤ VERSION_MAX }
+    ensures recovered { IfOk result (λ s. IsClean (view s.started.store.store)
+        → IsRecovered (bodies_in (view s.started.store.store).trees) s.started.book) }
+    ensures durable { IfOk result (λ s. AreDurable (view s.started.store.store)
+        (recovers s.started.store.store) (records_in (view s.started.store.store).trees)) }
+    ensures plan { IfOk result (λ s. (s.started.kept_plan ≡ None)
+        ↔ (plan_in_force s.started.book ≡ arc_value request.entry.plan)) }
+    ensures bound { IfOk result (λ s. s.started.book.opening.events_max ≡ request.entry.events_max) }
+{
+    let Started {
+        book,
+        store,
+        last_second,
+        records,
+        last_connection,
+        interrupted,
+        failed,
+        ..
+    } = started;
+    let (bound, asked) = (book.events_max(), request.events_max);
+    let new_request = NextRequest {
+        events_max: asked,
+        version: request.version,
+        last_connection,
+        at: millis(later(request.now, last_second)),
+    };
+    let next = follow(rt, folder, store, book, last_second, new_request)?;
+    let next = followed(next, bound, asked)?;
+    let Opening {
+        started,
+        witness,
+        ..
+    } = match open_book::<B>(rt, folder, request) {
+        Ok(opening) => opening,
+        Err(fault) => return Err(fault),
+    };
+    match of_bound(started, records, interrupted, failed, asked) {
+        Ok(started) => Ok(StartedFile {
+            started,
+            witness,
+            next,
+        }),
+        Err(fault) => Err(StartFault::Book(fault)),
+    }
+}
+
+/// Starts the store in a folder, in a new file where the old one is long or of another bound than the command line asks for.
+fn start_file<B: BookRows + Drop>(
+    rt: &HostRuntime,
+    folder: &str,
+    request: StartRequest<'_>,
+) -> Result<StartedFile<B>, StartFault>
+    requires some { 1 ≤ request.events_max }
+    requires few { request.events_max ≤ 1000000 }
+    requires version { length request.version.now ≤ VERSION_MAX }
+    ensures recovered { IfOk result (λ s. IsClean (view s.started.store.store)
+        → IsRecovered (bodies_in (view s.started.store.store).trees) s.started.book) }
+    ensures durable { IfOk result (λ s. AreDurable (view s.started.store.store)
+        (recovers s.started.store.store) (records_in (view s.started.store.store).trees)) }
+    ensures plan { IfOk result (λ s. (s.started.kept_plan ≡ None)
+        ↔ (plan_in_force s.started.book ≡ arc_value request.entry.plan)) }
+    ensures bound { IfOk result (λ s. s.started.book.opening.events_max ≡ request.entry.events_max) }
+{
+    let once_more = match again(&request) {
+        Ok(request) => request,
+        Err(fault) => return Err(fault),
+    };
+    let Opening {
+        started,
+        witness,
+        found,
+    } = match open_book::<B>(rt, folder, request) {
+        Ok(opening) => opening,
+        Err(fault) => return Err(fault),
+    };
+    if is_followed(&started.book, found, once_more.events_max) {
+        return go_on(rt, folder, started, once_more);
+    }
+    Ok(StartedFile {
+        started,
+        witness,
+        next: NextFile::Kept,
+    })
+}
+
 /// A store that was started, with numbers for its connections, and the destinations that are held.
 fn with_numbers<B: BookRows + Drop>(
     rt: &HostRuntime,
     folder: &str,
-    started: Started<FileStore<File>, B>,
-    witness: Witness,
+    file: StartedFile<B>,
 ) -> Result<ServiceStore<B>, StartFault>
-    ensures started { IfOk result (λ s. s.started ≡ started) }
+    ensures started { IfOk result (λ s. s.started ≡ file.started) }
     ensures reserved { IfOk result (λ s. s.connections.first < s.connections.end) }
-    ensures unused { IfOk result (λ s. IfSome started.last_connection (λ last. last < s.connections.first)) }
+    ensures unused { IfOk result (λ s. IfSome file.started.last_connection (λ last. last < s.connections.first)) }
 {
     let holds = match StoredHolds::open(rt, folder) {
         Ok(holds) => holds,
         Err(fault) => return Err(StartFault::Holds(fault)),
     };
+    let StartedFile {
+        started,
+        witness,
+        next,
+    } = file;
     let connections = reserved(rt, folder, started.last_connection)?;
     Ok(ServiceStore {
         started,
+        next,
         connections,
         witness,
         holds,
     })
 }
 
+/// Starts the store in a folder, which no other start uses meanwhile.
 fn start<B: BookRows + Drop>(
     rt: &HostRuntime,
     folder: &str,
@@ -195,14 +536,14 @@ fn start<B: BookRows + Drop>(
     ensures unused { IfOk result (λ s. IfSome s.started.last_connection (λ last. last < s.connections.first)) }
 {
     make_folder(rt, folder)?;
-    let (Ok(seeder), Ok(hasher)) = (RandomState::new(rt), RandomState::new(rt)) else {
-        return Err(StartFault::NoRandom);
+    let _lock = match locked(rt, folder) {
+        Ok(Some(lock)) => lock,
+        Ok(None) => return Err(StartFault::InUse),
+        Err(error) => return Err(StartFault::of_io(error)),
     };
-    let opened = open_events(rt, folder, &seeder)?;
-    let witness = Witness::open(rt, folder, found(&opened))?;
-    match start_book(rt.alloc(), opened, request, hasher) {
-        Ok(started) => with_numbers(rt, folder, started, witness),
-        Err(fault) => Err(StartFault::Book(fault)),
+    match start_file(rt, folder, request) {
+        Ok(file) => with_numbers(rt, folder, file),
+        Err(fault) => Err(fault),
     }
 }
 

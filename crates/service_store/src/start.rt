@@ -1,17 +1,16 @@
 //! A book is started from what a store holds.
 
-ghost use Rattle.std.specs.Prelude.{◌≡◌, ◌≢◌, ◌≤◌, ◌-◌, ◌+◌, ◌↔◌, [], None, Some, Err, IfOk, IfErr, IfSome, OnOk, length};
+ghost use Rattle.std.specs.Prelude.{◌≡◌, ◌≢◌, ◌≤◌, ◌-◌, ◌+◌, ◌↔◌, [], None, Some, Err, IfOk, IfErr, IfSome, IsNone, OnOk, length};
 ghost use Rattle.std.specs.Arc.{arc_value};
 ghost use Rattle.sqlite_trees.specs.View.{IsClean, doubt};
 ghost use Rattle.event_log.specs.History.{History, plan_in_force};
 ghost use Rattle.event_store.specs.Records.{AreDurable, records_in};
-ghost use Rattle.book_recovery.specs.Seen.{last_connection};
-ghost use Rattle.book_recovery.specs.inner.File.{IsRecovered, bodies_of, file_records, last_second_in};
+ghost use Rattle.book_recovery.specs.inner.File.{IsRecovered, bodies_of, last_connection_in, last_second_in};
 ghost use Rattle.service_store.specs.inner.Faults.{IsBookFailure};
 ghost use Rattle.service_store.specs.inner.Starting.{AreBooked, AreReadOf, IsCaughtUp, IsPlanned, bodies_in};
 
 use crate::fault::BookFault;
-use crate::keep::{keep_header, keep_records};
+use crate::keep::{keep_first, keep_records};
 use book_core::{Book, BookRows, DeployRefusal, Ticket};
 use book_recovery::{
     NewFile, Recovered, SettledFlights, VERSION_MAX, adopt_plan, begin_file, recover,
@@ -48,11 +47,11 @@ pub struct Started<S: Store, B: BookRows> {
     pub store: EventStore<S>,
     /// The later of the last moment in the store and the moment of the start, in seconds since 1970.
     pub last_second: u64,
-    /// How many records were behind the header when the store was opened: 0 for a new store.
+    /// How many records were behind the first when the store was opened: 0 for a new store.
     pub records: usize,
-    /// How many records were appended at the start, that of a new store's header too.
+    /// How many records were appended at the start, the first of a new store too.
     pub appended: usize,
-    /// The highest number of a connection over which a message had arrived, if one had.
+    /// The highest number of a connection that a message can have come over, if one came.
     pub last_connection: Option<u32>,
     /// How many attempts were in flight when the last process ended.
     pub interrupted: usize,
@@ -77,12 +76,12 @@ pub(crate) fn found<S: Store>(opened: &Opened<S>) -> u64 {
 }
 
 /// A moment in milliseconds since 1970.
-fn millis(now: Moment) -> i64 {
+pub(crate) fn millis(now: Moment) -> i64 {
     now.secs() as i64 * 1_000
 }
 
 /// The later of a moment and this number of seconds since 1970. A number that is no moment leaves the moment as it is.
-fn later(now: Moment, second: u64) -> Moment
+pub(crate) fn later(now: Moment, second: u64) -> Moment
     ensures { now ≤ result }
 {
     match i64::try_from(second) {
@@ -161,7 +160,7 @@ fn begin<S: Store + Drop, B: BookRows + Drop>(
     ensures clean { IfOk result (λ s. doubt (S.Store.view events.store).is_clean
         ≤ doubt (S.Store.view s.store.store).is_clean) }
     ensures first { IfOk result (λ s. s.store.first ≡ events.first) }
-    ensures failure { IfErr result (IsBookFailure request.entry.events_max []) }
+    ensures failure { IfErr result (IsBookFailure []) }
 {
     let StartRequest {
         plan,
@@ -170,7 +169,7 @@ fn begin<S: Store + Drop, B: BookRows + Drop>(
         now,
     } = request;
     let NewFile { header, book } = begin_file(alloc, plan, events_max, version, hasher)?;
-    keep_header(&mut events, header.as_slice(), millis(now))?;
+    keep_first(&mut events, "header", header.as_slice(), millis(now))?;
     Ok(Started {
         book,
         store: events,
@@ -184,32 +183,22 @@ fn begin<S: Store + Drop, B: BookRows + Drop>(
     })
 }
 
-/// The book of the rows of a store that was begun with this bound.
-fn recover_bounded<B: BookRows + Drop>(
+/// The book of the rows of a store.
+fn recover_rows<B: BookRows + Drop>(
     alloc: Global,
     rows: &[StoredRecord],
-    events_max: u32,
     hasher: RandomState,
 ) -> Result<Recovered<B>, BookFault>
     ensures recovered { IfOk result (λ r. IsRecovered (bodies_of rows.now) r.book) }
-    ensures bound { IfOk result (λ r. r.book.opening.events_max ≡ events_max) }
     ensures records { IfOk result (λ r. r.records + 1 ≡ length rows.now) }
-    ensures connection { IfOk result (λ r. r.last_connection ≡ last_connection (file_records (bodies_of rows.now))) }
+    ensures connection { IfOk result (λ r. r.last_connection ≡ last_connection_in (bodies_of rows.now)) }
     ensures second { IfOk result (λ r. r.last_second ≡ last_second_in rows.now) }
-    ensures failure { IfErr result (IsBookFailure events_max (bodies_of rows.now)) }
+    ensures failure { IfErr result (IsBookFailure (bodies_of rows.now)) }
 {
-    let recovered = match recover::<B>(alloc, rows, hasher) {
-        Ok(recovered) => recovered,
-        Err(error) => return Err(BookFault::of_recovery(alloc, error)),
-    };
-    let bound = recovered.book.events_max();
-    if bound != events_max {
-        return Err(BookFault::OtherBound {
-            bound,
-            asked: events_max,
-        });
+    match recover::<B>(alloc, rows, hasher) {
+        Ok(recovered) => Ok(recovered),
+        Err(error) => Err(BookFault::of_recovery(alloc, error)),
     }
-    Ok(recovered)
 }
 
 /// Goes on from the rows of a store.
@@ -228,27 +217,23 @@ fn resume<S: Store + Drop, B: BookRows + Drop>(
     ensures caught_up { IfOk result (λ s. (h : History) → IsRecovered (bodies_of rows.now) h
         → IsCaughtUp (arc_value request.entry.plan) request.entry.now h s.book s.kept_plan s.interrupted s.failed.items) }
     ensures plan { IfOk result (λ s. (s.kept_plan ≡ None) ↔ (plan_in_force s.book ≡ arc_value request.entry.plan)) }
-    ensures bound { IfOk result (λ s. s.book.opening.events_max ≡ request.entry.events_max) }
+    ensures bound { IfOk result (λ s. (h : History) → IsRecovered (bodies_of rows.now) h
+        → s.book.opening.events_max ≡ h.opening.events_max) }
     ensures records { IfOk result (λ s. s.records + 1 ≡ length rows.now) }
-    ensures connection { IfOk result (λ s. s.last_connection ≡ last_connection (file_records (bodies_of rows.now))) }
+    ensures connection { IfOk result (λ s. s.last_connection ≡ last_connection_in (bodies_of rows.now)) }
     ensures second { IfOk result (λ s. last_second_in rows.now ≤ s.last_second) }
     ensures clean { IfOk result (λ s. doubt (S.Store.view events.store).is_clean
         ≤ doubt (S.Store.view s.store.store).is_clean) }
     ensures first { IfOk result (λ s. s.store.first ≡ events.first) }
-    ensures failure { IfErr result (IsBookFailure request.entry.events_max (bodies_of rows.now)) }
+    ensures failure { IfErr result (IsBookFailure (bodies_of rows.now)) }
 {
-    let StartRequest {
-        plan,
-        events_max,
-        now,
-        ..
-    } = request;
+    let StartRequest { plan, now, .. } = request;
     let Recovered {
         mut book,
         records,
         last_connection,
         last_second,
-    } = recover_bounded::<B>(alloc, rows, events_max, hasher)?;
+    } = recover_rows::<B>(alloc, rows, hasher)?;
     let now = later(now, last_second);
     let caught_up = catch_up(alloc, &mut book, plan, now)?;
     let records_kept = caught_up.records.as_slice();
@@ -304,15 +289,18 @@ pub fn start_book<S: Store + Drop, B: BookRows + Drop>(
     ensures caught_up { IfOk result (λ s. (h : History) → IsRecovered (bodies_of opened.1.items) h
         → IsCaughtUp (arc_value request.entry.plan) request.entry.now h s.book s.kept_plan s.interrupted s.failed.items) }
     ensures plan { IfOk result (λ s. (s.kept_plan ≡ None) ↔ (plan_in_force s.book ≡ arc_value request.entry.plan)) }
-    ensures bound { IfOk result (λ s. s.book.opening.events_max ≡ request.entry.events_max) }
+    ensures bound { IfOk result (λ s. (h : History) → IsRecovered (bodies_of opened.1.items) h
+        → s.book.opening.events_max ≡ h.opening.events_max) }
+    ensures new_bound { IfOk result (λ s. opened.1.items ≡ []
+        → s.book.opening.events_max ≡ request.entry.events_max) }
 
     ensures records { IfOk result (λ s. s.records ≡ length opened.1.items - 1) }
-    ensures connection { IfOk result (λ s. s.last_connection ≡ last_connection (file_records (bodies_of opened.1.items))) }
+    ensures connection { IfOk result (λ s. s.last_connection ≡ last_connection_in (bodies_of opened.1.items)) }
     ensures second { IfOk result (λ s. last_second_in opened.1.items ≤ s.last_second) }
     ensures clean { IfOk result (λ s. doubt (S.Store.view opened.0.store).is_clean
         ≤ doubt (S.Store.view s.store.store).is_clean) }
     ensures first { IfOk result (λ s. s.store.first ≡ opened.0.first) }
-    ensures failure { IfErr result (IsBookFailure request.entry.events_max (bodies_of opened.1.items)) }
+    ensures failure { IfErr result (IsBookFailure (bodies_of opened.1.items)) }
 {
     let (events, rows) = opened;
     if rows.is_empty() {
@@ -325,4 +313,62 @@ pub fn start_book<S: Store + Drop, B: BookRows + Drop>(
         Ok(started) => Ok(started),
         Err(fault) => Err(fault),
     }
+}
+
+/// Why a book with this bound of its entries isn't started, where the command line asks for another.
+fn other_bound(bound: u32, asked: u32) -> Option<BookFault>
+    ensures none { IsNone result ↔ (bound ≡ asked) }
+    ensures other { IfSome result (λ fault. fault ≡ BookFault.OtherBound bound asked) }
+{
+    if bound == asked {
+        return None;
+    }
+    Some(BookFault::OtherBound { bound, asked })
+}
+
+/// A book that was started from a new file, with what was found in the old one, where it may hold as many entries as the command line
+/// asks for.
+///
+/// # Errors
+///
+/// `OtherBound` where it may hold another number of entries.
+pub(crate) fn of_bound<S: Store + Drop, B: BookRows + Drop>(
+    started: Started<S, B>,
+    records: usize,
+    interrupted: usize,
+    failed: Vec<Ticket>,
+    asked: u32,
+) -> Result<Started<S, B>, BookFault>
+    ensures same { IfOk result (λ s. s ≡ record started {
+      records = records;
+      interrupted = interrupted;
+      failed = failed;
+    }) }
+    ensures bound { OnOk result (started.book.opening.events_max ≡ asked) }
+    ensures other { IfErr result (λ fault.
+        fault ≡ BookFault.OtherBound started.book.opening.events_max asked) }
+{
+    if let Some(fault) = other_bound(started.book.events_max(), asked) {
+        return Err(fault);
+    }
+    let Started {
+        book,
+        store,
+        last_second,
+        appended,
+        last_connection,
+        kept_plan,
+        ..
+    } = started;
+    Ok(Started {
+        book,
+        store,
+        last_second,
+        records,
+        appended,
+        last_connection,
+        interrupted,
+        failed,
+        kept_plan,
+    })
 }

@@ -1,14 +1,15 @@
 -- Why a store isn't started, and the exit status that goes with it.
-use Rattle.std.specs.Prelude.{◌≡◌, ◌≢◌, ℕ, List, Err, Ok}
+use Rattle.std.specs.Prelude.{◌≡◌, ℕ, List}
 use Rattle.std.specs.Prelude.{string_bytes}
 use Rattle.book_recovery.specs.declared.fault.RecordProblem.{RecordProblem}
 use Rattle.book_recovery.specs.declared.fault.Stop.{Stop}
-use Rattle.book_recovery.specs.inner.Header.{Contents}
-use Rattle.book_recovery.specs.inner.File.{HasNoPlan, IsStopped, file_header}
+use Rattle.book_recovery.specs.inner.File.{HasNoHeader, HasNoOpening, HasNoPlan, IsStopped}
 use Rattle.service_store.specs.declared.fault.BookFault.{BookFault}
 use Rattle.service_store.specs.declared.fault.BookFault.TheVariants as book
 use Rattle.service_store.specs.declared.fault.HoldsFault.{HoldsFault}
 use Rattle.service_store.specs.declared.fault.HoldsFault.TheVariants as holds
+use Rattle.service_store.specs.declared.fault.NextError.{NextError}
+use Rattle.service_store.specs.declared.fault.NextError.TheVariants as next
 use Rattle.service_store.specs.declared.fault.NumbersFault.{NumbersFault}
 use Rattle.service_store.specs.declared.fault.NumbersFault.TheVariants as numbers
 use Rattle.service_store.specs.declared.fault.StartFault.{StartFault}
@@ -22,27 +23,21 @@ pub record StopsWith (index : ℕ) (problem : RecordProblem) (version : List ℕ
   pub why : stop.problem ≡ problem
   pub begun_by : stop.version.now ≡ version
 
--- the header of a file has this bound, and another is asked for
-pub record HasOtherBound (bound asked : ℕ) (bodies : List (List ℕ)) : Type 0 where
-  pub header : Contents
-  pub read : file_header bodies ≡ Ok header
-  pub is : header.events_max ≡ bound
-  pub other : bound ≢ asked
-
--- why no book is started from the bodies of a file, where this bound is asked for; memory can be refused, and a write can
--- fail, at any time
-abbrev pub IsBookFailure : ℕ → List (List ℕ) → BookFault → Type 0
-IsBookFailure asked bodies book.NoMemory = Unit {0}
-IsBookFailure asked bodies (book.Header fault) = file_header bodies ≡ Err fault
-IsBookFailure asked bodies book.NoPlan = HasNoPlan bodies
-IsBookFailure asked bodies (book.Stopped index problem version) = StopsWith index problem (string_bytes version) bodies
-IsBookFailure asked bodies (book.OtherBound bound other) = HasOtherBound bound asked bodies × (other ≡ asked)
-IsBookFailure asked bodies (book.Write error) = Unit {0}
+-- why no book is started from the bodies of a file; memory can be refused, and a write can fail, at any time
+abbrev pub IsBookFailure : List (List ℕ) → BookFault → Type 0
+IsBookFailure bodies book.NoMemory = Unit {0}
+IsBookFailure bodies (book.Header fault) = HasNoHeader fault bodies
+IsBookFailure bodies book.NoOpening = HasNoOpening bodies
+IsBookFailure bodies book.NoPlan = HasNoPlan bodies
+IsBookFailure bodies (book.Stopped index problem version) = StopsWith index problem (string_bytes version) bodies
+IsBookFailure bodies (book.OtherBound bound other) = ⊥
+IsBookFailure bodies (book.Write error) = Unit {0}
 
 -- why records aren't written
 abbrev pub IsWriteFailure : BookFault → Type 0
 IsWriteFailure book.NoMemory = Unit {0}
 IsWriteFailure (book.Header fault) = ⊥
+IsWriteFailure book.NoOpening = ⊥
 IsWriteFailure book.NoPlan = ⊥
 IsWriteFailure (book.Stopped index problem version) = ⊥
 IsWriteFailure (book.OtherBound bound other) = ⊥
@@ -52,6 +47,7 @@ IsWriteFailure (book.Write error) = Unit {0}
 abbrev pub book_status : BookFault → ℕ
 book_status book.NoMemory = 3
 book_status (book.Header fault) = 7
+book_status book.NoOpening = 7
 book_status book.NoPlan = 7
 book_status (book.Stopped index problem version) = 7
 book_status (book.OtherBound bound other) = 7
@@ -70,6 +66,14 @@ holds_status holds.Damaged = 7
 holds_status (holds.Read error) = 3
 holds_status (holds.Write error) = 6
 
+abbrev pub next_status : NextError → ℕ
+next_status next.NoMemory = 3
+next_status (next.Book fault) = 7
+next_status (next.Prune refusal) = 7
+next_status (next.Disk error) = 6
+next_status next.NotAStore = 7
+next_status (next.File error) = 6
+
 -- and 8 where another process has the store open
 abbrev pub start_status : StartFault → ℕ
 start_status start.NoMemory = 3
@@ -84,5 +88,6 @@ start_status (start.OtherFormat format) = 7
 start_status (start.Disk error) = 6
 start_status (start.Lost found noted) = 7
 start_status (start.Book fault) = book_status fault
+start_status (start.Next error) = next_status error
 start_status (start.Numbers fault) = numbers_status fault
 start_status (start.Holds fault) = holds_status fault

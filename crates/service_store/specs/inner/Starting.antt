@@ -1,5 +1,5 @@
 -- What a start makes of a store and of its book.
-use Rattle.std.specs.Prelude.{◌≡◌, ◌≢◌, ◌≤◌, ℕ, List, length, map, Option, None, Some, Err}
+use Rattle.std.specs.Prelude.{◌≡◌, ◌≢◌, ◌≤◌, ◌==◌, ◌&&◌, ◌||◌, ℕ, Bool, not, nat_le, nat_lt, List, length, map, Option, None, Some, Err}
 use Rattle.std.specs.List.{filter_map}
 use Rattle.sqlite_trees.specs.Tree.{Trees}
 use Rattle.sqlite_trees.specs.View.{View, IsClean}
@@ -50,3 +50,9 @@ pub record IsCaughtUp (plan : PlanEntry) (asked : ℕ) (old new : History) (kept
   pub count : interrupted ≡ length settlements
   -- those whose messages have failed with them are named
   pub named : failed ≡ filter_map (failed_in new) settlements
+
+-- a store in which so many records were found goes on in a new file: its book may hold another number of entries than is asked for,
+-- or 100,000 records or more were found, and the book was pruned fewer than 900 times
+abbrev pub is_followed : History → ℕ → ℕ → Bool
+is_followed h found asked =
+    not (h.opening.events_max == asked) || (nat_le 100000 found && nat_lt h.opening.prunings 900)

@@ -14,7 +14,7 @@ use Rattle.service_store.proofs.start.resume.Goals as goal
 
 pub returns-in-Err-clause-failure : goal.returns-in-Err-clause-failure
 returns-in-Err-clause-failure g c =
-    write_failure c.args.request.events_max (bodies_of c.args.rows.now) c.in-Err.fault c.in-Err.ensures.failure
+    write_failure (bodies_of c.args.rows.now) c.in-Err.fault c.in-Err.ensures.failure
 
 pub returns-clause-recovered : goal.returns-clause-recovered
 returns-clause-recovered g c clean whole =
@@ -36,9 +36,10 @@ returns-clause-caught_up g c h r =
     (one (bodies_of c.args.rows.now) h c.in_ok-book.field-0.book r c.in_ok-book.ensures.recovered) c.in_ok-caught_up.ensures.caught_up
 
 pub returns-clause-bound : goal.returns-clause-bound
-returns-clause-bound g c =
+returns-clause-bound g c h r =
     ap bound c.in_ok-caught_up.ensures.booked.history
-    ∙ (records_bound c.in_ok-book.field-0.book c.in_ok-caught_up.caught_up.records.items ∙ c.in_ok-book.ensures.bound)
+    ∙ (records_bound c.in_ok-book.field-0.book c.in_ok-caught_up.caught_up.records.items
+    ∙ ap bound (sym (one (bodies_of c.args.rows.now) h c.in_ok-book.field-0.book r c.in_ok-book.ensures.recovered)))
 
 pub returns-clause-plan : goal.returns-clause-plan
 returns-clause-plan g c =

@@ -28,3 +28,7 @@ returns-in-Ok-resume-clause-recovered g c read clean =
 pub returns-in-Ok-resume-clause-caught_up : goal.returns-in-Ok-resume-clause-caught_up
 returns-in-Ok-resume-clause-caught_up g c h r =
     c.in-Ok-resume.ensures.caught_up h (subst (λ (l : List StoredRecord). IsRecovered (bodies_of l) h) (sym c.as_slice.ensures.value) r)
+
+pub returns-in-Ok-resume-clause-bound : goal.returns-in-Ok-resume-clause-bound
+returns-in-Ok-resume-clause-bound g c h r =
+    c.in-Ok-resume.ensures.bound h (subst (λ (l : List StoredRecord). IsRecovered (bodies_of l) h) (sym c.as_slice.ensures.value) r)

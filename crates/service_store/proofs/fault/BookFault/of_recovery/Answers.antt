@@ -3,4 +3,4 @@ use Rattle.book_recovery.specs.inner.File.{IsFailure}
 use Rattle.service_store.proofs.fault.BookFault.of_recovery.Goals as goal
 
 pub returns-in-Stopped : goal.returns-in-Stopped
-returns-in-Stopped c asked bodies is = c.stopped.ensures asked bodies (subst (IsFailure bodies) c.in-Stopped.is is)
+returns-in-Stopped c bodies is = c.stopped.ensures bodies (subst (IsFailure bodies) c.in-Stopped.is is)
