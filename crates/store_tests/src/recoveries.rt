@@ -14,7 +14,7 @@ use std::hash::RandomState;
 use std::sync::Arc;
 use std::test::*;
 
-type Rows = RecordList<Queued<Outbound>>;
+pub(crate) type Rows = RecordList<Queued<Outbound>>;
 
 /// A plan of one channel with one destination, which is sent each message once.
 const PLAN: &str = "[[destination]]\nname = \"LAB\"\naddress = \"127.0.0.1:6661\"\nattempts = 1\n\n\
@@ -40,7 +40,11 @@ fn plan(alloc: Global, document: &str) -> Result<Arc<Plan>, Fail> {
 }
 
 /// Adds a row with this body, which was written a minute after 1970 began.
-fn add_body(alloc: Global, rows: &mut Vec<StoredRecord>, body: Vec<u8>) -> Result<(), AllocError> {
+pub(crate) fn add_body(
+    alloc: Global,
+    rows: &mut Vec<StoredRecord>,
+    body: Vec<u8>,
+) -> Result<(), AllocError> {
     rows.push(StoredRecord {
         body,
         at: 60_000,
@@ -50,7 +54,11 @@ fn add_body(alloc: Global, rows: &mut Vec<StoredRecord>, body: Vec<u8>) -> Resul
 }
 
 /// Adds the row of a record.
-fn add(alloc: Global, rows: &mut Vec<StoredRecord>, record: &Record) -> Result<(), AllocError> {
+pub(crate) fn add(
+    alloc: Global,
+    rows: &mut Vec<StoredRecord>,
+    record: &Record,
+) -> Result<(), AllocError> {
     let mut body = Vec::new(alloc);
     put_record(&mut body, record)?;
     add_body(alloc, rows, body)
@@ -67,7 +75,7 @@ fn begun(rt: &HostRuntime) -> Result<Vec<StoredRecord>, Fail> {
 }
 
 /// An arrival of the message on the channel, with its answer.
-fn arrival(alloc: Global, told: Told) -> Result<Record, AllocError> {
+pub(crate) fn arrival(alloc: Global, told: Told) -> Result<Record, AllocError> {
     Ok(Record::Arrival {
         conn: 7,
         channel: 0,
@@ -85,7 +93,7 @@ fn taken() -> Record {
 }
 
 /// The rows of the header, an arrival that was answered so, and its take.
-fn in_flight(rt: &HostRuntime, told: Told) -> Result<Vec<StoredRecord>, Fail> {
+pub(crate) fn in_flight(rt: &HostRuntime, told: Told) -> Result<Vec<StoredRecord>, Fail> {
     let alloc = rt.alloc();
     let mut rows = begun(rt)?;
     add(alloc, &mut rows, &arrival(alloc, told)?)?;
@@ -113,7 +121,7 @@ fn has_failed(alloc: Global, book: &mut Book<Rows>) -> Result<bool, Fail> {
 }
 
 /// The book of these rows.
-fn recovered(rt: &HostRuntime, rows: &[StoredRecord]) -> Result<Recovered<Rows>, Fail> {
+pub(crate) fn recovered(rt: &HostRuntime, rows: &[StoredRecord]) -> Result<Recovered<Rows>, Fail> {
     match recover::<Rows>(rt.alloc(), rows, RandomState::new(rt)?) {
         Ok(recovered) => Ok(recovered),
         Err(_) => Err("not recovered".into()),
@@ -132,7 +140,7 @@ fn file_is_recovered(rt: HostRuntime) -> Result<(), Fail> {
 }
 
 /// Why rows aren't recovered, as a text.
-fn failure(rt: &HostRuntime, rows: &[StoredRecord]) -> Result<String, Fail> {
+pub(crate) fn failure(rt: &HostRuntime, rows: &[StoredRecord]) -> Result<String, Fail> {
     let alloc = rt.alloc();
     match recover::<Rows>(alloc, rows, RandomState::new(rt)?) {
         Ok(_) => Err("recovered".into()),
@@ -161,7 +169,7 @@ fn add_byte(rows: &mut Vec<StoredRecord>, at: usize) -> Result<(), Fail> {
 }
 
 /// Sets a byte of the first row's body.
-fn set_byte(rows: &mut Vec<StoredRecord>, at: usize, value: u8) -> Result<(), Fail> {
+pub(crate) fn set_byte(rows: &mut Vec<StoredRecord>, at: usize, value: u8) -> Result<(), Fail> {
     match rows.get_mut(0) {
         Some(row) => match row.body.get_mut(at) {
             Some(byte) => {
@@ -189,7 +197,7 @@ fn other_bytes_are_refused(rt: HostRuntime) -> Result<(), Fail> {
     add_byte(&mut rows, 2)?;
     let trailing = failure(&rt, rows.as_slice())?;
     let headless = failure(&rt, behind_first(rows.as_slice()))?;
-    set_byte(&mut rows, 7, 2)?;
+    set_byte(&mut rows, 7, 3)?;
     let other = failure(&rt, rows.as_slice())?;
     let empty = failure(&rt, &[])?;
     assert!(rt;
@@ -197,7 +205,7 @@ fn other_bytes_are_refused(rt: HostRuntime) -> Result<(), Fail> {
             == "record 3: the record is damaged: bytes follow it; version 1.2.3 began the file"
     );
     assert!(rt; headless.as_str() == "the file doesn't begin with the header of a message store");
-    assert!(rt; other.as_str() == "the file has format 2, and this program reads format 1");
+    assert!(rt; other.as_str() == "the file has format 3, and this program reads formats 1 and 2");
     assert!(rt; empty.as_str() == headless.as_str());
     Ok(())
 }
