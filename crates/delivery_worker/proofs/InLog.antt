@@ -12,10 +12,11 @@ use Rattle.event_log.specs.History.{History}
 use Rattle.event_log.specs.Event.{Event, Refusal, Reply, entry_of, result_map}
 use Rattle.event_log.specs.Event as event
 use Rattle.event_log.specs.declared.refusal.TakeRefusal.{TakeRefusal}
+use Rattle.event_log.proofs.Events.{ticket-destination}
 use Rattle.book_core.specs.declared.letter.Job.{Job}
 use Rattle.ghost_log.specs.Seats.{entries_of}
 use Rattle.ghost_log.proofs.Seats.{entries-append, entry_one}
-use Rattle.book_lock.specs.Log.{Calls, IsLegalLog, Log, Looks, SeatView, own_entry}
+use Rattle.book_lock.specs.Log.{Calls, IsLegalLog, Log, Looks, SeatView, after_log, own_entry}
 use Rattle.book_lock.specs.declared.durable.TakeDurableRefusal.{TakeDurableRefusal}
 use Rattle.book_lock.specs.declared.durable.TakeDurableRefusal.TheVariants.{NotDurable, Refused}
 use Rattle.book_lock.specs.declared.log_entry.LogEntry.{LogEntry}
@@ -53,6 +54,10 @@ call_adds h e old new r c =
 -- and what its seat has seen goes on
 pub call_onward : (h : History) (e : Event) (old new : SeatView) (r : Result (Reply e) (Refusal e)) → Calls h e old new r → IsPrefix old.seen new.seen
 call_onward h e old new r c = (c.others ++ own_entry old.number e r, sym (append_assoc old.seen c.others (own_entry old.number e r)) ∙ sym c.seen)
+
+-- a job that was taken is for the destination of the queue
+pub taken_to : (h : History) (d now : ℕ) (old new : SeatView) (job : Job) → TakesAfterLook h d now old new (Ok job) → job.ticket.destination ≡ d
+taken_to h d now old new job t = ticket-destination (after_log h (t.begin.seen ++ t.takes.call.others)) d now job.ticket t.takes.call.does.replied
 
 -- no call
 pub no_turn : (h : History) (d : ℕ) (old new : SeatView) → new ≡ old → DeliversInLog h d old new []

@@ -124,6 +124,7 @@ fn receive_piece<L: Link>(link: &mut L, framer: &mut Framer, buffer: &mut [u8]) 
     ensures unanswered { IfErr result (λ lost. lost ≡ Lost.Unanswered → Keeps (L.received link.old) (L.received link.new)) }
     ensures kept { Keeps (L.sent link.old) (L.sent link.new) }
     ensures receives { CallsMore (L.receives link.old) (L.receives link.new) 1 }
+    ensures leads { L.leads_to link.new ≡ L.leads_to link.old }
 {
     let len = match link.receive(buffer) {
         Ok(len) => len,
@@ -157,6 +158,7 @@ fn receive_answers<L: Link>(
         → Keeps (L.received link.old) (L.received link.new) × CallsMore (L.receives link.old) (L.receives link.new) 1) }
     ensures kept { Keeps (L.sent link.old) (L.sent link.new) }
     ensures receives { CallsUpTo (L.receives link.old) (L.receives link.new) limit }
+    ensures leads { L.leads_to link.new ≡ L.leads_to link.old }
 {
     longer_streams();
     let mut buffer = [0; PIECE];
@@ -200,6 +202,7 @@ fn send_block<L: Link>(block: &mut Vec<u8>, link: &mut L, payload: &[u8]) -> Res
     ensures unsent { OnErr result (Keeps (L.sent link.old) (L.sent link.new)) }
     ensures received { Keeps (L.received link.old) (L.received link.new) }
     ensures receives { CallsMore (L.receives link.old) (L.receives link.new) 0 }
+    ensures leads { L.leads_to link.new ≡ L.leads_to link.old }
 {
     // A shared book hands out what its type says and no more, so this is looked at here.
     if !is_data(payload) {
@@ -247,6 +250,7 @@ impl Connection {
         ensures sent { Keeps (L.sent link.old) (L.sent link.new) }
         ensures received { Keeps (L.received link.old) (L.received link.new) }
         ensures receives { CallsMore (L.receives link.old) (L.receives link.new) 0 }
+        ensures leads { L.leads_to link.new ≡ L.leads_to link.old }
     {
         self.framer = None;
         match link.prepare() {
@@ -283,6 +287,7 @@ impl Connection {
         ensures asked { IfErr result (λ lost. (lost.receives ≤ 1) × CallsMore (L.receives link.old) (L.receives link.new) lost.receives) }
         ensures listened { IfErr result (λ lost. Keeps (L.sent link.old) (L.sent link.new) ⊎ (lost.receives ≡ 1)) }
         ensures receives { CallsUpTo (L.receives link.old) (L.receives link.new) limit }
+        ensures leads { L.leads_to link.new ≡ L.leads_to link.old }
     {
         match send_block(&mut self.block, link, job.payload.as_slice()) {
             Ok(()) => {}
@@ -332,6 +337,7 @@ impl Connection {
         ensures over { OnErr result (self.new.framer ≡ None) }
         ensures asked { IfErr result (λ lost. (lost.receives ≤ 1) × CallsUpTo (L.receives link.old) (L.receives link.new) lost.receives) }
         ensures receives { CallsUpTo (L.receives link.old) (L.receives link.new) RECEIVES_MAX }
+        ensures leads { L.leads_to link.new ≡ L.leads_to link.old }
     {
         let framer = match self.framer.take() {
             Some(framer) => framer,
@@ -352,6 +358,7 @@ impl Connection {
         ensures sends { (s : Sends None self.new.framer (L.sent link.old) (L.sent link.new) (L.received link.old) (L.received link.new) result)
             × IsSendingOf s.sending job.now.control_id job.now.payload job.now.ack }
         ensures receives { CallsUpTo (L.receives link.old) (L.receives link.new) limit }
+        ensures leads { L.leads_to link.new ≡ L.leads_to link.old }
     {
         match link.connect() {
             Ok(()) => {}
@@ -375,9 +382,11 @@ impl Connection {
         job: &Job,
     ) -> Outcome
         requires durable { MayBeSent rule A.opening station.now.seat job.now.ticket.number }
+        requires leads { L.leads_to link.old ≡ job.now.ticket.destination }
         ensures tries { (t : Tries self.old.framer self.new.framer (L.sent link.old) (L.sent link.new) (L.received link.old) (L.received link.new) result)
             × IsSendingOf t.attempt.last job.now.control_id job.now.payload job.now.ack }
         ensures receives { CallsUpTo (L.receives link.old) (L.receives link.new) RECEIVES_MAX }
+        ensures leads { L.leads_to link.new ≡ L.leads_to link.old }
     {
         link.begin();
         self.reply = Reply::Nothing;

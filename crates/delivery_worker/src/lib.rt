@@ -28,6 +28,6 @@ pub use report::{DeliverEnd, DeliverReport};
 pub use taking::TakeRule;
 pub use tcp_link::TcpLink;
 pub use until::{Halt, deliver_until};
-pub use way::Way;
+pub use way::{FixedWay, Way};
 pub use words::Cause;
 pub use worker::deliver;

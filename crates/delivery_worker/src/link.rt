@@ -30,12 +30,16 @@ pub trait Link {
     /// How many receives were made, over all connections, where the link counts them.
     ghost receives: { Self → Option ℕ } = { λ _. None };
 
+    /// The index in the plan of the destination that the link leads to. It never changes.
+    ghost leads_to: { Self → ℕ };
+
     /// Begins an attempt: the calls of the link until the next call of this have to end in time.
     fn begin(&mut self)
         ensures faults { fault_count self.new ≡ fault_count self.old }
         ensures sent { Keeps (sent self.old) (sent self.new) }
         ensures received { Keeps (received self.old) (received self.new) }
         ensures receives { CallsMore (receives self.old) (receives self.new) 0 }
+        ensures leads { leads_to self.new ≡ leads_to self.old }
     {}
 
     /// Looks, without waiting, whether the connection can still be used, as far as is known: its peer has not ended it.
@@ -44,6 +48,7 @@ pub trait Link {
         ensures sent { Keeps (sent self.old) (sent self.new) }
         ensures received { Keeps (received self.old) (received self.new) }
         ensures receives { CallsMore (receives self.old) (receives self.new) 0 }
+        ensures leads { leads_to self.new ≡ leads_to self.old }
     {
         true
     }
@@ -55,6 +60,7 @@ pub trait Link {
         ensures sent { Keeps (sent self.old) (sent self.new) }
         ensures received { Keeps (received self.old) (received self.new) }
         ensures receives { CallsMore (receives self.old) (receives self.new) 0 }
+        ensures leads { leads_to self.new ≡ leads_to self.old }
     {
         self.is_open()
     }
@@ -76,6 +82,7 @@ pub trait Link {
         ensures sent { Keeps (sent self.old) (sent self.new) }
         ensures received { Keeps (received self.old) (received self.new) }
         ensures receives { CallsMore (receives self.old) (receives self.new) 0 }
+        ensures leads { leads_to self.new ≡ leads_to self.old }
     {}
 
     /// Ends the connection in order, if there is one: nothing more is sent, and what still comes is dropped, up to the end
@@ -85,6 +92,7 @@ pub trait Link {
         ensures sent { Keeps (sent self.old) (sent self.new) }
         ensures received { Keeps (received self.old) (received self.new) }
         ensures receives { CallsMore (receives self.old) (receives self.new) 0 }
+        ensures leads { leads_to self.new ≡ leads_to self.old }
     {}
 
     /// Opens a new connection, and drops what was left of an earlier one, and what has arrived on the new one already.
@@ -96,7 +104,8 @@ pub trait Link {
         ensures faults { fault_count self.new ≡ with_fault (is_err result) (fault_count self.old) }
         ensures sent { Keeps (sent self.old) (sent self.new) }
         ensures received { Keeps (received self.old) (received self.new) }
-        ensures receives { CallsMore (receives self.old) (receives self.new) 0 };
+        ensures receives { CallsMore (receives self.old) (receives self.new) 0 }
+        ensures leads { leads_to self.new ≡ leads_to self.old };
 
     /// Readies the connection for a message that is not taken yet. What has arrived on the open connection is read and
     /// dropped, for it answers nothing that is still to be sent. Where none is open, by a look, a new one is opened.
@@ -111,6 +120,7 @@ pub trait Link {
         ensures sent { Keeps (sent self.old) (sent self.new) }
         ensures received { Keeps (received self.old) (received self.new) }
         ensures receives { CallsMore (receives self.old) (receives self.new) 0 }
+        ensures leads { leads_to self.new ≡ leads_to self.old }
     {
         if self.is_open() {
             return Ok(());
@@ -131,7 +141,8 @@ pub trait Link {
         ensures sent { OnOk result (Appends (sent self.old) (sent self.new) bytes.now) }
         ensures unsent { OnErr result (Keeps (sent self.old) (sent self.new)) }
         ensures received { Keeps (received self.old) (received self.new) }
-        ensures receives { CallsMore (receives self.old) (receives self.new) 0 };
+        ensures receives { CallsMore (receives self.old) (receives self.new) 0 }
+        ensures leads { leads_to self.new ≡ leads_to self.old };
 
     /// Waits for the next bytes, writes them at the beginning of the buffer, and returns how many they are: none at
     /// the end of the input.
@@ -145,7 +156,8 @@ pub trait Link {
         ensures received { IfOk result (λ len. Appends (received self.old) (received self.new) (take len buffer.new)) }
         ensures unreceived { OnErr result (Keeps (received self.old) (received self.new)) }
         ensures sent { Keeps (sent self.old) (sent self.new) }
-        ensures receives { CallsMore (receives self.old) (receives self.new) 1 };
+        ensures receives { CallsMore (receives self.old) (receives self.new) 1 }
+        ensures leads { leads_to self.new ≡ leads_to self.old };
 
     /// How many calls failed so far.
     fn faults(&self) -> u64

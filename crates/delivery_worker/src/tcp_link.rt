@@ -85,7 +85,7 @@ pub(crate) enum Call {
 /// A connection that is given up since an answer or room for a message was waited for too long is reset, so that its peer is less
 /// likely to take what it has not read yet. Where answers are dropped it is not: what was sent before is counted as delivered.
 #[derive(Drop)]
-pub struct TcpLink<'a, R, W> {
+pub struct TcpLink<'a, R, W: Way> {
     pub(crate) rt: &'a R,
     pub(crate) way: W,
     pub(crate) stream: Option<TcpStream>,
@@ -118,12 +118,15 @@ pub struct TcpLink<'a, R, W> {
     retry_at: Option<Duration>,
 }
 
-impl<'a, R, W> Model for TcpLink<'a, R, W> {
-    ghost use Rattle.std.specs.Prelude.{ℕ};
+impl<'a, R, W: Way> Model for TcpLink<'a, R, W> {
+    ghost use Rattle.delivery_worker.specs.inner.Links.{LinkView};
 
-    ghost Value = { ℕ };
+    ghost Value = { LinkView };
 
-    ghost view = { λ link. link.faults };
+    ghost view = { λ link. record {
+      faults = link.faults;
+      leads_to = W.leads_to link.way;
+    } };
 }
 
 /// Reads, again where that was interrupted.
@@ -140,9 +143,10 @@ fn read(stream: &mut TcpStream, buffer: &mut [u8]) -> io::Result<usize>
 }
 
 impl<'a, R: Net<Stream = TcpStream> + Log + Clock, W: Way> TcpLink<'a, R, W> {
-    /// A link that is not connected yet.
+    /// A link that is not connected yet, and leads where its way does.
     pub fn new(rt: &'a R, way: W) -> Self
-        ensures { result ≡ 0 }
+        ensures faults { result.faults ≡ 0 }
+        ensures leads { result.leads_to ≡ W.leads_to way }
     {
         TcpLink {
             rt,
@@ -447,7 +451,8 @@ impl<'a, R: Net<Stream = TcpStream> + Log + Clock, W: Way> TcpLink<'a, R, W> {
 
     /// Counts a fault, and ends the connection.
     fn fault(&mut self, call: Call, error: io::Error) -> LinkFault
-        ensures { self.new ≡ with_fault true self.old }
+        ensures counted { self.new.faults ≡ with_fault true self.old.faults }
+        ensures leads { self.new.leads_to ≡ self.old.leads_to }
     {
         self.ended = is_end(&error);
         self.cause = Some(self.cause_of(call, error));
@@ -529,7 +534,8 @@ impl<'a, R: Net<Stream = TcpStream> + Log + Clock, W: Way> TcpLink<'a, R, W> {
 
     /// Notes a connect that failed between attempts.
     fn unconnected(&mut self, error: io::Error) -> LinkFault
-        ensures { self.new ≡ with_fault true self.old }
+        ensures counted { self.new.faults ≡ with_fault true self.old.faults }
+        ensures leads { self.new.leads_to ≡ self.old.leads_to }
     {
         let fault = self.fault(Call::Prepare, error);
         let wait = self.interval();
@@ -540,7 +546,9 @@ impl<'a, R: Net<Stream = TcpStream> + Log + Clock, W: Way> TcpLink<'a, R, W> {
 }
 
 impl<R: Net<Stream = TcpStream> + Log + Clock, W: Way> Link for TcpLink<'_, R, W> {
-    ghost fault_count = { λ faults. faults };
+    ghost fault_count = { λ link. link.faults };
+
+    ghost leads_to = { λ link. link.leads_to };
 
     fn begin(&mut self) {
         self.deadline = self.after(self.timeout().saturating_mul(TIMEOUTS_MAX));

@@ -74,6 +74,7 @@ fn deliver_afresh<H: Wait, A: Sharing, S: BookRows, L: Link, C: Clock, E: Halt>(
     clock: &mut C,
     halt: &E,
 ) -> Result<Outcome, Pause>
+    requires leads { L.leads_to link.old ≡ d }
     ensures taken { OnOk result (station.new.counts.takes ≡ station.old.counts.takes + 1) }
     ensures settled { OnOk result (
         (station.old.counts.settlements ≤ station.new.counts.settlements)
@@ -92,6 +93,7 @@ fn deliver_afresh<H: Wait, A: Sharing, S: BookRows, L: Link, C: Clock, E: Halt>(
         Keeps (L.sent link.old) (L.sent link.new)
         × Keeps (L.received link.old) (L.received link.new)) }
     ensures uncalled { OnErr result (CallsUpTo (L.receives link.old) (L.receives link.new) 0) }
+    ensures leads { L.leads_to link.new ≡ L.leads_to link.old }
 {
     match connection.prepare(link) {
         Ok(()) => {}
@@ -122,6 +124,7 @@ fn turn_afresh<H: Wait, A: Sharing, S: BookRows, L: Link, C: Clock, E: Halt>(
     halt: &E,
     is_held: bool,
 ) -> Result<Outcome, Pause>
+    requires leads { L.leads_to link.old ≡ d }
     ensures held { is_held ≡ true → IsErr result }
     ensures taken { OnOk result (station.new.counts.takes ≡ station.old.counts.takes + 1) }
     ensures settled { OnOk result (
@@ -141,6 +144,7 @@ fn turn_afresh<H: Wait, A: Sharing, S: BookRows, L: Link, C: Clock, E: Halt>(
         Keeps (L.sent link.old) (L.sent link.new)
         × Keeps (L.received link.old) (L.received link.new)) }
     ensures uncalled { OnErr result (CallsUpTo (L.receives link.old) (L.receives link.new) 0) }
+    ensures leads { L.leads_to link.new ≡ L.leads_to link.old }
 {
     // An arrival before this note is seen by the look after it.
     let is_finished = shared.is_finished();
@@ -186,6 +190,9 @@ pub fn deliver_until<
     clock: &mut C,
     halt: &E,
 ) -> DeliverReport
+    // What is sent to a destination goes over a link that leads there.
+    requires leads { L.leads_to link.old ≡ d }
+
     // The attempts are the takes of this station, and none is settled twice.
     ensures taken { station.new.counts.takes ≡ station.old.counts.takes + result.taken }
     ensures settled { (station.old.counts.settlements ≤ station.new.counts.settlements)
@@ -204,6 +211,7 @@ pub fn deliver_until<
 
     // An attempt makes 1,000,000 receives at most.
     ensures receives { CallsUpTo (L.receives link.old) (L.receives link.new) (RECEIVES_MAX * result.taken) }
+    ensures leads { L.leads_to link.new ≡ L.leads_to link.old }
 {
     let mut connection = Connection::new(alloc);
     let mut report = DeliverReport::new();

@@ -36,6 +36,7 @@ pub(crate) fn take_turn<H: Wait, A: Sharing, S: BookRows, L: Link, C: Clock>(
     rule: TakeRule,
     clock: &mut C,
 ) -> Result<Outcome, TakeDurableRefusal>
+    requires leads { L.leads_to link.old ≡ d }
     ensures taken { OnOk result (station.new.counts.takes ≡ station.old.counts.takes + 1) }
     ensures settled { OnOk result (
         (station.old.counts.settlements ≤ station.new.counts.settlements)
@@ -56,6 +57,7 @@ pub(crate) fn take_turn<H: Wait, A: Sharing, S: BookRows, L: Link, C: Clock>(
         Keeps (L.sent link.old) (L.sent link.new)
         × Keeps (L.received link.old) (L.received link.new)) }
     ensures uncalled { OnErr result (CallsUpTo (L.receives link.old) (L.receives link.new) 0) }
+    ensures leads { L.leads_to link.new ≡ L.leads_to link.old }
 {
     let job = take_by(rt, shared, station, d, rule, clock.at_take())?;
     let outcome = connection.attempt(link, station, rule, &job);
@@ -85,6 +87,9 @@ pub fn deliver<H: Wait + time::Clock + Log, A: Sharing, S: BookRows, L: Link, C:
     clock: &mut C,
     turns: u64,
 ) -> DeliverReport
+    // What is sent to a destination goes over a link that leads there.
+    requires leads { L.leads_to link.old ≡ d }
+
     // The attempts are the takes of this station, and none is settled twice.
     ensures taken { station.new.counts.takes ≡ station.old.counts.takes + result.taken }
     ensures settled { (station.old.counts.settlements ≤ station.new.counts.settlements)
@@ -100,6 +105,7 @@ pub fn deliver<H: Wait + time::Clock + Log, A: Sharing, S: BookRows, L: Link, C:
 
     // An attempt makes 1,000,000 receives at most.
     ensures receives { CallsUpTo (L.receives link.old) (L.receives link.new) (RECEIVES_MAX * result.taken) }
+    ensures leads { L.leads_to link.new ≡ L.leads_to link.old }
 {
     let mut connection = Connection::new(alloc);
     let mut report = DeliverReport::new();

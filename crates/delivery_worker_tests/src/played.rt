@@ -100,6 +100,8 @@ impl Link for Played<'_> {
 
     ghost sent = { λ link. Some link.sent.items };
 
+    ghost leads_to = { λ _. 0 };
+
     fn connect(&mut self) -> Result<(), LinkFault> {
         self.saying = b"";
         self.humming = None;

@@ -1,6 +1,6 @@
 //! The link over TCP, on the loopback device.
 
-use delivery_worker::{Link, LinkFault, TcpLink, Way};
+use delivery_worker::{FixedWay, Link, LinkFault, TcpLink, Way};
 use plan_text::{Destination, Plan};
 use std::alloc::Global;
 use std::cell::Cell;
@@ -22,7 +22,7 @@ fn plan_for(alloc: Global, port: u16, timeout: u32) -> Result<Plan, Fail> {
 
 /// Whether the peer gets what was sent, and what it answers is received.
 fn is_told(
-    link: &mut TcpLink<'_, HostRuntime, &Destination>,
+    link: &mut TcpLink<'_, HostRuntime, FixedWay<'_>>,
     peer: &mut TcpStream,
 ) -> Result<bool, Fail> {
     let mut asked = [0; 5];
@@ -34,7 +34,7 @@ fn is_told(
 }
 
 /// Whether silence is a fault, and what is sent after a fault is one too.
-fn is_lost(link: &mut TcpLink<'_, HostRuntime, &Destination>) -> bool {
+fn is_lost(link: &mut TcpLink<'_, HostRuntime, FixedWay<'_>>) -> bool {
     let mut buffer = [0; 16];
     link.receive(&mut buffer) == Err(LinkFault)
         && link.send(b"again") == Err(LinkFault)
@@ -43,7 +43,7 @@ fn is_lost(link: &mut TcpLink<'_, HostRuntime, &Destination>) -> bool {
 
 /// Whether a connection after a fault is a new one, whose end is seen.
 fn sees_the_end(
-    link: &mut TcpLink<'_, HostRuntime, &Destination>,
+    link: &mut TcpLink<'_, HostRuntime, FixedWay<'_>>,
     listener: &TcpListener,
 ) -> Result<bool, Fail> {
     if link.connect().is_err() {
@@ -58,7 +58,7 @@ fn sees_the_end(
 /// a fault is a new one.
 fn comes_out(
     listener: TcpListener,
-    link: &mut TcpLink<'_, HostRuntime, &Destination>,
+    link: &mut TcpLink<'_, HostRuntime, FixedWay<'_>>,
 ) -> Result<bool, Fail> {
     if link.connect().is_err() || link.send(b"asked").is_err() {
         return Ok(false);
@@ -73,16 +73,17 @@ fn comes_out(
 fn loopback(rt: HostRuntime) -> Result<(), Fail> {
     let listener = TcpListener::bind(&rt, "127.0.0.1:0")?;
     let plan = plan_for(rt.alloc(), listener.local_addr()?.port(), 1)?;
-    let Some(destination) = plan.destination(0) else {
-        return Err("no destination".into());
+    let way = FixedWay {
+        plan: &plan,
+        index: 0,
     };
-    assert!(rt; comes_out(listener, &mut TcpLink::new(&rt, destination))?);
+    assert!(rt; comes_out(listener, &mut TcpLink::new(&rt, way))?);
     Ok(())
 }
 
 /// Whether the peer's answer is the next that is received, though something had arrived before the link was prepared.
 fn drops_what_arrived(
-    link: &mut TcpLink<'_, HostRuntime, &Destination>,
+    link: &mut TcpLink<'_, HostRuntime, FixedWay<'_>>,
     peer: &mut TcpStream,
 ) -> Result<bool, Fail> {
     peer.write_all(b"stale")?;
@@ -96,7 +97,7 @@ fn drops_what_arrived(
 /// follows at once on one that failed.
 fn is_readied(
     listener: TcpListener,
-    link: &mut TcpLink<'_, HostRuntime, &Destination>,
+    link: &mut TcpLink<'_, HostRuntime, FixedWay<'_>>,
 ) -> Result<bool, Fail> {
     if link.prepare().is_err() {
         return Ok(false);
@@ -118,23 +119,30 @@ fn is_readied(
 fn readied(rt: HostRuntime) -> Result<(), Fail> {
     let listener = TcpListener::bind(&rt, "127.0.0.1:0")?;
     let plan = plan_for(rt.alloc(), listener.local_addr()?.port(), 1)?;
-    let Some(destination) = plan.destination(0) else {
-        return Err("no destination".into());
+    let way = FixedWay {
+        plan: &plan,
+        index: 0,
     };
-    assert!(rt; is_readied(listener, &mut TcpLink::new(&rt, destination))?);
+    assert!(rt; is_readied(listener, &mut TcpLink::new(&rt, way))?);
     Ok(())
 }
 
 /// A way that is halted after a number of looks.
 #[derive(Drop)]
 struct Halting<'a> {
-    destination: &'a Destination,
+    plan: &'a Plan,
     looks: Cell<u32>,
 }
 
 impl Way for Halting<'_> {
+    ghost use Rattle.std.specs.Prelude.{Some};
+
+    ghost leads_to = { λ _. 0 };
+
+    ghost plan = { λ way. Some way.plan.now };
+
     fn destination(&self) -> Option<&Destination> {
-        Some(self.destination)
+        self.plan.destination(0)
     }
 
     fn is_halted(&self) -> bool {
@@ -153,11 +161,11 @@ impl Way for Halting<'_> {
 fn halted(rt: HostRuntime) -> Result<(), Fail> {
     let listener = TcpListener::bind(&rt, "127.0.0.1:0")?;
     let plan = plan_for(rt.alloc(), listener.local_addr()?.port(), 60)?;
-    let Some(destination) = plan.destination(0) else {
-        return Err("no destination".into());
+    let way = Halting {
+        plan: &plan,
+        looks: Cell::new(8),
     };
-    let looks = Cell::new(8);
-    let mut link = TcpLink::new(&rt, Halting { destination, looks });
+    let mut link = TcpLink::new(&rt, way);
     let begun = rt.monotonic()?;
     assert_eq!(rt; link.connect(), Ok(()));
     assert_eq!(rt; link.send(b"asked"), Ok(()));

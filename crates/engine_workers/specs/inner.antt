@@ -1,3 +1,4 @@
 -- What proofs alone use: no claim rests on these pages.
 pub mod Doors
+pub mod Order
 pub mod Works

@@ -1,5 +1,6 @@
 //! The two halves of a connection over TCP.
 
+ghost use Rattle.std.specs.Prelude.{◌≡◌};
 ghost use Rattle.std.specs.Io.{WritesAtMost};
 
 use crate::door::Incoming;
@@ -35,6 +36,8 @@ pub struct Label<'a> {
 pub struct Half<'a, H> {
     rt: &'a H,
     stream: Arc<TcpStream>,
+    /// The index in the plan of the channel that the connection was accepted for.
+    channel: u32,
     label: Label<'a>,
 }
 
@@ -71,9 +74,16 @@ fn write_some(mut stream: &TcpStream, buf: &[u8]) -> io::Result<usize>
 }
 
 impl<'a, H: Log> Half<'a, H> {
-    /// A half of this connection.
-    pub fn new(rt: &'a H, stream: Arc<TcpStream>, label: Label<'a>) -> Self {
-        Half { rt, stream, label }
+    /// A half of this connection, which was accepted for the channel at this index.
+    pub fn new(rt: &'a H, stream: Arc<TcpStream>, channel: u32, label: Label<'a>) -> Self
+        ensures { result.channel ≡ channel }
+    {
+        Half {
+            rt,
+            stream,
+            channel,
+            label,
+        }
     }
 
     /// Logs a failure, but for an interruption. It is not inlined, for speed: what a line needs would be cleared for each read
@@ -122,6 +132,12 @@ impl<'a, H: Log> Write for Half<'a, H> {
 }
 
 impl<'a, H: Log> Incoming for Half<'a, H> {
+    ghost channel = { λ half. half.channel };
+
+    fn channel(&self) -> u32 {
+        self.channel
+    }
+
     fn drain(&mut self) {
         let mut stream: &TcpStream = &self.stream;
         let _ = stream.shutdown(Shutdown::Write);

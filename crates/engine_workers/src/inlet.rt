@@ -1,12 +1,16 @@
 //! Opening the doors of the channels, and serving the connections that come.
 
+ghost use Rattle.std.specs.Prelude.{◌≡◌, ◌+◌, ◌<◌, vec_len};
+ghost use Rattle.conn_worker.specs.Arriving.{BooksInLog};
+ghost use Rattle.conn_worker.specs.Serving.{Serves};
+
 use crate::connection_work::ConnectionWork;
 use crate::door::{Door, DoorFault, Incoming};
 use crate::loan::TakeCell;
 use crate::site::Context;
 use book_core::BookRows;
-use book_lock::Sharing;
-use conn_worker::{Clock, Counted, ServeEnd, log_end, serve};
+use book_lock::{Desk, Sharing};
+use conn_worker::{Clock, Counted, ServeEnd, ServeReport, log_end, serve};
 use log::{Log, info, warn};
 use std::io::Write;
 use std::sync::Wait;
@@ -21,7 +25,40 @@ fn is_ended_here(end: ServeEnd) -> bool {
     matches!(end, ServeEnd::NoMemory | ServeEnd::TurnBound)
 }
 
-/// Serves a connection, and leaves the report with its work. Where there is a report already, nothing is done.
+/// Serves a connection at a desk, on the channel that it was accepted for.
+fn serve_accepted<A: Sharing, S: BookRows, C: Clock + Copy, H: Wait + Log, R: Incoming, W: Write>(
+    site: &Context<'_, A, S, C, H>,
+    desk: &mut Desk<A>,
+    connection: u32,
+    channel: u32,
+    reader: &mut Counted<R>,
+    writer: &mut Counted<W>,
+) -> ServeReport
+    requires known { channel < A.channels }
+    requires accepted { R.channel reader.old.inner ≡ channel }
+
+    // The messages read, their answers, and what was written, all on the channel of the reader.
+    ensures served { Serves connection (R.channel reader.old.inner) (R.remaining reader.old.inner) (R.remaining reader.new.inner)
+        (W.contents writer.old.inner) (W.contents writer.new.inner) result.receipts.items result }
+    ensures booked { BooksInLog A.opening desk.old.seat desk.new.seat result.receipts.items }
+    ensures counted { desk.new.made ≡ desk.old.made + vec_len result.receipts }
+{
+    let mut clock = site.clock;
+    serve(
+        site.rt,
+        site.alloc,
+        site.shared,
+        desk,
+        connection,
+        channel,
+        reader,
+        writer,
+        &mut clock,
+    )
+}
+
+/// Serves a connection, and leaves the report with its work. Where there is a report already, or the connection was accepted for
+/// another channel, nothing is done.
 #[tactic(auto, using(crate::proofs::Reported::served_once))]
 fn serve_connection<
     A: Sharing,
@@ -38,6 +75,10 @@ fn serve_connection<
         place.give_back(site.rt, work);
         return;
     }
+    if reader.channel() != work.channel {
+        place.give_back(site.rt, work);
+        return;
+    }
     let ConnectionWork {
         connection,
         channel,
@@ -45,18 +86,14 @@ fn serve_connection<
         ..
     } = work;
     let before = desk.made();
-    let mut clock = site.clock;
     let (mut reader, mut writer) = (Counted::new(reader), Counted::new(writer));
-    let report = serve(
-        site.rt,
-        site.alloc,
-        site.shared,
+    let report = serve_accepted(
+        site,
         &mut desk,
         connection,
         channel,
         &mut reader,
         &mut writer,
-        &mut clock,
     );
     if is_ended_here(report.end) {
         reader.into_inner().drain();

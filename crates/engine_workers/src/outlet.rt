@@ -24,9 +24,9 @@ use std::{thread, time};
 /// What delivers the messages of a destination: its index in the plan, its link, the station of its takes and
 /// settlements, how many takes the station had counted before, and the outcome of delivering, once it ended. The
 /// report is of this station: the station has counted as many takes since as the report has attempts, and its calls are
-/// those of these attempts, for this destination. Without a report it has made no call.
+/// those of these attempts, for this destination. Without a report it has made no call. The link leads to this destination.
 #[derive(Drop)]
-pub struct DestinationWork<A: Sharing, L> {
+pub struct DestinationWork<A: Sharing, L: Link> {
     pub destination: u32,
     pub link: L,
     pub before: u64,
@@ -34,12 +34,14 @@ pub struct DestinationWork<A: Sharing, L> {
     pub report: Option<DeliverReport>,
     ghost counted: { ForSome report (λ r. station.counts.takes ≡ before + r.taken) },
     ghost delivered: { ∥ HasDelivered A.opening destination station.seat report ∥₁ },
+    ghost leads: { L.leads_to link ≡ destination },
 }
 
-impl<A: Sharing, L> DestinationWork<A, L> {
+impl<A: Sharing, L: Link> DestinationWork<A, L> {
     /// The work of a destination to which nothing was delivered yet, with a station that has made no call.
     pub fn new(destination: u32, link: L, station: Station<A>) -> Self
-        requires { IsUnused station.seat }
+        requires unused { IsUnused station.seat }
+        requires leads { L.leads_to link ≡ destination }
         ensures destination { result.destination ≡ destination }
         ensures link { result.link ≡ link }
         ensures station { result.station ≡ station }
@@ -55,7 +57,7 @@ impl<A: Sharing, L> DestinationWork<A, L> {
 }
 
 /// Adds the station of an outlet to others, and its report, if it has one. The link is dropped.
-fn add_outlet<A: Sharing, L: Drop>(
+fn add_outlet<A: Sharing, L: Link + Drop>(
     stations: &mut Vec<Station<A>>,
     reports: &mut Vec<DeliverReport>,
     outlet: DestinationWork<A, L>,
@@ -82,7 +84,7 @@ fn add_outlet<A: Sharing, L: Drop>(
 ///
 /// Where memory is refused.
 #[tactic(auto, using(crate::proofs::Parts::map_more, crate::proofs::Parts::filter_map_more))]
-pub fn stations_and_reports<A: Sharing, L: Drop>(
+pub fn stations_and_reports<A: Sharing, L: Link + Drop>(
     alloc: Global,
     outlets: Vec<DestinationWork<A, L>>,
 ) -> Result<(Vec<Station<A>>, Vec<DeliverReport>), AllocError>

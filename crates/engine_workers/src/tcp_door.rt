@@ -23,6 +23,8 @@ pub struct TcpDoor<'a, H> {
     rt: &'a H,
     alloc: Global,
     channel: &'a Channel,
+    /// The index of the channel in the plan.
+    index: u32,
     /// None once it is closed.
     listener: Option<TcpListener>,
     /// The number of the next connection.
@@ -31,12 +33,12 @@ pub struct TcpDoor<'a, H> {
 }
 
 impl<'a, H> Model for TcpDoor<'a, H> {
-    ghost use Rattle.std.specs.Prelude.{ℕ};
+    ghost use Rattle.engine_workers.specs.inner.Doors.{DoorView};
 
-    /// How many calls failed, other than because memory was refused.
-    ghost Value = { ℕ };
+    /// How many calls failed, other than because memory was refused, and the index of its channel.
+    ghost Value = { DoorView };
 
-    ghost view = { λ door. door.faults };
+    ghost view = { λ door. record { faults = door.faults; channel = door.index } };
 }
 
 /// The error of a call on a listener that is closed.
@@ -45,19 +47,28 @@ fn is_closed() -> io::Error {
 }
 
 impl<'a, H: Net<Listener = TcpListener, Stream = TcpStream> + Clock + Log> TcpDoor<'a, H> {
-    /// Listens at the channel's address. No call failed so far, and the first connection will have number `first`.
+    /// Listens at the address of a channel, the one at this index of its plan. No call failed so far, and the first connection
+    /// will have number `first`.
     ///
     /// # Errors
     ///
     /// Where the channel can't listen there.
-    pub fn bind(rt: &'a H, alloc: Global, channel: &'a Channel, first: u32) -> io::Result<Self>
-        ensures { IfOk result (λ door. door ≡ 0) }
+    pub fn bind(
+        rt: &'a H,
+        alloc: Global,
+        channel: &'a Channel,
+        index: u32,
+        first: u32,
+    ) -> io::Result<Self>
+        ensures faults { IfOk result (λ door. door.faults ≡ 0) }
+        ensures channel { IfOk result (λ door. door.channel ≡ index) }
     {
         let listener = TcpListener::bind(rt, channel.listen())?;
         Ok(TcpDoor {
             rt,
             alloc,
             channel,
+            index,
             listener: Some(listener),
             next: first,
             faults: 0,
@@ -120,7 +131,8 @@ impl<'a, H: Net<Listener = TcpListener, Stream = TcpStream> + Clock + Log> TcpDo
         stream: TcpStream,
         peer: SocketAddr,
     ) -> Result<(Half<'a, H>, Half<'a, H>), AllocError>
-        ensures { self.new ≡ self.old }
+        ensures same { self.new ≡ self.old }
+        ensures accepted { IfOk result (λ halves. halves.0.channel ≡ self.old.channel) }
     {
         // Where the system refuses one of these, the connection is served without it.
         let _ = stream.set_nodelay(true);
@@ -135,13 +147,14 @@ impl<'a, H: Net<Listener = TcpListener, Stream = TcpStream> + Clock + Log> TcpDo
             peer,
         };
         let stream = Arc::new(self.alloc, stream).map_err(AllocError::from)?;
-        let reader = Half::new(self.rt, Arc::try_clone(&stream)?, label);
-        Ok((reader, Half::new(self.rt, stream, label)))
+        let reader = Half::new(self.rt, Arc::try_clone(&stream)?, self.index, label);
+        Ok((reader, Half::new(self.rt, stream, self.index, label)))
     }
 
     /// Logs that no further connection is taken, and counts the fault.
     fn fault(&mut self, error: io::Error) -> DoorFault
-        ensures counted { self.new ≡ with_fault true self.old }
+        ensures counted { self.new.faults ≡ with_fault true self.old.faults }
+        ensures same { self.new.channel ≡ self.old.channel }
         ensures device { result ≡ DoorFault.Device }
     {
         let channel = self.channel.name();
@@ -156,7 +169,9 @@ impl<'a, H: Net<Listener = TcpListener, Stream = TcpStream> + Clock + Log> Door 
 
     type Writer = Half<'a, H>;
 
-    ghost fault_count = { λ faults. faults };
+    ghost fault_count = { λ door. door.faults };
+
+    ghost channel = { λ door. door.channel };
 
     fn open(&mut self) -> Result<(Half<'a, H>, Half<'a, H>), DoorFault> {
         let (stream, peer) = match self.accept() {

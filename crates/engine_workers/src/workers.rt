@@ -3,6 +3,7 @@
 ghost use Rattle.std.specs.Prelude.{◌≡◌, ◌<◌, All, OnOk};
 ghost use Rattle.std.specs.Vec.Iter.{into_iter_items};
 ghost use Rattle.delivery_worker.specs.Sent.{IsUnused};
+ghost use Rattle.engine_workers.specs.inner.Order.{AreFrom, are_from_prop};
 
 use crate::connection_work::ConnectionWork;
 use crate::door::{Door, Incoming};
@@ -35,9 +36,9 @@ impl From<AllocError> for StartError {
 }
 
 /// What the workers work with: a desk for each connection, a door for each channel, and for each destination a station and
-/// a link. No call was made at a desk or a station yet.
+/// a link that leads there. No call was made at a desk or a station yet.
 #[derive(Drop)]
-pub struct Workers<A: Sharing, D, L> {
+pub struct Workers<A: Sharing, D, L: Link> {
     /// The desks of the connections, those of the first channel's first.
     pub desks: Vec<Desk<A>>,
     /// The doors, in the order of the plan's channels.
@@ -48,11 +49,12 @@ pub struct Workers<A: Sharing, D, L> {
     pub links: Vec<L>,
     ghost unused_desks: { All (λ d. IsUnused d.seat) desks.items },
     ghost unused_stations: { All (λ s. IsUnused s.seat) stations.items },
+    ghost links_in_order: { AreFrom L.leads_to 0 links.items } by { are_from_prop L.leads_to 0 links.items },
 }
 
 /// The result of the work: what the workers worked with, each report with the desk or the station that it is of.
 #[derive(Drop)]
-pub struct Finished<A: Sharing, D, L> {
+pub struct Finished<A: Sharing, D, L: Link> {
     /// The connections, in the order of their numbers.
     pub connections: Vec<ConnectionWork<A>>,
     /// The doors, in the order of the plan's channels.
@@ -63,7 +65,7 @@ pub struct Finished<A: Sharing, D, L> {
 
 /// Where the workers work.
 #[derive(Drop)]
-struct Work<A: Sharing, D, L> {
+struct Work<A: Sharing, D, L: Link> {
     /// The inlets, in the order of the plan's channels.
     inlets: Vec<ChannelWork<A, D>>,
     /// The outlets, in the order of the plan's destinations.
@@ -123,12 +125,13 @@ fn inlets_of<A: Sharing, D: Drop>(
 }
 
 /// The work of the destinations.
-fn outlets_of<A: Sharing, L: Drop>(
+fn outlets_of<A: Sharing, L: Link + Drop>(
     alloc: Global,
     stations: Vec<Station<A>>,
     links: Vec<L>,
 ) -> Result<Vec<TakeCell<DestinationWork<A, L>>>, AllocError>
-    requires { All (λ s. IsUnused s.seat) stations.items }
+    requires unused { All (λ s. IsUnused s.seat) stations.items }
+    requires in_order { AreFrom L.leads_to 0 links.items }
 {
     let mut stations = stations.into_iter();
     let mut links = links.into_iter();
@@ -146,7 +149,7 @@ fn outlets_of<A: Sharing, L: Drop>(
 }
 
 /// The work of all channels and destinations, made of what the workers work with.
-fn posts_of<A: Sharing, D: Drop, L: Drop>(
+fn posts_of<A: Sharing, D: Drop, L: Link + Drop>(
     alloc: Global,
     channels: u32,
     accept: u32,
@@ -183,7 +186,7 @@ fn take_inlet<A: Sharing, D: Drop>(
 }
 
 /// Takes in what delivered to all destinations.
-fn outlets_back<A: Sharing, L: Drop>(
+fn outlets_back<A: Sharing, L: Link + Drop>(
     alloc: Global,
     places: Vec<TakeCell<DestinationWork<A, L>>>,
 ) -> Result<Vec<DestinationWork<A, L>>, AllocError> {
@@ -197,7 +200,7 @@ fn outlets_back<A: Sharing, L: Drop>(
 }
 
 /// What the workers worked with, once they have ended.
-fn gather<A: Sharing, D: Drop, L: Drop>(
+fn gather<A: Sharing, D: Drop, L: Link + Drop>(
     alloc: Global,
     posts: Work<A, D, L>,
 ) -> Result<Finished<A, D, L>, AllocError> {

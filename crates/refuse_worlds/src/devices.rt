@@ -1,7 +1,7 @@
 //! What a connection is read and written by, a destination that accepts whatever it is sent, and a
 //! clock that leaps.
 
-ghost use Rattle.std.specs.Prelude.{◌≡◌, true};
+ghost use Rattle.std.specs.Prelude.{◌≡◌, IfOk, true};
 ghost use Rattle.conn_worker.specs.Faults.{with_fault};
 
 use conn_worker::{Clock, nearest};
@@ -80,6 +80,8 @@ impl Write for Sink {
 /// A link to a destination that accepts each message.
 #[derive(Drop)]
 pub struct Agreeing {
+    /// The index of the destination.
+    destination: u32,
     /// What was sent.
     pub sent: Vec<u8>,
     saying: Vec<u8>,
@@ -88,13 +90,16 @@ pub struct Agreeing {
 }
 
 impl Agreeing {
-    /// With nothing sent.
+    /// To the destination at this index, with nothing sent.
     ///
     /// # Errors
     ///
     /// Where memory is refused.
-    pub fn new(alloc: Global) -> Result<Agreeing, AllocError> {
+    pub fn new(alloc: Global, destination: u32) -> Result<Agreeing, AllocError>
+        ensures { IfOk result (λ link. link.destination ≡ destination) }
+    {
         Ok(Agreeing {
+            destination,
             sent: Vec::with_capacity(alloc, ROOM)?,
             saying: Vec::with_capacity(alloc, ROOM)?,
             said: 0,
@@ -104,7 +109,8 @@ impl Agreeing {
 
     /// Notes what was sent, and says that it was accepted.
     fn accept(&mut self, bytes: &[u8]) -> Result<(), AllocError>
-        ensures { self.new.faults ≡ self.old.faults }
+        ensures faults { self.new.faults ≡ self.old.faults }
+        ensures same { self.new.destination ≡ self.old.destination }
     {
         self.sent.extend_from_slice(bytes)?;
         let id = bytes.split(|byte| *byte == b'|').nth(CONTROL_ID);
@@ -117,7 +123,8 @@ impl Agreeing {
 
     /// Counts a fault.
     fn fault(&mut self) -> LinkFault
-        ensures { self.new.faults ≡ with_fault true self.old.faults }
+        ensures faults { self.new.faults ≡ with_fault true self.old.faults }
+        ensures same { self.new.destination ≡ self.old.destination }
     {
         self.faults = self.faults.saturating_add(1);
         LinkFault
@@ -126,6 +133,8 @@ impl Agreeing {
 
 impl Link for Agreeing {
     ghost fault_count = { λ link. link.faults };
+
+    ghost leads_to = { λ link. link.destination };
 
     fn connect(&mut self) -> Result<(), LinkFault> {
         Ok(())

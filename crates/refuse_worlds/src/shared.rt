@@ -246,7 +246,7 @@ impl<'s, A: Sharing, H: Wait + Clock + Log> AtBook<'s, A, H> {
     /// What waits for a destination is delivered.
     fn deliver(&mut self, window: &Window, words: &mut SplitWhitespace<'_>) -> Result<String> {
         let d = number(words)?;
-        let mut link = Agreeing::new(self.alloc)?;
+        let mut link = Agreeing::new(self.alloc, d)?;
         let mut clock = Leaping::new(MOMENT);
         window.begin()?;
         let report = deliver(

@@ -79,6 +79,8 @@ impl<'a> Door for Entrance<'a> {
 
     ghost fault_count = { λ _. 0 };
 
+    ghost channel = { λ _. 0 };
+
     fn open(&mut self) -> Result<(Stream<'a>, Sink), DoorFault> {
         let Some((first, rest)) = self.streams.split_first() else {
             return Err(DoorFault::NoMemory);
@@ -108,7 +110,13 @@ impl Read for Stream<'_> {
     }
 }
 
-impl Incoming for Stream<'_> {}
+impl Incoming for Stream<'_> {
+    ghost channel = { λ _. 0 };
+
+    fn channel(&self) -> u32 {
+        0
+    }
+}
 
 /// What a connection is written by.
 #[derive(Clone, Copy)]
@@ -127,6 +135,8 @@ impl Write for Sink {
 /// A link to a destination that accepts each message.
 #[derive(Drop)]
 pub struct Agreeing {
+    /// The index of the destination.
+    destination: u32,
     saying: Vec<u8>,
     said: usize,
     faults: u64,
@@ -146,9 +156,12 @@ pub(crate) fn acceptance(alloc: Global, block: &[u8]) -> Option<Vec<u8>> {
 }
 
 impl Agreeing {
-    /// With nothing sent.
-    pub fn new(alloc: Global) -> Agreeing {
+    /// To the destination at this index, with nothing sent.
+    pub fn new(alloc: Global, destination: u32) -> Agreeing
+        ensures { result.destination ≡ destination }
+    {
         Agreeing {
+            destination,
             saying: Vec::new(alloc),
             said: 0,
             faults: 0,
@@ -157,7 +170,8 @@ impl Agreeing {
 
     /// Counts a fault.
     fn fault(&mut self) -> LinkFault
-        ensures { self.new.faults ≡ with_fault true self.old.faults }
+        ensures faults { self.new.faults ≡ with_fault true self.old.faults }
+        ensures same { self.new.destination ≡ self.old.destination }
     {
         self.faults = self.faults.saturating_add(1);
         LinkFault
@@ -166,6 +180,8 @@ impl Agreeing {
 
 impl Link for Agreeing {
     ghost fault_count = { λ link. link.faults };
+
+    ghost leads_to = { λ link. link.destination };
 
     fn connect(&mut self) -> Result<(), LinkFault> {
         Ok(())

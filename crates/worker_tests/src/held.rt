@@ -1,5 +1,8 @@
 //! Workers that are held up until others have got on.
 
+ghost use Rattle.std.specs.Prelude.{IfSome, if◌then◌else◌};
+ghost use Rattle.engine_workers.specs.inner.Order.{AreFrom};
+
 use crate::runs::{Outcome, PLAN, plan_of, run_on};
 use crate::stage::{Gate, Partner, Stage};
 use log::Log;
@@ -18,7 +21,9 @@ fn doors_of(alloc: Global, stage: &Stage) -> Option<Vec<Gate<'_>>> {
 }
 
 /// The links of the destinations.
-fn links_of(alloc: Global, stage: &Stage) -> Option<Vec<Partner<'_>>> {
+fn links_of(alloc: Global, stage: &Stage) -> Option<Vec<Partner<'_>>>
+    ensures { IfSome result (λ links. AreFrom (λ link. if link.is_second then 1 else 0) 0 links.items) }
+{
     let mut links = Vec::new(alloc);
     links.push(Partner::new(stage, false)).ok()?;
     links.push(Partner::new(stage, true)).ok()?;

@@ -1,12 +1,15 @@
 //! Two senders with fifty messages each, which all go to both of two destinations, over sockets of
 //! the loopback device.
 
+ghost use Rattle.std.specs.Prelude.{IfSome};
+ghost use Rattle.engine_workers.specs.inner.Order.{AreFrom};
+
 use crate::crowd::{BLOCK, MESSAGES, acceptance, replies_to, stream_of};
 use crate::runs::{Outcome, plan_of, run_on};
-use delivery_worker::TcpLink;
+use delivery_worker::{FixedWay, TcpLink};
 use engine_workers::TcpDoor;
 use log::Log;
-use plan_text::{Destination, Plan};
+use plan_text::Plan;
 use std::alloc::Global;
 use std::hash::RandomState;
 use std::io::{Read, Write};
@@ -120,10 +123,16 @@ fn links_of<'a, H: Net<Listener = TcpListener, Stream = TcpStream> + Clock + Log
     rt: &'a H,
     alloc: Global,
     plan: &'a Plan,
-) -> Option<Vec<TcpLink<'a, H, &'a Destination>>> {
+) -> Option<Vec<TcpLink<'a, H, FixedWay<'a>>>>
+    ensures { IfSome result (λ links. AreFrom (λ link. link.leads_to) 0 links.items) }
+{
     let mut links = Vec::new(alloc);
-    links.push(TcpLink::new(rt, plan.destination(0)?)).ok()?;
-    links.push(TcpLink::new(rt, plan.destination(1)?)).ok()?;
+    links
+        .push(TcpLink::new(rt, FixedWay { plan, index: 0 }))
+        .ok()?;
+    links
+        .push(TcpLink::new(rt, FixedWay { plan, index: 1 }))
+        .ok()?;
     Some(links)
 }
 
@@ -191,7 +200,7 @@ fn comes_out<
     let Some(channel) = plan.channel(0) else {
         return Ok(false);
     };
-    let door = TcpDoor::bind(rt, alloc, channel, 0)?;
+    let door = TcpDoor::bind(rt, alloc, channel, 0, 0)?;
     let [mut first, mut second] = send_both(rt, door.address()?, streams)?;
     let ended = run_behind(rt, alloc, plan, hasher, door);
     let told = is_told(alloc, &mut first, 0) && is_told(alloc, &mut second, 1);

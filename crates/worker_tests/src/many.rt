@@ -1,5 +1,8 @@
 //! Two senders with fifty messages each, which all go to both of two destinations, on threads.
 
+ghost use Rattle.std.specs.Prelude.{IfSome};
+ghost use Rattle.engine_workers.specs.inner.Order.{AreFrom};
+
 use crate::crowd::{Agreeing, Entrance, MESSAGES, stream_of};
 use crate::runs::{Outcome, PLAN, plan_of, run_on};
 use log::Log;
@@ -18,10 +21,12 @@ fn doors_of(alloc: Global, streams: &[Vec<u8>]) -> Option<Vec<Entrance<'_>>> {
 }
 
 /// The links of the destinations.
-fn links_of(alloc: Global) -> Option<Vec<Agreeing>> {
+fn links_of(alloc: Global) -> Option<Vec<Agreeing>>
+    ensures { IfSome result (λ links. AreFrom (λ link. link.destination) 0 links.items) }
+{
     let mut links = Vec::new(alloc);
-    links.push(Agreeing::new(alloc)).ok()?;
-    links.push(Agreeing::new(alloc)).ok()?;
+    links.push(Agreeing::new(alloc, 0)).ok()?;
+    links.push(Agreeing::new(alloc, 1)).ok()?;
     Some(links)
 }
 

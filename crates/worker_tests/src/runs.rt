@@ -3,6 +3,7 @@
 ghost use Rattle.std.specs.Prelude.{◌≡◌, ◌+◌, length};
 ghost use Rattle.event_log.specs.History.{next_place, plan_in_force};
 ghost use Rattle.event_log.specs.Counting.{counted};
+ghost use Rattle.engine_workers.specs.inner.Order.{AreFrom};
 
 use book_core::{Book, EVENTS_MAX, Outbound, Receipt};
 use book_lock::{Closed, Desk, LogEntry, Opened, Shared, Sharing, Station, audit, rising};
@@ -89,7 +90,7 @@ fn shown_at<A: Sharing, H: Wait>(
 }
 
 /// What workers leave that have ended. None where memory is refused.
-fn left_by<A: Sharing, D: Drop, L: Drop>(
+fn left_by<A: Sharing, D: Drop, L: Link + Drop>(
     alloc: Global,
     worked: Finished<A, D, L>,
 ) -> Option<Left<A>> {
@@ -274,6 +275,7 @@ fn run<
     requires first { next_place book ≡ A.first }
     requires channels { length (plan_in_force book).channels ≡ A.channels }
     requires seats { (A.desks ≡ 2) × (A.stations ≡ 2) }
+    requires links { AreFrom L.leads_to 0 links.items }
 {
     let opened = Shared::<A, Rows>::new(alloc, book, 2, 2, log);
     let Ok(
@@ -311,7 +313,9 @@ pub(crate) fn run_on<
     doors: Vec<D>,
     links: Vec<L>,
     each: u64,
-) -> Outcome {
+) -> Outcome
+    requires { AreFrom L.leads_to 0 links.items }
+{
     let Ok(log) = BlankLog::new(alloc) else {
         return Outcome::Missing;
     };

@@ -151,6 +151,8 @@ impl<'a> Door for Gate<'a> {
 
     ghost fault_count = { λ door. door.faults };
 
+    ghost channel = { λ _. 0 };
+
     fn open(&mut self) -> Result<(Source<'a>, Sink<'a>), DoorFault> {
         if self.stage.lacks_memory {
             return Err(DoorFault::NoMemory);
@@ -217,7 +219,13 @@ impl Read for Source<'_> {
     }
 }
 
-impl Incoming for Source<'_> {}
+impl Incoming for Source<'_> {
+    ghost channel = { λ _. 0 };
+
+    fn channel(&self) -> u32 {
+        0
+    }
+}
 
 /// What a connection is written by.
 #[derive(Drop)]
@@ -253,7 +261,9 @@ pub struct Partner<'a> {
 
 impl<'a> Partner<'a> {
     /// With nothing sent.
-    pub fn new(stage: &'a Stage, is_second: bool) -> Partner<'a> {
+    pub fn new(stage: &'a Stage, is_second: bool) -> Partner<'a>
+        ensures { result.is_second ≡ is_second }
+    {
         Partner {
             stage,
             is_second,
@@ -265,7 +275,8 @@ impl<'a> Partner<'a> {
 
     /// Counts a fault.
     fn fault(&mut self) -> LinkFault
-        ensures { self.new.faults ≡ with_fault true self.old.faults }
+        ensures faults { self.new.faults ≡ with_fault true self.old.faults }
+        ensures same { self.new.is_second ≡ self.old.is_second }
     {
         self.faults = self.faults.saturating_add(1);
         LinkFault
@@ -273,7 +284,12 @@ impl<'a> Partner<'a> {
 }
 
 impl Link for Partner<'_> {
+    ghost use Rattle.std.specs.Prelude.{if◌then◌else◌};
+
     ghost fault_count = { λ link. link.faults };
+
+    /// The second destination has index 1, and the first 0.
+    ghost leads_to = { λ link. if link.is_second then 1 else 0 };
 
     fn connect(&mut self) -> Result<(), LinkFault> {
         Ok(())

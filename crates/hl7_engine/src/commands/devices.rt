@@ -1,15 +1,16 @@
 //! The doors of the channels and the links of the destinations, over TCP.
 
 ghost use Rattle.std.specs.Prelude.{◌≡◌, ◌⊎◌, Some, IfErr, IfOk, length, map, vec_len};
+ghost use Rattle.engine_workers.specs.inner.Order.{AreFrom, are_from_prop};
 ghost use Rattle.engine_report.specs.Findings.{failed_channels};
 ghost use Rattle.engine_report.specs.inner.Findings.{NamesChannel, listening};
 
-use delivery_worker::TcpLink;
+use delivery_worker::{FixedWay, TcpLink};
 use engine_report::{Fault, add_listen_fault, tell_lines};
 use engine_workers::{Door, TcpDoor};
 use log::Log;
 use plan_notes::listen_note;
-use plan_text::{Destination, Plan};
+use plan_text::Plan;
 use std::alloc::{AllocError, Global};
 use std::net::{Net, TcpListener, TcpStream};
 use std::time::Clock;
@@ -20,7 +21,8 @@ pub struct Devices<'a, H> {
     /// The doors, in the order of the plan's channels.
     pub doors: Vec<TcpDoor<'a, H>>,
     /// The links, in the order of the plan's destinations.
-    pub links: Vec<TcpLink<'a, H, &'a Destination>>,
+    pub links: Vec<TcpLink<'a, H, FixedWay<'a>>>,
+    ghost links_in_order: { AreFrom (λ link. link.leads_to) 0 links.items } by { are_from_prop (λ link. link.leads_to) 0 links.items },
 }
 
 /// The doors of all channels, the first connection of each with the number that follows from `accept`.
@@ -42,7 +44,7 @@ fn open_doors<'a, 'f, H: Net<Listener = TcpListener, Stream = TcpStream> + Clock
             break;
         };
         let first = place.saturating_mul(accept);
-        match TcpDoor::bind(handle, alloc, channel, first) {
+        match TcpDoor::bind(handle, alloc, channel, place, first) {
             Ok(door) => doors.push(door).map_err(AllocError::from)?,
             Err(error) => {
                 tell_lines(rt, listen_note(alloc, channel, &error));
@@ -54,19 +56,18 @@ fn open_doors<'a, 'f, H: Net<Listener = TcpListener, Stream = TcpStream> + Clock
 }
 
 /// The links of all destinations, none of which is connected yet.
+#[tactic(auto, using(engine_workers::proofs::Parts::more_from))]
 fn make_links<'a, H: Net<Listener = TcpListener, Stream = TcpStream> + Clock + Log>(
     rt: &'a H,
     alloc: Global,
     plan: &'a Plan,
-) -> Result<Vec<TcpLink<'a, H, &'a Destination>>, AllocError>
-    ensures { IfOk result (λ links. vec_len links ≡ length plan.now.destinations) }
+) -> Result<Vec<TcpLink<'a, H, FixedWay<'a>>>, AllocError>
+    ensures links { IfOk result (λ links. vec_len links ≡ length plan.now.destinations) }
+    ensures in_order { IfOk result (λ links. AreFrom (λ link. link.leads_to) 0 links.items) }
 {
     let mut links = Vec::new(alloc);
-    for place in 0..plan.destinations() {
-        let Some(destination) = plan.destination(place) else {
-            break;
-        };
-        links.push(TcpLink::new(rt, destination))?;
+    for index in 0..plan.destinations() {
+        links.push(TcpLink::new(rt, FixedWay { plan, index }))?;
     }
     Ok(links)
 }

@@ -14,7 +14,7 @@ use crate::handle::Handle;
 use book_core::EVENTS_MAX;
 use book_lock::{Closed, LogEntry, Opened, Shared, Sharing};
 use conn_worker::{ServeReport, Steady};
-use delivery_worker::TcpLink;
+use delivery_worker::{FixedWay, Link, TcpLink};
 use descriptors::allowed;
 use engine_journal::{Journal, Repeats};
 use engine_report::{
@@ -23,7 +23,7 @@ use engine_report::{
 use engine_workers::{Door, Finished, RunEnd, TcpDoor, Workers, close_book, run_workers};
 use ghost_log::BlankLog;
 use log::{Log, warn};
-use plan_text::{Destination, Plan};
+use plan_text::Plan;
 use std::alloc::{AllocError, Global};
 use std::marker::Brand;
 use std::sync::{Arc, Mutex};
@@ -39,7 +39,7 @@ struct Ended<'f> {
 
 /// Takes the book out of its lock, once the workers have ended. The messages of a closed book are traced: each arrival has
 /// one of the receipts, and each delivered message was sent.
-fn close<'f, A: Sharing, D: Door + Drop, L: Drop>(
+fn close<'f, A: Sharing, D: Door + Drop, L: Link + Drop>(
     alloc: Global,
     plan: &Plan,
     shared: Shared<A, EngineRows>,
@@ -65,7 +65,7 @@ fn work_at<'a, 'f, A: Sharing + Send + Sync, H: Handle>(
     alloc: Global,
     plan: &'a Plan,
     shared: Shared<A, EngineRows>,
-    staff: Workers<A, TcpDoor<'a, H>, TcpLink<'a, H, &'a Destination>>,
+    staff: Workers<A, TcpDoor<'a, H>, TcpLink<'a, H, FixedWay<'a>>>,
     accept: u32,
 ) -> Result<Ended<'f>, AllocError>
     ensures opening { IfOk result (λ ended. IfSome ended.closed (λ closed. (closed.opening ≡ A.counts) × (closed.first ≡ A.first))) }

@@ -1,4 +1,4 @@
-use Rattle.std.proofs.Common.{arith}
+use Rattle.std.proofs.Common.{◌∙◌, arith, refl}
 use Rattle.std.proofs.KnownBytes.{Keeps-refl, Keeps-trans}
 use Rattle.conn_worker.proofs.Pieces.{StreamLaws}
 use Rattle.delivery_worker.proofs.Calls.{calls_add, calls_none, calls_same, calls_then, calls_up, calls_within}
@@ -6,7 +6,7 @@ use Rattle.delivery_worker.proofs.Streams.{receives_bytes, receives_bytes_lost, 
 use Rattle.delivery_worker.proofs.connection.receive_answers.Goals as goal
 
 pub receives-init : goal.receives-init
-receives-init g c = record { receives = receives_none _ _ _; first = λ _. Keeps-refl _; uncalled = λ _. calls_same _; kept = Keeps-refl _; calls = calls_none _ }
+receives-init g c = record { receives = receives_none _ _ _; first = λ _. Keeps-refl _; uncalled = λ _. calls_same _; kept = Keeps-refl _; calls = calls_none _; leads = refl }
 
 pub returns-in-Ok-Enough-clause-ok : goal.returns-in-Ok-Enough-clause-ok
 returns-in-Ok-Enough-clause-ok g c = receives_read _ _ _ _ _ _ _ _ c.receives.invariant.receives c.in-Ok-Enough.ensures.read
@@ -57,6 +57,7 @@ receives-preserved g c =
       uncalled = λ is. absurd (omega (arith, is));
       kept = Keeps-trans _ _ _ c.receives.invariant.kept c.receive_piece.ensures.kept;
       calls = calls_add _ _ _ _ _ _ c.receives.invariant.calls (calls_up _ _ _ c.receive_piece.ensures.receives) (omega arith);
+      leads = c.receive_piece.ensures.leads ∙ c.receives.invariant.leads;
     }
 
 pub returns-in-Ok-Enough-take_answers-clause-ok : goal.returns-in-Ok-Enough-take_answers-clause-ok

@@ -13,4 +13,5 @@ invariant-receives g l =
       uncalled : l.n ≡ 0 → CallsMore (g.L.Link.receives l.fn.link) (g.L.Link.receives l.link) 0;
       kept : Keeps (g.L.Link.sent l.fn.link) (g.L.Link.sent l.link);
       calls : CallsUpTo (g.L.Link.receives l.fn.link) (g.L.Link.receives l.link) l.n;
+      leads : g.L.Link.leads_to l.link ≡ g.L.Link.leads_to l.fn.link;
     }

@@ -13,6 +13,7 @@ pub turns-init : goal.turns-init
 turns-init g c = record {
   so_far = starts _ _ _ _ _ _ c.new-report.ensures;
   by_rule = none_yet _ _ _;
+  leads = refl;
   calls = calls_within _ _ 0 _ (calls_none _) (omega arith);
 }
 
@@ -24,16 +25,19 @@ turns-preserved g c =
           let taken = ap (λ (r : DeliverReport). r.taken) is ∙ counted_taken _ _ in record {
             so_far = attempted _ _ _ _ _ _ _ _ _ _ _ _ _ _ _ _ c.turns.invariant.so_far w.in-Ok.ensures.attempt w.in-Ok.ensures.taken w.in-Ok.ensures.settled is;
             by_rule = taken_then _ _ _ _ _ c.turns.invariant.by_rule w.in-Ok.ensures.by_rule;
+            leads = c.turn_afresh.ensures.leads ∙ c.turns.invariant.leads;
             calls = calls_add _ _ _ _ _ _ c.turns.invariant.calls w.in-Ok.ensures.receives (omega (arith, taken));
           }
       | in-Err-NotDurable w ↦ record {
         so_far = paused _ _ _ _ _ _ _ _ _ _ _ _ _ _ c.turns.invariant.so_far w.in-Err-NotDurable.ensures.refused w.in-Err-NotDurable.ensures.untaken w.in-Err-NotDurable.ensures.unused w.report-is;
         by_rule = taken_then _ _ _ _ _ c.turns.invariant.by_rule (none_taken _ _ _ _ _ w.in-Err-NotDurable.ensures.untaken);
+        leads = c.turn_afresh.ensures.leads ∙ c.turns.invariant.leads;
         calls = calls_add _ _ _ _ _ _ c.turns.invariant.calls w.in-Err-NotDurable.ensures.uncalled (omega (arith, ap (λ (r : DeliverReport). r.taken) w.report-is));
       }
       | in-Err-NotYet w ↦ record {
         so_far = paused _ _ _ _ _ _ _ _ _ _ _ _ _ _ c.turns.invariant.so_far w.in-Err-NotYet.ensures.refused w.in-Err-NotYet.ensures.untaken w.in-Err-NotYet.ensures.unused w.report-is;
         by_rule = taken_then _ _ _ _ _ c.turns.invariant.by_rule (none_taken _ _ _ _ _ w.in-Err-NotYet.ensures.untaken);
+        leads = c.turn_afresh.ensures.leads ∙ c.turns.invariant.leads;
         calls = calls_add _ _ _ _ _ _ c.turns.invariant.calls w.in-Err-NotYet.ensures.uncalled (omega (arith, ap (λ (r : DeliverReport). r.taken) w.report-is));
       }
     ]

@@ -10,6 +10,7 @@ use Rattle.delivery_worker.proofs.worker.deliver.Goals as goal
 pub turns-init : goal.turns-init
 turns-init g c = record {
   so_far = starts _ _ _ _ _ _ _ c.new-connection.ensures c.new-report.ensures;
+  leads = refl;
   calls = calls_within _ _ 0 _ (calls_none _) (omega arith);
 }
 
@@ -20,10 +21,12 @@ turns-preserved g c =
           let is = w.report-is ∙ w.count.ensures in
           let taken = ap (λ (r : DeliverReport). r.taken) is ∙ counted_taken _ _ in record {
             so_far = attempted _ _ _ _ _ _ _ _ _ _ _ _ _ _ _ _ _ c.turns.invariant.so_far w.in-Ok.ensures.attempt w.in-Ok.ensures.taken w.in-Ok.ensures.settled is;
+            leads = c.take_turn.ensures.leads ∙ c.turns.invariant.leads;
             calls = calls_add _ _ _ _ _ _ c.turns.invariant.calls w.in-Ok.ensures.receives (omega (arith, taken));
           }
       | in-Err+in-Err w ↦ record {
         so_far = refused _ _ _ _ _ _ _ _ _ _ _ _ _ _ _ _ c.turns.invariant.so_far w.in-Err.ensures.refused w.in-Err.ensures.untaken w.in-Err.ensures.unused w.report-is;
+        leads = c.take_turn.ensures.leads ∙ c.turns.invariant.leads;
         calls = calls_add _ _ _ _ _ _ c.turns.invariant.calls w.in-Err.ensures.uncalled (omega (arith, ap (λ (r : DeliverReport). r.taken) w.report-is));
       }
     ]

@@ -1,13 +1,16 @@
-use Rattle.std.proofs.Common.{Result, Ok, Err, OnErr, arith}
+use Rattle.std.proofs.Common.{Result, Ok, Err, OnErr, sym, ◌∙◌, arith}
 use Rattle.delivery_worker.proofs.ByRule.{one_taken}
 use Rattle.delivery_worker.proofs.Calls.{calls_add, calls_up}
 use Rattle.delivery_worker.proofs.Delivered.{tries_told}
-use Rattle.delivery_worker.proofs.InLog.{not_taken, one_turn}
+use Rattle.delivery_worker.proofs.InLog.{not_taken, one_turn, taken_to}
 use Rattle.delivery_worker.proofs.worker.take_turn.Goals as goal
 
 on_err : {T E P : Type 0} (r : Result T E) → P → OnErr r P
 on_err (Ok x) p = tt
 on_err (Err e) p = p
+
+pub attempt-outcome-requires-clause-leads : goal.attempt-outcome-requires-clause-leads
+attempt-outcome-requires-clause-leads g c = c.requires.leads ∙ sym (taken_to _ _ _ _ _ _ c.in_ok-job.ensures.taken)
 
 pub returns-clause-attempt : goal.returns-clause-attempt
 returns-clause-attempt g c =

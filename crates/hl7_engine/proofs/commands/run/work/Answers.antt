@@ -5,4 +5,5 @@ pub invariant_of-staff : goal.invariant_of-staff
 invariant_of-staff g c = record {
   unused_desks = unused_seats (λ d. d.seat) c.in-Ok.field-0.desks.items 0 c.args.connections c.in-Ok.ensures.seats.0;
   unused_stations = unused_seats (λ s. s.seat) c.in-Ok.field-0.stations.items c.args.connections c.destinations.result c.in-Ok.ensures.seats.1;
+  links_in_order = c.args.devices.links_in_order;
 }
