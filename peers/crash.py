@@ -1,7 +1,8 @@
 #!/usr/bin/env python3
 """Kills the built service with a store, again and again, among senders and destinations over loopback, and starts it again on the
 same folder: what was acknowledged is delivered. The same with a power cut in place of each kill: the service goes on from what the
-disk may have then, where no sync has covered what was written (power.py). Then plays what else a store has to do (stores.py).
+disk may have then, where no sync has covered what was written (power.py). Then plays what else a store has to do (stores.py), and
+how one goes on in a new file (next_files.py), and what is answered about one that no service uses (stopped.py).
 
 Usage: peers/crash.py [PROGRAM] [--seed N] [--kills N] [--cuts N] [--only WORD]
 
@@ -26,7 +27,9 @@ from typing import NamedTuple
 import power
 from engine import checks_accesses, one_channel
 from mllp import Destination, block, blocks, field, free_ports, message
+from next_files import NEXT_FILES
 from served import LIMIT, Service
+from stopped import STOPPED
 from stores import STORES, tail
 
 PROGRAM = os.path.join(os.path.dirname(os.path.abspath(__file__)), '..', 'crates', 'hl7_service', 'out', 'hl7_service')
@@ -378,7 +381,7 @@ def main():
     print(f'seed {args.seed}', flush=True)
     scenes = [(f'{args.kills} kills', lambda program, folder: kills(program, folder, args.seed, args.kills)),
               (f'{args.cuts} power cuts', lambda program, folder: power_cuts(program, folder, args.seed, args.cuts)),
-              ('cut off in its making', cut_off), *STORES]
+              ('cut off in its making', cut_off), *STORES, *NEXT_FILES, *STOPPED]
     for name, scene in scenes:
         if args.only not in name:
             continue

@@ -22,6 +22,7 @@ import time
 from cancels import CANCELS
 from engine import checks_accesses, one_channel, plan
 from holds import HOLDS
+from notes import NOTES
 from mllp import SILENCE, Destination, Sender, block, field, free_ports, message
 from operators import OPERATORS
 from outages import OUTAGES
@@ -306,8 +307,8 @@ def questions(program, folder):
         if len(waiting) != 3 or not waiting[0].startswith('message 0 control_id A0 waiting attempts 0 due ') or waiting[-1] != 'waiting 2':
             found.append(f'questions: waiting: {waiting}')
         details = service.ask('message 1')
-        if details[:7] != ['channel ADT', 'connection 0', 'sending_application REG', 'sending_facility HOSP',
-                           'message_type ADT^A01', 'control_id A1', f'length {len(message(b"A1"))}']:
+        if details[1:8] != ['channel ADT', 'connection 0', 'sending_application REG', 'sending_facility HOSP',
+                            'message_type ADT^A01', 'control_id A1', f'length {len(message(b"A1"))}']:
             found.append(f'questions: message: {details}')
         if not details[-1].startswith('destination LAB waiting attempts 0 due '):
             found.append(f'questions: state: {details[-1]}')
@@ -645,7 +646,7 @@ SCENES = [('connections are accepted again', taken_again), ('commands', commands
           ('a destination closes', closing), ('a destination comes back', comes_back), ('unasked answers', unasked),
           ('a destination that sends all the time', chatting), ('the book forgets', forgets), ('reading pauses', pauses),
           ('a crowd', crowd), ('killed receivers', killed), ('nobody reads', unread), ('output that fails', unwritten),
-          ('stop now', stopped_now), ('few descriptors', few_descriptors), *OUTAGES, *SENDINGS, *OPERATORS, *ROOM, *CANCELS, *HOLDS, *WEB,
+          ('stop now', stopped_now), ('few descriptors', few_descriptors), *OUTAGES, *SENDINGS, *OPERATORS, *ROOM, *CANCELS, *HOLDS, *NOTES, *WEB,
           ('tools', tools), ('words', words)]
 
 

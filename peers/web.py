@@ -1,6 +1,7 @@
 """Scenes of the HTTP address of a service: what each route answers, what hostile clients get, and what is never shown."""
 import html.parser
 import json
+import os
 import shutil
 import socket
 import subprocess
@@ -18,6 +19,7 @@ HIDDEN = b'HIDDEN'
 FIELDS = [b'Cache-Control: no-store', b'X-Content-Type-Options: nosniff', b'Referrer-Policy: no-referrer', b'Connection: close',
           b"Content-Security-Policy: default-src 'none'; style-src 'unsafe-inline'; base-uri 'none'; form-action 'none'; "
           b"frame-ancestors 'none'"]
+SCHEMA = os.path.join(os.path.dirname(os.path.abspath(__file__)), '..', 'docs', 'status.schema.json')
 TEXT, METRICS = b'text/plain; charset=utf-8', b'text/plain; version=0.0.4; charset=utf-8'
 JSON, HTML = b'application/json', b'text/html; charset=utf-8'
 
@@ -143,6 +145,23 @@ def seen_over_http(port):
     return bodies, found
 
 
+def schema_faults(status):
+    """What docs/status.schema.json rejects in the state of a service, where Python's package jsonschema is installed."""
+    try:
+        import jsonschema  # pylint: disable=import-outside-toplevel
+    except ImportError:
+        print('docs/status.schema.json: not compared, the package jsonschema is not installed')
+        return []
+    with open(SCHEMA, encoding='utf-8') as file:
+        validator = jsonschema.Draft202012Validator(json.load(file))
+    rejected = [error.message for error in validator.iter_errors(status)]
+    # The schema says what there is: without a member, or with another, nothing is accepted.
+    wrong = [dict(status, more=1), {name: value for name, value in status.items() if name != 'stage'},
+             dict(status, now='yesterday'), dict(status, destinations=[{'name': 'LAB'}])]
+    return [f'docs/status.schema.json rejects: {rejected}'] * bool(rejected) + [
+        f'docs/status.schema.json accepts: {it}' for it in wrong if validator.is_valid(it)]
+
+
 def json_faults(bodies):
     """What is wrong with the documents of the service that is staged."""
     read = {target: json.loads(body) for target, body in bodies.items() if body.startswith(b'{')}
@@ -151,6 +170,7 @@ def json_faults(bodies):
     states = [(place['name'], place['state']) for place in first['destinations']]
     facts = {
         'stage': status['stage'] == 'open',
+        'connected': [d['connected'] for d in status['destinations']] == [False, True, True],
         'channels': [(c['name'], c['accepted'], c['paused']) for c in status['channels']] == [('ADT', 3, False)],
         'destinations': [(d['name'], d['delivered'], d['failed']) for d in status['destinations']]
         == [('LAB', 0, 0), ('ARCHIVE', 3, 0), ('PACS', 0, 3)],
@@ -166,7 +186,7 @@ def json_faults(bodies):
         'failed': (pacs['failed'], pacs['remembered'], [(m['message'], m['cause']) for m in pacs['messages']])
         == (3, 3, [(2, 'rejected'), (1, 'rejected'), (0, 'rejected')]),
     }
-    return [f'{name}: {read}' for name, holds in facts.items() if not holds]
+    return [f'{name}: {read}' for name, holds in facts.items() if not holds] + schema_faults(status)
 
 
 def metrics_faults(text):
@@ -367,5 +387,39 @@ def words_of_http(program, folder):
     return found
 
 
-WEB = [('routes over HTTP', routes_in_memory), ('routes over HTTP of a store', routes_of_a_store),
+def reached(program, folder):
+    """The state of a destination's link: before the first message none is known; while it can't be reached and a message waits the page says so
+    at once, and not that all is well; once it is up, all is well."""
+    (port, web), found = free_ports(2), []
+    lab = Destination(lambda text, before: b'AA', up=False)
+    text = plan([('ADT', port, [('LAB', None, None)])], [('LAB', lab.port, ['interval = 1'])])
+
+    def seen():
+        time.sleep(0.1)
+        title = got(web, b'/')[2].partition(b'<title>')[2].partition(b':')[0]
+        metric = b'hl7_destination_connected{destination="LAB"} 1' in got(web, b'/metrics')[2]
+        return title, metric, json.loads(got(web, b'/status.json')[2])['destinations'][0]['connected']
+
+    with Service(program, text, folder, '--http', f'127.0.0.1:{web}') as service:
+        states = [seen()]
+        exchange(port, [message(b'R0')])
+        deadline = time.monotonic() + 10
+        while seen()[2] is None and time.monotonic() < deadline:
+            time.sleep(0.05)
+        page = got(web, b'/')[2]
+        states.append(seen())
+        lab.open()
+        wait_status(service, 'destination LAB waiting 0 inflight 0 delivered 1')
+        states.append(seen())
+        service.ask('stop')
+        service.ended()
+    lab.close()
+    if states != [(b'OK', False, None), (b'LOOK', False, False), (b'OK', True, True)]:
+        found.append(f'{states}')
+    if b"<b>LAB</b> can't be reached: there is no connection to 127.0.0.1:%d, and 1 wait for it" % lab.port not in page:
+        found.append(f'{page[-3_000:]}')
+    return [f'the links on the page: {line}' for line in found]
+
+
+WEB = [('the links on the page', reached), ('routes over HTTP', routes_in_memory), ('routes over HTTP of a store', routes_of_a_store),
        ('hostile clients over HTTP', hostile_clients), ('probes of a stop over HTTP', probes_of_a_stop), ('words of HTTP', words_of_http)]

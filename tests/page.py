@@ -219,12 +219,12 @@ def states(program, browser, folder):
         wait_status(night.service, 'destination PACS waiting 0 inflight 0 delivered 0 failed 1 ')
         found += looked(browser, night, 'rejected', 'LOOK', 'PACS', 'a message failed')
         time.sleep(max(0, began + 12 - time.monotonic()))
-        found += looked(browser, night, 'down', 'LOOK', 'LAB', "doesn't take message", f'127.0.0.1:{night.dead}')
+        found += looked(browser, night, 'down', 'LOOK', 'LAB', "can't be reached", f'127.0.0.1:{night.dead}')
         night.service.ask('stop')
         time.sleep(0.3)
         found += looked(browser, night, 'draining', 'LOOK', 'The service is stopping')
         time.sleep(max(0, began + 62 - time.monotonic()))
-        found += looked(browser, night, 'down for a minute', 'ACT', 'LAB', "doesn't take message")
+        found += looked(browser, night, 'down for a minute', 'ACT', 'LAB', "can't be reached")
     finally:
         night.end()
     return found

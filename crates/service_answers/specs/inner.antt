@@ -1,2 +1,3 @@
 -- What proofs alone use: no claim rests on these pages.
+pub mod Fates
 pub mod Live

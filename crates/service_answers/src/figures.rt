@@ -1,5 +1,8 @@
 //! What a service counts beside its book.
 
+ghost use Rattle.std.specs.Prelude.{◌≡◌, ◌<◌, ◌==◌};
+ghost use Rattle.std.specs.Int.{bit_at};
+
 /// How many arrivals were not booked since the start, by cause.
 #[derive(Clone, Copy, Debug, PartialEq, Eq)]
 pub struct Unbooked {
@@ -65,6 +68,10 @@ pub struct Figures {
     pub paused: u64,
     /// The destinations that are held, as a mask.
     pub held: u32,
+    /// The destinations to which a connection is open, as far as is known, as a mask.
+    pub connected: u32,
+    /// The destinations to which there is no connection since one failed or could not be opened, as a mask.
+    pub unconnected: u32,
     /// How many connections of each channel are open, by index.
     pub open_by_channel: [u64; 64],
     /// How many connections of each channel can be served at once, by index.
@@ -97,6 +104,19 @@ impl Figures {
     /// Whether the destination at this index is held.
     pub fn is_held(&self, destination: u32) -> bool {
         self.held.checked_shr(destination).unwrap_or(0) % 2 == 1
+    }
+
+    /// Whether a connection to the destination at this index is open, as far as is known.
+    pub fn is_connected(&self, destination: u32) -> bool {
+        self.connected.checked_shr(destination).unwrap_or(0) % 2 == 1
+    }
+
+    /// Whether there is no connection to the destination at this index since one failed or could not be opened.
+    pub fn is_unconnected(&self, destination: u32) -> bool
+        requires { destination < 32 }
+        ensures { result ≡ (bit_at self.entry.now.unconnected destination == 1) }
+    {
+        self.unconnected >> destination & 1 == 1
     }
 
     /// How many connections of a channel are open.

@@ -12,6 +12,7 @@ mod links;
 mod live;
 mod messages;
 mod metrics;
+mod noted;
 mod origins;
 mod plans;
 mod prunings;

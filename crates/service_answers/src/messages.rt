@@ -2,6 +2,7 @@
 
 use crate::cancellations::control_id_of;
 use crate::holds::add_held;
+use crate::noted::{add_delivery, add_fate, add_reception, delivery_of, is_begun};
 use crate::time::Utc;
 use book_core::{Failure, Front};
 use book_lock::{Found, Message};
@@ -9,6 +10,7 @@ use dest_queue::{FailCause, SlotState};
 use er7_tree::{Message as Tree, Refusal};
 use hl7_head::Header;
 use log_text::Shown;
+use message_notes::MessageNote;
 use plan_text::Plan;
 use std::alloc::{AllocError, Global};
 
@@ -78,31 +80,45 @@ fn add_origin(
     writeln!(text, "length {}", raw.len())
 }
 
-/// Adds a line for each destination to which a message goes, with its state there.
-fn add_states(text: &mut String, plan: &Plan, message: &Message) -> Result<(), AllocError> {
+/// Adds a line for each destination to which a message goes, with its state there, its last attempt and its end.
+fn add_states(
+    text: &mut String,
+    plan: &Plan,
+    message: &Message,
+    note: &Option<MessageNote>,
+) -> Result<(), AllocError> {
     for (index, state) in (0..plan.destinations()).zip(message.states.iter()) {
         if let (Some(destination), Some(state)) = (plan.destination(index), *state) {
             write!(text, "destination {} ", destination.name())?;
             add_state(&mut *text, state)?;
+            add_delivery(&mut *text, delivery_of(note, index), is_begun(state))?;
             writeln!(text, "")?;
         }
     }
     Ok(())
 }
 
-/// Where a message is: what is kept of it, or that it is forgotten, or that no message has its number yet.
+/// Where a message is: what is kept of it, and what is noted about it beside the book; or that it is forgotten, or that no message has its number yet.
 ///
 /// # Errors
 ///
 /// Where memory is refused.
-pub fn message_text(alloc: Global, plan: &Plan, found: &Found) -> Result<String, AllocError> {
+pub fn message_text(
+    alloc: Global,
+    plan: &Plan,
+    found: &Found,
+    note: &Option<MessageNote>,
+) -> Result<String, AllocError> {
     let mut text = String::new(alloc);
     match found {
         Found::ToCome => writeln!(text, "no such message")?,
         Found::Forgotten => writeln!(text, "forgotten")?,
         Found::Kept(message) => {
+            add_reception(&mut text, note.as_ref())?;
+            writeln!(text, "")?;
             add_origin(alloc, &mut text, plan, message)?;
-            add_states(&mut text, plan, message)?;
+            add_fate(&mut text, &message.states)?;
+            add_states(&mut text, plan, message, note)?;
         }
     }
     writeln!(text, "")?;
@@ -135,6 +151,8 @@ pub struct Listed {
     pub front: Front,
     /// What the book says of it.
     pub found: Found,
+    /// What is noted about it beside the book.
+    pub note: Option<MessageNote>,
 }
 
 /// Adds a message's number and its control id (MSH-10).
@@ -150,8 +168,16 @@ fn add_listed(alloc: Global, text: &mut String, listed: &Listed) -> Result<(), A
     add_state(&mut *text, state)
 }
 
-/// The first messages in a destination's queue, in order, and how many it has. Where the destination is held, its name is given, and
-/// the text begins with that.
+/// Adds when and from where a message in the queue of the destination at this index was received, and the last attempt there.
+fn add_wait(text: &mut String, destination: u32, listed: &Listed) -> Result<(), AllocError> {
+    write!(text, "; ")?;
+    add_reception(&mut *text, listed.note.as_ref())?;
+    let delivery = delivery_of(&listed.note, destination);
+    add_delivery(text, delivery, is_begun(listed.front.state))
+}
+
+/// The first messages in the queue of the destination at this index, in order, and how many it has. Where the destination is held, its
+/// name is given, and the text begins with that.
 ///
 /// # Errors
 ///
@@ -159,6 +185,7 @@ fn add_listed(alloc: Global, text: &mut String, listed: &Listed) -> Result<(), A
 pub fn waiting_text(
     alloc: Global,
     held: Option<&str>,
+    destination: u32,
     listed: &[Listed],
     all: u64,
 ) -> Result<String, AllocError> {
@@ -168,6 +195,7 @@ pub fn waiting_text(
     }
     for message in listed {
         add_listed(alloc, &mut text, message)?;
+        add_wait(&mut text, destination, message)?;
         writeln!(text, "")?;
     }
     writeln!(text, "waiting {all}")?;
@@ -182,15 +210,18 @@ pub struct ListedFailure {
     pub failure: Failure,
     /// What the book says of it.
     pub found: Found,
+    /// What is noted about it beside the book.
+    pub note: Option<MessageNote>,
 }
 
-/// Messages that failed at a destination, in the order given, and how many failed there in all, of which `remembered` are remembered.
+/// Messages that failed at the destination of this index, in the order given, and how many failed there in all, of which `remembered` are remembered.
 ///
 /// # Errors
 ///
 /// Where memory is refused.
 pub fn failed_text(
     alloc: Global,
+    destination: u32,
     listed: &[ListedFailure],
     remembered: u64,
     all: u64,
@@ -201,6 +232,8 @@ pub fn failed_text(
         add_id(&mut text, number, &control_id_of(alloc, &message.found)?)?;
         write!(text, " ")?;
         add_state(&mut text, SlotState::Failed(cause))?;
+        let delivery = delivery_of(&message.note, destination);
+        add_delivery(&mut text, delivery, true)?;
         writeln!(text, "")?;
     }
     write!(text, "failed {all}")?;

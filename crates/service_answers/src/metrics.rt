@@ -276,6 +276,18 @@ fn add_moments(text: &mut String, plan: &Plan, figures: &Figures) -> Result<(), 
     )
 }
 
+/// Adds which destinations are connected.
+fn add_connected(text: &mut String, plan: &Plan, figures: &Figures) -> Result<(), AllocError> {
+    add_by_destination(
+        &mut *text,
+        plan,
+        "hl7_destination_connected",
+        Kind::Gauge,
+        "1 while a connection to the destination is open, as far as is known, else 0.",
+        |index| u64::from(figures.is_connected(index)),
+    )
+}
+
 /// Adds how many messages were sent to each destination a second time within one attempt.
 fn add_sent_again(text: &mut String, plan: &Plan, figures: &Figures) -> Result<(), AllocError> {
     add_by_destination(
@@ -497,6 +509,7 @@ pub fn metrics_text(
     add_destinations(&mut text, plan, &status.counts)?;
     add_places(&mut text, plan, figures)?;
     add_moments(&mut text, plan, figures)?;
+    add_connected(&mut text, plan, figures)?;
     add_sent_again(&mut text, plan, figures)?;
     add_entries(&mut text, status.gauge)?;
     add_messages(&mut text, status.gauge, figures.keep)?;

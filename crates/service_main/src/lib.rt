@@ -1,6 +1,7 @@
-//! What the service does when it is called with words: running, trying messages, and checking plans.
+//! What the service does when it is called with words: running, trying messages, checking plans, and answering questions about a store.
 #![tactic(auto)]
 
+mod asking;
 mod check;
 mod trying;
 mod words;

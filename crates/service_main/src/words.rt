@@ -4,12 +4,14 @@ ghost use Rattle.std.specs.Prelude.{◌≡◌, IfErr, IfOk};
 ghost use Rattle.std.specs.Process.{exit_status};
 ghost use Rattle.engine_report.specs.inner.Ended.{ended_status, trouble_status};
 
+use crate::asking::ask_store;
 use crate::check::check;
 use crate::trying::try_messages;
 use engine_report::{Ended, Fault, Trouble, bounded_file, warned_service_plan};
+use message_notes::AnswerText;
 use service_answers::Origin;
 use service_run::{HttpSettings, PLAN_BYTES, RunEnd, Settings, run};
-use service_words::{Keeping, Request, http_address, parse_args};
+use service_words::{Keeping, Request, answer_text, http_address, parse_args};
 use service_workers::Crew;
 use std::env;
 use std::io::ErrorKind;
@@ -90,6 +92,21 @@ fn http_settings<'a, 'w>(
     }
 }
 
+/// Where the words of the destinations' answers are shown, by the words; in the answers to commands where nothing is said of that.
+///
+/// # Errors
+///
+/// `Words` where the word is none of those that are taken, and `Memory`.
+fn words_shown<'a>(rt: &HostRuntime, word: Option<&str>) -> Result<AnswerText, Trouble<'a>> {
+    let Some(word) = word else {
+        return Ok(AnswerText::Commands);
+    };
+    match answer_text(rt.alloc(), word) {
+        Ok(shown) => Ok(shown),
+        Err(error) => Err(Trouble::Engine(Fault::from(error))),
+    }
+}
+
 /// Does what the words request. Threads are started, and waited for, by `handle`.
 ///
 /// # Errors
@@ -104,6 +121,7 @@ pub fn perform<'a, H: Crew + Threads + Eprint + Copy + Sync>(
     match parse_args(rt.alloc(), words) {
         Ok(Request::Try { plan, channel }) => try_messages(rt, plan, channel),
         Ok(Request::Check { plan, verbose }) => check(rt, plan, verbose),
+        Ok(Request::Ask { folder }) => ask_store(rt, folder),
         Ok(
             Request::Run {
                 plan,
@@ -114,6 +132,7 @@ pub fn perform<'a, H: Crew + Threads + Eprint + Copy + Sync>(
                 idle,
                 grace,
                 show,
+                answer_text,
                 http,
                 http_names,
             },
@@ -126,6 +145,7 @@ pub fn perform<'a, H: Crew + Threads + Eprint + Copy + Sync>(
                 idle,
                 grace,
                 show,
+                answer_text: words_shown(rt, answer_text)?,
                 http: http_settings(rt, http, http_names)?,
             };
             serve(rt, handle, plan, &settings, keeping)

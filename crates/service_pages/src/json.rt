@@ -1,5 +1,6 @@
 //! What is shown as JSON.
 
+use crate::levels::is_unconnected;
 use crate::view::{Phase, View};
 use book_core::{Failure, Front};
 use book_lock::{Found, Message};
@@ -183,6 +184,17 @@ fn add_channels(alloc: Global, document: &mut Document, view: &View<'_>) -> Resu
     document.markup("]")
 }
 
+/// Whether a destination is connected, as a member; null where no connection was tried yet.
+fn connected_markup(view: &View<'_>, destination: u32) -> &'static str {
+    if view.figures.is_connected(destination) {
+        ",\"connected\":true"
+    } else if is_unconnected(view, destination) {
+        ",\"connected\":false"
+    } else {
+        ",\"connected\":null"
+    }
+}
+
 /// Adds the destinations.
 fn add_destinations(
     alloc: Global,
@@ -208,6 +220,7 @@ fn add_destinations(
         } else {
             ",\"held\":false"
         })?;
+        document.markup(connected_markup(view, index))?;
         add_number(&mut *document, "waiting", counts.waiting)?;
         add_number(&mut *document, "inflight", counts.inflight)?;
         add_number(&mut *document, "delivered", counts.delivered)?;

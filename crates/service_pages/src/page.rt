@@ -1,24 +1,17 @@
 //! The page: what a person on duty sees of the service at a glance. It has no script, no form and nothing that is loaded from
 //! elsewhere, and is loaded again every ten seconds.
 
+ghost use Rattle.std.specs.Prelude.{◌<◌};
+
+use crate::levels::{
+    Level, book_level, channel_level, destination_level, front_of, is_cut_off, is_fresh, level_of,
+    percent_level, queue_level, remembered, remembered_level, store_level, used,
+};
 use crate::view::{Phase, View};
-use dest_queue::SlotState;
 use fixed_numbers::{DEPLOYMENTS_MAX, PRUNINGS_MAX};
 use service_answers::Utc;
 use service_http::Document;
 use std::alloc::{AllocError, Global};
-
-/// After how many seconds as the first of its queue a message is slow.
-const SLOW_SECONDS: u64 = 10;
-
-/// After how many seconds as the first of its queue a message is stuck.
-const STUCK_SECONDS: u64 = 60;
-
-/// After how many seconds a destination that refuses or doesn't answer is down.
-const DOWN_SECONDS: u64 = 30;
-
-/// For how many seconds a failure is shown at the top of the page.
-const FRESH_SECONDS: u64 = 3_600;
 
 /// The head of the page before its title.
 const HEAD: &str =
@@ -46,30 +39,6 @@ footer{color:var(--soft);margin-top:1.4rem;font-size:.9rem}
 @media(max-width:42rem){body{padding:.6rem}thead{display:none}tr{display:block;border-top:1px solid var(--line);padding:.4rem 0}tr:first-child{border-top:0}tbody th{display:block;border:0;font-size:1.1rem;padding:.2rem .7rem}td{display:flex;justify-content:space-between;gap:1rem;border:0;padding:.15rem .7rem;text-align:right}td:before{content:attr(data-l);color:var(--soft);text-align:left}.n{text-align:right}}
 </style></head><body>
 ";
-
-/// How urgently something needs attention.
-#[derive(Clone, Copy, PartialEq, Eq, PartialOrd, Ord)]
-enum Level {
-    Fine,
-    Look,
-    Act,
-}
-
-impl Level {
-    /// The class of its colours.
-    fn class(self) -> &'static str {
-        match self {
-            Level::Fine => "ok",
-            Level::Look => "look",
-            Level::Act => "act",
-        }
-    }
-}
-
-/// The more urgent of two levels.
-fn worse(one: Level, other: Level) -> Level {
-    if other > one { other } else { one }
-}
 
 /// Adds a duration, in the largest of seconds, minutes, hours and days of which it has enough.
 fn add_span(document: &mut Document, seconds: u64) -> Result<(), AllocError> {
@@ -113,147 +82,31 @@ fn add_ago(
     document.markup("</small></span>")
 }
 
-/// The message that is first in a destination's queue, how many of its attempts failed, and for how many seconds it has been first. None
-/// where the queue is empty.
-fn front_of(view: &View<'_>, destination: u32) -> Option<(u32, u32, u64)> {
-    let front = (*view.status.fronts.get(destination as usize)?)?;
-    let failed = match front.state {
-        SlotState::Waiting { attempts, .. } => attempts,
-        SlotState::InFlight { attempt } => attempt.saturating_sub(1),
-        _ => 0,
-    };
-    let waited = view
-        .figures
-        .now
-        .saturating_sub(view.watch.since(destination));
-    Some((front.number, failed, waited))
-}
-
-/// How urgently a destination's queue needs attention.
-fn queue_level(view: &View<'_>, destination: u32) -> Level {
-    if view.figures.is_held(destination) {
-        return Level::Look;
+/// Adds the sentence about a destination that can't be reached though messages wait for it.
+fn add_cut_off(
+    document: &mut Document,
+    view: &View<'_>,
+    index: u32,
+    name: &str,
+    address: &str,
+) -> Result<(), AllocError>
+    requires { index < 32 }
+{
+    let counts = view.status.counts.destination(index);
+    document.markup("<li><b>")?;
+    document.text(name)?;
+    document.markup("</b> can't be reached: there is no connection to ")?;
+    document.text(address)?;
+    document.markup(", and ")?;
+    document.number(counts.waiting.saturating_add(counts.inflight))?;
+    document.markup(" wait for it")?;
+    if let Some((number, _, waited)) = front_of(view, index) {
+        document.markup(", message ")?;
+        document.number(u64::from(number))?;
+        document.markup(" first for ")?;
+        add_span(&mut *document, waited)?;
     }
-    match front_of(view, destination) {
-        None => Level::Fine,
-        Some((_, failed, waited)) => {
-            if waited >= STUCK_SECONDS || failed > 0 && waited >= DOWN_SECONDS {
-                Level::Act
-            } else if waited >= SLOW_SECONDS || failed > 0 {
-                Level::Look
-            } else {
-                Level::Fine
-            }
-        }
-    }
-}
-
-/// Whether a message failed at a destination within the last hour.
-fn is_fresh(view: &View<'_>, destination: u32) -> bool {
-    let at = view.watch.failed_at(destination);
-    at > 0 && view.figures.now.saturating_sub(at) < FRESH_SECONDS
-}
-
-/// How urgently a destination needs attention.
-fn destination_level(view: &View<'_>, destination: u32) -> Level {
-    let failures = if is_fresh(view, destination) {
-        Level::Look
-    } else {
-        Level::Fine
-    };
-    worse(queue_level(view, destination), failures)
-}
-
-/// How urgently a channel needs attention.
-fn channel_level(view: &View<'_>, channel: u32) -> Level {
-    if view.figures.is_paused(channel) {
-        Level::Act
-    } else if view.phase != Phase::Open {
-        Level::Look
-    } else {
-        Level::Fine
-    }
-}
-
-/// How full the book is, in percent, rounded up.
-fn used(view: &View<'_>) -> u64 {
-    let gauge = view.status.gauge;
-    let most = u64::from(gauge.events_max).max(1);
-    let entries = (gauge.held as u64).saturating_add(u64::from(gauge.owed));
-    entries.saturating_mul(100).div_ceil(most).min(100)
-}
-
-/// How many messages are remembered, in percent of as many as may be, rounded up: no channel is read at 100.
-fn remembered(view: &View<'_>) -> u64 {
-    let gauge = view.status.gauge;
-    let most = u64::from(view.figures.keep)
-        .saturating_add(u64::from(gauge.events_max))
-        .max(1);
-    u64::from(gauge.remembered())
-        .saturating_mul(100)
-        .div_ceil(most)
-        .min(100)
-}
-
-/// How urgently a use of this percentage needs attention.
-fn percent_level(percent: u64) -> Level {
-    if percent >= 95 {
-        Level::Act
-    } else if percent >= 80 {
-        Level::Look
-    } else {
-        Level::Fine
-    }
-}
-
-/// How urgently the number of remembered messages needs attention. Settled messages that a pruning can forget need none.
-fn remembered_level(view: &View<'_>) -> Level {
-    let gauge = view.status.gauge;
-    let settled = view.status.first_live.unwrap_or(gauge.messages);
-    if settled.saturating_sub(gauge.first) > gauge.events_max / 8 {
-        Level::Fine
-    } else {
-        percent_level(remembered(view))
-    }
-}
-
-/// How urgently the book needs attention.
-fn book_level(view: &View<'_>) -> Level {
-    let gauge = view.status.gauge;
-    let prunings = PRUNINGS_MAX.saturating_sub(gauge.prunings);
-    let deployments = DEPLOYMENTS_MAX.saturating_sub(gauge.deployments);
-    let left = prunings.min(deployments);
-    let few = if left <= 10 {
-        Level::Act
-    } else if left <= 100 {
-        Level::Look
-    } else {
-        Level::Fine
-    };
-    worse(
-        worse(percent_level(used(view)), remembered_level(view)),
-        few,
-    )
-}
-
-/// How urgently the store needs attention.
-fn store_level(view: &View<'_>) -> Level {
-    match view.figures.store {
-        Some(store) if store.has_no_room => Level::Act,
-        _ => Level::Fine,
-    }
-}
-
-/// How urgently the service needs attention.
-fn level_of(view: &View<'_>) -> Level {
-    let mut level = worse(book_level(view), store_level(view));
-    for index in 0..view.plan.channels() {
-        level = worse(level, channel_level(view, index));
-    }
-    for index in 0..view.plan.destinations() {
-        level = worse(level, destination_level(view, index));
-    }
-    level
+    document.markup(".</li>")
 }
 
 /// Adds the sentences about a destination at the top of the page.
@@ -263,11 +116,15 @@ fn add_destination_news(
     index: u32,
     name: &str,
     address: &str,
-) -> Result<(), AllocError> {
+) -> Result<(), AllocError>
+    requires { index < 32 }
+{
     if view.figures.is_held(index) {
         document.markup("<li><b>")?;
         document.text(name)?;
         document.markup("</b> is held: what it would be sent waits until it is released.</li>")?;
+    } else if is_cut_off(view, index) {
+        add_cut_off(&mut *document, view, index, name, address)?;
     } else if let Some((number, failed, waited)) = front_of(view, index)
         && queue_level(view, index) > Level::Fine
     {
@@ -327,7 +184,7 @@ fn add_top(document: &mut Document, view: &View<'_>, level: Level) -> Result<(),
     document.markup(level.class())?;
     document.markup(match level {
         Level::Fine =>
-            "\"><h1>&#10003; All is well</h1><p>No channel is paused, no destination keeps a message waiting for 10 seconds, and nothing failed in the last hour.</p>",
+            "\"><h1>&#10003; All is well</h1><p>No channel is paused, each destination for which messages wait can be reached and keeps none waiting for 10 seconds, and nothing failed in the last hour.</p>",
         Level::Look => "\"><h1>! Look at this</h1><ul>",
         Level::Act => "\"><h1>&#10007; Act now</h1><ul>",
     })?;
@@ -346,6 +203,7 @@ fn add_top(document: &mut Document, view: &View<'_>, level: Level) -> Result<(),
                 document.markup(".</li>")?;
             }
         }
+        view.plan.rules();
         for index in 0..view.plan.destinations() {
             if let Some(destination) = view.plan.destination(index) {
                 let (name, address) = (destination.name(), destination.address());
@@ -426,9 +284,14 @@ fn add_channels(alloc: Global, document: &mut Document, view: &View<'_>) -> Resu
 }
 
 /// The word for how a destination does.
-fn destination_word(view: &View<'_>, index: u32) -> &'static str {
+fn destination_word(view: &View<'_>, index: u32) -> &'static str
+    requires { index < 32 }
+{
     if view.figures.is_held(index) {
         return "held";
+    }
+    if is_cut_off(view, index) {
+        return "can't be reached";
     }
     match front_of(view, index) {
         None if is_fresh(view, index) => "a message failed",

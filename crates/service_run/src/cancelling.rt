@@ -31,6 +31,7 @@ fn cancel_among<A: Sharing, H: Crew>(
         Ok(mask) => {
             let destinations = Places { plan, mask };
             info!(site.rt; target: "always", message = number, control_id:% = ControlId(&id), destinations:% = destinations; "message cancelled");
+            site.note_cancelled(number, mask);
             Ok(Ok(mask))
         }
         Err(refusal) => Ok(Err(refusal)),
@@ -247,7 +248,8 @@ fn cancel_next<A: Sharing, H: Crew>(
 {
     let found = site.shared.message(site.rt, number)?;
     match site.shared.cancel_among(site.rt, number, 1 << destination) {
-        Ok(_) => {
+        Ok(mask) => {
+            site.note_cancelled(number, mask);
             progress.add(Cancelled { number, found });
             Ok(())
         }

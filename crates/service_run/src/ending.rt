@@ -27,7 +27,12 @@ fn name_left_at<A: Sharing, H: Crew>(
     let count = left.len();
     for front in left {
         let found = site.shared.message(site.rt, front.number)?;
-        let line = left_behind(site.alloc, name, &Listed { front, found })?;
+        let listed = Listed {
+            front,
+            found,
+            note: None,
+        };
+        let line = left_behind(site.alloc, name, &listed)?;
         if !tell(rt, &line) {
             break;
         }

@@ -4,7 +4,8 @@ use book_journal::StoreFigures;
 use book_lock::Sharing;
 use service_answers::{Dropped, Figures, StoreNumbers, Unbooked};
 use service_web::Counting;
-use service_workers::{Crew, Site};
+use service_workers::{Crew, LinkState, Site};
+use stat_count::DESTINATIONS;
 
 /// What is counted of a service beside its workers.
 #[derive(Clone, Copy)]
@@ -25,6 +26,19 @@ fn numbers_of(figures: &StoreFigures) -> StoreNumbers {
         longest: report.longest,
         has_no_room: report.has_no_room,
     }
+}
+
+/// The destinations that are connected, and those to which there is no connection since one failed or could not be opened, as masks.
+fn links_of<A: Sharing, H: Crew>(site: &Site<'_, A, H>) -> (u32, u32) {
+    let (mut connected, mut unconnected) = (0u32, 0u32);
+    for index in 0..DESTINATIONS {
+        match site.link_state(index) {
+            LinkState::Untried => {}
+            LinkState::Connected(_) => connected |= 1 << index,
+            LinkState::Unconnected(_) => unconnected |= 1 << index,
+        }
+    }
+    (connected, unconnected)
 }
 
 /// What the workers of a service have counted so far.
@@ -49,6 +63,7 @@ pub(crate) fn figures_of<A: Sharing, H: Crew>(site: &Site<'_, A, H>, watch: Watc
     for (count, destination) in sent_again.iter_mut().zip(0..u32::MAX) {
         *count = site.sent_again(destination);
     }
+    let (connected, unconnected) = links_of(site);
     Figures {
         started: watch.started,
         now: site.seconds(),
@@ -67,6 +82,8 @@ pub(crate) fn figures_of<A: Sharing, H: Crew>(site: &Site<'_, A, H>, watch: Watc
         },
         paused: site.paused(),
         held: site.held(),
+        connected,
+        unconnected,
         open_by_channel,
         places,
         received,

@@ -137,7 +137,7 @@ pub(crate) fn add_held_gone<A: Sharing, H: Crew>(
 
 /// What is known of a connection, as answers show it.
 fn view_of(note: LinkNote) -> LinkView {
-    let LinkNote { state, trouble } = note;
+    let LinkNote { state, trouble, .. } = note;
     LinkView {
         state: match state {
             service_workers::LinkState::Untried => LinkState::Untried,

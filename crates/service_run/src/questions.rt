@@ -62,7 +62,8 @@ pub(crate) fn ask_message<A: Sharing, H: Crew>(
     number: u32,
 ) -> Result<String, AllocError> {
     let plan = site.shared.plan(site.rt)?;
-    message_text(site.alloc, &plan, &site.shared.message(site.rt, number)?)
+    let found = site.shared.message(site.rt, number)?;
+    message_text(site.alloc, &plan, &found, &site.note(number)?)
 }
 
 /// The remembered messages with a control id (MSH-10). Where none has the id as given, it is read as the log shows ids.
@@ -111,9 +112,11 @@ pub(crate) fn ask_waiting<A: Sharing, H: Crew>(
     let mut listed = Vec::new(site.alloc);
     for front in queued(site, destination, SHOWN_MAX)? {
         let found = site.shared.message(site.rt, front.number)?;
-        listed.push(Listed { front, found })?;
+        let note = site.note(front.number)?;
+        listed.push(Listed { front, found, note })?;
     }
-    waiting_text(site.alloc, held, &listed, waiting.saturating_add(inflight))
+    let all = waiting.saturating_add(inflight);
+    waiting_text(site.alloc, held, destination, &listed, all)
 }
 
 /// What failed at the destination of a name: the last messages that are remembered, newest first, and how many there are. They are
@@ -134,11 +137,16 @@ pub(crate) fn ask_failed<A: Sharing, H: Crew>(
     let mut listed = Vec::new(site.alloc);
     for failure in newest {
         let found = site.shared.message(site.rt, failure.number)?;
-        listed.push(ListedFailure { failure, found })?;
+        let note = site.note(failure.number)?;
+        listed.push(ListedFailure {
+            failure,
+            found,
+            note,
+        })?;
     }
     let (status, _plan) = site.shared.status(site.rt)?;
     let all = status.counts.destination(destination).failed;
-    failed_text(site.alloc, &listed, remembered, all)
+    failed_text(site.alloc, destination, &listed, remembered, all)
 }
 
 /// Whether a pruning that keeps the last `keep` messages would change nothing: the book holds no entry that it would fold, as those

@@ -71,8 +71,14 @@ fn run_workers<A: Sharing + Send + Sync, H: Crew + Threads + Sync>(
         started: seconds_now(handle),
         store: None,
     };
-    let Settings { keep, idle, .. } = *settings;
-    let site = Site::new(handle, alloc, shared, keep, idle, History::Memory);
+    let Settings {
+        keep,
+        idle,
+        answer_text,
+        ..
+    } = *settings;
+    let history = History::Memory;
+    let site = Site::new(handle, alloc, shared, keep, idle, history, answer_text);
     let is_staffed = work(rt, handle, &site, workers, settings, watch);
     if let Ok(undelivered) = name_left(rt, &site)
         && undelivered > 0

@@ -1,5 +1,6 @@
 //! The settings of `run`.
 
+use message_notes::AnswerText;
 use service_answers::Origin;
 use service_web::HttpSettings;
 
@@ -20,6 +21,8 @@ pub struct Settings<'a> {
     pub grace: u32,
     /// Whether the commands `show` and `export` give the text of messages.
     pub show: bool,
+    /// Where the words of the destinations' answers are shown.
+    pub answer_text: AnswerText,
     /// Where requests over HTTP are answered, if anywhere.
     pub http: Option<HttpSettings<'a>>,
 }

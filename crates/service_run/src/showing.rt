@@ -39,7 +39,7 @@ pub(crate) fn ask_show<A: Sharing, H: Crew>(
     }
     let found = site.shared.message(site.rt, number)?;
     let Found::Kept(message) = &found else {
-        return message_text(site.alloc, &*site.shared.plan(site.rt)?, &found);
+        return message_text(site.alloc, &*site.shared.plan(site.rt)?, &found, &None);
     };
     let id = control_id_of(site.alloc, &found)?;
     let text = contents_text(site.alloc, message.raw.as_slice())?;
@@ -68,7 +68,7 @@ pub(crate) fn ask_show_at<A: Sharing, H: Crew>(
     };
     let found = site.shared.message(site.rt, number)?;
     if !matches!(found, Found::Kept(_)) {
-        return message_text(site.alloc, &plan, &found);
+        return message_text(site.alloc, &plan, &found, &None);
     }
     // The names of a plan are text.
     let name = str::from_utf8(name).unwrap_or("");
@@ -113,7 +113,7 @@ pub(crate) fn do_export<A: Sharing, H: Crew>(
     }
     let found = site.shared.message(site.rt, number)?;
     let Found::Kept(message) = &found else {
-        return message_text(site.alloc, &*site.shared.plan(site.rt)?, &found);
+        return message_text(site.alloc, &*site.shared.plan(site.rt)?, &found, &None);
     };
     let id = control_id_of(site.alloc, &found)?;
     let raw = message.raw.as_slice();

@@ -29,8 +29,8 @@ use log_text::Escaped;
 use plan_text::Plan;
 use service_answers::Origin;
 use service_store::{
-    ConnectionNumbers, ServiceStore, StartError, StartRequest, Started, StoredHolds, Witness,
-    close_store, start_in_folder,
+    ConnectionNumbers, NextFile, ServiceStore, StartError, StartRequest, Started, StoredHolds,
+    Witness, close_store, start_in_folder,
 };
 use service_workers::{Crew, HeldNames, History, ServiceRows, Site};
 use sqlite_std_file::File;
@@ -119,8 +119,14 @@ fn run_journaled<A: Journaling + Send + Sync, S: Store, H: Crew + Threads + Sync
         reserved: numbers.end(),
         last_second,
     };
-    let Settings { keep, idle, .. } = *settings;
-    let site = Site::new(handle, rt.alloc(), shared, keep, idle, history);
+    let Settings {
+        keep,
+        idle,
+        answer_text,
+        ..
+    } = *settings;
+    let alloc = rt.alloc();
+    let site = Site::new(handle, alloc, shared, keep, idle, history, answer_text);
     let names = HeldNames::new(names);
     log_held(handle, plan, &names);
     site.set_held(names, plan);
@@ -230,9 +236,28 @@ fn trouble_of<'f>(alloc: Global, error: &StartError<'_>) -> Result<Trouble<'f>, 
     })
 }
 
-/// Logs what was found in the store: how much was recovered, which plan is in force, and what the end of the last process
-/// interrupted.
-fn log_found<S: Store, H: Log>(handle: &H, folder: &str, found: &Started<S, ServiceRows>) {
+/// Logs for each destination of the plan in force how many messages are still to be delivered to it, where any are.
+fn log_waiting<H: Log>(handle: &H, book: &Book<ServiceRows>) {
+    let plan = book.plan();
+    for d in 0..plan.destinations() {
+        let waiting = book.queue_len(d);
+        if waiting > 0
+            && let Some(destination) = plan.destination(d)
+        {
+            let destination = destination.name();
+            info!(handle; destination, waiting; "messages wait since before the start");
+        }
+    }
+}
+
+/// Logs what was found in the store, which was opened in this many seconds: how much was recovered, which messages wait, which plan
+/// is in force, and what the end of the last process interrupted.
+fn log_found<S: Store, H: Log>(
+    handle: &H,
+    folder: &str,
+    seconds: u64,
+    found: &Started<S, ServiceRows>,
+) {
     let Started {
         book,
         records,
@@ -242,7 +267,8 @@ fn log_found<S: Store, H: Log>(handle: &H, folder: &str, found: &Started<S, Serv
         ..
     } = found;
     let (store, records, messages) = (Escaped(folder), *records, book.message_count());
-    info!(handle; store:% = store, records, messages; "the store is open");
+    info!(handle; store:% = store, records, messages, seconds; "the store is open");
+    log_waiting(handle, book);
     if let Some(refusal) = kept_plan {
         let deployments = book.deployments();
         warn!(handle; target: "always", deployments; "the plan of the command line is not taken, and the one in the store stays in force: {refusal}");
@@ -326,7 +352,6 @@ fn listen<'f, S: Store, H: Crew>(
 fn serve_started<'f, S: Store + Drop, H: Crew + Threads + Sync>(
     rt: &HostRuntime,
     handle: &H,
-    folder: &str,
     settings: &Settings,
     started: Started<S, ServiceRows>,
     numbers: ConnectionNumbers,
@@ -336,7 +361,6 @@ fn serve_started<'f, S: Store + Drop, H: Crew + Threads + Sync>(
     requires durable { AreDurable (S.Store.view started.store.store)
         (S.Store.recovers started.store.store) (records_in (S.Store.view started.store.store).trees) }
 {
-    log_found(handle, folder, &started);
     let settings = &began_with(settings, started.kept_plan.is_some());
     let Listening { listeners, desks } = listen(rt, handle, settings, &started)?;
     let Started {
@@ -370,12 +394,28 @@ fn close<H: Log>(handle: &H, folder: &str, store: EventStore<FileStore<File>>) {
     }
 }
 
-/// Serves from the store in a folder, and closes it.
+/// Logs that a store goes on in a new file, or why it doesn't though it is long.
+fn log_next<H: Log>(handle: &H, folder: &str, next: NextFile) {
+    let store = Escaped(folder);
+    match next {
+        NextFile::Kept => {}
+        NextFile::Begun { archived } => {
+            let archived = Escaped(&archived);
+            info!(handle; store:% = store, archived:% = archived; "the store goes on in a new file, and the one before it is kept");
+        }
+        NextFile::Stayed(error) => {
+            warn!(handle; target: "always", store:% = store; "the store is long, and no new file was begun for it: {error}");
+        }
+    }
+}
+
+/// Serves from the store in a folder, which was opened in this many seconds, and closes it.
 fn serve_found<'f, H: Crew + Threads + Sync>(
     rt: &HostRuntime,
     handle: &H,
     folder: &str,
     settings: &Settings,
+    seconds: u64,
     found: ServiceStore<ServiceRows>,
 ) -> Result<RunEnd, Trouble<'f>>
     requires durable { AreDurable (view found.started.store.store)
@@ -383,20 +423,14 @@ fn serve_found<'f, H: Crew + Threads + Sync>(
 {
     let ServiceStore {
         started,
+        next,
         connections,
         witness,
         holds,
     } = found;
-    match serve_started(
-        rt,
-        handle,
-        folder,
-        settings,
-        started,
-        connections,
-        witness,
-        holds,
-    ) {
+    log_next(handle, folder, next);
+    log_found(handle, folder, seconds, &started);
+    match serve_started(rt, handle, settings, started, connections, witness, holds) {
         Ok((ended, store)) => {
             close(handle, folder, store);
             ended
@@ -419,8 +453,12 @@ pub(crate) fn run_stored<'f, H: Crew + Threads + Sync>(
     settings: &Settings,
 ) -> Result<RunEnd, Trouble<'f>> {
     log_start(handle, path, plan, settings);
+    let began = seconds_now(handle);
     match open_store(rt, handle, folder, plan, settings) {
-        Ok(found) => serve_found(rt, handle, folder, settings, found),
+        Ok(found) => {
+            let seconds = seconds_now(handle).saturating_sub(began);
+            serve_found(rt, handle, folder, settings, seconds, found)
+        }
         Err(trouble) => Err(trouble),
     }
 }

@@ -209,7 +209,9 @@ impl<'s, 'x, A: Sharing, H: Crew, C: Counting> Responder<'s, 'x, A, H, C> {
         let mut listed = Vec::new(self.site.alloc);
         for front in queued(self.site, index, SHOWN_MAX)? {
             let found = self.site.shared.message(self.site.rt, front.number)?;
-            listed.push(Listed { front, found })?;
+            // No text of an answer is shown over HTTP.
+            let note = None;
+            listed.push(Listed { front, found, note })?;
         }
         let body = waiting_json(self.site.alloc, destination.name(), &listed, all)?;
         Ok(json(Status::Ok, body))
@@ -228,7 +230,12 @@ impl<'s, 'x, A: Sharing, H: Crew, C: Counting> Responder<'s, 'x, A, H, C> {
         let mut listed = Vec::new(self.site.alloc);
         for failure in newest {
             let found = self.site.shared.message(self.site.rt, failure.number)?;
-            listed.push(ListedFailure { failure, found })?;
+            let note = None;
+            listed.push(ListedFailure {
+                failure,
+                found,
+                note,
+            })?;
         }
         let (status, _plan) = self.site.shared.status(self.site.rt)?;
         let all = status.counts.destination(index).failed;

@@ -112,3 +112,19 @@ checked = refl
 checked-with-table : read-check (codes "hl7_service" ∷ codes "check" ∷ codes "--verbose" ∷ codes "a.toml" ∷ []) ≡ Some (codes "check", Some (codes "a.toml"), Some (codes "true"))
 unfolding clap_on_literals
 checked-with-table = refl
+
+-- the command that words name, with its folder
+abbrev read-store : List Text → Option (Text × Option Text)
+read-store words = option_map (λ p. (p.0, first_of (codes "FOLDER") p.1)) (subcommand_of program words)
+
+asked : read-store (codes "hl7_service" ∷ codes "store" ∷ codes "kept" ∷ []) ≡ Some (codes "store", Some (codes "kept"))
+unfolding clap_on_literals
+asked = refl
+
+no-folder : fault_of program (codes "hl7_service" ∷ codes "store" ∷ []) ≡ MissingRequiredArgument ∷ []
+unfolding clap_on_literals
+no-folder = refl
+
+no-place-to-ask : faults_of (codes "hl7_service" ∷ codes "store" ∷ codes "kept" ∷ []) ≡ []
+unfolding clap_on_literals
+no-place-to-ask = refl

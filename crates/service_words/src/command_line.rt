@@ -5,14 +5,17 @@ ghost use Rattle.clap.specs.declared.builder.command.Command.TheViews.{out-Comma
 ghost use Rattle.clap.specs.declared.builder.value_parser.ValueParser.TheVariants as parser;
 ghost use Rattle.clap.specs.Words.{FailsBy, app_of, fault_of, found_of, kind_of, new_app, new_rule, one_text, rows_of, rule_of, subcommand_of, subcommand_rows_of, with_rule, with_subcommand};
 ghost use Rattle.service_words.specs.inner.Request.{IsWithinLimits};
-ghost use Rattle.service_words.specs.inner.Words.{bounded_run, channel_rule, check_app, connections_rule, events_rule, faults_of, grace_rule, has_memory, http_name_rule, http_rule, idle_rule, keep_rule, kept_run, keeping_fault, memory_rule, place_fault, plan_rule, program, run_app, run_fault, show_rule, shown_run, store_rule, top, try_app, verbose_rule, Asks, AsksBy, AsksCheck, AsksRun, AsksTry, IsRefusedBy, IsWithin, IsKept, KeepsIn, ReadsAddress};
+ghost use Rattle.service_words.specs.inner.Words.{answer_text_rule, bounded_run, channel_rule, check_app, checked, connections_rule, events_rule, faults_of, folder_rule, grace_rule, has_memory, http_name_rule, http_rule, idle_rule, keep_rule, kept_run, keeping_fault, memory_rule, place_fault, plan_rule, program, run_app, run_fault, show_rule, shown_run, store_app, store_rule, top, try_app, verbose_rule, Asks, AsksBy, AsksCheck, AsksRun, AsksStore, AsksTry, IsRefusedBy, IsWithin, IsKept, KeepsIn, ReadsAddress, ReadsAnswerText};
 ghost use Rattle.clap.specs.declared.error.kind.ErrorKind.TheVariants.{ValueValidation};
 
-use crate::help::{CHECKING, HTTP_ADDRESS, ONE_PLACE, RUN_USAGE, RUNNING, STATUSES, TRYING};
+use crate::help::{
+    ANSWER_TEXT, ASKING, CHECKING, HTTP_ADDRESS, ONE_PLACE, RUN_USAGE, RUNNING, STATUSES, TRYING,
+};
 use clap::builder::ValueParser;
 use clap::error::ErrorKind;
 use clap::{Arg, ArgAction, ArgMatches, Command, Error, value_parser};
 use fixed_numbers::EVENTS_MAX;
+use message_notes::AnswerText;
 use std::alloc::{AllocError, Global};
 use std::net::SocketAddr;
 
@@ -49,6 +52,8 @@ pub enum Request<'a> {
         grace: u32,
         /// Whether the commands `show` and `export` give the text of messages.
         show: bool,
+        /// The word for where the words of the destinations' answers are shown; none where left out.
+        answer_text: Option<&'a str>,
         /// The address at which requests over HTTP are answered; none where left out.
         http: Option<&'a str>,
         /// The names of hosts for which they are answered beside `localhost` and IP addresses, with commas between them.
@@ -67,6 +72,11 @@ pub enum Request<'a> {
         plan: &'a str,
         /// Whether to print which messages go where as well.
         verbose: bool,
+    },
+    /// Read the store in a folder, which no service uses, and answer questions about it. Nothing is changed.
+    Ask {
+        /// The folder.
+        folder: &'a str,
     },
 }
 
@@ -205,6 +215,18 @@ fn show_option<'a>(alloc: Global) -> Arg<'a>
         )
 }
 
+fn answer_text_option<'a>(alloc: Global) -> Arg<'a>
+    ensures rule { rule_of result ≡ answer_text_rule }
+    ensures local { result.global ≡ false }
+{
+    Arg::new(alloc, "answer-text")
+        .long("answer-text")
+        .value_name("WHERE")
+        .help(
+            "Where the words of the destinations' answers are shown, which may name a patient: none, commands, or log, which is both [default: commands]",
+        )
+}
+
 fn http_option<'a>(alloc: Global) -> Arg<'a>
     ensures rule { rule_of result ≡ http_rule }
     ensures local { result.global ≡ false }
@@ -293,6 +315,28 @@ fn try_command<'a>(alloc: Global) -> Result<Command<'a>, AllocError>
     with_word(command, channel_option(alloc))
 }
 
+/// The folder of a store, which has to be given.
+fn folder_word<'a>(alloc: Global) -> Arg<'a>
+    ensures rule { rule_of result ≡ folder_rule }
+    ensures local { result.global ≡ false }
+{
+    Arg::new(alloc, "FOLDER")
+        .required(true)
+        .help("The folder of a store that no service uses")
+}
+
+fn store_command<'a>(alloc: Global) -> Result<Command<'a>, AllocError>
+    ensures app { IfOk result (λ c. app_of c ≡ store_app) }
+    ensures local { IfOk result (λ c. (fields_of c).has_globals ≡ false) }
+{
+    let command = Command::new(alloc, "store")
+        .about(
+            "Answers questions about the store of a service that isn't running, and changes nothing",
+        )
+        .after_help(ASKING);
+    with_word(command, folder_word(alloc))
+}
+
 /// `run` with its texts, before it takes any word.
 fn bare_run<'a>(alloc: Global) -> Command<'a>
     ensures app { app_of result ≡ new_app (codes "run") }
@@ -335,7 +379,8 @@ fn shown_run<'a>(alloc: Global) -> Result<Command<'a>, AllocError>
     let command = bounded_run(alloc)?;
     let command = with_word(command, idle_option(alloc))?;
     let command = with_word(command, grace_option(alloc))?;
-    with_word(command, show_option(alloc))
+    let command = with_word(command, show_option(alloc))?;
+    with_word(command, answer_text_option(alloc))
 }
 
 fn run_command<'a>(alloc: Global) -> Result<Command<'a>, AllocError>
@@ -376,11 +421,19 @@ fn with_try<'a>(alloc: Global) -> Result<Command<'a>, AllocError>
     with_run(alloc)?.subcommand(dry)
 }
 
-fn program_command<'a>(alloc: Global) -> Result<Command<'a>, AllocError>
-    ensures { IfOk result (λ c. app_of c ≡ program) }
+/// The program with `run`, `try` and `check`.
+fn with_check<'a>(alloc: Global) -> Result<Command<'a>, AllocError>
+    ensures { IfOk result (λ c. app_of c ≡ checked) }
 {
     let check = check_command(alloc)?;
     with_try(alloc)?.subcommand(check)
+}
+
+fn program_command<'a>(alloc: Global) -> Result<Command<'a>, AllocError>
+    ensures { IfOk result (λ c. app_of c ≡ program) }
+{
+    let store = store_command(alloc)?;
+    with_check(alloc)?.subcommand(store)
 }
 
 /// The number given, or else the usual one.
@@ -460,6 +513,7 @@ fn run_request<'a>(matches: &ArgMatches<'a>) -> Result<Request<'a>, ErrorKind>
         idle: number_of(matches.get_one("idle"), 0, 86_400, 0),
         grace: number_of(matches.get_one("grace"), 0, 3_600, 5),
         show: shows(matches),
+        answer_text: matches.get_str("answer-text"),
         http: matches.get_str("http"),
         http_names: matches.get_str("http-name"),
     })
@@ -487,6 +541,16 @@ fn check_request<'a>(matches: &ArgMatches<'a>) -> Request<'a>
     }
 }
 
+/// The request that the words of `store` make.
+fn store_request<'a>(matches: &ArgMatches<'a>) -> Request<'a>
+    ensures limits { IsWithinLimits result }
+    ensures written { AsksStore result (rows_of (found_of matches.now)) }
+{
+    Request::Ask {
+        folder: matches.get_str("FOLDER").unwrap_or(""),
+    }
+}
+
 /// The request that the words of a command make, by its name.
 ///
 /// # Errors
@@ -500,6 +564,7 @@ fn request_of<'a>(matches: &ArgMatches<'a>) -> Result<Request<'a>, ErrorKind>
     match matches.subcommand() {
         Some(("check", given)) => Ok(check_request(given)),
         Some(("try", given)) => Ok(try_request(given)),
+        Some(("store", given)) => Ok(store_request(given)),
         Some((_, given)) => run_request(given),
         // The parse fails where no command is given.
         None => Ok(Request::Check {
@@ -536,6 +601,30 @@ pub fn http_address(alloc: Global, word: &str) -> Result<SocketAddr, Error>
     match word.parse::<SocketAddr>() {
         Ok(address) => Ok(address),
         Err(_) => Err(address_error(alloc)?),
+    }
+}
+
+/// The error of a `run` with a word for where the words of answers are shown that is none.
+fn answer_text_error(alloc: Global) -> Result<Error, AllocError>
+    ensures { IfOk result (λ error. kind_of error ≡ ValueValidation) }
+{
+    let mut command = run_command(alloc)?;
+    command.error(ErrorKind::ValueValidation, ANSWER_TEXT)
+}
+
+/// Where the words of the destinations' answers are shown, by the word of the option: `none`, `commands` or `log`.
+///
+/// # Errors
+///
+/// `ValueValidation` where it is another word. The error has the text to be printed.
+pub fn answer_text(alloc: Global, word: &str) -> Result<AnswerText, Error>
+    ensures { ReadsAnswerText word.now result }
+{
+    match word {
+        "none" => Ok(AnswerText::Nowhere),
+        "commands" => Ok(AnswerText::Commands),
+        "log" => Ok(AnswerText::Log),
+        _ => Err(answer_text_error(alloc)?),
     }
 }
 

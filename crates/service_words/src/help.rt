@@ -27,6 +27,9 @@ pub const ONE_PLACE: &str = "exactly one of '--store <FOLDER>' and '--memory' ha
 pub const HTTP_ADDRESS: &str =
     "the address of '--http <ADDRESS>' has to be an IP address and a port, as 127.0.0.1:9180";
 
+/// What is wrong with a `run` with a word for where the words of answers are shown that is none.
+pub const ANSWER_TEXT: &str = "the word of '--answer-text <WHERE>' has to be none, commands or log";
+
 /// The text after the words in the help of `run`.
 pub const RUNNING: &str = "\
 N connections times the channels of the plan are at most 9999; else 'limit: connections', status 2.
@@ -36,13 +39,13 @@ line. The end of standard input ends nothing.
   status         what each channel, each destination, the book and the connections have done
   metrics        the same numbers in the text format of Prometheus
   links          whether each destination is connected, its last fault, and when it is tried next
-  message N      where message N is
+  message N      where message N is, when and from where it was received, and how its deliveries went
   show N         the text of message N as it was received, a segment a line
   show N NAME    the text of message N as it is or was sent to this destination
   export N PATH  the bytes of message N as they were received, into a new file
   find ID        the numbers of the messages with this control id (MSH-10), at most 100
-  waiting NAME   the first 100 messages in a destination's queue
-  failed NAME    the last 100 messages that failed at a destination, newest first, and why
+  waiting NAME   the first 100 messages in a destination's queue, since when they wait and the last answer or fault
+  failed NAME    the last 100 messages that failed at a destination, newest first, when, why and the last answer or fault
   hold NAME      sends this destination no further message: what it would be sent waits
   release NAME   sends messages to this destination again
   plan           where the plan in force comes from, since when it is, and its SHA-256
@@ -83,3 +86,23 @@ types of the channel. A fault is one line on standard error, status 1: 'plan: NA
 and what is wanted there. Warnings about what a plan is unlikely to mean are on standard error too, and leave the status 0.
 
 Example: hl7_service check plan.toml --verbose";
+
+/// The text after the words in the help of `store`.
+pub const ASKING: &str = "\
+Questions are read from standard input, a line each, and answered on standard output as 'run' answers them, until the end of
+standard input. Each answer ends with an empty line.
+  status         counts of channels and destinations, the book, the store, and what is held
+  message N      where message N is
+  show N         the text of message N as it was received, a segment a line
+  show N NAME    the text of message N as it is or was sent to this destination
+  find ID        the numbers of the messages with this control id (MSH-10), at most 100
+  waiting NAME   the first 100 messages in a destination's queue
+  failed NAME    the last 100 messages that failed at a destination, newest first, and why
+  plan           the SHA-256 of the plan in force, and how many plans were deployed
+  plan text      the document of the plan in force
+  help           the questions
+
+The store is copied into memory and read there. Its files stay as they are, and so do their owners and modes. What was in
+flight when the service ended is shown as in flight. Where a service uses the store the status is 8.
+
+Example: echo 'waiting LAB' | hl7_service store /var/lib/hl7-service";

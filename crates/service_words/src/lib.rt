@@ -4,4 +4,4 @@
 mod command_line;
 mod help;
 
-pub use command_line::{Keeping, Request, http_address, parse_args};
+pub use command_line::{Keeping, Request, answer_text, http_address, parse_args};

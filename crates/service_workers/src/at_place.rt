@@ -18,7 +18,7 @@ use mllp_frame::Break;
 use plan_text::Plan;
 use socket_options::is_broken;
 use std::alloc::AllocError;
-use std::net::TcpStream;
+use std::net::{SocketAddr, TcpStream};
 use std::sync::Arc;
 
 /// An arrival looks at how full the book is, for the log and for pausing, where the index of its entry is a multiple of this.
@@ -34,6 +34,8 @@ pub struct AtPlace<'a, 'x, A: Sharing, H> {
     pub desk: &'a mut Desk<A>,
     /// The connection over which the messages are received.
     pub stream: &'a TcpStream,
+    /// The address that the connection came from.
+    pub peer: SocketAddr,
 }
 
 /// Logs what was done about a tight book.
@@ -125,6 +127,9 @@ impl<'a, 'x, A: Sharing, H: Crew> AtPlace<'a, 'x, A, H> {
     fn note_receipt(&self, receipt: &Receipt) {
         if matches!(receipt.told, Told::Accepted(_) | Told::Filtered) {
             self.site.note_received(receipt.channel);
+        }
+        if let Told::Accepted(number) = receipt.told {
+            self.site.note_accepted(number, self.peer);
         }
         if receipt.entry % FILL_STEP == 0 {
             log_fill(self.site.rt, self.site.shared.gauge(self.site.rt));

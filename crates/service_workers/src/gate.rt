@@ -8,10 +8,40 @@ use std::alloc::{AllocError, Global};
 use std::io;
 use std::net::{Net, SocketAddr, TcpListener, TcpStream};
 use std::os::fd::AsRawFd;
+use std::sync::Arc;
 use std::sync::atomic::{AtomicU32, Ordering};
 
 /// How often one call may be interrupted before that is a fault.
 const INTERRUPTIONS_MAX: u32 = 1_000;
+
+/// A connection that was accepted: its stream, and the index of the channel whose gate it came by.
+#[derive(Drop)]
+pub struct Accepted {
+    pub(crate) stream: TcpStream,
+    pub(crate) channel: u32,
+}
+
+/// The stream of a connection, which its halves share, and the index of its channel.
+#[derive(Drop)]
+pub(crate) struct ChannelStream {
+    pub(crate) stream: Arc<TcpStream>,
+    pub(crate) channel: u32,
+}
+
+impl Accepted {
+    /// The connection with a stream that its halves can share.
+    ///
+    /// # Errors
+    ///
+    /// Where memory is refused.
+    pub(crate) fn share(self, alloc: Global) -> Result<ChannelStream, AllocError>
+        ensures { IfOk result (λ shared. shared.channel ≡ self.channel) }
+    {
+        let Accepted { stream, channel } = self;
+        let stream = Arc::new(alloc, stream).map_err(AllocError::from)?;
+        Ok(ChannelStream { stream, channel })
+    }
+}
 
 /// The listener of a channel, by which all places of the channel accept.
 #[derive(Drop)]
@@ -80,11 +110,7 @@ impl Gate {
     }
 
     /// Waits for the next connection, again where that was interrupted.
-    ///
-    /// # Errors
-    ///
-    /// Where none can be accepted at this time, or the gate is shut.
-    pub fn accept(&self) -> io::Result<(TcpStream, SocketAddr)> {
+    fn accept_stream(&self) -> io::Result<(TcpStream, SocketAddr)> {
         for _ in 0..INTERRUPTIONS_MAX {
             match self.listener.accept() {
                 Err(error) if error.kind() == io::ErrorKind::Interrupted => {}
@@ -92,6 +118,19 @@ impl Gate {
             }
         }
         Err(io::Error::from(io::ErrorKind::Interrupted))
+    }
+
+    /// Waits for the next connection, and the address of its sender.
+    ///
+    /// # Errors
+    ///
+    /// Where none can be accepted at this time, or the gate is shut.
+    pub fn accept(&self) -> io::Result<(Accepted, SocketAddr)>
+        ensures { IfOk result (λ came. came.0.channel ≡ self.now.channel) }
+    {
+        let (stream, peer) = self.accept_stream()?;
+        let channel = self.channel;
+        Ok((Accepted { stream, channel }, peer))
     }
 
     /// Counts a failure to accept, and returns how many there had been before it since the last connection.

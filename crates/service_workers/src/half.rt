@@ -1,5 +1,6 @@
 //! The halves of a connection.
 
+ghost use Rattle.std.specs.Prelude.{◌≡◌};
 ghost use Rattle.std.specs.Io.{ReadsAtMost, WritesAtMost};
 
 use crate::stage::Stage;
@@ -117,7 +118,9 @@ impl<'a, H: Log + Clock + Wait> Half<'a, H> {
         channel: u32,
         stream: Arc<TcpStream>,
         label: Label<'a>,
-    ) -> Self {
+    ) -> Self
+        ensures { result.channel ≡ channel }
+    {
         Half {
             rt,
             stage,

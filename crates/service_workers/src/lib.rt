@@ -17,6 +17,8 @@ mod held;
 mod hold;
 mod holding;
 mod links;
+mod noted_link;
+mod noting;
 mod operator;
 mod pauses;
 mod place;
@@ -31,7 +33,7 @@ mod warden;
 mod way;
 
 pub use ending::close_book;
-pub use gate::Gate;
+pub use gate::{Accepted, Gate};
 pub use held::HeldNames;
 pub use hold::Hold;
 pub use links::{LinkNote, LinkState, LinkTrouble};

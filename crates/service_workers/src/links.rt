@@ -34,6 +34,8 @@ pub struct LinkNote {
     pub state: LinkState,
     /// Why the connection failed last, if it ever did.
     pub trouble: Option<LinkTrouble>,
+    /// Whether it failed in the attempt at hand.
+    is_fresh: bool,
 }
 
 impl LinkNote {
@@ -42,6 +44,7 @@ impl LinkNote {
         LinkNote {
             state: LinkState::Untried,
             trouble: None,
+            is_fresh: false,
         }
     }
 
@@ -57,6 +60,7 @@ impl LinkNote {
         Ok(LinkNote {
             state: self.state,
             trouble,
+            is_fresh: self.is_fresh,
         })
     }
 }
@@ -114,6 +118,37 @@ impl Links {
         note.state = LinkState::Unconnected(next);
         if let Ok(words) = words {
             note.trouble = Some(LinkTrouble { second, words });
+            note.is_fresh = true;
+        }
+    }
+
+    /// Notes that an attempt at the destination at this index begins, in which the connection hasn't failed yet.
+    pub(crate) fn forget_fault<H: Wait>(&self, rt: &H, destination: u32) {
+        if let Some(note) = self.notes.get(destination as usize) {
+            note.lock(rt).is_fresh = false;
+        }
+    }
+
+    /// Why the connection to the destination at this index failed in the attempt at hand, in words, if it did.
+    ///
+    /// # Errors
+    ///
+    /// Where memory is refused.
+    pub(crate) fn fresh_fault<H: Wait>(
+        &self,
+        rt: &H,
+        alloc: Global,
+        destination: u32,
+    ) -> Result<Option<String>, AllocError> {
+        let Some(note) = self.notes.get(destination as usize) else {
+            return Ok(None);
+        };
+        let note = note.lock(rt);
+        match &note.trouble {
+            Some(LinkTrouble { words, .. }) if note.is_fresh => {
+                Ok(Some(String::from_str(alloc, words)?))
+            }
+            _ => Ok(None),
         }
     }
 
@@ -121,6 +156,14 @@ impl Links {
     pub(crate) fn forget<H: Wait>(&self, rt: &H, destination: u32) {
         if let Some(note) = self.notes.get(destination as usize) {
             *note.lock(rt) = LinkNote::new();
+        }
+    }
+
+    /// Whether the destination at this index is connected, as far as is known.
+    pub(crate) fn state<H: Wait>(&self, rt: &H, destination: u32) -> LinkState {
+        match self.notes.get(destination as usize) {
+            Some(note) => note.lock(rt).state,
+            None => LinkState::Untried,
         }
     }
 

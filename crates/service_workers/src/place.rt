@@ -1,10 +1,12 @@
 //! A place of a channel: it accepts a connection, serves it to its end, and accepts the next.
 
-ghost use Rattle.std.specs.Prelude.{◌<◌, IsTrue};
+ghost use Rattle.std.specs.Prelude.{◌≡◌, ◌<◌, IsTrue, List, None};
+ghost use Rattle.book_core.specs.declared.receipt.Receipt.{Receipt};
+ghost use Rattle.conn_worker.specs.Serving.{Serves};
 
 use crate::at_place::AtPlace;
-use crate::gate::Gate;
-use crate::half::{Label, bound_writes};
+use crate::gate::{Accepted, ChannelStream, Gate};
+use crate::half::{Half, Label, bound_writes};
 use crate::hold::Hold;
 use crate::site::{Crew, Site};
 use crate::stage::Stage;
@@ -73,6 +75,22 @@ struct Served {
     bytes: u64,
 }
 
+/// Serves a connection by its halves, on the channel of the gate that it came by.
+fn serve_halves<A: Sharing, H: Crew>(
+    line: &ConnectionId,
+    book: &mut AtPlace<'_, '_, A, H>,
+    reader: &mut Counted<Half<'_, H>>,
+    writer: &mut Counted<Half<'_, H>>,
+    clock: &mut Running<'_, H>,
+) -> ServeReport<DiscardReceipts>
+    requires known { line.now.channel < A.channels }
+    requires accepted { reader.old.inner.channel ≡ line.now.channel }
+    ensures { (receipts : List Receipt) × Serves line.now.conn reader.old.inner.channel
+        None None None None receipts result }
+{
+    serve_within(line, book, reader, writer, clock, TURNS_MAX)
+}
+
 /// Serves a connection to its end, and ends it in order.
 ///
 /// # Errors
@@ -80,18 +98,18 @@ struct Served {
 /// Where memory is refused for its stream.
 fn serve_stream<A: Sharing, H: Crew>(
     site: &Site<'_, A, H>,
-    channel: u32,
     hold: &Hold,
     desk: &mut Desk<A>,
-    stream: TcpStream,
+    accepted: Accepted,
     label: Label<'_>,
 ) -> Result<Served, AllocError>
-    requires { channel < A.channels }
+    requires { accepted.channel < A.channels }
 {
-    prepare(&stream, site.idle);
-    let stream = Arc::new(site.alloc, stream).map_err(AllocError::from)?;
-    let mut reader = Counted::new(site.half(Arc::try_clone(&stream)?, channel, label));
-    let mut writer = Counted::new(site.half(Arc::try_clone(&stream)?, channel, label));
+    prepare(&accepted.stream, site.idle);
+    let shared = accepted.share(site.alloc)?;
+    let mut reader = Counted::new(site.half(&shared, label)?);
+    let mut writer = Counted::new(site.half(&shared, label)?);
+    let ChannelStream { stream, channel } = shared;
     let link = Arc::try_clone(&stream)?;
     hold.put(site.rt, Some(stream));
     // A stop that began before the stream was put there didn't find it.
@@ -108,14 +126,14 @@ fn serve_stream<A: Sharing, H: Crew>(
         site,
         desk: &mut *desk,
         stream: &link,
+        peer: label.peer,
     };
-    let report = serve_within(
+    let report = serve_halves(
         &line,
         &mut book,
         &mut reader,
         &mut writer,
         &mut Running(site.rt),
-        TURNS_MAX,
     );
     writer.into_inner().drain();
     hold.put(site.rt, None);
@@ -180,10 +198,11 @@ fn serve_accepted<A: Sharing, H: Crew>(
     gate: &Gate,
     hold: &Hold,
     desk: &mut Desk<A>,
-    stream: TcpStream,
+    accepted: Accepted,
     peer: SocketAddr,
 )
-    requires { gate.now.channel < A.channels }
+    requires known { gate.now.channel < A.channels }
+    requires accepted { accepted.channel ≡ gate.now.channel }
 {
     let channel = gate.name();
     let Some(connection) = site.admit() else {
@@ -198,7 +217,7 @@ fn serve_accepted<A: Sharing, H: Crew>(
         peer,
     };
     site.count_opened(gate.channel());
-    let served = serve_stream(site, gate.channel(), hold, desk, stream, label);
+    let served = serve_stream(site, hold, desk, accepted, label);
     site.count_ended(gate.channel());
     if note_end(site, label, served) {
         site.count_refused();
@@ -238,9 +257,9 @@ fn serve_all<A: Sharing, H: Crew>(
             return;
         }
         match gate.accept() {
-            Ok((stream, peer)) => {
+            Ok((accepted, peer)) => {
                 log_recovery(site.rt, gate);
-                serve_accepted(site, gate, hold, desk, stream, peer);
+                serve_accepted(site, gate, hold, desk, accepted, peer);
             }
             Err(error) => {
                 if site.stage() == Stage::Open {

@@ -4,12 +4,12 @@ ghost use Rattle.std.specs.Prelude.{◌≡◌};
 ghost use Rattle.delivery_worker.specs.Sent.{IsUnused};
 ghost use Rattle.delivery_worker.specs.inner.Works.{HasDelivered};
 
+use crate::noted_link::NotedLink;
 use crate::site::{Crew, Site};
 use crate::stage::Stage;
-use crate::way::PlanWay;
 use book_lock::{Sharing, Station};
 use conn_worker::Steady;
-use delivery_worker::{DeliverReport, Halt, TcpLink, deliver_until};
+use delivery_worker::{DeliverReport, Halt, deliver_until};
 use std::sync::Mutex;
 
 /// What delivers the messages of one queue: the index of the queue's destination, the station of its takes and
@@ -85,7 +85,7 @@ fn deliver_all<A: Sharing, H: Crew>(site: &Site<'_, A, H>, work: PostWork<A>) ->
         mut station,
         ..
     } = work;
-    let mut link = TcpLink::new(site.rt, PlanWay::new(site, destination)).parting(site.alloc);
+    let mut link = NotedLink::new(site, destination);
     let report = deliver_until(
         site.rt,
         site.alloc,

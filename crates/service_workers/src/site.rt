@@ -1,8 +1,12 @@
 //! What all workers of a service share.
 
+ghost use Rattle.std.specs.Prelude.{◌≡◌, IfOk};
+
+use crate::gate::ChannelStream;
 use crate::half::{Half, Label, PAUSE_STEP};
 use crate::holding::Holding;
-use crate::links::{LinkNote, Links, is_other};
+use crate::links::{LinkNote, LinkState, Links, is_other};
+use crate::noting::MessageNotes;
 use crate::stage::Stage;
 use crate::tallies::{Dropped, Tallies, Unbooked};
 use book_core::{NotBooked, Outbound};
@@ -12,13 +16,14 @@ use dest_queue::Queued;
 use fixed_numbers::DESTINATIONS;
 use judge_core::Judged;
 use log::Log;
+use message_notes::{AnswerText, Notes};
 use plan_text::Plan;
 use record_list::RecordList;
 use socket_options::is_broken;
 use std::alloc::{AllocError, Global};
 use std::net::{Net, TcpListener, TcpStream};
 use std::sync::atomic::{AtomicU32, AtomicU64, Ordering};
-use std::sync::{Arc, Wait};
+use std::sync::{Arc, Mutex, Wait};
 use std::thread;
 use std::time::{Clock, Duration};
 
@@ -47,6 +52,8 @@ pub struct Site<'x, A: Sharing, H> {
     pub is_stored: bool,
     /// The last moment in the store, in seconds since 1970, before which deliveries go by no other; 0 where there is none.
     pub last_second: u64,
+    /// Where the words of the destinations' answers are shown.
+    pub answer_text: AnswerText,
     /// The number of the first connection.
     first_connection: u32,
     /// The number before which the numbers of connections are reserved in the store.
@@ -66,6 +73,8 @@ pub struct Site<'x, A: Sharing, H> {
     /// The destinations that are held.
     pub(crate) holding: Holding,
     links: Links,
+    /// What is noted about the messages that the book remembers.
+    pub(crate) notes: Mutex<MessageNotes>,
     tallies: Tallies,
 }
 
@@ -121,7 +130,9 @@ impl<'x, A: Sharing, H: Crew> Site<'x, A, H> {
         keep: u32,
         idle: u32,
         history: History,
+        answer_text: AnswerText,
     ) -> Self {
+        let notes = Notes::new(alloc, shared.gauge(rt).first);
         let (first_connection, reserved) = history.connections();
         Site {
             rt,
@@ -131,6 +142,7 @@ impl<'x, A: Sharing, H: Crew> Site<'x, A, H> {
             idle,
             is_stored: history.is_stored(),
             last_second: history.last_second(),
+            answer_text,
             first_connection,
             reserved: AtomicU32::new(reserved),
             open: AtomicU32::new(0),
@@ -141,18 +153,26 @@ impl<'x, A: Sharing, H: Crew> Site<'x, A, H> {
             held_back: AtomicU64::new(0),
             holding: Holding::new(alloc),
             links: Links::new(),
+            notes: Mutex::new(notes),
             tallies: Tallies::new(),
         }
     }
 
-    /// A half of the stream of a connection of the channel at this index.
+    /// A half of a connection, by its stream.
+    ///
+    /// # Errors
+    ///
+    /// Where memory is refused.
     pub(crate) fn half<'s>(
         &'s self,
-        stream: Arc<TcpStream>,
-        channel: u32,
+        shared: &ChannelStream,
         label: Label<'s>,
-    ) -> Half<'s, H> {
-        Half::new(self.rt, &self.stage, &self.paused, channel, stream, label)
+    ) -> Result<Half<'s, H>, AllocError>
+        ensures { IfOk result (λ half. half.channel ≡ shared.now.channel) }
+    {
+        let stream = Arc::try_clone(&shared.stream)?;
+        let channel = shared.channel;
+        Ok(Half::new(self.rt, &self.stage, &self.paused, channel, stream, label))
     }
 
     /// How far the end is.
@@ -377,6 +397,20 @@ impl<'x, A: Sharing, H: Crew> Site<'x, A, H> {
             .note_fault(self.rt, self.alloc, destination, second, cause, wait);
     }
 
+    /// Notes that an attempt at the destination at this index begins, in which the connection hasn't failed yet.
+    pub(crate) fn forget_fault(&self, destination: u32) {
+        self.links.forget_fault(self.rt, destination);
+    }
+
+    /// Why the connection to the destination at this index failed in the attempt at hand, in words, if it did.
+    ///
+    /// # Errors
+    ///
+    /// Where memory is refused.
+    pub(crate) fn fresh_fault(&self, destination: u32) -> Result<Option<String>, AllocError> {
+        self.links.fresh_fault(self.rt, self.alloc, destination)
+    }
+
     /// Notes that the destination at this index is another one by now, to which no connection was tried yet.
     pub(crate) fn note_moved(&self, destination: u32) {
         self.links.forget(self.rt, destination);
@@ -399,6 +433,11 @@ impl<'x, A: Sharing, H: Crew> Site<'x, A, H> {
     /// Where memory is refused.
     pub fn link(&self, destination: u32) -> Result<LinkNote, AllocError> {
         self.links.at(self.rt, self.alloc, destination)
+    }
+
+    /// Whether the destination at this index is connected, as far as is known.
+    pub fn link_state(&self, destination: u32) -> LinkState {
+        self.links.state(self.rt, destination)
     }
 
     /// How many places work.

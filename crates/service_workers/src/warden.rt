@@ -272,6 +272,7 @@ fn look<A: Sharing, H: Crew>(site: &Site<'_, A, H>, watch: &mut Watch) {
     log_remembered(watch, site.rt, &plan, &status, site.keep);
     watch.log_left(site.rt, status.gauge);
     make_room(site, &status);
+    site.forget_notes(status.gauge.first);
     watch.drain.log(site, &plan, &status.counts);
     site.rt.flush();
 }

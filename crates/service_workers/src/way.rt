@@ -1,5 +1,7 @@
 //! The way to a destination, as the plan in force has it.
 
+ghost use Rattle.std.specs.Prelude.{◌≡◌};
+
 use crate::site::{Crew, Site};
 use crate::stage::Stage;
 use book_lock::Sharing;
@@ -30,7 +32,9 @@ fn is_same_way(old: &Plan, new: &Plan, index: u32) -> bool {
 
 impl<'s, 'x, A: Sharing, H: Crew> PlanWay<'s, 'x, A, H> {
     /// The way by the plan in force at this moment.
-    pub fn new(site: &'s Site<'x, A, H>, index: u32) -> Self {
+    pub fn new(site: &'s Site<'x, A, H>, index: u32) -> Self
+        ensures { result.index ≡ index }
+    {
         PlanWay {
             site,
             index,
@@ -40,6 +44,13 @@ impl<'s, 'x, A: Sharing, H: Crew> PlanWay<'s, 'x, A, H> {
 }
 
 impl<A: Sharing, H: Crew> Way for PlanWay<'_, '_, A, H> {
+    ghost use Rattle.std.specs.Prelude.{option_map};
+    ghost use Rattle.std.specs.Arc.{arc_value};
+
+    ghost leads_to = { λ way. way.index };
+
+    ghost plan = { λ way. option_map arc_value way.plan };
+
     fn destination(&self) -> Option<&Destination> {
         match &self.plan {
             Some(plan) => plan.destination(self.index),

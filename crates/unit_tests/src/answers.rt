@@ -71,6 +71,8 @@ pub(crate) fn state() -> (Status, Figures) {
         },
         paused: 1,
         held: 1,
+        connected: 0,
+        unconnected: 1,
         open_by_channel: [3; 64],
         places: [8; 64],
         received,
@@ -153,6 +155,7 @@ fn metrics_have_all(rt: HostRuntime) -> Result<(), Fail> {
         "hl7_store_longest_commit_seconds 3.000000\n",
         "hl7_store_full 1\n",
         "hl7_destination_held{destination=\"LAB\"} 1\n",
+        "hl7_destination_connected{destination=\"LAB\"} 0\n",
         "hl7_destination_sent_again_total{destination=\"LAB\"} 2\n",
     ] {
         assert!(rt; text.contains(line), "{line} {text}");
@@ -167,7 +170,7 @@ fn lists_end_with_their_number(rt: HostRuntime) -> Result<(), Fail> {
         "message 3\nmessage 5\nfound 2\n\n"
     );
     assert_eq!(rt;
-        waiting_text(rt.alloc(), None, &[], 0)?.as_str(),
+        waiting_text(rt.alloc(), None, 0, &[], 0)?.as_str(),
         "waiting 0\n\n"
     );
     let many = found_text(rt.alloc(), &[1; 101])?;

@@ -221,7 +221,12 @@ fn failures(alloc: Global) -> Result<Vec<ListedFailure>, AllocError> {
     ] {
         let failure = Failure { number, cause };
         let found = kept(alloc, &[Some(SlotState::Failed(cause))])?;
-        listed.push(ListedFailure { failure, found })?;
+        let note = None;
+        listed.push(ListedFailure {
+            failure,
+            found,
+            note,
+        })?;
     }
     Ok(listed)
 }
@@ -231,12 +236,13 @@ fn failures_are_listed_with_why(rt: HostRuntime) -> Result<(), Fail> {
     let alloc = rt.alloc();
     let listed = failures(alloc)?;
     assert_eq!(rt;
-        failed_text(alloc, &listed, 3, 3)?.as_str(),
-        "message 9 control_id A1 failed cancelled\nmessage 7 control_id A1 failed no attempt left\n\
-message 2 control_id A1 failed rejected\nfailed 3\n\n"
+        failed_text(alloc, 0, &listed, 3, 3)?.as_str(),
+        "message 9 control_id A1 failed cancelled; the last attempt was before the service started, or at this moment\n\
+message 7 control_id A1 failed no attempt left; the last attempt was before the service started, or at this moment\n\
+message 2 control_id A1 failed rejected; the last attempt was before the service started, or at this moment\nfailed 3\n\n"
     );
     assert_eq!(rt;
-        failed_text(alloc, &[], 0, 4)?.as_str(),
+        failed_text(alloc, 0, &[], 0, 4)?.as_str(),
         "failed 4, of which 0 are remembered\n\n"
     );
     Ok(())

@@ -84,7 +84,7 @@ fn a_hold_is_answered(rt: HostRuntime) -> Result<(), Fail> {
         "released LAB\nthe service is stopping: what waits there may be left undelivered\n\n"
     );
     assert_eq!(rt;
-        waiting_text(alloc, Some("LAB"), &[], 0)?.as_str(),
+        waiting_text(alloc, Some("LAB"), 0, &[], 0)?.as_str(),
         "held LAB\nwaiting 0\n\n"
     );
     let mut text = String::new(alloc);

@@ -12,10 +12,12 @@ use Rattle.clap.specs.declared.error.Error.{Error}
 use Rattle.clap.specs.Words.{App, Kinds, kind_of, Row, Rule, Text, fault_of, first_of, new_app, new_rule, one_of, subcommand_of, with_rule, with_subcommand}
 use Rattle.clap.specs.declared.error.kind.ErrorKind.{ErrorKind}
 use Rattle.clap.specs.declared.error.kind.ErrorKind.TheVariants.{ArgumentConflict, MissingRequiredArgument, OutOfMemory, ValueValidation}
+use Rattle.message_notes.specs.declared.answer_text.AnswerText.{AnswerText}
+use Rattle.message_notes.specs.declared.answer_text.AnswerText.TheVariants.{Nowhere, Commands, Log}
 use Rattle.service_words.specs.declared.command_line.Keeping.{Keeping}
 use Rattle.service_words.specs.declared.command_line.Keeping.TheVariants.{Memory, Store}
 use Rattle.service_words.specs.declared.command_line.Request.{Request}
-use Rattle.service_words.specs.declared.command_line.Request.TheVariants.{Check, Run, Try}
+use Rattle.service_words.specs.declared.command_line.Request.TheVariants.{Ask, Check, Run, Try}
 
 -- a word that has to be given and has a value of its own: the plan's file
 abbrev pub plan_rule : Rule
@@ -53,6 +55,10 @@ grace_rule = number_rule (codes "grace") 0 3_600
 abbrev pub show_rule : Rule
 show_rule = record (new_rule (codes "show")) { long = Some (codes "show"); value_names = 1; parser = Some parser.Boolish }
 
+-- an option and a word
+abbrev pub answer_text_rule : Rule
+answer_text_rule = record (new_rule (codes "answer-text")) { long = Some (codes "answer-text"); value_names = 1 }
+
 -- an option and an address
 abbrev pub http_rule : Rule
 http_rule = record (new_rule (codes "http")) { long = Some (codes "http"); value_names = 1 }
@@ -77,9 +83,9 @@ kept_run = with_rule (with_rule (with_rule (new_app (codes "run")) plan_rule) st
 abbrev pub bounded_run : App
 bounded_run = with_rule (with_rule (with_rule kept_run connections_rule) events_rule) keep_rule
 
--- [--idle SECONDS] [--grace SECONDS] [--show ON|OFF] besides
+-- [--idle SECONDS] [--grace SECONDS] [--show ON|OFF] [--answer-text WHERE] besides
 abbrev pub shown_run : App
-shown_run = with_rule (with_rule (with_rule bounded_run idle_rule) grace_rule) show_rule
+shown_run = with_rule (with_rule (with_rule (with_rule bounded_run idle_rule) grace_rule) show_rule) answer_text_rule
 
 -- [--http ADDRESS] [--http-name NAMES] besides: all the words of `run`
 abbrev pub run_app : App
@@ -93,13 +99,25 @@ try_app = with_rule (with_rule (new_app (codes "try")) plan_rule) channel_rule
 abbrev pub check_app : App
 check_app = with_rule (with_rule (new_app (codes "check")) plan_rule) verbose_rule
 
+-- the folder of a store, which has to be given
+abbrev pub folder_rule : Rule
+folder_rule = record (new_rule (codes "FOLDER")) { required = true }
+
+-- store FOLDER
+abbrev pub store_app : App
+store_app = with_rule (new_app (codes "store")) folder_rule
+
 -- the program, which prints its version, and takes a command
 abbrev pub top : App
 top = let app : App = new_app (codes "hl7_service") in record app { top = record app.top { has_version = true; subcommand_required = true } }
 
--- the program's three commands
+-- the program and its first three commands
+abbrev pub checked : App
+checked = with_subcommand (with_subcommand (with_subcommand top run_app.top) try_app.top) check_app.top
+
+-- the program's four commands
 abbrev pub program : App
-program = with_subcommand (with_subcommand (with_subcommand top run_app.top) try_app.top) check_app.top
+program = with_subcommand checked store_app.top
 
 -- the number below 2^32 that a text writes in decimal digits; none where it writes none
 abbrev pub IsNumberOf : Option Text → Option ℕ → Type 0
@@ -152,13 +170,27 @@ run_fault rows = place_fault (first_of (codes "store") rows) (has_memory rows)
 -- what is wrong with the words of a command that the parser takes, by the command's name
 abbrev pub keeping_fault : Option (Text × List Row) → Kinds
 keeping_fault None = []
-keeping_fault (Some (name, rows)) = if bytes_eq name (codes "check") || bytes_eq name (codes "try") then [] else run_fault rows
+keeping_fault (Some (name, rows)) =
+    if bytes_eq name (codes "check") || bytes_eq name (codes "try") || bytes_eq name (codes "store") then [] else run_fault rows
 
 -- the address and the port that a text writes, or an error where it writes none
 abbrev pub ReadsAddress : Text → Result SocketAddr Error → Type 0
 ReadsAddress text result =
     MatchResult result (IsSocketText text)
     (λ error. (kind_of error ≡ OutOfMemory) ⊎ ((kind_of error ≡ ValueValidation) × ((a : SocketAddr) → ¬ (IsSocketText text a))))
+
+-- where the words of answers are shown, by the word of the option
+abbrev pub answer_text_of : Text → Option AnswerText
+answer_text_of word =
+    if bytes_eq word (codes "none") then Some Nowhere
+    else (if bytes_eq word (codes "commands") then Some Commands
+    else (if bytes_eq word (codes "log") then Some Log else None))
+
+-- that, or an error where it is none of these words
+abbrev pub ReadsAnswerText : Text → Result AnswerText Error → Type 0
+ReadsAnswerText word result =
+    MatchResult result (λ shown. answer_text_of word ≡ Some shown)
+    (λ error. (kind_of error ≡ OutOfMemory) ⊎ ((kind_of error ≡ ValueValidation) × (answer_text_of word ≡ None)))
 
 -- an error exactly where there is a fault, and of its kind
 abbrev pub IsRefusedBy : {T : Type 0} → Kinds → Result T ErrorKind → Type 0
@@ -169,7 +201,7 @@ abbrev pub faults_of : List Text → Kinds
 faults_of words = or_else (fault_of program words) (keeping_fault (subcommand_of program words))
 
 -- what the words of `run` ask: the plan, where the history is kept, and each option as they are written
-pub record AsToRun (plan : Text) (keeping : Keeping) (connections events keep idle grace : ℕ) (show : Bool) (http http_names : Option Text) (rows : List Row) : Type 0 where
+pub record AsToRun (plan : Text) (keeping : Keeping) (connections events keep idle grace : ℕ) (show : Bool) (answer_text http http_names : Option Text) (rows : List Row) : Type 0 where
   pub plan_is : plan ≡ unwrap_or (first_of (codes "PLAN") rows) []
   pub keeping_is : KeepsIn keeping (first_of (codes "store") rows) (has_memory rows)
   pub connections_are : IsWritten (codes "connections") rows (IsWithin 1 1_000 64) connections
@@ -178,12 +210,13 @@ pub record AsToRun (plan : Text) (keeping : Keeping) (connections events keep id
   pub idle_is : IsWritten (codes "idle") rows (IsWithin 0 86_400 0) idle
   pub grace_is : IsWritten (codes "grace") rows (IsWithin 0 3_600 5) grace
   pub show_is : IsYes (one_of (codes "show") rows) show
+  pub answer_text_is : answer_text ≡ first_of (codes "answer-text") rows
   pub http_is : http ≡ first_of (codes "http") rows
   pub http_names_are : http_names ≡ first_of (codes "http-name") rows
 
 abbrev pub AsksRun : Request → List Row → Type 0
-AsksRun (Run plan keeping connections events keep idle grace show http http_names) rows =
-    AsToRun plan.now keeping connections events keep idle grace show (option_map (λ a. a.now) http) (option_map (λ n. n.now) http_names) rows
+AsksRun (Run plan keeping connections events keep idle grace show answer_text http http_names) rows =
+    AsToRun plan.now keeping connections events keep idle grace show (option_map (λ w. w.now) answer_text) (option_map (λ a. a.now) http) (option_map (λ n. n.now) http_names) rows
 AsksRun _ rows = ⊥
 
 -- what the words of `try` ask: the plan and the channel as they are written
@@ -204,13 +237,20 @@ AsksCheck (Check plan verbose) rows =
     (plan.now ≡ unwrap_or (first_of (codes "PLAN") rows) []) × IsFlag (one_of (codes "verbose") rows) verbose
 AsksCheck _ rows = ⊥
 
+-- what the words of `store` ask: the folder as it is written
+abbrev pub AsksStore : Request → List Row → Type 0
+AsksStore (Ask folder) rows = folder.now ≡ unwrap_or (first_of (codes "FOLDER") rows) []
+AsksStore _ rows = ⊥
+
 -- what the words of a command ask, by the command's name. Words without a command have a fault.
 abbrev pub AsksBy : Request → Option (Text × List Row) → Type 0
 AsksBy request None = ⊤
-AsksBy (Run plan keeping connections events keep idle grace show http http_names) (Some (name, rows)) =
-    (name ≡ codes "check" → ⊥) × (name ≡ codes "try" → ⊥) × AsksRun (Run plan keeping connections events keep idle grace show http http_names) rows
+AsksBy (Run plan keeping connections events keep idle grace show answer_text http http_names) (Some (name, rows)) =
+    (name ≡ codes "check" → ⊥) × (name ≡ codes "try" → ⊥) × (name ≡ codes "store" → ⊥)
+    × AsksRun (Run plan keeping connections events keep idle grace show answer_text http http_names) rows
 AsksBy (Try plan channel) (Some (name, rows)) = (name ≡ codes "try") × AsksTry (Try plan channel) rows
 AsksBy (Check plan verbose) (Some (name, rows)) = (name ≡ codes "check") × AsksCheck (Check plan verbose) rows
+AsksBy (Ask folder) (Some (name, rows)) = (name ≡ codes "store") × AsksStore (Ask folder) rows
 
 -- what the words ask
 abbrev pub Asks : Request → List Text → Type 0

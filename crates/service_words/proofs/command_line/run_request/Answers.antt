@@ -53,6 +53,7 @@ returns-clause-written c =
         on = λ e. c.shows.ensures.on (one_text-rows found _ ∙ e);
         off = λ e. c.shows.ensures.off (one_text-rows found _ ∙ e);
       };
-      http_is = c.get_str-3.ensures ∙ first_value-rows found _;
-      http_names_are = c.get_str-4.ensures ∙ first_value-rows found _;
+      answer_text_is = c.get_str-3.ensures ∙ first_value-rows found _;
+      http_is = c.get_str-4.ensures ∙ first_value-rows found _;
+      http_names_are = c.get_str-5.ensures ∙ first_value-rows found _;
     }
