@@ -36,6 +36,7 @@ sys.path.insert(0, os.path.join(HERE, '..', 'peers'))
 import run as loopback  # noqa: E402
 from answer import ONE_ATTEMPT, TOOLS, framed, shorter  # noqa: E402
 from engine import PROGRAM, Engine, checks_accesses, one_channel  # noqa: E402
+from load import compiled  # noqa: E402
 from mllp import Destination, free_ports  # noqa: E402
 
 TWINS = ('plain', 'tuned', 'threaded')
@@ -63,15 +64,7 @@ LARGEST = '64 channels, 256 steps in 63', with_channels(ONE_ATTEMPT, 256, range(
 
 def built(folder):
     """Builds the twins with rustc, and returns their paths by name; None if there is no rustc."""
-    if shutil.which('rustc') is None:
-        return None
-    paths = {name: os.path.join(folder, name) for name in TWINS}
-    for name, path in paths.items():
-        source = os.path.join(HERE, 'twins', f'{name}.rs')
-        subprocess.run(['rustc', '--edition', '2021', '-O', '-C', 'target-cpu=x86-64', '-o', path, source], check=True, timeout=LIMIT)
-    version = subprocess.run(['rustc', '--version'], check=True, capture_output=True, text=True, timeout=LIMIT).stdout.strip()
-    print(f'the twins are built by {version}, with -O -C target-cpu=x86-64', flush=True)
-    return paths
+    return compiled(TWINS, folder)
 
 
 class Table:
