@@ -1,16 +1,18 @@
-"""A store goes on in a new file: one that is long, and one that is started with another --events. Nothing is lost, nothing is doubled,
-and what a kill or a power cut leaves half done is finished by the next start. The scenes are played by crash.py."""
+"""A store goes on in a new file: one that is long, one that is started with another --events, and one that was killed with a message in
+flight. Nothing is lost, nothing is doubled but what was in flight, and what a kill or a power cut leaves half done is finished by the
+next start. The scenes are played by crash.py."""
 import os
 import random
 import shutil
 import signal
 import stat
 import subprocess
+import time
 
 import power
 from engine import checks_accesses, one_channel
-from mllp import HANG_UP, Destination, Sender, field, free_ports, message
-from served import LIMIT, Service, exchange, wait_received
+from mllp import HANG_UP, SILENCE, Destination, Sender, field, free_ports, message
+from served import LIMIT, Service, exchange, wait_received, wait_status
 from stores import codes, last_line, refused, stopped, tail
 
 # A store of so many records goes on in a new file. A message that is delivered has three: its arrival, its take and its settlement.
@@ -23,6 +25,11 @@ CALLS, CALLS_SLOWLY = 40, 4
 TOUCHED = ('next.db', 'next.db-wal', 'events.db', 'events.db-wal', 'records', 'archive')
 # How many messages wait in the store that is killed.
 WAITING = 5
+# How often a service is killed with a message in flight, and for how long it is let be before, so that the take is on disk: what nobody
+# waits for is written within 20 ms.
+CRASHES, NOTED = 5, 1.0
+# What a start logs of messages that were in flight, and of one that has failed.
+GIVEN_BACK, FAILED = 'messages were in flight at the end of the last process', 'message failed'
 
 
 def archived(store):
@@ -141,6 +148,75 @@ def other_bound(program, folder):
     return [f'another --events: {line}' for line in wrong]
 
 
+def flown(program, folder, text, store, port, texts, silent, number):
+    """Runs a service until a destination that doesn't answer has received a message once more, and kills it. Whether it has, the
+    acknowledgments of what was sent to the service, and its log."""
+    with Service(program, text, folder, store=store) as service:
+        replies = exchange(port, texts) if texts else []
+        whole = wait_received(silent, number)
+        time.sleep(NOTED)
+        service.process.kill()
+        service.process.wait(LIMIT)
+        service.reader.join(LIMIT)
+    return whole, replies, service.log
+
+
+def in_flight(program, folder):
+    """A destination with one attempt receives a message and doesn't answer, and the service is killed, again and again. Each start goes
+    on in a new file and sends the message again, before those that wait: in the end all are delivered, in order, and none has failed.
+    A start that finds nothing in flight goes on in its file."""
+    (port, to), store = free_ports(2), os.path.join(folder, 'store')
+    text = one_channel(port, [('LAB', to, ['attempts = 1'])])
+    texts, files, logs = [message(b'A%d' % number) for number in range(WAITING)], [], []
+    silent = Destination(lambda text, before: SILENCE, port=to)
+    for number in range(CRASHES):
+        whole, replies, log = flown(program, folder, text, store, port, [] if number else texts, silent, number + 1)
+        files.append(len(archived(store)[0]))
+        logs.append(sum(GIVEN_BACK in line for line in log))
+        if not whole or codes(replies) != [b'CA'] * (0 if number else WAITING):
+            return [f'in flight: kill {number}: {codes(replies)}, {len(silent.received)} received, {tail(log)}']
+    silent.close()
+    lab = Destination(lambda text, before: b'AA', port=to)
+    with Service(program, text, folder, store=store) as service:
+        whole = wait_received(lab, WAITING)
+        counted = wait_status(service, f'destination LAB waiting 0 inflight 0 delivered {WAITING} failed 0 attempts {CRASHES + WAITING}')
+        found, status, log = service.ask('failed LAB'), stopped(service), service.log
+    with Service(program, text, folder, store=store) as service:
+        last = stopped(service)
+    lab.close()
+    one, wrong = archived(store)
+    if silent.received != texts[:1] * CRASHES or not whole or lab.received != texts or (status, last) != (0, 0) or not counted:
+        wrong.append(f'{len(silent.received)} received without an answer, then {len(lab.received)} of {WAITING}, status {status}, {last}, '
+                     f'counted: {counted}, failed: {found}, {tail(log)}')
+    if files != list(range(CRASHES)) or logs != [0] + [1] * (CRASHES - 1) or len(one) != CRASHES or any(FAILED in line for line in log):
+        wrong.append(f'archived {files}, then {len(one)}; logged {logs}; {tail(log)}')
+    return [f'in flight: {line}' for line in wrong]
+
+
+def no_archive(program, folder):
+    """A message is in flight at a kill, and the old file can't be moved: the start is refused with status 6, and its last line names the
+    store. Nothing has failed by that, also where it is tried again. Once the file can be moved, the message is sent again."""
+    (port, to), store = free_ports(2), os.path.join(folder, 'store')
+    text = one_channel(port, [('LAB', to, ['attempts = 1'])])
+    texts, archive = [message(b'A%d' % number) for number in range(WAITING)], os.path.join(store, 'archive')
+    silent = Destination(lambda text, before: SILENCE, port=to)
+    whole, replies, log = flown(program, folder, text, store, port, texts, silent, 1)
+    silent.close()
+    with open(archive, 'w', encoding='ascii'):
+        pass
+    ends_of = [refused(program, folder, text, '--store', store) for _ in range(2)]
+    os.remove(archive)
+    received, status, lines = delivered(program, folder, text, to, store)
+    one, wrong = archived(store)
+    if not whole or codes(replies) != [b'CA'] * WAITING or received != texts or status != 0 or len(one) != 1:
+        wrong.append(f'{codes(replies)}, {tail(log)}, then {len(received)} of {WAITING} received, status {status}, {one}, {lines}')
+    for code, printed in ends_of:
+        line = last_line(printed)
+        if code != 6 or not line.startswith('store: ') or store not in line:
+            wrong.append(f'status {code}, {line}')
+    return [f'in flight, and no archive: {line}' for line in wrong]
+
+
 def ends(program, plan_path, store, env):
     """The exit status of a start with another --events that is stopped at once, or kills itself before."""
     words = [program, 'run', plan_path, '--store', store, '--events', '2000']
@@ -197,4 +273,5 @@ def cut(program, folder):
 
 
 NEXT_FILES = [('a long file goes on in a new one', long_file), ('another --events', other_bound),
+              ('a message in flight at a kill', in_flight), ('a message in flight, and no archive', no_archive),
               ('a new file that a kill leaves half done', killed), ('a new file that a power cut leaves half done', cut)]

@@ -279,7 +279,22 @@ def drained(program, folder):
     return [] if is_logged and is_later and len(lines) == 2 else [f'drained: {is_logged} {is_later} {lines}']
 
 
-OPERATORS = [('the text of a message', shown), ('where the plan comes from', plans), ('what a stop waits for', drained),
+def brought(program, folder):
+    """The line of a connection's end says what became of the messages and blocks that were received over it."""
+    port, lab = free_ports(1)[0], Destination(lambda text, before: b'AA')
+    text = plan([('ADT', port, [('LAB', '{ equals = ["PV1-2", "I"] }', None)])], [('LAB', lab.port, [])])
+    texts = [message(b'E0'), message(b'E1'), message(b'E0'), message(b'E2', ward=b'O'), message(b'E3', version=b'2.3'), message(b'E1')]
+    wanted = ['connection ended: closed by the sender', 'accepted=2', 'filtered=1', 'refused=1', 'repeats=2', 'unbooked=0']
+    with Service(program, text, folder) as service:
+        replies = exchange(port, texts)
+        found = [] if logged(service, *wanted) else [f'brought: {[line for line in service.log if "ended" in line]}']
+        service.ask('stop')
+        service.ended()
+    lab.close()
+    return found if len(replies) == len(texts) else [*found, f'brought: {replies}']
+
+
+OPERATORS = [('what a connection brought', brought), ('the text of a message', shown), ('where the plan comes from', plans), ('what a stop waits for', drained),
              ('a last line without a break', last_line), ('a plan that is too large', large_file),
              ('all connections are taken', connections_taken), ('a control id that is none', no_id), ('kinds of lines', kinds),
              ('a log that is read slowly', slow_log), ('prunings by hand', prunings), ('a message that holds up forgetting', held_up), ('an interrupted command', interrupted)]

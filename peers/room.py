@@ -1,4 +1,5 @@
 """Scenes of a service whose book has little room: destinations that are down, and channels whose destination is up."""
+import os
 import time
 
 from engine import plan
@@ -108,4 +109,46 @@ def mostly_owed(program, folder):
     return []
 
 
-ROOM = [('two down', two_down), ('stops while it waits', stops_while_it_waits), ('mostly owed', mostly_owed)]
+def filled_up(program, folder, store):
+    """A service whose book is filled but for one entry by what is owed to three destinations that are down, after the message C0 of a
+    fourth channel was delivered: its replies to C0, which is repeated and takes the last entry, to two more repeats of C0, to a new
+    message and to another one with the control id of C0; what was delivered; and what `status` and `metrics` have of it."""
+    ports, up, once = free_ports(4), Destination(lambda text, before: b'AA'), 'interval = 3600'
+    text = plan([('A', ports[0], [('LAB', None, None)]), ('B', ports[1], [('RIS', None, None)]), ('C', ports[2], [('UP', None, None)]),
+                 ('D', ports[3], [('PACS', None, None)])],
+                [('LAB', free_ports(1)[0], ['attempts = 62', once]), ('RIS', free_ports(1)[0], ['attempts = 100', once]),
+                 ('PACS', free_ports(1)[0], ['attempts = 43', once]), ('UP', up.port, ONE)])
+    first, other = message(b'C0'), message(b'C0', ward=b'O')
+    with Service(program, text, folder, '--events', '1000', '--keep', '50', store=store) as service:
+        held = exchange(ports[2], [first])
+        wait_received(up, 1)
+        # 3 entries, 4 and 500 owed, 2 and 402 owed, 1 and 87 owed: 999 of 1,000.
+        held += exchange(ports[0], [message(b'A%d' % n) for n in range(4)])
+        held += exchange(ports[1], [message(b'B%d' % n) for n in range(2)]) + exchange(ports[3], [message(b'D')])
+        replies = exchange(ports[2], [first, first, first, message(b'C1'), other, first])
+        counted = service.ask('status') or [], service.ask('metrics') or []
+        logged(service, 'INFO', 'message repeated, and not booked again: the book is full', 'control_id=C0')
+        service.ask('stop now')
+        status, _ = service.ended()
+    up.close()
+    return held, [field(reply, b'MSA', 1) for reply in replies], up.received == [first], counted, status, service.log
+
+
+def repeats_without_room(program, folder):
+    """A message that was acknowledged is sent again while the book is full, as where its acknowledgment was lost: it is acknowledged
+    as a repeat, without being booked, and counted. A new message, and another one with its control id, are refused. So it is with a
+    store, where the reply waits until what it repeats is on disk."""
+    found = []
+    for store in (None, os.path.join(folder, 'store')):
+        held, replies, once, (status, metrics), end, log = filled_up(program, folder, store)
+        counted = 'repeats unbooked 3' in status and 'hl7_repeats_unbooked_total 3' in metrics
+        named = [line for line in log if 'message repeated, and not booked again: the book is full' in line]
+        if codes(held) != {b'CA'} or replies != [b'CA', b'CA', b'CA', b'CE', b'CE', b'CA'] or not once or end != (0 if store else 5):
+            found.append(f'repeats without room: store {store}, {codes(held)}, {replies}, delivered once {once}, status {end}')
+        if not counted or not named or 'unbooked full 2 plan_changed 0 no_memory 0' not in status:
+            found.append(f'repeats without room: store {store}, counted {counted}, {status}, {named}')
+    return found
+
+
+ROOM = [('two down', two_down), ('stops while it waits', stops_while_it_waits), ('mostly owed', mostly_owed),
+        ('repeats without room', repeats_without_room)]

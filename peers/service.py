@@ -28,6 +28,7 @@ from operators import OPERATORS
 from outages import OUTAGES
 from room import ROOM
 from sendings import SENDINGS
+from supervised import SUPERVISED
 from served import LIMIT, Service, exchange, wait_received
 from web import WEB
 
@@ -190,7 +191,7 @@ def renamed(program, folder):
 
 
 def warned(program, folder):
-    """The answer to a deployment has the warnings that `check` prints of the plan."""
+    """The answer to a deployment has the warnings that `check` prints of the plan, and where a plan is refused its notes of the fault."""
     port, found = free_ports(1)[0], []
     with Service(program, one_channel(port, [('LAB', port + 1, [])]), folder) as service:
         for text in [one_channel(port, [('LAB', 70_000, [])]), one_channel(port, [('LAB', port, [])]),
@@ -202,6 +203,14 @@ def warned(program, folder):
             answer = service.ask(f'deploy {service.path}')
             if not wanted or answer != ['deployed', *wanted]:
                 found.append(f'warned: {answer} and not {wanted}')
+        for text in ['[[channel]\n', one_channel(port, [('LAB', port + 1, [])]).replace('types = ["ADT"]', 'types = [7]')]:
+            with open(service.path, 'w', encoding='utf-8') as file:
+                file.write(text)
+            checked = subprocess.run([program, 'check', service.path], capture_output=True, timeout=LIMIT, check=False)
+            wanted = [line for line in checked.stderr.decode().splitlines() if 'line ' in line or not line.startswith('plan: ')]
+            first, *notes = service.ask(f'deploy {service.path}')
+            if not wanted or not first.startswith('refused: ') or notes != wanted:
+                found.append(f'refused: {first}, {notes} and not {wanted}')
         service.ask('stop')
         status, _ = service.ended()
     return found if status == 0 else [*found, f'warned: status {status}']
@@ -647,6 +656,7 @@ SCENES = [('connections are accepted again', taken_again), ('commands', commands
           ('a destination that sends all the time', chatting), ('the book forgets', forgets), ('reading pauses', pauses),
           ('a crowd', crowd), ('killed receivers', killed), ('nobody reads', unread), ('output that fails', unwritten),
           ('stop now', stopped_now), ('few descriptors', few_descriptors), *OUTAGES, *SENDINGS, *OPERATORS, *ROOM, *CANCELS, *HOLDS, *NOTES, *WEB,
+          *SUPERVISED,
           ('tools', tools), ('words', words)]
 
 

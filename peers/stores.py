@@ -348,7 +348,37 @@ def stopped_without_room(program, folder, disk):
     return []
 
 
-STORES = [('in use by another process', in_use), ('no folder', no_folder), ('no place', no_place),
+def plan_stays(program, folder):
+    """A plan that the book of a store can't take is not taken at a start: the store's own stays in force, which the log and the metric
+    say, until one is deployed."""
+    port, lab = free_ports(1)[0], Destination(lambda text, before: b'AA', up=False)
+    store, found = os.path.join(folder, 'plan-stays'), []
+    text = one_channel(port, [('LAB', lab.port, ['interval = 1'])])
+
+    def differs():
+        return [line for line in service.ask('metrics') if line.startswith('hl7_plan_differs ')]
+
+    with Service(program, text, folder, store=store) as service:
+        taken = codes(exchange(port, [message(b'P0')]))
+        found += [] if taken == [b'CA'] and differs() == ['hl7_plan_differs 0'] else [f'at first: {taken}, {differs()}']
+        stopped(service, 'stop now')
+    with Service(program, text.replace('name = "ADT"', 'name = "OTHER"'), folder, store=store) as service:
+        said = any('the plan of the command line is not taken' in line for line in service.log)
+        found += [] if said and differs() == ['hl7_plan_differs 1'] else [f'with another plan: {tail(service.log)}, {differs()}']
+        taken = codes(exchange(port, [message(b'P1')]))
+        with open(service.path, 'w', encoding='utf-8') as file:
+            file.write(text)
+        answer = service.ask(f'deploy {service.path}')
+        found += [] if answer == ['deployed'] and differs() == ['hl7_plan_differs 0'] else [f'deployed: {answer}, {differs()}']
+        lab.open()
+        whole, status = wait_received(lab, 2), stopped(service)
+    lab.close()
+    if taken != [b'CA'] or not whole or status != 0 or lab.received != [message(b'P0'), message(b'P1')]:
+        found.append(f'{taken}, {lab.received}, status {status}')
+    return [f'the plan stays: {line}' for line in found]
+
+
+STORES = [('the plan stays', plan_stays), ('in use by another process', in_use), ('no folder', no_folder), ('no place', no_place),
           ('modes', modes), ('stop now, and on', stopped_now), ('numbers go on', numbers_go_on), ('repeats', repeats),
           ('what a command answered', commanded), ('damaged', damaged), ('lost records', lost), ('a full disk', full_disk),
           ('a stop on a full disk', full_at_stop)]

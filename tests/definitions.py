@@ -78,9 +78,10 @@ PROMISE = (
     ('The slots and the callers of a closed book', 'the clause `closed` of `close`: `IsClosedBy`, with `IsAccountedFor` and '
      '`AreCallers`, on top of one history for all threads',
      ['book_lock.Callers.IsClosedBy']),
-    ('A connection in the one history', 'the clause `booked` of `serve`: `BooksInLog` and `ArrivesInTurn`, on top of one history for '
-     'all threads',
-     ['conn_worker.Arriving.BooksInLog']),
+    ('A connection in the one history', 'the clause `booked` of `serve`: `BooksInLog` and `ArrivesInTurn`; and what a seat knows of a '
+     'repeat that is not booked, which `ca_is_kept` and `persist` of service_workers speak of: `IsKnownIn` and `IsDurablyKnown`; on top '
+     'of one history for all threads',
+     ['conn_worker.Arriving.BooksInLog', 'conn_worker.Arriving.IsKnownIn', 'conn_worker.Arriving.IsDurablyKnown']),
     ('Delivering in that history', 'the clause `attempts` of `deliver` and `deliver_until`: `DeliversInLog`, on top of delivering '
      'and of one history for all threads',
      ['delivery_worker.Turns.DeliversInLog']),
@@ -94,11 +95,12 @@ BESIDE = (
     ('What a run counts, and its receipts', 'the clauses of `close` and `audit`: what adds up, which receipts are due, which fault is '
      'first',
      ['book_lock.Rises.AddsUp', 'book_lock.Auditing.receipts_due', 'book_lock.Auditing.unfolded', 'book_lock.Auditing.IsFirstFault']),
-    ('What is durable', 'the clauses `copies` of `copy_entries`, `durable` and `committed` of `wait_durable`, `durable` of '
-     '`take_durable`, `committed` of `close` and `by_rule` of `deliver_until`: `Copies`, `AreArrivalsDurable`, `AreCommitted`, '
+    ('What is durable', 'the clauses `copies` of `copy_entries`, `durable`, `all` and `committed` of `wait_durable`, `durable` of '
+     '`take_durable`, `committed` of `close` and `by_rule` of `deliver_until`: `Copies`, `AreArrivalsDurable`, `IsAllDurable`, `AreCommitted`, '
      '`IsDurableMessage`, `IsNotTaken`, `TakesByRule` and '
      '`HasCommitted`, on top of one history for all threads',
-     ['book_lock.Journal.Copies', 'book_lock.Durable.AreArrivalsDurable', 'book_lock.Durable.AreCommitted',
+     ['book_lock.Journal.Copies', 'book_lock.Durable.AreArrivalsDurable', 'book_lock.Durable.IsAllDurable',
+      'book_lock.Durable.AreCommitted',
       'book_lock.Durable.IsDurableMessage', 'book_lock.Durable.IsNotTaken', 'book_lock.Durable.HasCommitted',
       'delivery_worker.Taking.TakesByRule']),
     ('Which arrivals are held back', 'the clauses `arrives` and `crowded` of `arrive_tidy` and `arrive_tidy_judged`: `crowded_route`, on '
@@ -122,8 +124,8 @@ BESIDE = (
      '`IsStopped` and `AreRecordsOf`, on top of a call on a book and of one history for all threads',
      ['book_replay.Replay.after_records', 'book_replay.Replay.AreReplayed', 'book_replay.Replay.IsStopped',
       'book_replay.Replay.IsBooked', 'restart_laws.Restart.AreRecordsOf']),
-    ('A start', 'the clauses of `recover`, `settle_interrupted` and `adopt_plan` (book_recovery): what the records say beside the book, '
-     'which messages have no attempt left, and which plan is in force then',
+    ('A start', 'the clauses of `recover`, `flying`, `settle_interrupted` and `adopt_plan` (book_recovery): what the records say beside '
+     'the book, at how many destinations a message is in flight, which messages have no attempt left, and which plan is in force then',
      ['book_recovery.Seen.*', 'book_recovery.Interrupting.*', 'book_recovery.Adopted.*']),
     ('Reading a plan', 'the clause `text` of `Plan::read`: `plan_in`. What a TOML document says is the definition of the '
      "kit's crate toml",

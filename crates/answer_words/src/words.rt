@@ -145,26 +145,3 @@ pub fn answer_words(
         None => Ok(None),
     }
 }
-
-#[cfg(test)]
-mod tests {
-    use super::answer_words;
-    use std::alloc::AllocError;
-
-    #[test]
-    fn the_first_answer_to_a_message_is_shown(rt: HostRuntime) -> Result<(), AllocError> {
-        let received =
-            b"\x0bMSH|^~\\&|L|X|||||ACK|1|P|2.5.1\rMSA|AE|OTHER|no\r\x1c\r\x0bMSH|^~\\&|L|X|||||ACK|2|P|2.5.1\rMSA|AE|M1|bad\\F\\PID\x07|||207^Application error\rERR|PID^1^3^101&missing|PID^1^3|101^Required|E|||PID-3 \"x\"|call us\r\x1c\r";
-        let words = answer_words(rt.alloc(), received, b"M1")?;
-        let Some(words) = words else {
-            return Err(AllocError);
-        };
-        let text = format!(in rt.alloc(); "{words}")?;
-        assert_eq!(rt;
-            text.as_str(),
-            "MSA-3 bad|PID\\x07; MSA-6 207^Application error; ERR-1.4 101&missing; ERR-3 101^Required; ERR-7 PID-3 \\x22x\\x22; ERR-8 call us"
-        );
-        assert!(rt; answer_words(rt.alloc(), received, b"M2")?.is_none());
-        Ok(())
-    }
-}

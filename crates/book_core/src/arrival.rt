@@ -11,6 +11,7 @@ ghost use Rattle.dest_queue.specs.inner.SlotsBy.{slots_by};
 ghost use Rattle.event_log.specs.History.{control_id_of, names, plan_in_force};
 ghost use Rattle.event_log.specs.Answers.{arrival_answer};
 ghost use Rattle.event_log.specs.Room.{committed_by_new};
+ghost use Rattle.book_core.specs.Receiving.{repeat_of};
 ghost use Rattle.book_core.specs.inner.Parts.{KeysAgree};
 ghost use Rattle.book_core.specs.inner.Sending.{AddsGain, AddsRow, HasRoomFor, IsAccepting, IsAddition, goes_to, has_key};
 
@@ -34,6 +35,17 @@ pub(crate) fn told(log: &Log, keys: &Keys, judged: &Judged) -> Told
         Some(_) => Told::Refused(Cause::IdReused),
         None => told_first(judged.verdict(), log.message_count()),
     }
+}
+
+/// The index of the arrival that a message repeats, if there is one: it has the same key and the same bytes.
+pub(crate) fn repeat_of(log: &Log, keys: &Keys, judged: &Judged) -> Option<u32>
+    requires bookable { IsTrue (is_bookable judged.now.raw) }
+    requires keys { KeysAgree log.now.history keys.now.known }
+    ensures { result ≡ repeat_of log.now.history judged.now.channel judged.now.raw }
+{
+    let place = keys.find(judged.key())?;
+    let same = log.brings(place as usize, judged.raw().as_slice());
+    if same { Some(place) } else { None }
 }
 
 /// What an arrival adds to a book beside its entry.

@@ -1,7 +1,7 @@
 //! The book itself.
 
-ghost use Rattle.std.specs.Prelude.{◌≡◌, ◌≢◌, ◌≤◌, ◌<◌, ◌+◌, ◌-◌, ◌==◌, ◌⊎◌, ◌↔◌, ℕ, Ok, Err, IsOk, IfOk, IfErr, OnOk, OnErr, IsErrOf, IsTrue, None, Some, true, false, if◌then◌else◌, nat_lt, length, filter, IfSome, option_copied};
-ghost use Rattle.std.specs.List.{filter_map, range_with_len};
+ghost use Rattle.std.specs.Prelude.{◌≡◌, ◌≢◌, ◌≤◌, ◌<◌, ◌+◌, ◌-◌, ◌==◌, ◌⊎◌, ◌↔◌, ℕ, Ok, Err, IsOk, IfOk, IfErr, OnOk, OnErr, IsErrOf, IsTrue, None, Some, true, false, if◌then◌else◌, nat_lt, length, IfSome, option_copied};
+ghost use Rattle.std.specs.List.{range_with_len};
 ghost use Rattle.std.specs.Option.{option_map};
 ghost use Rattle.std.specs.Arc.{arc_value};
 ghost use Rattle.judge_core.specs.Delivering.{destinations_of};
@@ -19,17 +19,19 @@ ghost use Rattle.event_log.specs.Room.{is_full, owed, committed_by_new};
 ghost use Rattle.event_log.specs.Counting.{counted};
 ghost use Rattle.book_core.specs.Headline.{KeepsItsPromise};
 ghost use Rattle.book_core.specs.inner.Parts.{IsKept};
-ghost use Rattle.book_core.specs.inner.Questions.{CameBy, came_as, first_live, failed_as, front_at, has_control_id, is_tight, live_at, queued_as, settled_before};
-ghost use Rattle.book_core.specs.Receiving.{IsReceipt, arrival_reply};
+ghost use Rattle.book_core.specs.inner.Questions.{CameBy, came_as, first_live, front_at, has_control_id, is_tight, live_at, queued_as, settled_before};
+ghost use Rattle.book_core.specs.Receiving.{IsReceipt, arrival_reply, repeat_of};
 ghost use Rattle.book_core.specs.Sending.{awaits_ack};
 ghost use Rattle.book_core.specs.inner.Sending.{IsAddition, goes_to, owed_waiting};
 
-use crate::arrival::{Addition, add_gain, gain_of, owed_by, told};
+mod lists;
+
+use crate::arrival::{Addition, add_gain, gain_of, owed_by, repeat_of, told};
 use crate::dispatch::{awaits_ack, owed_waiting};
 use crate::event_counts::{count_arrival, count_cancelled, count_settled};
 use crate::letter::{BookRows, Job, Outbound};
 use crate::pruning::{first_kept, forget_rows, prune_refusal, recall_since, unremembered};
-use crate::questions::{Failure, Front, first_queued, is_tight};
+use crate::questions::{Front, first_queued, is_tight};
 use crate::receipt::{NotBooked, Receipt};
 use dest_queue::{
     KeptState, Outcome, SettleRefusal, SlotState, begin_attempt, cancel_among, front_state,
@@ -258,52 +260,6 @@ impl<S: BookRows> Book<S> {
         }
     }
 
-    /// The messages numbered from `from` up to but not including `to` that are still to be delivered to destination `d`, in
-    /// their order. It looks at as many messages as there are numbers.
-    ///
-    /// # Errors
-    ///
-    /// Where memory for the answer is refused.
-    pub fn queued_among(&self, d: u32, from: u32, to: u32) -> Result<Vec<Front>, AllocError>
-        ensures { IfOk result (λ found. found.items ≡ filter_map (queued_as self.now d) (range_with_len from (to - from))) }
-    {
-        let mut found = Vec::new(self.alloc);
-        for number in from..to {
-            if let Some(front) = self.queued(d, number) {
-                found.push(front)?;
-            }
-        }
-        Ok(found)
-    }
-
-    /// Message `number` with why it failed at destination `d`, where it did.
-    fn failed(&self, d: u32, number: u32) -> Option<Failure>
-        ensures { result ≡ failed_as self.now d number }
-    {
-        match self.status(number, d) {
-            Some(SlotState::Failed(cause)) => Some(Failure { number, cause }),
-            _ => None,
-        }
-    }
-
-    /// The messages numbered from `from` up to but not including `to` that failed at destination `d`, in their order, with
-    /// why. It looks at as many messages as there are numbers.
-    ///
-    /// # Errors
-    ///
-    /// Where memory for the answer is refused.
-    pub fn failed_among(&self, d: u32, from: u32, to: u32) -> Result<Vec<Failure>, AllocError>
-        ensures { IfOk result (λ found. found.items ≡ filter_map (failed_as self.now d) (range_with_len from (to - from))) }
-    {
-        let mut found = Vec::new(self.alloc);
-        for number in from..to {
-            if let Some(failure) = self.failed(d, number) {
-                found.push(failure)?;
-            }
-        }
-        Ok(found)
-    }
-
     /// What is kept of message `number`, if it is remembered.
     pub fn message(&self, number: u32) -> Option<&Outbound>
         ensures came { option_map came_as (option_copied result) ≡ message_at self.now number }
@@ -338,24 +294,6 @@ impl<S: BookRows> Book<S> {
             Some(letter) => letter.control_id() == id,
             None => false,
         }
-    }
-
-    /// The numbers from `from` up to but not including `to` of the remembered messages whose control id (MSH-10, raw) is `id`,
-    /// in their order. It looks at as many messages as there are numbers.
-    ///
-    /// # Errors
-    ///
-    /// Where memory for the answer is refused.
-    pub fn found_among(&self, id: &[u8], from: u32, to: u32) -> Result<Vec<u32>, AllocError>
-        ensures { IfOk result (λ found. found.items ≡ filter (has_control_id self.now id.now) (range_with_len from (to - from))) }
-    {
-        let mut found = Vec::new(self.alloc);
-        for number in from..to {
-            if self.has_control_id(id, number) {
-                found.push(number)?;
-            }
-        }
-        Ok(found)
     }
 
     /// The number before which `prune` forgets all that is settled but for the last `keep` messages: that of the first
@@ -428,6 +366,16 @@ impl<S: BookRows> Book<S> {
         }
         let here = counts.destination(d);
         here.waiting + here.inflight
+    }
+
+    /// The index of the arrival that a message repeats, if there is one: it has the same key (the channel and MSH-10) and the
+    /// same bytes, was accepted or filtered, and isn't forgotten. `arrive` answers its index where there is room. Nothing is
+    /// booked.
+    pub fn repeat_of(&self, judged: &Judged) -> Option<u32>
+        requires bookable { IsTrue (is_bookable judged.now.raw) }
+        ensures { result ≡ repeat_of self.now judged.now.channel judged.now.raw }
+    {
+        repeat_of(&self.log, &self.keys, judged)
     }
 
     /// Books a message that arrived over connection `conn`, with its answer.

@@ -6,6 +6,7 @@ use std::time::{Clock, Instant};
 /// What a journal has written, for the threads that watch it. Each number is read by itself.
 #[derive(Drop)]
 pub struct StoreFigures {
+    steps: AtomicU64,
     commits: AtomicU64,
     changes: AtomicU64,
     micros: AtomicU64,
@@ -17,6 +18,8 @@ pub struct StoreFigures {
 /// The figures of a journal at a moment.
 #[derive(Clone, Copy, Debug, PartialEq, Eq)]
 pub struct StoreReport {
+    /// How many steps were begun. Also where there is nothing to write, some fifty are each second.
+    pub steps: u64,
     /// How many commits were made.
     pub commits: u64,
     /// How many changes were written with them.
@@ -44,6 +47,7 @@ impl StoreFigures {
     /// Nothing is written yet.
     pub fn new() -> StoreFigures {
         StoreFigures {
+            steps: AtomicU64::new(0),
             commits: AtomicU64::new(0),
             changes: AtomicU64::new(0),
             micros: AtomicU64::new(0),
@@ -56,6 +60,7 @@ impl StoreFigures {
     /// What the journal has written until now.
     pub fn report(&self) -> StoreReport {
         StoreReport {
+            steps: self.steps.load(Ordering::SeqCst),
             commits: self.commits.load(Ordering::SeqCst),
             changes: self.changes.load(Ordering::SeqCst),
             micros: self.micros.load(Ordering::SeqCst),
@@ -72,6 +77,11 @@ impl StoreFigures {
     /// Whether a journal without room waits for some no more.
     pub(crate) fn gives_up(&self) -> bool {
         self.gives_up.load(Ordering::SeqCst)
+    }
+
+    /// Notes that a step begins.
+    pub(crate) fn note_step(&self) {
+        self.steps.fetch_add(1, Ordering::SeqCst);
     }
 
     /// Notes whether the disk had room.

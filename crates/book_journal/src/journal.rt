@@ -268,6 +268,7 @@ impl<A: Journaling, S: Store> Journal<A, S> {
     {
         'steps: for _ in rt.forever() {
             let is_last = ended.load(Ordering::SeqCst);
+            figures.note_step();
             let began = Instant::now(rt).ok();
             match self.step(rt, alloc, shared) {
                 Ok(0) if is_last => return Ok(()),

@@ -21,7 +21,7 @@ use Rattle.ghost_log.proofs.Seats.{entries-append, entry_one}
 use Rattle.book_lock.specs.declared.log_entry.LogEntry.{LogEntry}
 use Rattle.book_lock.specs.declared.log_entry.LogEntry.TheVariants as log
 use Rattle.book_lock.specs.Log.{IsBookOf, Linearizes, Log, Looks, SeatView, Takes, after_log, own_entry, with_entry}
-use Rattle.book_lock.specs.Durable.{AreArrivalsDurable, AreCommitted, ArrivedBelow, HasCommitted, HasDurable, IsCommittedBelow, IsCovered, IsDurableBelow, IsDurableMessage, changes_of}
+use Rattle.book_lock.specs.Durable.{AreArrivalsDurable, AreCommitted, ArrivedBelow, HasCommitted, HasDurable, IsAllDurable, IsCommittedBelow, IsCovered, IsDurableBelow, IsDurableMessage, changes_of}
 use Rattle.book_lock.specs.declared.unread.Position.{Position}
 use Rattle.book_lock.specs.declared.unread.UnreadChanges.{UnreadChanges}
 use Rattle.book_lock.specs.inner.Durable.{IsJournaled, is_durable}
@@ -163,7 +163,7 @@ grows_one h (log.Booked e) = omega (arith, length-append h.entries (e ∷ []))
 grows_one h (log.Pruned before) = omega arith
 grows_one h (log.Durable below) = omega arith
 
-grows : (h : History) (xs : Log) → next_place h ≤ next_place (after_log h xs)
+pub grows : (h : History) (xs : Log) → next_place h ≤ next_place (after_log h xs)
 grows h [] = omega arith
 grows h (x ∷ xs) = omega (arith, grows_one h x.1, grows (with_entry h x.1) xs)
 
@@ -236,6 +236,13 @@ looked_twice h a b c p q =
       seen = q.seen ∙ (ap (λ l. l ++ q.others) p.seen ∙ append_assoc a.seen p.others q.others);
       legal = q.legal;
     }
+
+-- all that a seat had seen is durable, where all is that it saw later
+pub all_before : (h : History) (a b : SeatView) (new : Log) → Looks h a b → IsAllDurable h b.seen new → IsAllDurable h a.seen new
+all_before h a b new looks is =
+    let more : next_place (after_log h b.seen) ≡ next_place (after_log (after_log h a.seen) looks.others) =
+    ap (λ (l : Log). next_place (after_log h l)) looks.seen ∙ ap next_place (after_both h a.seen looks.others) in
+    record { below = is.below; behind = omega (arith, more, grows (after_log h a.seen) looks.others, is.behind); durable = is.durable }
 
 -- ---- a take of what is durable
 

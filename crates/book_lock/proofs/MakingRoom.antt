@@ -18,7 +18,7 @@ use Rattle.book_core.specs.declared.receipt.NotBooked.TheVariants.{Full}
 use Rattle.book_core.specs.declared.receipt.Receipt.{Receipt}
 use Rattle.book_core.specs.inner.Questions.{is_tight}
 use Rattle.book_lock.specs.Crowding.{crowded_route}
-use Rattle.book_lock.specs.Log.{Arrives, IsTidiedInLog, IsLogged}
+use Rattle.book_lock.specs.Log.{Arrives, IsTidiedInLog, IsLogged, book_at}
 use Rattle.book_lock.specs.Rises.{SharedBook}
 use Rattle.book_lock.specs.Shares.{DeskView}
 use Rattle.book_lock.specs.declared.crowding.Crowded.{Crowded}
@@ -27,7 +27,7 @@ use Rattle.book_lock.specs.declared.tidying.Tidying.{Tidying}
 use Rattle.book_lock.specs.declared.tidying.Tidying.TheVariants.{NotTight, Pruned, Refused}
 use Rattle.book_lock.specs.inner.Arriving.{ArrivesAtBook, ArrivesAtDesk, ArrivesHere}
 use Rattle.book_lock.specs.inner.Rises.{with_book}
-use Rattle.book_lock.specs.inner.Tidies.{ArrivesAtTidied, ArrivesTidied, CallsForPruning, IsHeldBack, IsHeldBackAt, IsOutOfRoom, IsPruning, IsTidying, IsTidyingFor, is_worth_pruning, left_by}
+use Rattle.book_lock.specs.inner.Tidies.{ArrivesAtTidied, ArrivesTidied, CallsForPruning, IsHeldBack, IsHeldBackAt, IsOutOfRoom, IsPruning, IsTidying, IsTidyingFor, is_worth_pruning, left_by, unbooked_repeat}
 use Rattle.book_lock.proofs.Freeing.{free_after}
 use Rattle.book_lock.proofs.Retrying.{full_then}
 
@@ -44,18 +44,19 @@ raw_of : (place conn channel : ℕ) (raw : _) (r : Result Receipt NotBooked) →
 raw_of place conn channel raw (Ok receipt) is = is.raw
 raw_of place conn channel raw (Err refusal) is = tt
 
-pub arrived : (h : History) (keep conn : ℕ) (judged : Judged) (old new : SharedBook) (desk desk' : DeskView) (receipt : Result Receipt NotBooked) (tidying : Tidying)
+pub arrived : (h : History) (keep conn : ℕ) (judged : Judged) (old new : SharedBook) (desk desk' : DeskView) (receipt : Result Receipt NotBooked) (tidying : Tidying) (repeats : Option ℕ)
     → IsTidyingFor keep judged old tidying → IsTidiedInLog h tidying → crowded_route (left_by old tidying).book judged.channel ≡ None
     → ArrivesAtBook conn judged (left_by old tidying) new receipt → (IsErrOf receipt Full → IsOutOfRoom (left_by old tidying).book tidying)
     → ArrivesHere h conn judged (left_by old tidying).book desk.seat desk'.seat receipt
-    → OnOk receipt (desk'.made ≡ desk.made + 1) → OnErr receipt (desk'.made ≡ desk.made)
-    → ArrivesTidied h keep conn judged old new desk desk' (record { receipt = receipt; tidying = tidying })
-arrived h keep conn judged old new desk desk' receipt tidying tidied in_log free booked full here counted refused = record {
+    → OnOk receipt (desk'.made ≡ desk.made + 1) → OnErr receipt (desk'.made ≡ desk.made) → repeats ≡ unbooked_repeat new.book judged receipt
+    → ArrivesTidied h keep conn judged old new desk desk' (record { receipt = receipt; repeats = repeats; tidying = tidying })
+arrived h keep conn judged old new desk desk' receipt tidying repeats tidied in_log free booked full here counted refused found = record {
   tidying = tidied;
   in_log = in_log;
   free = free;
   booked = booked;
   full = full;
+  repeats = found;
   at_desk = record {
     conn = conn_of _ conn judged.channel judged.raw receipt booked.receipt;
     channel = channel_of _ conn judged.channel judged.raw receipt booked.receipt;
@@ -119,6 +120,15 @@ free_left keep channel h NotTight sound loose is free = absurd is
 free_left keep channel h (Pruned before) sound loose is free = free_after h.book sound before is.0 loose channel free
 free_left keep channel h (Refused refusal) sound loose is free = free
 
+-- what a message repeats is the same in a book that an arrival without room left as it was
+repeat_as : (h k : History) (judged : Judged) (r : Result Receipt NotBooked) → OnErr r (k ≡ h) → unbooked_repeat k judged r ≡ unbooked_repeat h judged r
+repeat_as h k judged (Ok receipt) same = refl
+repeat_as h k judged (Err refusal) same = ap (λ b. unbooked_repeat b judged (Err refusal)) same
+
+left_as_it_was : (old new : History) (conn channel : ℕ) (raw : _) (r : Result Receipt NotBooked) → Does (arrive conn channel raw) old new (arrival_reply r) → OnErr r (new ≡ old)
+left_as_it_was old new conn channel raw (Ok receipt) does = tt
+left_as_it_was old new conn channel raw (Err refusal) does = does.unchanged
+
 -- the same, as those see it who share the book
 pub seen_tidied : (h : History) (keep conn : ℕ) (judged : Judged) (old new : SharedBook) (desk desk' : DeskView) (tidied : Tidied) → ArrivesTidied h keep conn judged old new desk desk' tidied → ArrivesAtTidied h conn judged desk desk' tidied
 seen_tidied h keep conn judged old new desk desk' tidied is = record {
@@ -126,7 +136,15 @@ seen_tidied h keep conn judged old new desk desk' tidied is = record {
   at_desk = is.at_desk;
   free = ap (λ b. crowded_route b judged.channel) is.moment ∙ is.free;
   full = λ e. subst (λ (b : History). IsOutOfRoom b tidied.tidying) (sym is.moment) (is.full e);
+  repeats = at_moment;
+  in_seen = at_moment ∙ sym (repeat_as _ _ judged tidied.receipt (left_as_it_was _ _ conn judged.channel judged.raw tidied.receipt is.at_desk.call.call.does));
 }
+  where
+    at_moment : tidied.repeats ≡ unbooked_repeat (book_at h desk.seat is.at_desk.call.call.others) judged tidied.receipt
+    at_moment =
+        is.repeats
+        ∙ (repeat_as _ _ judged tidied.receipt (left_as_it_was _ _ conn judged.channel judged.raw tidied.receipt is.booked.does)
+        ∙ ap (λ b. unbooked_repeat b judged tidied.receipt) (sym is.moment))
 
 pub seen_results : (h : History) (keep conn : ℕ) (judged : Judged) (old new : SharedBook) (desk desk' : DeskView) (r : Result Tidied Crowded)
     → IfOk r (ArrivesTidied h keep conn judged old new desk desk') → IfOk r (ArrivesAtTidied h conn judged desk desk')
@@ -150,26 +168,27 @@ unchanged_full old new conn channel raw (Ok receipt) e does = absurd cc
 unchanged_full old new conn channel raw (Err refusal) e does = does.unchanged
 
 -- a book that is not tight, where no pruning is to be made
-pub first_only : (h : History) (keep conn : ℕ) (judged : Judged) (old new : SharedBook) (desk desk' : DeskView) (r : Result Receipt NotBooked)
+pub first_only : (h : History) (keep conn : ℕ) (judged : Judged) (old new : SharedBook) (desk desk' : DeskView) (r : Result Receipt NotBooked) (repeats : Option ℕ)
     → is_tight old.book ≡ false → crowded_route old.book judged.channel ≡ None → ArrivesAtBook conn judged old new r
     → ArrivesHere h conn judged old.book desk.seat desk'.seat r → OnOk r (desk'.made ≡ desk.made + 1) → OnErr r (desk'.made ≡ desk.made)
-    → (IsErrOf r Full × (is_worth_pruning new.book ≡ true) → ⊥)
-    → ArrivesTidied h keep conn judged old new desk desk' (record { receipt = r; tidying = NotTight })
-first_only h keep conn judged old new desk desk' r loose free booked here counted refused none =
+    → (IsErrOf r Full × (is_worth_pruning new.book ≡ true) → ⊥) → repeats ≡ unbooked_repeat new.book judged r
+    → ArrivesTidied h keep conn judged old new desk desk' (record { receipt = r; repeats = repeats; tidying = NotTight })
+first_only h keep conn judged old new desk desk' r repeats loose free booked here counted refused none found =
     let full : IsErrOf r Full → IsOutOfRoom old.book NotTight = λ e.
     let same : new.book ≡ old.book = unchanged_full old.book new.book conn judged.channel judged.raw r e booked.does in
     inl (not_true (is_worth_pruning old.book) (λ worth. none (e, ap is_worth_pruning same ∙ worth))) in
-    arrived h keep conn judged old new desk desk' r NotTight loose tt free booked full here counted refused
+    arrived h keep conn judged old new desk desk' r NotTight repeats loose tt free booked full here counted refused found
 
 -- one behind a pruning, since there was no room for the first
-pub again : (h : History) (keep conn : ℕ) (judged : Judged) (old mid left new : SharedBook) (desk desk1 desk2 : DeskView) (first r : Result Receipt NotBooked) (t : Tidying)
+pub again : (h : History) (keep conn : ℕ) (judged : Judged) (old mid left new : SharedBook) (desk desk1 desk2 : DeskView) (first r : Result Receipt NotBooked) (t : Tidying) (repeats : Option ℕ)
     → IsSound old.book → is_tight old.book ≡ false → crowded_route old.book judged.channel ≡ None
     → IsErrOf first Full → Does (arrive conn judged.channel judged.raw) old.book mid.book (arrival_reply first) → mid ≡ with_book old mid.book
     → Arrives h conn judged desk.seat desk1.seat first → OnErr first (desk1.made ≡ desk.made) → is_worth_pruning mid.book ≡ true
     → IsPruning keep mid t → left ≡ left_by mid t → IsTidiedInLog h t
     → ArrivesAtBook conn judged left new r → ArrivesHere h conn judged left.book desk1.seat desk2.seat r → OnOk r (desk2.made ≡ desk1.made + 1) → OnErr r (desk2.made ≡ desk1.made)
-    → ArrivesTidied h keep conn judged old new desk desk2 (record { receipt = r; tidying = t })
-again h keep conn judged old mid left new desk desk1 desk2 first r t sound loose free e does is call missed worth pruning leaves in_log booked here counted refused =
+    → repeats ≡ unbooked_repeat new.book judged r
+    → ArrivesTidied h keep conn judged old new desk desk2 (record { receipt = r; repeats = repeats; tidying = t })
+again h keep conn judged old mid left new desk desk1 desk2 first r t repeats sound loose free e does is call missed worth pruning leaves in_log booked here counted refused found =
     let book : mid.book ≡ old.book = unchanged_full old.book mid.book conn judged.channel judged.raw first e does in
     let same : mid ≡ old = is ∙ ap (λ b. with_book old b) book in
     let pruned : IsPruning keep old t = subst (λ (m : SharedBook). IsPruning keep m t) same pruning in
@@ -177,7 +196,7 @@ again h keep conn judged old mid left new desk desk1 desk2 first r t sound loose
     let none : is_full old.book judged.channel judged.raw ≡ true =
     finds_no_room old.book mid.book conn judged.channel judged.raw (subst (λ (w : Result Receipt NotBooked). Does (arrive conn judged.channel judged.raw) old.book mid.book (arrival_reply w)) e does) in
     let made : desk1.made ≡ desk.made = subst (λ (w : Result Receipt NotBooked). OnErr w (desk1.made ≡ desk.made)) e missed in
-    arrived h keep conn judged old new desk desk2 r t
+    arrived h keep conn judged old new desk desk2 r t repeats
     (for_room keep judged old t (inr (none, ap is_worth_pruning (sym book) ∙ worth)) pruned) in_log
     (free_left keep judged.channel old t sound loose pruned free)
     (subst (λ (l : SharedBook). ArrivesAtBook conn judged l new r) left_is booked)
@@ -187,19 +206,21 @@ again h keep conn judged old mid left new desk desk1 desk2 first r t sound loose
     (subst (λ (l : SharedBook). ArrivesHere h conn judged l.book desk1.seat desk2.seat r) left_is here))
     (subst (λ (m : ℕ). OnOk r (desk2.made ≡ m + 1)) made counted)
     (subst (λ (m : ℕ). OnErr r (desk2.made ≡ m)) made refused)
+    found
 
 -- a book that was tight
-pub after_tidying : (h : History) (keep conn : ℕ) (judged : Judged) (old left new : SharedBook) (desk desk' : DeskView) (r : Result Receipt NotBooked) (t : Tidying)
+pub after_tidying : (h : History) (keep conn : ℕ) (judged : Judged) (old left new : SharedBook) (desk desk' : DeskView) (r : Result Receipt NotBooked) (t : Tidying) (repeats : Option ℕ)
     → IsTidying keep old t → IsTidiedInLog h t → left ≡ left_by old t → t ≢ NotTight → crowded_route left.book judged.channel ≡ None
     → ArrivesAtBook conn judged left new r → ArrivesHere h conn judged left.book desk.seat desk'.seat r → OnOk r (desk'.made ≡ desk.made + 1) → OnErr r (desk'.made ≡ desk.made)
-    → ArrivesTidied h keep conn judged old new desk desk' (record { receipt = r; tidying = t })
-after_tidying h keep conn judged old left new desk desk' r t tidied in_log leaves some free booked here counted refused =
-    arrived h keep conn judged old new desk desk' r t (for_tight keep judged old t tidied) in_log
+    → repeats ≡ unbooked_repeat new.book judged r
+    → ArrivesTidied h keep conn judged old new desk desk' (record { receipt = r; repeats = repeats; tidying = t })
+after_tidying h keep conn judged old left new desk desk' r t repeats tidied in_log leaves some free booked here counted refused found =
+    arrived h keep conn judged old new desk desk' r t repeats (for_tight keep judged old t tidied) in_log
     (ap (λ (l : SharedBook). crowded_route l.book judged.channel) (sym leaves) ∙ free)
     (subst (λ (l : SharedBook). ArrivesAtBook conn judged l new r) leaves booked)
     (λ _. out_of_room_tidied keep old t some tidied)
     (subst (λ (l : SharedBook). ArrivesHere h conn judged l.book desk.seat desk'.seat r) leaves here)
-    counted refused
+    counted refused found
 
 -- one that was not
 pub nothing_done : (h : History) (keep conn : ℕ) (judged : Judged) (old left new : SharedBook) (desk desk' : DeskView) (tidied : Tidied) (t : Tidying)

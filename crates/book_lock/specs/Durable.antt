@@ -43,6 +43,12 @@ pub record AreArrivalsDurable (opening : History) (seat : SeatView) : Type 0 whe
       seat.seen ≡ before ++ (seat.number, log.Booked (Arrival conn channel raw told)) ∷ after →
       IsCovered seat.seen (next_place (after_log opening before))
 
+-- All that a seat had seen is durable, by what it has seen since: all is durable below an index that is behind these entries.
+pub record IsAllDurable (opening : History) (old new : Log) : Type 0 where
+  pub below : ℕ
+  pub behind : next_place (after_log opening old) ≤ below
+  pub durable : IsDurableBelow opening new below
+
 -- ---- what was committed
 
 -- The changes of a prefix of a log were committed, and an index is that of the next entry after them.

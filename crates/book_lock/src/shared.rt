@@ -412,7 +412,8 @@ impl<A: Sharing, S: BookRows> Shared<A, S> {
     /// Books an arrival as `arrive` does, and counts it for the desk, unless its channel has a route to a crowded destination. A
     /// book that is tight is pruned before that, under the same lock, as `prune_settled` does, and so is one that has no room
     /// for the arrival, where at least a sixty-fourth of its bound is entries; where memory is refused for that, once more with
-    /// `keep` 0. The workers of its destinations are woken.
+    /// `keep` 0. Where it is refused as `Full`, it is found under the same lock which arrival it repeats, if it does. The workers
+    /// of its destinations are woken.
     ///
     /// # Errors
     ///

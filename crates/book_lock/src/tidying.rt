@@ -35,11 +35,14 @@ impl Tidying {
     }
 }
 
-/// The answer to an arrival, and what was done about a tight book before it.
+/// The answer to an arrival, what it repeats where there is no room for it, and what was done about a tight book before it.
 #[derive(Drop)]
 pub struct Tidied {
     /// The receipt, or why it was not booked.
     pub receipt: Result<Receipt, NotBooked>,
+    /// The index of the arrival that it repeats, where it was refused since the book is full: the book has its key with these
+    /// bytes. It is not booked again.
+    pub repeats: Option<u32>,
     /// What was done about a tight book before.
     pub tidying: Tidying,
 }

@@ -5,7 +5,7 @@ ghost use Rattle.std.specs.Prelude.{◌≡◌};
 use crate::stage::{Done, M1, M2, Task, Waiting, comes_out, judged, plan};
 use book_core::{BookRows, NotBooked};
 use book_lock::{Desk, Shared, Sharing, Station};
-use conn_core::{Booked, ConnectionId, Replies, book_and_reply};
+use conn_core::{Booked, ConnectionId, Replies, Unbooked, book_and_reply};
 use conn_worker::{AtDesk, nearest};
 use judge_core::{Judged, JudgedMessage};
 use log::Log;
@@ -39,7 +39,7 @@ const CASES: [Case; 2] = [
 #[derive(Drop)]
 struct Answers {
     bare: Option<NotBooked>,
-    answered: Option<NotBooked>,
+    answered: Option<Unbooked>,
     whole: bool,
     replies: Replies,
     /// The arrivals that the desk counted.
@@ -135,7 +135,7 @@ impl Task for Case {
     fn is_right<S: BookRows>(&self, done: &Done<Answers, S>) -> bool {
         let (answers, book) = (&done.answer, done.closed.book());
         answers.bare == Some(self.refusal)
-            && answers.answered == Some(self.refusal)
+            && answers.answered == Some(Unbooked::Refused(self.refusal))
             && answers.whole
             && answers.replies.as_slice() == self.reply.as_bytes()
             && answers.made == 0

@@ -290,7 +290,11 @@ pub struct Came {
 impl Came {
     /// What it came to.
     pub fn of(tidied: Tidied) -> Came {
-        let Tidied { receipt, tidying } = tidied;
+        let Tidied {
+            receipt,
+            tidying,
+            ..
+        } = tidied;
         let told = match receipt {
             Ok(receipt) => Some(receipt.told),
             Err(_) => None,

@@ -5,3 +5,4 @@ pub mod Bodies
 pub mod Deployed
 pub mod Files
 pub mod Opened
+pub mod GoingOn

@@ -1,8 +1,10 @@
--- Attempts that were the last of their messages.
-use Rattle.std.specs.Prelude.{Option, None, Some}
+-- Attempts that a stop interrupted: how many there are, and which were the last of their messages.
+use Rattle.std.specs.Prelude.{ℕ, Bool, nat_lt, count_by, Option, None, Some}
 use Rattle.dest_queue.specs.declared.SlotState.{SlotState}
 use Rattle.dest_queue.specs.declared.SlotState.TheVariants.{Waiting, InFlight, Delivered, Failed}
+use Rattle.stat_count.specs.declared.DestinationCounts.{DestinationCounts}
 use Rattle.event_log.specs.declared.entry.Ticket.{Ticket}
+use Rattle.event_log.specs.Counting.{counted}
 use Rattle.event_log.specs.History.{History, slot}
 use Rattle.event_records.specs.declared.record.Record.{Record}
 use Rattle.event_records.specs.declared.record.Record.TheVariants.{Arrival, Take, Settle, Cancel, Deploy, Prune}
@@ -27,3 +29,10 @@ failed_in h (Settle ticket outcome now) = failed_at h ticket
 failed_in h (Cancel number among) = None
 failed_in h (Deploy document) = None
 failed_in h (Prune before) = None
+
+-- whether a message is in flight at a destination with these counters, and at how many destinations one is
+abbrev pub is_flying : DestinationCounts → Bool
+is_flying c = nat_lt 0 c.inflight
+
+unfoldable pub flying : History → ℕ
+flying h = count_by is_flying (counted h).destinations

@@ -1,16 +1,17 @@
 //! Attempts that a stop of the service interrupted.
 
-ghost use Rattle.std.specs.Prelude.{◌≡◌, IfOk, OnOk, map};
+ghost use Rattle.std.specs.Prelude.{◌≡◌, IfOk, OnOk, count_by, map};
 ghost use Rattle.std.specs.List.{filter_map};
 ghost use Rattle.book_replay.specs.inner.Flights.{flights, settled_again};
 ghost use Rattle.book_replay.specs.Replay.{AreReplayed, after_records};
-ghost use Rattle.book_recovery.specs.Interrupting.{failed_at, failed_in};
+ghost use Rattle.book_recovery.specs.Interrupting.{failed_at, failed_in, flying, is_flying};
 
 use book_core::{Book, BookRows, Ticket};
 use book_replay::settle_flights;
 use dest_queue::SlotState;
 use event_records::Record;
 use hl7_head::Moment;
+use stat_count::DestinationCounts;
 use std::alloc::{AllocError, Global};
 
 /// Attempts that a stop of the service interrupted, once they are settled.
@@ -20,6 +21,30 @@ pub struct SettledFlights {
     pub records: Vec<Record>,
     /// Those that were the last: their messages have failed, though they may never have been delivered.
     pub failed: Vec<Ticket>,
+}
+
+/// Whether a message is in flight at a destination with these counters.
+fn is_flying(counts: &DestinationCounts) -> bool
+    ensures { result ≡ is_flying counts.now }
+{
+    counts.inflight > 0
+}
+
+/// At how many destinations with these counters a message is in flight.
+fn flying_among(destinations: &[DestinationCounts]) -> usize
+    ensures { result ≡ count_by is_flying destinations.now }
+{
+    destinations
+        .iter()
+        .filter(|counts| is_flying(counts))
+        .count()
+}
+
+/// At how many destinations a message is in flight: none has more than one.
+pub fn flying<S: BookRows>(book: &Book<S>) -> usize
+    ensures { result ≡ flying book.now }
+{
+    flying_among(book.counts().destinations())
 }
 
 /// An attempt, where its message has failed at its destination.

@@ -1,13 +1,14 @@
-//! The first record of a new file, which goes on from a book.
+//! The first record of a new file, which goes on from a book. What was in flight in the book waits again.
 
 ghost use Rattle.std.specs.Prelude.{◌≡◌, ◌<◌, ◌≤◌, ◌^◌, ◌⊎◌, [], ◌∷◌, Err, IfErr, IfOk, IfSome, IsNone, OnErr, OnOk, Some, length};
 ghost use Rattle.event_log.specs.Folding.{pruned};
 ghost use Rattle.event_log.specs.History.{Snapshot as Opening};
 ghost use Rattle.opening_records.specs.inner.Openings.{IsEncoding, IsTooLong, with_bound};
+ghost use Rattle.opening_maps.specs.inner.GivenBack.{given_back};
 ghost use Rattle.book_replay.specs.Replay.{IsBooked};
 ghost use Rattle.book_recovery.specs.declared.next.NextFault.TheVariants.{NoMemory};
 ghost use Rattle.book_resume.specs.inner.Resuming.{IsResumable};
-ghost use Rattle.book_recovery.specs.inner.File.{IsOpeningOf, IsRecovered, MayBeOpened, last_connection_in, rebound};
+ghost use Rattle.book_recovery.specs.inner.File.{IsOpeningOf, IsRecovered, MayBeOpened, going_on, last_connection_in};
 ghost use Rattle.book_recovery.specs.inner.Preface.{last_before, preface_of};
 
 use crate::fault::RecoveryError;
@@ -17,6 +18,7 @@ use crate::preface::{Preface, write_preface};
 use book_core::{Book, BookRows};
 use event_log::{PruneRefusal, Snapshot};
 use event_records::Record;
+use opening_maps::given_back;
 use opening_records::{OpeningFault, put_opening};
 use std::alloc::{AllocError, Global};
 use std::hash::RandomState;
@@ -112,13 +114,15 @@ fn try_opening<S: BookRows + Drop>(
     }
 }
 
-/// The first record of a file that goes on from a book, whose entries are folded, with this bound of its entries. The book is made
-/// of it once, to see that it can be recovered. `last_connection` is the highest number of a connection that a message can have come
-/// over, if one came.
+/// The first record of a file that goes on from a book, whose entries are folded, with this bound of its entries. What is in flight
+/// in the book waits again in the file, due at once, and the attempt that was under way is not counted. The book is made of the record
+/// once, to see that it can be recovered. `last_connection` is the highest number of a connection that a message can have come over,
+/// if one came.
 ///
 /// # Errors
 ///
-/// `NotGood` where the bound is too small for what may have to be booked of the book's messages; `TooLong`, `UsedUp` and `NoMemory`.
+/// `NotGood` where the bound is too small for what may have to be booked of the book's messages: one entry more for each that was in
+/// flight. `TooLong`, `UsedUp` and `NoMemory`.
 pub fn next_file<S: BookRows + Drop>(
     alloc: Global,
     book: &Book<S>,
@@ -132,19 +136,20 @@ pub fn next_file<S: BookRows + Drop>(
     requires few { events_max ≤ 1000000 }
     requires version { length version.now ≤ VERSION_MAX }
 
-    // What is recovered from a file that has just this record is the book, but for the bound.
-    ensures recovered { IfOk result (λ first. IsRecovered (first.items ∷ []) (rebound events_max book.now)) }
+    // What is recovered from a file that has just this record is the book, with what was in flight given back, but for the bound.
+    ensures recovered { IfOk result (λ first. IsRecovered (first.items ∷ []) (going_on events_max book.now)) }
     ensures connection { IfOk result (λ first. last_connection_in (first.items ∷ []) ≡ last_connection) }
 
     // Each refusal is that of the opening, unless memory ran out.
-    ensures not_good { result ≡ Err NextFault.NotGood → IsResumable (with_bound events_max book.now.opening) → ⊥ }
-    ensures too_long { result ≡ Err NextFault.TooLong → IsTooLong (with_bound events_max book.now.opening) }
+    ensures not_good { result ≡ Err NextFault.NotGood → IsResumable (with_bound events_max (given_back book.now.opening)) → ⊥ }
+    ensures too_long { result ≡ Err NextFault.TooLong → IsTooLong (with_bound events_max (given_back book.now.opening)) }
     ensures used_up { result ≡ Err NextFault.UsedUp → last_connection ≡ Some u32.MAX }
 {
     let Some(connections) = first_unused(last_connection) else {
         return Err(NextFault::UsedUp);
     };
-    let opening = encoded(alloc, book.opening(), events_max)?;
+    let waiting = given_back(alloc, book.opening())?;
+    let opening = encoded(alloc, &waiting, events_max)?;
     let preface = Preface {
         events_max,
         version,

@@ -18,4 +18,3 @@ pub mod RowsSoFar
 pub mod SlotsBegun
 pub mod StatisticsBegun
 pub mod SumsBegun
-pub mod TwoArrivals

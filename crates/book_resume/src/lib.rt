@@ -7,8 +7,6 @@ mod counters;
 mod fault;
 mod order;
 mod owing;
-#[cfg(test)]
-mod tests;
 
 pub use book::resume;
 pub use fault::ResumeFault;

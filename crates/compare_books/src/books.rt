@@ -110,7 +110,7 @@ impl Books {
     /// # Errors
     ///
     /// Where memory is refused.
-    pub fn new(rt: &HostRuntime, asked: bool) -> Result<Books> {
+    pub(crate) fn new(rt: &HostRuntime, asked: bool) -> Result<Books> {
         let alloc = rt.alloc();
         let (plan, hasher) = (plan_of(alloc, Said::FIRST)?, RandomState::new(rt)?);
         let room = if asked { ENTRIES } else { MANY_ENTRIES };
@@ -186,7 +186,7 @@ impl Books {
     /// # Errors
     ///
     /// Where they answer it differently, or memory is refused.
-    pub fn arrive(&mut self, alloc: Global, dice: &mut Dice) -> Result<bool> {
+    pub(crate) fn arrive(&mut self, alloc: Global, dice: &mut Dice) -> Result<bool> {
         let channel = dice.roll(8) / 7;
         let id = self.keys.pick(dice, channel)?;
         let raw = dice.message(alloc, id, "")?.into_bytes();
@@ -199,7 +199,7 @@ impl Books {
     /// # Errors
     ///
     /// Where they don't take the same, don't send the same, refuse it for two reasons, or memory is refused.
-    pub fn take(&mut self, dice: &mut Dice) -> Result<bool> {
+    pub(crate) fn take(&mut self, dice: &mut Dice) -> Result<bool> {
         let d = dice.roll(5);
         let now = dice.now()?;
         let Some(answer) = self.take_front(d, now) else {
@@ -232,7 +232,7 @@ impl Books {
     }
 
     /// How many attempts were taken of messages that a pruning had kept.
-    pub fn recalled(&self) -> u32 {
+    pub(crate) fn recalled(&self) -> u32 {
         self.recalled
     }
 
@@ -242,7 +242,7 @@ impl Books {
     /// # Errors
     ///
     /// Where they leave its slot in two states, refuse it for two reasons, or memory is refused.
-    pub fn settle(&mut self, dice: &mut Dice) -> Result<bool> {
+    pub(crate) fn settle(&mut self, dice: &mut Dice) -> Result<bool> {
         let number = self.number(dice);
         let ticket = dice.ticket(self.last, number);
         let outcome = dice.outcome();
@@ -269,7 +269,7 @@ impl Books {
     /// # Errors
     ///
     /// Where they cancel it at other destinations, refuse it for two reasons, or memory is refused.
-    pub fn cancel(&mut self, dice: &mut Dice) -> Result<bool> {
+    pub(crate) fn cancel(&mut self, dice: &mut Dice) -> Result<bool> {
         let number = self.number(dice);
         let among = dice.among();
         let mask = self.book.cancel_among(number, among);
@@ -293,7 +293,7 @@ impl Books {
     /// # Errors
     ///
     /// Where one alone does, they refuse it for two reasons, or memory is refused.
-    pub fn deploy(&mut self, alloc: Global, dice: &mut Dice) -> Result<bool> {
+    pub(crate) fn deploy(&mut self, alloc: Global, dice: &mut Dice) -> Result<bool> {
         let plan = plan_of(alloc, dice.said())?;
         self.deploy_all(&plan)
     }
@@ -320,7 +320,7 @@ impl Books {
     /// # Errors
     ///
     /// Where the others say otherwise, or memory is refused.
-    pub fn prune(&mut self, dice: &mut Dice) -> Result<bool> {
+    pub(crate) fn prune(&mut self, dice: &mut Dice) -> Result<bool> {
         let before = self.forgotten.saturating_add(dice.roll(4));
         let answer = self.pruned.prune(before);
         if answer.err() != prune_refusal(&self.book, self.forgotten, before) {
@@ -356,7 +356,7 @@ impl Books {
     /// # Errors
     ///
     /// Where one of them is not the same in all, or memory is refused.
-    pub fn compare(&self, dice: &mut Dice) -> Result<()> {
+    pub(crate) fn compare(&self, dice: &mut Dice) -> Result<()> {
         let number = self.number(dice);
         let d = dice.roll(5);
         let alike = match &self.other {

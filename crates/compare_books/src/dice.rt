@@ -25,12 +25,12 @@ pub struct Dice {
 
 impl Dice {
     /// The numbers that begin with this one, at the first moment of 1970.
-    pub fn new(state: u32) -> Dice {
+    pub(crate) fn new(state: u32) -> Dice {
         Dice { state, seconds: 0 }
     }
 
     /// A number below `sides`.
-    pub fn roll(&mut self, sides: u32) -> u32
+    pub(crate) fn roll(&mut self, sides: u32) -> u32
         requires { 0 < sides }
         ensures { result < sides }
     {
@@ -51,7 +51,7 @@ impl Dice {
     /// # Errors
     ///
     /// Where that is no moment.
-    pub fn now(&mut self) -> Result<Moment> {
+    pub(crate) fn now(&mut self) -> Result<Moment> {
         let passed = self.roll(2);
         self.seconds = self.seconds.wrapping_add(passed);
         Ok(Moment::of_unix(i64::from(self.seconds))?)
@@ -62,7 +62,12 @@ impl Dice {
     /// # Errors
     ///
     /// Where memory is refused.
-    pub fn message(&mut self, alloc: Global, id: u32, asked: &str) -> Result<String, AllocError> {
+    pub(crate) fn message(
+        &mut self,
+        alloc: Global,
+        id: u32,
+        asked: &str,
+    ) -> Result<String, AllocError> {
         let event = self.pick(["A01", "A08", "A08", "A04"]);
         let version = self.pick(["2.5.1", "2.5.1", "2.5.1", "2.9"]);
         let patient = self.pick(["77", "77", "", "78"]);
@@ -73,7 +78,7 @@ impl Dice {
     }
 
     /// Which acknowledgments a message requests (MSH-15 and MSH-16), as written behind its version.
-    pub fn asked(&mut self) -> &'static str {
+    pub(crate) fn asked(&mut self) -> &'static str {
         self.pick(["", "|||AL|NE", "|||AL|AL", "|||ER|SU"])
     }
 
@@ -82,7 +87,7 @@ impl Dice {
     /// # Errors
     ///
     /// Where memory is refused.
-    pub fn unanswered(&mut self, alloc: Global) -> Result<String, AllocError> {
+    pub(crate) fn unanswered(&mut self, alloc: Global) -> Result<String, AllocError> {
         let text = self.pick([
             "HELLO",
             "",
@@ -93,12 +98,12 @@ impl Dice {
     }
 
     /// What comes between two blocks: nothing, bytes that are skipped, or a block that is broken.
-    pub fn between(&mut self) -> &'static str {
+    pub(crate) fn between(&mut self) -> &'static str {
         self.pick(["", "\r\n", "\x0bMSH|", "\x0bMSH|\x1cx"])
     }
 
     /// What a plan says, mostly what the first one does.
-    pub fn said(&mut self) -> Said {
+    pub(crate) fn said(&mut self) -> Said {
         Said {
             destination: self.pick(["A", "A", "A", "X"]),
             attempts: self.pick(["2", "2", "2", "3"]),
@@ -108,7 +113,7 @@ impl Dice {
     }
 
     /// The last ticket, mostly, or one of an attempt of a message, each part of which is small.
-    pub fn ticket(&mut self, last: Ticket, number: u32) -> Ticket {
+    pub(crate) fn ticket(&mut self, last: Ticket, number: u32) -> Ticket {
         if self.roll(4) > 0 {
             return last;
         }
@@ -121,7 +126,7 @@ impl Dice {
 
     /// The mask of the destinations among which a message is cancelled: every second time all 32, else some of the first four,
     /// or none.
-    pub fn among(&mut self) -> u32 {
+    pub(crate) fn among(&mut self) -> u32 {
         if self.roll(2) == 0 {
             return u32::MAX;
         }
@@ -129,7 +134,7 @@ impl Dice {
     }
 
     /// An outcome, mostly one after which the message is delivered or sent again.
-    pub fn outcome(&mut self) -> Outcome {
+    pub(crate) fn outcome(&mut self) -> Outcome {
         match self.roll(8) {
             0..4 => Outcome::Delivered,
             4..7 => Outcome::Again,

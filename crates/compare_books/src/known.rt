@@ -28,7 +28,7 @@ pub struct Keys {
 
 impl Keys {
     /// None yet.
-    pub fn new(alloc: Global) -> Keys {
+    pub(crate) fn new(alloc: Global) -> Keys {
         Keys {
             alloc,
             known: Vec::new(alloc),
@@ -42,7 +42,7 @@ impl Keys {
     /// # Errors
     ///
     /// Where memory is refused.
-    pub fn note(&mut self, key: Key) -> Result<(), AllocError> {
+    pub(crate) fn note(&mut self, key: Key) -> Result<(), AllocError> {
         if let Told::Accepted(_) | Told::Filtered = key.told {
             self.known.push(key)?;
         }
@@ -55,7 +55,7 @@ impl Keys {
     /// # Errors
     ///
     /// Where there is no further control id.
-    pub fn pick(&self, dice: &mut Dice, channel: u32) -> Result<u32> {
+    pub(crate) fn pick(&self, dice: &mut Dice, channel: u32) -> Result<u32> {
         let id = self.first_id.saturating_add(dice.roll(12));
         self.unforgotten(channel, id)
     }
@@ -81,7 +81,7 @@ impl Keys {
     /// # Errors
     ///
     /// Where memory is refused.
-    pub fn forget(&mut self, before: u32, next: usize) -> Result<(), AllocError> {
+    pub(crate) fn forget(&mut self, before: u32, next: usize) -> Result<(), AllocError> {
         let accepted = Told::Accepted(before);
         let floor = match self.known.iter().find(|key| key.told == accepted) {
             Some(key) => key.place,

@@ -47,7 +47,7 @@ fn text(alloc: Global, dice: &mut Dice, id: u32) -> Result<String, AllocError> {
 
 impl Line {
     /// A line on a channel on which nothing was received yet.
-    pub fn new(alloc: Global, channel: u32) -> Line {
+    pub(crate) fn new(alloc: Global, channel: u32) -> Line {
         Line {
             alloc,
             channel,
@@ -92,7 +92,7 @@ impl Line {
     /// # Errors
     ///
     /// Where there is no further control id, or memory is refused.
-    pub fn next(&mut self, dice: &mut Dice, keys: &Keys) -> Result<Piece> {
+    pub(crate) fn next(&mut self, dice: &mut Dice, keys: &Keys) -> Result<Piece> {
         if self.came >= self.coming.len() {
             self.add_blocks(dice, keys)?;
         }
@@ -109,7 +109,7 @@ impl Line {
     /// # Errors
     ///
     /// Where memory is refused.
-    pub fn rest(&mut self) -> Result<Piece, AllocError> {
+    pub(crate) fn rest(&mut self) -> Result<Piece, AllocError> {
         self.piece(usize::MAX)
     }
 

@@ -164,7 +164,7 @@ impl Worlds {
     /// # Errors
     ///
     /// Where memory is refused.
-    pub fn new(rt: &HostRuntime, forgets: bool) -> Result<Worlds> {
+    pub(crate) fn new(rt: &HostRuntime, forgets: bool) -> Result<Worlds> {
         let alloc = rt.alloc();
         let room = if forgets { MANY_ENTRIES } else { ENTRIES };
         Ok(Worlds {
@@ -191,7 +191,7 @@ impl Worlds {
     /// # Errors
     ///
     /// Where a message of the piece can't be judged, or memory is refused.
-    pub fn chunk(&mut self, dice: &mut Dice) -> Result<()> {
+    pub(crate) fn chunk(&mut self, dice: &mut Dice) -> Result<()> {
         let now = dice.now()?;
         let conn = dice.roll(4);
         let Some(line) = self.lines.get_mut(conn as usize) else {
@@ -252,7 +252,7 @@ impl Worlds {
     /// # Errors
     ///
     /// Where the dice have no further moment.
-    pub fn take(&mut self, dice: &mut Dice) -> Result<()> {
+    pub(crate) fn take(&mut self, dice: &mut Dice) -> Result<()> {
         let d = dice.roll(5);
         let now = dice.now()?;
         if let Ok(ticket) = self.other.take(d, now) {
@@ -267,7 +267,7 @@ impl Worlds {
     /// # Errors
     ///
     /// Where the dice have no further moment.
-    pub fn settle(&mut self, dice: &mut Dice) -> Result<()> {
+    pub(crate) fn settle(&mut self, dice: &mut Dice) -> Result<()> {
         let number = self.number(dice);
         let ticket = dice.ticket(self.last, number);
         let outcome = dice.outcome();
@@ -282,7 +282,7 @@ impl Worlds {
     }
 
     /// A message is cancelled, among all destinations or some.
-    pub fn cancel(&mut self, dice: &mut Dice) {
+    pub(crate) fn cancel(&mut self, dice: &mut Dice) {
         let number = self.number(dice);
         let among = dice.among();
         let _ = self.other.cancel_among(number, among);
@@ -297,7 +297,7 @@ impl Worlds {
     /// # Errors
     ///
     /// Where the plan can't be read, or memory is refused.
-    pub fn deploy(&mut self, dice: &mut Dice) -> Result<()> {
+    pub(crate) fn deploy(&mut self, dice: &mut Dice) -> Result<()> {
         let plan = plan_of(self.alloc, dice.said())?;
         let _ = self.other.deploy(Arc::try_clone(&plan)?);
         self.step(Step::Deploy { plan });
@@ -310,7 +310,7 @@ impl Worlds {
     /// # Errors
     ///
     /// Where messages are forgotten that may not be, or kept that may be forgotten, or memory is refused.
-    pub fn prune(&mut self, dice: &mut Dice) -> Result<()> {
+    pub(crate) fn prune(&mut self, dice: &mut Dice) -> Result<()> {
         let now = dice.now()?;
         for conn in 0..4 {
             self.end_blocks(conn, now)?;
@@ -332,12 +332,12 @@ impl Worlds {
     }
 
     /// How many plans were deployed.
-    pub fn deployments(&self) -> u32 {
+    pub(crate) fn deployments(&self) -> u32 {
         book_of(&self.whole).deployments()
     }
 
     /// How many messages were forgotten.
-    pub fn forgotten(&self) -> u32 {
+    pub(crate) fn forgotten(&self) -> u32 {
         self.forgotten
     }
 
@@ -377,7 +377,7 @@ impl Worlds {
     /// # Errors
     ///
     /// Where two of them differ, or memory is refused.
-    pub fn compare(&self, dice: &mut Dice) -> Result<()> {
+    pub(crate) fn compare(&self, dice: &mut Dice) -> Result<()> {
         match self.difference(dice.roll(4)) {
             Some(difference) => bail!("{difference}"),
             None => Ok(()),
@@ -389,7 +389,7 @@ impl Worlds {
     /// # Errors
     ///
     /// Where one is not the same, or memory is refused.
-    pub fn compare_queues(&self) -> Result<()> {
+    pub(crate) fn compare_queues(&self) -> Result<()> {
         for d in 0..5 {
             if !is_alike(book_of(&self.whole), &self.other, d, d)? {
                 bail!("a queue has two lengths, or a slot two states");
@@ -413,7 +413,7 @@ impl Worlds {
     /// # Errors
     ///
     /// Where one was sent other bytes in the other world, or has ended.
-    pub fn compare_output(&self) -> Result<usize> {
+    pub(crate) fn compare_output(&self) -> Result<usize> {
         let mut all = 0_usize;
         for conn in 0..4 {
             let Some(sent) = self.sent_on(conn) else {
@@ -451,7 +451,7 @@ impl Worlds {
     ///
     /// Where one isn't the same in all three, where a world that takes the steps of the history has another, or
     /// where memory is refused.
-    pub fn compare_entries(&self, rt: &HostRuntime) -> Result<usize> {
+    pub(crate) fn compare_entries(&self, rt: &HostRuntime) -> Result<usize> {
         self.compare_history(&self.whole)?;
         self.compare_history(&self.bytewise)?;
         let mut again = silent(rt, self.room)?;

@@ -4,6 +4,8 @@ use Rattle.std.specs.Option.{option_map_or}
 use Rattle.std.specs.Prelude.{IsErrOf, ◌↔◌}
 use Rattle.std.specs.Result.{is_ok, result_map_both}
 use Rattle.book_core.specs.declared.receipt.NotBooked.{NotBooked}
+use Rattle.conn_core.specs.declared.booking.Unbooked.{Unbooked}
+use Rattle.conn_core.specs.declared.booking.Unbooked.TheVariants.{Refused}
 use Rattle.book_core.specs.declared.receipt.NotBooked.TheVariants.{Full, NoMemory, PlanChanged}
 use Rattle.book_core.specs.Refusing.{arrive_refusal}
 use Rattle.book_core.specs.declared.receipt.Receipt.{Receipt}
@@ -24,15 +26,19 @@ use Rattle.conn_core.specs.inner.Booking.{receipts_of}
 use Rattle.conn_core.specs.inner.Replies.{told_by}
 
 -- the same refusal, of what was told
-to_told : (r : Result Receipt NotBooked) (e : NotBooked) → IsErrOf r e → IsErrOf (told_by r) e
+abbrev refused_by : Result Receipt NotBooked → Result Told Unbooked
+refused_by (Ok receipt) = Ok receipt.told
+refused_by (Err refusal) = Err (Refused refusal)
+
+to_told : (r : Result Receipt NotBooked) (e : NotBooked) → IsErrOf r e → IsErrOf (refused_by r) (Refused e)
 to_told (Ok receipt) e h = cc
 to_told (Err refusal) e h = let same : refusal ≡ e = cc in rw same refl
 
-of_told : (r : Result Receipt NotBooked) (e : NotBooked) → IsErrOf (told_by r) e → IsErrOf r e
+of_told : (r : Result Receipt NotBooked) (e : NotBooked) → IsErrOf (refused_by r) (Refused e) → IsErrOf r e
 of_told (Ok receipt) e h = cc
 of_told (Err refusal) e h = let same : refusal ≡ e = cc in rw same refl
 
-exactly_told : {P : Type 0} (r : Result Receipt NotBooked) (e : NotBooked) → (IsErrOf r e ↔ P) → (IsErrOf (told_by r) e ↔ P)
+exactly_told : {P : Type 0} (r : Result Receipt NotBooked) (e : NotBooked) → (IsErrOf r e ↔ P) → (IsErrOf (refused_by r) (Refused e) ↔ P)
 exactly_told r e both = (λ h. both.0 (of_told r e h), λ p. to_told r e (both.1 p))
 
 module _ (book : History) (judged : Judgement) where
@@ -40,15 +46,15 @@ module _ (book : History) (judged : Judgement) where
   pub answers_told : (r : Result Receipt NotBooked) → IfOk r (λ receipt. arrival_answer book judged.channel judged.raw ≡ Some receipt.told)
       → (IsErrOf r PlanChanged ↔ judged.plan ≢ plan_in_force book) → (IsErrOf r Full ↔ (judged.plan ≡ plan_in_force book) × IsTrue (is_full book judged.channel judged.raw))
       → IfOk r (λ receipt. OutcomeAtBook book judged (Ok receipt.told))
-  answers_told (Ok receipt) told plan full = record { told = told; plan = exactly_told (Ok receipt) PlanChanged plan; full = exactly_told (Ok receipt) Full full }
+  answers_told (Ok receipt) told plan full = record { told = told; plan = exactly_told (Ok receipt) PlanChanged plan; full = exactly_told (Ok receipt) Full full; booked = λ place e. cc }
   answers_told (Err refusal) told plan full = tt
 
   -- one that was not
   pub answers_refused : (r : Result Receipt NotBooked)
       → (IsErrOf r PlanChanged ↔ judged.plan ≢ plan_in_force book) → (IsErrOf r Full ↔ (judged.plan ≡ plan_in_force book) × IsTrue (is_full book judged.channel judged.raw))
-      → IfErr r (λ refusal. OutcomeAtBook book judged (Err refusal))
+      → IfErr r (λ refusal. OutcomeAtBook book judged (Err (Refused refusal)))
   answers_refused (Ok receipt) plan full = tt
-  answers_refused (Err refusal) plan full = record { told = tt; plan = exactly_told (Err refusal) PlanChanged plan; full = exactly_told (Err refusal) Full full }
+  answers_refused (Err refusal) plan full = record { told = tt; plan = exactly_told (Err refusal) PlanChanged plan; full = exactly_told (Err refusal) Full full; booked = λ place e. cc }
 
 -- an arrival for which there is no room
 was-full : (h : History) (conn channel : ℕ) (raw : List ℕ) → event_answer h (arrive conn channel raw) ≡ Err event.full → is_full h channel raw ≡ true
@@ -92,13 +98,13 @@ never_changed book judged (Err refusal) never same =
     (λ e. let is : refusal ≡ PlanChanged = cc in absurd (never (ap Err is)), λ other. absurd (other same))
 
 -- what holds of the one receipt, or of none, holds of the receipts that an outcome brings
-pub booked_in : (P : List Receipt → Type 0) (o : Result Receipt NotBooked) → IfOk o (λ r. P (r ∷ [])) → OnErr o (P []) → P (receipts_of o)
+pub booked_in : (P : List Receipt → Type 0) (o : Result Receipt Unbooked) → IfOk o (λ r. P (r ∷ [])) → OnErr o (P []) → P (receipts_of o)
 booked_in P (Ok r) booked none = booked
-booked_in P (Err refusal) booked none = none
+booked_in P (Err unbooked) booked none = none
 
 -- what may become of a message that was judged so, may become of it as it was received
-pub may_become : (judges : PlanEntry → Type 0) (outcomes after : Judgement → Result Told NotBooked → Type 0) {channel : ℕ} {raw : List ℕ} (judged : Judgement) (o : BlockOutcome)
-    → judges judged.plan → judged.channel ≡ channel → judged.raw ≡ raw → ((r : Result Told NotBooked) → after judged r → outcomes judged r) → MayHave (after judged) o
+pub may_become : (judges : PlanEntry → Type 0) (outcomes after : Judgement → Result Told Unbooked → Type 0) {channel : ℕ} {raw : List ℕ} (judged : Judgement) (o : BlockOutcome)
+    → judges judged.plan → judged.channel ≡ channel → judged.raw ≡ raw → ((r : Result Told Unbooked) → after judged r → outcomes judged r) → MayHave (after judged) o
     → MayBecome judges outcomes channel raw o
 may_become judges outcomes after judged Unreadable by_plan for_channel of_text same may = tt
 may_become judges outcomes after judged Stray by_plan for_channel of_text same may = tt

@@ -6,7 +6,7 @@ use Rattle.std.proofs.lemmas.List.{map-append}
 use Rattle.ack_rule.specs.declared.mode.AckMode.{AckMode}
 use Rattle.ack_rule.specs.declared.verdictum.Verdictum.{Verdictum}
 use Rattle.ack_rule.specs.Due.{ack_mode, due}
-use Rattle.book_core.specs.declared.receipt.NotBooked.{NotBooked}
+use Rattle.conn_core.specs.declared.booking.Unbooked.{Unbooked}
 use Rattle.event_log.specs.declared.entry.Told.{Told}
 use Rattle.hl7_head.specs.declared.ack.AckPart.{AckPart}
 use Rattle.hl7_head.specs.Header.{Msh}
@@ -33,7 +33,7 @@ two_of (x ∷ y ∷ z ∷ xs) d two = absurd (omega (arith, two))
 abbrev pub due_part : Msh → ℕ → AckPart → Due
 due_part h moment part = record { header = h; part = part; moment = moment }
 
-pub dues_two : (h : Msh) (outcome : Result Told NotBooked) (moment : ℕ) (mode : AckMode) (told : Verdictum) (ps : List (Option AckPart)) → length ps ≡ 2
+pub dues_two : (h : Msh) (outcome : Result Told Unbooked) (moment : ℕ) (mode : AckMode) (told : Verdictum) (ps : List (Option AckPart)) → length ps ≡ 2
     → flat_map option_to_list ps ≡ due mode told → mode ≡ ack_mode h.accept_type h.application_type → told ≡ told_of outcome
     → dues_by h outcome moment ≡ map (due_part h moment) (option_to_list (get_or ps 0 None)) ++ map (due_part h moment) (option_to_list (get_or ps 1 None))
 dues_two h outcome moment mode told ps two are mode_is told_is =

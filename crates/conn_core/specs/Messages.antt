@@ -1,7 +1,7 @@
 -- The messages of a connection, and those of them that are booked.
 use Rattle.std.specs.Prelude.{ℕ, Bool, true, false, if◌then◌else◌, List, Option, None, Some, Result, Ok, Err}
 use Rattle.std.specs.List.{filter_map}
-use Rattle.book_core.specs.declared.receipt.NotBooked.{NotBooked}
+use Rattle.conn_core.specs.declared.booking.Unbooked.{Unbooked}
 use Rattle.book_core.specs.declared.receipt.Receipt.{Receipt}
 use Rattle.event_log.specs.declared.entry.Told.{Told}
 use Rattle.judge_core.specs.Judging.{is_bookable, is_unreadable as is_unreadable_text, is_stray as is_stray_text}
@@ -49,9 +49,9 @@ abbrev pub message_by : Receipt → BookedMessage
 message_by r = record { conn = r.conn; channel = r.channel; raw = r.raw; told = r.told }
 
 -- what an outcome books, if it books anything
-abbrev pub booked_with : ℕ → ℕ → List ℕ → Result Told NotBooked → Option BookedMessage
+abbrev pub booked_with : ℕ → ℕ → List ℕ → Result Told Unbooked → Option BookedMessage
 booked_with conn channel raw (Ok told) = Some (record { conn = conn; channel = channel; raw = raw; told = told })
-booked_with conn channel raw (Err refusal) = None
+booked_with conn channel raw (Err unbooked) = None
 
 -- the booked ones among the messages that were answered
 abbrev pub booked : ℕ → ℕ → List Answer → List BookedMessage

@@ -2,13 +2,13 @@
 
 ghost use Rattle.std.specs.Prelude.{◌≡◌, ◌+◌, ◌<◌, ◌≤◌, [], IfOk, OnErr};
 ghost use Rattle.mllp_frame.specs.Framing.{IsBlockData};
-ghost use Rattle.conn_core.specs.inner.Outcomes.{AppendsReplies, BooksAndReplies, IsOutcome, MayBecome, MayHave, dues_in, is_whole, receipts_in};
+ghost use Rattle.conn_core.specs.inner.Outcomes.{AppendsReplies, BooksAndReplies, IsOutcome, KnowsRepeat, MayBecome, MayHave, dues_in, is_whole, receipts_in};
 ghost use Rattle.conn_core.specs.inner.Replies.{told_by};
 
-use crate::booking::Booking;
+use crate::booking::{Booking, Unbooked};
 use crate::line::ConnectionId;
 use crate::replies::Replies;
-use book_core::{NotBooked, Receipt};
+use book_core::Receipt;
 use event_log::Told;
 use hl7_head::Moment;
 use judge_core::{Judged, JudgedMessage};
@@ -17,8 +17,8 @@ use std::alloc::AllocError;
 /// What became of a message.
 #[derive(Drop)]
 pub struct Booked {
-    /// Its receipt, or why it was not booked.
-    pub outcome: Result<Receipt, NotBooked>,
+    /// Its receipt, or what became of it where it was not booked.
+    pub outcome: Result<Receipt, Unbooked>,
     /// Whether all replies that it is due were made, none of them refused memory.
     pub whole: bool,
 }
@@ -46,13 +46,13 @@ impl BlockOutcome {
     }
 }
 
-/// The answer to a message, or why it was not booked.
-fn told_by(outcome: &Result<Receipt, NotBooked>) -> Result<Told, NotBooked>
+/// The answer to a message, or what became of it where it was not booked.
+fn told_by(outcome: &Result<Receipt, Unbooked>) -> Result<Told, Unbooked>
     ensures { result ≡ told_by outcome.now }
 {
     match outcome {
         Ok(receipt) => Ok(receipt.told),
-        Err(refusal) => Err(*refusal),
+        Err(unbooked) => Err(*unbooked),
     }
 }
 
@@ -65,7 +65,7 @@ pub fn book_and_reply<B: Booking>(
     replies: &mut Replies,
 ) -> Booked
     requires few { replies.old.made + 2 ≤ u32.MAX }
-    ensures does { BooksAndReplies B.books B.outcomes line.now.conn message.now now
+    ensures does { BooksAndReplies B.books B.outcomes B.knows line.now.conn message.now now
         book.old book.new replies.old replies.new result }
     ensures few { replies.new.made ≤ replies.old.made + 2 }
 {
@@ -87,7 +87,7 @@ fn book_judged<B: Booking>(
 ) -> Booked
     requires by_plan { B.judged_by book.old message.now.plan }
     requires few { replies.old.made + 2 ≤ u32.MAX }
-    ensures does { BooksAndReplies B.books B.outcomes line.now.conn message.now now
+    ensures does { BooksAndReplies B.books B.outcomes B.knows line.now.conn message.now now
         book.old book.new replies.old replies.new result }
     ensures few { replies.new.made ≤ replies.old.made + 2 }
 {
@@ -112,6 +112,7 @@ fn answer_judged<B: Booking>(
     ensures kind { IsOutcome line.now.conn judged.now.channel judged.now.raw result }
     ensures booked { B.books book.old book.new (receipts_in result) }
     ensures told { MayHave (B.outcomes book.old judged.now) result }
+    ensures known { KnowsRepeat (B.knows book.new judged.now.channel judged.now.raw) result }
     ensures replies { AppendsReplies line.now.conn (dues_in judged.now.raw now result)
         (is_whole result) replies.old replies.new }
     ensures few { replies.new.made ≤ replies.old.made + 2 }
@@ -150,6 +151,10 @@ pub fn answer_block<B: Booking>(
     ensures booked { IfOk result (λ outcome. B.books book.old book.new (receipts_in outcome)) }
     ensures told { IfOk result (λ outcome.
         MayBecome (B.judges book.old) (B.outcomes book.old) line.now.channel raw.items outcome) }
+
+    // One that is answered as a repeat without being booked is known here.
+    ensures known { IfOk result (λ outcome.
+        KnowsRepeat (B.knows book.new line.now.channel raw.items) outcome) }
 
     // The replies that it is due are appended, or the first of them where memory was refused.
     ensures replies { IfOk result (λ outcome. AppendsReplies line.now.conn (dues_in raw.items now outcome)

@@ -9,7 +9,7 @@ mod line;
 mod replies;
 
 pub use block_outcome::{BlockOutcome, Booked, answer_block, book_and_reply};
-pub use booking::{Booking, NotPersisted};
+pub use booking::{Booking, NotPersisted, Unbooked};
 pub use laws::replies_fit_blocks;
 pub use line::ConnectionId;
 pub use replies::Replies;

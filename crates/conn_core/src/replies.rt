@@ -7,6 +7,7 @@ ghost use Rattle.mllp_frame.specs.Framing.{block_bytes};
 ghost use Rattle.conn_core.specs.inner.Outcomes.{AppendsInPart};
 ghost use Rattle.conn_core.specs.Replies.{numbered, dues_by, told_of};
 
+use crate::booking::Unbooked;
 use ack_rule::{AckMode, Verdictum, parts};
 use book_core::NotBooked;
 use event_log::Told;
@@ -35,15 +36,17 @@ impl Model for Replies {
 }
 
 /// What is acknowledged of an outcome.
-fn told_of(outcome: Result<Told, NotBooked>) -> Verdictum
+fn told_of(outcome: Result<Told, Unbooked>) -> Verdictum
     ensures { result ≡ told_of outcome }
 {
     match outcome {
-        Ok(Told::Accepted(_) | Told::Filtered | Told::Repeat(_)) => Verdictum::Success,
+        Ok(Told::Accepted(_) | Told::Filtered | Told::Repeat(_)) | Err(Unbooked::Repeat(_)) => {
+            Verdictum::Success
+        }
         Ok(Told::Refused(cause)) => Verdictum::of_cause(cause),
-        Err(NotBooked::NoMemory) => Verdictum::of_cause(Cause::NoMemory),
-        Err(NotBooked::Full) => Verdictum::of_cause(Cause::Full),
-        Err(NotBooked::PlanChanged) => Verdictum::of_cause(Cause::PlanChanged),
+        Err(Unbooked::Refused(NotBooked::NoMemory)) => Verdictum::of_cause(Cause::NoMemory),
+        Err(Unbooked::Refused(NotBooked::Full)) => Verdictum::of_cause(Cause::Full),
+        Err(Unbooked::Refused(NotBooked::PlanChanged)) => Verdictum::of_cause(Cause::PlanChanged),
     }
 }
 
@@ -163,7 +166,7 @@ impl Replies {
         &mut self,
         conn: u32,
         header: &Header,
-        outcome: Result<Told, NotBooked>,
+        outcome: Result<Told, Unbooked>,
         now: Moment,
     ) -> Result<(), AllocError>
         requires { self.old.made + 2 ≤ u32.MAX }

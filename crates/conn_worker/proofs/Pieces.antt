@@ -13,6 +13,7 @@ use Rattle.conn_worker.specs.declared.report.ServeReport.{ServeReport}
 use Rattle.conn_worker.specs.declared.dialogue.Progress.{Progress}
 use Rattle.conn_core.specs.Replies.{Answer}
 use Rattle.conn_worker.specs.Serving.{ReportsServing, ServesAndBooks}
+use Rattle.conn_worker.proofs.Growing.{known_all}
 use Rattle.conn_worker.specs.declared.session.Session.{Session}
 use Rattle.conn_worker.specs.inner.Session.{IsFresh, SoFar}
 use Rattle.conn_worker.specs.inner.Stream.{StopsReading, StopsWriting}
@@ -37,9 +38,9 @@ tells_end r end s =
     }
 
 -- no further piece was read
-pub ends_here : {B K : Type 0} {books : B → List Receipt → Type 0} {has : K → List Receipt → Type 0} {conn channel : ℕ} {to_read left held holds : Option (List ℕ)} {b : B} {z : Session K}
-    (left' : Option (List ℕ)) (end : ServeEnd) → SoFar books has conn channel to_read left held holds b z
-    → Consumes left left' [] → (end ≡ End → IsAtEnd left') → ServesAndBooks (books b) has conn channel to_read left' held holds (record z.dialogue.report { end = end })
+pub ends_here : {B K : Type 0} {books : B → List Receipt → Type 0} {knows : B → ℕ → List ℕ → Type 0} {has : K → List Receipt → Type 0} {conn channel : ℕ} {to_read left held holds : Option (List ℕ)} {b : B} {z : Session K}
+    (left' : Option (List ℕ)) (end : ServeEnd) → SoFar books knows has conn channel to_read left held holds b z
+    → Consumes left left' [] → (end ≡ End → IsAtEnd left') → ServesAndBooks (books b) (knows b channel) has conn channel to_read left' held holds (record z.dialogue.report { end = end })
 ends_here {B} {K} {books} {has} {conn} {channel} {to_read} {left} {held} {holds} {b} {z} left' end s reads at_end =
     record {
       receipts = s.stands.receipts;
@@ -50,6 +51,7 @@ ends_here {B} {K} {books} {has} {conn} {channel} {to_read} {left} {held} {holds}
         later = [];
         events = sym (append-nil (blocks s.read));
         answers = s.stands.answers;
+        known = s.stands.known;
         tells = tells_end z.dialogue.report end s.stands.tells;
         written = s.written;
         unwritten = [];
@@ -61,13 +63,13 @@ ends_here {B} {K} {books} {has} {conn} {channel} {to_read} {left} {held} {holds}
       kept = s.stands.kept;
     }
 
-module _ {B K : Type 0} (books : B → B → List Receipt → Type 0) {has : K → List Receipt → Type 0} {first b b' : B} (laws : StreamLaws) where
+module _ {B K : Type 0} (books : B → B → List Receipt → Type 0) {knows : B → ℕ → List ℕ → Type 0} {has : K → List Receipt → Type 0} {first b b' : B} (laws : StreamLaws) where
   -- a piece was read, the first of its events handled, and the front of their replies written
   pub ends_amid : {conn channel : ℕ} {to_read left held holds : Option (List ℕ)} {z : Session K} (left' holds' : Option (List ℕ)) (t' : Progress K) (end : ServeEnd) (piece written unwritten : List ℕ)
-      → SoFar (books first) has conn channel to_read left held holds b z
-      → Consumes left left' piece → HandlesFront books has conn channel (blocks (z.framer.open_end ++ piece)) b b' z.dialogue t'
+      → SoFar (books first) knows has conn channel to_read left held holds b z
+      → Consumes left left' piece → HandlesFront books knows has conn channel (blocks (z.framer.open_end ++ piece)) b b' z.dialogue t'
       → t'.replies.bytes ≡ written ++ unwritten → Appends holds holds' written → end ≢ End
-      → ServesAndBooks (books first b') has conn channel to_read left' held holds' (record t'.report { end = end })
+      → ServesAndBooks (books first b') (knows b' channel) has conn channel to_read left' held holds' (record t'.report { end = end })
   ends_amid {conn} {channel} {to_read} {left} {held} {holds} {z} left' holds' t' end piece written unwritten s reads front bytes_are wrote other =
       let a = front first (blocks s.read) s.written s.stands in
       record {
@@ -83,6 +85,7 @@ module _ {B K : Type 0} (books : B → B → List Receipt → Type 0) {has : K �
               ∙ ap (λ l. blocks s.read ++ l) a.whole
               ∙ sym (append_assoc (blocks s.read) a.handled a.later);
           answers = a.answers;
+          known = a.known;
           tells = tells_end t'.report end a.tells;
           written = s.written ++ written;
           unwritten = unwritten ++ a.missing;
@@ -100,11 +103,11 @@ module _ {B K : Type 0} (books : B → B → List Receipt → Type 0) {has : K �
 
   -- a piece was read, its events handled, and all their replies written
   pub goes_on : {conn channel : ℕ} {to_read left held holds : Option (List ℕ)} {z : Session K} (left' holds' : Option (List ℕ)) (t' : Progress K) (z'' : Session K) (piece : List ℕ)
-      → SoFar (books first) has conn channel to_read left held holds b z
-      → Consumes left left' piece → HandlesAll books has conn channel (blocks (z.framer.open_end ++ piece)) b b' z.dialogue t'
+      → SoFar (books first) knows has conn channel to_read left held holds b z
+      → Consumes left left' piece → HandlesAll books knows has conn channel (blocks (z.framer.open_end ++ piece)) b b' z.dialogue t'
       → Appends holds holds' t'.replies.bytes → z''.framer.to_come ≡ [] → z''.framer.open_end ≡ open_end (z.framer.open_end ++ piece)
       → z''.dialogue.report ≡ t'.report → z''.dialogue.replies.made ≡ t'.replies.made → z''.dialogue.replies.bytes ≡ []
-      → SoFar (books first) has conn channel to_read left' held holds' b' z''
+      → SoFar (books first) knows has conn channel to_read left' held holds' b' z''
   goes_on {conn} {channel} {to_read} {left} {held} {holds} {z} left' holds' t' z'' piece s reads all wrote none_left end_is report_is made_is cleared =
       let a = all first (blocks s.read) s.written s.stands in
       let events : blocks (s.read ++ piece) ≡ blocks s.read ++ blocks (z.framer.open_end ++ piece) = laws.blocks_are s.read piece ∙ ap (λ l. blocks s.read ++ blocks (l ++ piece)) (sym s.left_open) in
@@ -120,6 +123,7 @@ module _ {B K : Type 0} (books : B → B → List Receipt → Type 0) {has : K �
           booked = a.booked;
           kept = rw report_is a.kept;
           answers = a.answers;
+          known = a.known;
           tells = rw (events, report_is) a.tells;
           replies = a.replies ∙ sym (append-nil (s.written ++ t'.replies.bytes)) ∙ ap (λ l. (s.written ++ t'.replies.bytes) ++ l) (sym cleared);
           made = made_is ∙ a.made;
@@ -147,26 +151,27 @@ handling_other TurnBound h e = cc
 handling_other NotPersisted h e = h
 
 -- nothing was booked after events were handled
-pub handled_then : {B K : Type 0} (books : B → B → List Receipt → Type 0) {has : K → List Receipt → Type 0} {conn channel : ℕ} {events : List FramingEvent} {b b' b'' : B} {t t' : Progress K}
-    → ((x y z : B) (rs ss : List Receipt) → books x y rs → books y z ss → books x z (rs ++ ss)) → books b' b'' []
-    → HandlesAll books has conn channel events b b' t t' → HandlesAll books has conn channel events b b'' t t'
-handled_then books {b' = b'} {b'' = b''} after none all first before text s =
+pub handled_then : {B K : Type 0} (books : B → B → List Receipt → Type 0) {knows : B → ℕ → List ℕ → Type 0} {has : K → List Receipt → Type 0} {conn channel : ℕ} {events : List FramingEvent} {b b' b'' : B} {t t' : Progress K}
+    → ((x y z : B) (rs ss : List Receipt) → books x y rs → books y z ss → books x z (rs ++ ss)) → books b' b'' [] → ((channel : ℕ) (raw : List ℕ) → knows b' channel raw → knows b'' channel raw)
+    → HandlesAll books knows has conn channel events b b' t t' → HandlesAll books knows has conn channel events b b'' t t'
+handled_then books {channel = channel} {b' = b'} {b'' = b''} after none still all first before text s =
     let a = all first before text s in
     record {
       receipts = a.receipts;
       booked = subst (λ (l : List Receipt). books first b'' l) (append-nil a.receipts) (after first b' b'' a.receipts [] a.booked none);
       kept = a.kept;
       answers = a.answers;
+      known = known_all a.answers (still channel) a.known;
       tells = a.tells;
       replies = a.replies;
       made = a.made;
     }
 
 -- the same where the first of them were handled
-pub handled_front_then : {B K : Type 0} (books : B → B → List Receipt → Type 0) {has : K → List Receipt → Type 0} {conn channel : ℕ} {events : List FramingEvent} {b b' b'' : B} {t t' : Progress K}
-    → ((x y z : B) (rs ss : List Receipt) → books x y rs → books y z ss → books x z (rs ++ ss)) → books b' b'' []
-    → HandlesFront books has conn channel events b b' t t' → HandlesFront books has conn channel events b b'' t t'
-handled_front_then books {b' = b'} {b'' = b''} after none front first before text s =
+pub handled_front_then : {B K : Type 0} (books : B → B → List Receipt → Type 0) {knows : B → ℕ → List ℕ → Type 0} {has : K → List Receipt → Type 0} {conn channel : ℕ} {events : List FramingEvent} {b b' b'' : B} {t t' : Progress K}
+    → ((x y z : B) (rs ss : List Receipt) → books x y rs → books y z ss → books x z (rs ++ ss)) → books b' b'' [] → ((channel : ℕ) (raw : List ℕ) → knows b' channel raw → knows b'' channel raw)
+    → HandlesFront books knows has conn channel events b b' t t' → HandlesFront books knows has conn channel events b b'' t t'
+handled_front_then books {channel = channel} {b' = b'} {b'' = b''} after none still front first before text s =
     let a = front first before text s in
     record {
       handled = a.handled;
@@ -176,6 +181,7 @@ handled_front_then books {b' = b'} {b'' = b''} after none front first before tex
       booked = subst (λ (l : List Receipt). books first b'' l) (append-nil a.receipts) (after first b' b'' a.receipts [] a.booked none);
       kept = a.kept;
       answers = a.answers;
+      known = known_all a.answers (still channel) a.known;
       tells = a.tells;
       missing = a.missing;
       replies = a.replies;
@@ -189,8 +195,8 @@ if_err_two (Ok x) f p q = tt
 if_err_two (Err e) f p q = f e p q
 
 -- at the start nothing is read
-pub starts : {B K : Type 0} {books : B → List Receipt → Type 0} {has : K → List Receipt → Type 0} (conn channel : ℕ) (to_read held : Option (List ℕ)) (b : B) (z : Session K) → IsFresh has z → books b []
-    → SoFar books has conn channel to_read to_read held held b z
+pub starts : {B K : Type 0} {books : B → List Receipt → Type 0} {knows : B → ℕ → List ℕ → Type 0} {has : K → List Receipt → Type 0} (conn channel : ℕ) (to_read held : Option (List ℕ)) (b : B) (z : Session K) → IsFresh has z → books b []
+    → SoFar books knows has conn channel to_read to_read held held b z
 starts conn channel to_read held b z fresh none =
     let new = fresh.dialogue in
     record {
@@ -205,6 +211,7 @@ starts conn channel to_read held b z fresh none =
         booked = none;
         kept = new.receipts;
         answers = [];
+        known = tt;
         tells = record { messages = refl; booked = refl; unbooked = new.unbooked; unreadable_ones = new.unreadable_ones; stray_ones = new.stray_ones; broken_ones = new.broken_ones };
         replies = sym new.bytes;
         made = new.made;
@@ -213,8 +220,8 @@ starts conn channel to_read held b z fresh none =
     }
 
 -- nothing was read, and nothing handled
-pub serves_nothing : {K : Type 0} {books : List Receipt → Type 0} {has : K → List Receipt → Type 0} (conn channel : ℕ) (to_read held : Option (List ℕ)) (r : ServeReport K) → has r.receipts [] → books []
-    → r.unbooked ≡ 0 → r.unreadable ≡ 0 → r.strays ≡ 0 → r.breaks ≡ 0 → r.end ≢ End → ServesAndBooks books has conn channel to_read to_read held held r
+pub serves_nothing : {K : Type 0} {books : List Receipt → Type 0} {knows : List ℕ → Type 0} {has : K → List Receipt → Type 0} (conn channel : ℕ) (to_read held : Option (List ℕ)) (r : ServeReport K) → has r.receipts [] → books []
+    → r.unbooked ≡ 0 → r.unreadable ≡ 0 → r.strays ≡ 0 → r.breaks ≡ 0 → r.end ≢ End → ServesAndBooks books knows has conn channel to_read to_read held held r
 serves_nothing conn channel to_read held r receipts none unbooked un st br other =
     record {
       receipts = [];
@@ -225,6 +232,7 @@ serves_nothing conn channel to_read held r receipts none unbooked un st br other
         later = [];
         events = refl;
         answers = [];
+        known = tt;
         tells = record { messages = refl; booked = refl; unbooked = unbooked; unreadable_ones = un; stray_ones = st; broken_ones = br };
         written = [];
         unwritten = [];

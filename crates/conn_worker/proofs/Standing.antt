@@ -18,13 +18,13 @@ use Rattle.conn_core.specs.Messages.{message_of, is_unreadable_block, is_stray_b
 use Rattle.conn_core.specs.declared.block_outcome.Booked.{Booked}
 use Rattle.conn_core.specs.declared.block_outcome.BlockOutcome.{BlockOutcome}
 use Rattle.conn_core.specs.declared.block_outcome.BlockOutcome.TheVariants.{Unreadable, Stray, Message}
-use Rattle.conn_core.specs.inner.Outcomes.{AppendsInPart, IsOutcome, dues_in, is_whole, receipts_in}
+use Rattle.conn_core.specs.inner.Outcomes.{AppendsInPart, IsOutcome, KnowsRepeat, dues_in, is_whole, receipts_in}
 use Rattle.conn_worker.specs.inner.Counting.{unbooked_in, unreadable_in, strays_in}
-use Rattle.conn_worker.specs.Serving.{ReportsServing}
+use Rattle.conn_worker.specs.Serving.{IsKnownIfRepeated, ReportsServing}
 use Rattle.conn_worker.specs.inner.Handling.{Stands, StandsAmid, HandlesAll, HandlesFront}
 use Rattle.conn_core.proofs.Numbering.{numbered-append}
 use Rattle.conn_core.proofs.Texts.{IsNoMessage, IsStrayText, IsMessageText, bookable_text, stray_known, unreadable_text}
-use Rattle.conn_worker.proofs.Growing.{Adds, message_of_receipt, unbooked_is}
+use Rattle.conn_worker.proofs.Growing.{Adds, known_all, known_more, known_told, message_of_receipt, unbooked_is}
 
 pub dues-append : (xs ys : List Answer) → dues (xs ++ ys) ≡ dues xs ++ dues ys
 dues-append [] ys = refl
@@ -43,16 +43,17 @@ pub record Changes {K : Type 0} (old new : Progress K) (unreadable_ones stray_on
   pub made : new.replies.made ≡ old.replies.made
   pub bytes : new.replies.bytes ≡ old.replies.bytes
 
-module _ {B K : Type 0} {books : B → List Receipt → Type 0} {has : K → List Receipt → Type 0} {conn channel : ℕ} {before : List FramingEvent} {text : List ℕ} {b b' : B} where
+module _ {B K : Type 0} {books : B → List Receipt → Type 0} {knows : B → ℕ → List ℕ → Type 0} {has : K → List Receipt → Type 0} {conn channel : ℕ} {before : List FramingEvent} {text : List ℕ} {b b' : B} where
   -- a dialogue that shows the same stands where the other one did
-  pub same_dialogue : (old new : Progress K) → Stands books has conn channel before text b old → Adds books has [] b b' old.report.receipts new.report.receipts
-      → Changes old new 0 0 0 → Stands books has conn channel before text b' new
+  pub same_dialogue : (old new : Progress K) → Stands books knows has conn channel before text b old → Adds books knows has [] b b' old.report.receipts new.report.receipts
+      → Changes old new 0 0 0 → Stands books knows has conn channel before text b' new
   same_dialogue old new s adds same =
       record {
         receipts = s.receipts ++ [];
         booked = adds.booked s.receipts s.booked;
         kept = adds.kept s.receipts s.kept;
         answers = s.answers;
+        known = known_all s.answers (adds.known channel) s.known;
         tells = record {
           messages = s.tells.messages;
           booked = ap (map message_by) (append-nil s.receipts) ∙ s.tells.booked;
@@ -66,15 +67,16 @@ module _ {B K : Type 0} {books : B → List Receipt → Type 0} {has : K → Lis
       }
 
   -- an event that brings no message
-  passed : (e : FramingEvent) (old new : Progress K) → Stands books has conn channel before text b old → Adds books has [] b b' old.report.receipts new.report.receipts
+  passed : (e : FramingEvent) (old new : Progress K) → Stands books knows has conn channel before text b old → Adds books knows has [] b b' old.report.receipts new.report.receipts
       → message_of e ≡ None → Changes old new (cond (is_unreadable_block e) 1 0) (cond (is_stray_block e) 1 0) (cond (is_break e) 1 0)
-      → Stands books has conn channel (before ++ e ∷ []) text b' new
+      → Stands books knows has conn channel (before ++ e ∷ []) text b' new
   passed e old new s adds none counted =
       record {
         receipts = s.receipts ++ [];
         booked = adds.booked s.receipts s.booked;
         kept = adds.kept s.receipts s.kept;
         answers = s.answers;
+        known = known_all s.answers (adds.known channel) s.known;
         tells = record {
           messages = filter_map-append message_of before (e ∷ []) ∙ ap (λ o. filter_map message_of before ++ cons_option o []) none ∙ append-nil (filter_map message_of before) ∙ s.tells.messages;
           booked = ap (map message_by) (append-nil s.receipts) ∙ s.tells.booked;
@@ -98,26 +100,26 @@ none_if false is = refl
 no_message_of : (raw : List ℕ) → is_bookable raw ≡ false → message_of (block raw) ≡ None
 no_message_of raw is = rw is
 
-module _ {B K : Type 0} {books : B → List Receipt → Type 0} {has : K → List Receipt → Type 0} {conn channel : ℕ} {before : List FramingEvent} {text : List ℕ} {b b' : B} where
+module _ {B K : Type 0} {books : B → List Receipt → Type 0} {knows : B → ℕ → List ℕ → Type 0} {has : K → List Receipt → Type 0} {conn channel : ℕ} {before : List FramingEvent} {text : List ℕ} {b b' : B} where
   -- a block that is no message
-  pub passed_unreadable : (raw : List ℕ) (old new : Progress K) → Stands books has conn channel before text b old → Adds books has [] b b' old.report.receipts new.report.receipts
-      → IsNoMessage raw → Changes old new 1 0 0 → Stands books has conn channel (before ++ block raw ∷ []) text b' new
+  pub passed_unreadable : (raw : List ℕ) (old new : Progress K) → Stands books knows has conn channel before text b old → Adds books knows has [] b b' old.report.receipts new.report.receipts
+      → IsNoMessage raw → Changes old new 1 0 0 → Stands books knows has conn channel (before ++ block raw ∷ []) text b' new
   passed_unreadable raw old new s adds is counted =
       let un = one_if (is_unreadable_block (block raw)) is.unreadable in
       let st = none_if (is_stray_block (block raw)) is.stray in
       passed (block raw) old new s adds (no_message_of raw is.bookable) (rw (un, st) counted)
 
   -- a block that is an acknowledgment
-  pub passed_stray : (raw : List ℕ) (old new : Progress K) → Stands books has conn channel before text b old → Adds books has [] b b' old.report.receipts new.report.receipts
-      → IsStrayText raw → is_bookable raw ≡ false → Changes old new 0 1 0 → Stands books has conn channel (before ++ block raw ∷ []) text b' new
+  pub passed_stray : (raw : List ℕ) (old new : Progress K) → Stands books knows has conn channel before text b old → Adds books knows has [] b b' old.report.receipts new.report.receipts
+      → IsStrayText raw → is_bookable raw ≡ false → Changes old new 0 1 0 → Stands books knows has conn channel (before ++ block raw ∷ []) text b' new
   passed_stray raw old new s adds is unbookable counted =
       let un = none_if (is_unreadable_block (block raw)) is.unreadable in
       let st = one_if (is_stray_block (block raw)) is.stray in
       passed (block raw) old new s adds (no_message_of raw unbookable) (rw (un, st) counted)
 
   -- a broken block
-  pub passed_break : (cause : Break) (old new : Progress K) → Stands books has conn channel before text b old → Adds books has [] b b' old.report.receipts new.report.receipts
-      → Changes old new 0 0 1 → Stands books has conn channel (before ++ broken cause ∷ []) text b' new
+  pub passed_break : (cause : Break) (old new : Progress K) → Stands books knows has conn channel before text b old → Adds books knows has [] b b' old.report.receipts new.report.receipts
+      → Changes old new 0 0 1 → Stands books knows has conn channel (before ++ broken cause ∷ []) text b' new
   passed_break cause old new s adds counted = passed (broken cause) old new s adds refl counted
 
 pub dues_one : (answers : List Answer) (a : Answer) → dues (answers ++ a ∷ []) ≡ dues answers ++ dues_of a
@@ -175,18 +177,19 @@ tells_more {K} {conn} {channel} {before} {answers} {receipts} {added} a old new 
       broken_ones = omega (arith, more.breaks, s.broken_ones, count_one is_break before (block a.raw));
     }
 
-module _ {B K : Type 0} {books : B → List Receipt → Type 0} {has : K → List Receipt → Type 0} {conn channel : ℕ} {before : List FramingEvent} {text : List ℕ} {b b' : B} {added : List Receipt}
-    (a : Answer) (old new : Progress K) (s : Stands books has conn channel before text b old) (adds : Adds books has added b b' old.report.receipts new.report.receipts)
-    (more : TellsOf conn channel a added old.report new.report) where
+module _ {B K : Type 0} {books : B → List Receipt → Type 0} {knows : B → ℕ → List ℕ → Type 0} {has : K → List Receipt → Type 0} {conn channel : ℕ} {before : List FramingEvent} {text : List ℕ} {b b' : B} {added : List Receipt}
+    (a : Answer) (old new : Progress K) (s : Stands books knows has conn channel before text b old) (adds : Adds books knows has added b b' old.report.receipts new.report.receipts)
+    (more : TellsOf conn channel a added old.report new.report) (known : IsKnownIfRepeated (knows b' channel) a) where
   -- a message that was answered
   pub answered : new.replies.made ≡ old.replies.made + length (dues_of a) → new.replies.bytes ≡ old.replies.bytes ++ numbered conn (old.replies.made + 1) (dues_of a)
-      → Stands books has conn channel (before ++ block a.raw ∷ []) text b' new
+      → Stands books knows has conn channel (before ++ block a.raw ∷ []) text b' new
   answered made grows =
       record {
         receipts = s.receipts ++ added;
         booked = adds.booked s.receipts s.booked;
         kept = adds.kept s.receipts s.kept;
         answers = s.answers ++ a ∷ [];
+        known = known_more _ s.answers a (known_all s.answers (adds.known channel) s.known) known;
         tells = tells_more a old.report new.report s.tells more;
         replies =
             replies_more conn old.replies.made s.answers a text old.replies.bytes (numbered conn (old.replies.made + 1) (dues_of a)) [] s.replies s.made (sym (append-nil _))
@@ -196,7 +199,7 @@ module _ {B K : Type 0} {books : B → List Receipt → Type 0} {has : K → Lis
 
   -- one whose replies are not all made
   pub answered_in_part : AppendsInPart conn (dues_of a) old.replies new.replies
-      → StandsAmid books has conn channel before (block a.raw ∷ []) text b' new
+      → StandsAmid books knows has conn channel before (block a.raw ∷ []) text b' new
   answered_in_part part =
       let whole : numbered conn (old.replies.made + 1) (dues_of a) ≡ numbered conn (old.replies.made + 1) (take part.count (dues_of a)) ++ numbered conn ((old.replies.made + 1) + length (take part.count (dues_of a))) (drop part.count (dues_of a)) =
       ap (numbered conn (old.replies.made + 1)) (sym (take-append-drop part.count (dues_of a))) ∙ numbered-append conn (old.replies.made + 1) (take part.count (dues_of a)) (drop part.count (dues_of a)) in
@@ -208,6 +211,7 @@ module _ {B K : Type 0} {books : B → List Receipt → Type 0} {has : K → Lis
         booked = adds.booked s.receipts s.booked;
         kept = adds.kept s.receipts s.kept;
         answers = s.answers ++ a ∷ [];
+        known = known_more _ s.answers a (known_all s.answers (adds.known channel) s.known) known;
         tells = tells_more a old.report new.report s.tells more;
         missing = numbered conn ((old.replies.made + 1) + length (take part.count (dues_of a))) (drop part.count (dues_of a));
         replies =
@@ -236,13 +240,13 @@ one_message conn channel raw moment b old new is counts =
       breaks = counts.breaks;
     }
 
-module _ {B K : Type 0} {books : B → List Receipt → Type 0} {has : K → List Receipt → Type 0} {conn channel : ℕ} {before : List FramingEvent} {text : List ℕ} {b b' : B}
-    (raw : List ℕ) (moment : ℕ) (old new : Progress K) (s : Stands books has conn channel before text b old) where
+module _ {B K : Type 0} {books : B → List Receipt → Type 0} {knows : B → ℕ → List ℕ → Type 0} {has : K → List Receipt → Type 0} {conn channel : ℕ} {before : List FramingEvent} {text : List ℕ} {b b' : B}
+    (raw : List ℕ) (moment : ℕ) (old new : Progress K) (s : Stands books knows has conn channel before text b old) where
   -- a block that was answered
-  pub block_answered : (o : BlockOutcome) → IsOutcome conn channel raw o → Adds books has (receipts_in o) b b' old.report.receipts new.report.receipts → Counts o old.report new.report
+  pub block_answered : (o : BlockOutcome) → IsOutcome conn channel raw o → Adds books knows has (receipts_in o) b b' old.report.receipts new.report.receipts → Counts o old.report new.report → KnowsRepeat (knows b' channel raw) o
       → new.replies.made ≡ old.replies.made + length (dues_in raw moment o) → new.replies.bytes ≡ old.replies.bytes ++ numbered conn (old.replies.made + 1) (dues_in raw moment o)
-      → Stands books has conn channel (before ++ block raw ∷ []) text b' new
-  block_answered Unreadable is adds counts made bytes =
+      → Stands books knows has conn channel (before ++ block raw ∷ []) text b' new
+  block_answered Unreadable is adds counts known made bytes =
       passed_unreadable raw old new s adds (unreadable_text raw is) (record {
         unbooked = omega (arith, counts.unbooked);
         unreadable = counts.unreadable;
@@ -251,7 +255,7 @@ module _ {B K : Type 0} {books : B → List Receipt → Type 0} {has : K → Lis
         made = omega (arith, made);
         bytes = bytes ∙ append-nil _;
       })
-  block_answered Stray is adds counts made bytes =
+  block_answered Stray is adds counts repeat made bytes =
       let known = stray_known raw is in
       passed_stray raw old new s adds known.0 known.1 (record {
         unbooked = omega (arith, counts.unbooked);
@@ -261,17 +265,17 @@ module _ {B K : Type 0} {books : B → List Receipt → Type 0} {has : K → Lis
         made = omega (arith, made);
         bytes = bytes ∙ append-nil _;
       })
-  block_answered (Message m) is adds counts made bytes =
-      answered (answer_to raw m.outcome moment) old new s adds (one_message conn channel raw moment m old.report new.report is counts) made bytes
+  block_answered (Message m) is adds counts known made bytes =
+      answered (answer_to raw m.outcome moment) old new s adds (one_message conn channel raw moment m old.report new.report is counts) (known_told (knows b' channel) raw moment m.outcome known) made bytes
 
   -- one whose replies are not all made
-  pub block_answered_in_part : (o : BlockOutcome) → IsOutcome conn channel raw o → Adds books has (receipts_in o) b b' old.report.receipts new.report.receipts → Counts o old.report new.report
+  pub block_answered_in_part : (o : BlockOutcome) → IsOutcome conn channel raw o → Adds books knows has (receipts_in o) b b' old.report.receipts new.report.receipts → Counts o old.report new.report → KnowsRepeat (knows b' channel raw) o
       → is_whole o ≡ false → AppendsInPart conn (dues_in raw moment o) old.replies new.replies
-      → StandsAmid books has conn channel before (block raw ∷ []) text b' new
-  block_answered_in_part Unreadable is adds counts part front = cc
-  block_answered_in_part Stray is adds counts part front = cc
-  block_answered_in_part (Message m) is adds counts part front =
-      answered_in_part (answer_to raw m.outcome moment) old new s adds (one_message conn channel raw moment m old.report new.report is counts) front
+      → StandsAmid books knows has conn channel before (block raw ∷ []) text b' new
+  block_answered_in_part Unreadable is adds counts known part front = cc
+  block_answered_in_part Stray is adds counts known part front = cc
+  block_answered_in_part (Message m) is adds counts known part front =
+      answered_in_part (answer_to raw m.outcome moment) old new s adds (one_message conn channel raw moment m old.report new.report is counts) (known_told (knows b' channel) raw moment m.outcome known) front
 
 pub on_err_always : {T E : Type 0} {P : Type 0} (r : Result T E) → P → OnErr r P
 on_err_always (Ok x) p = tt
@@ -286,8 +290,8 @@ on_err_one (Ok x) f p = tt
 on_err_one (Err e) f p = f p
 
 -- nothing of these events was handled
-pub none_handled : {B K : Type 0} {books : B → List Receipt → Type 0} {has : K → List Receipt → Type 0} {conn channel : ℕ} {before events : List FramingEvent} {text : List ℕ} {b : B} {t : Progress K}
-    → Stands books has conn channel before text b t → StandsAmid books has conn channel before events text b t
+pub none_handled : {B K : Type 0} {books : B → List Receipt → Type 0} {knows : B → ℕ → List ℕ → Type 0} {has : K → List Receipt → Type 0} {conn channel : ℕ} {before events : List FramingEvent} {text : List ℕ} {b : B} {t : Progress K}
+    → Stands books knows has conn channel before text b t → StandsAmid books knows has conn channel before events text b t
 none_handled {B} {K} {books} {has} {conn} {channel} {before} {events} {text} {b} {t} s =
     record {
       handled = [];
@@ -297,6 +301,7 @@ none_handled {B} {K} {books} {has} {conn} {channel} {before} {events} {text} {b}
       booked = s.booked;
       kept = s.kept;
       answers = s.answers;
+      known = s.known;
       tells = rw append-nil s.tells;
       missing = [];
       replies = s.replies ∙ ap (λ l. text ++ l) (sym (append-nil t.replies.bytes));
@@ -307,15 +312,15 @@ pub from_bool : (old n : ℕ) (b c : Bool) → n ≡ bool_byte b → b ≡ c →
 from_bool old n true c h e = cc
 from_bool old n false c h e = cc
 
-module _ {B K : Type 0} {books : B → B → List Receipt → Type 0} {has : K → List Receipt → Type 0} {conn channel : ℕ} {b b' b'' : B} where
+module _ {B K : Type 0} {books : B → B → List Receipt → Type 0} {knows : B → ℕ → List ℕ → Type 0} {has : K → List Receipt → Type 0} {conn channel : ℕ} {b b' b'' : B} where
   -- one more event, and then those that are left
-  pub handled_more : {handled : List FramingEvent} {e : FramingEvent} {first old new : Progress K} → HandlesAll books has conn channel handled b b' first old → HandlesAll books has conn channel (e ∷ []) b' b'' old new
-      → HandlesAll books has conn channel (handled ++ e ∷ []) b b'' first new
+  pub handled_more : {handled : List FramingEvent} {e : FramingEvent} {first old new : Progress K} → HandlesAll books knows has conn channel handled b b' first old → HandlesAll books knows has conn channel (e ∷ []) b' b'' old new
+      → HandlesAll books knows has conn channel (handled ++ e ∷ []) b b'' first new
   handled_more {handled} {e} all one from before text s =
       rw (sym (append_assoc before handled (e ∷ []))) (one from (before ++ handled) text (all from before text s))
 
-  pub handled_front : {handled left : List FramingEvent} {first old new : Progress K} → HandlesAll books has conn channel handled b b' first old → HandlesFront books has conn channel left b' b'' old new
-      → HandlesFront books has conn channel (handled ++ left) b b'' first new
+  pub handled_front : {handled left : List FramingEvent} {first old new : Progress K} → HandlesAll books knows has conn channel handled b b' first old → HandlesFront books knows has conn channel left b' b'' old new
+      → HandlesFront books knows has conn channel (handled ++ left) b b'' first new
   handled_front {handled} {left} all front from before text s =
       let f = front from (before ++ handled) text (all from before text s) in
       record {
@@ -326,14 +331,15 @@ module _ {B K : Type 0} {books : B → B → List Receipt → Type 0} {has : K �
         booked = f.booked;
         kept = f.kept;
         answers = f.answers;
+        known = f.known;
         tells = rw (sym (append_assoc before handled f.handled)) f.tells;
         missing = f.missing;
         replies = f.replies;
       }
 
-module _ {B K : Type 0} {books : B → B → List Receipt → Type 0} {has : K → List Receipt → Type 0} {conn channel : ℕ} {b b' : B} where
+module _ {B K : Type 0} {books : B → B → List Receipt → Type 0} {knows : B → ℕ → List ℕ → Type 0} {has : K → List Receipt → Type 0} {conn channel : ℕ} {b b' : B} where
   -- the same where more events are left
-  pub front_of_more : {some all : List FramingEvent} {old new : Progress K} (more : List FramingEvent) → HandlesFront books has conn channel some b b' old new → all ≡ some ++ more → HandlesFront books has conn channel all b b' old new
+  pub front_of_more : {some all : List FramingEvent} {old new : Progress K} (more : List FramingEvent) → HandlesFront books knows has conn channel some b b' old new → all ≡ some ++ more → HandlesFront books knows has conn channel all b b' old new
   front_of_more {some} {all} more front is from before text s =
       let f = front from before text s in
       record {
@@ -344,13 +350,14 @@ module _ {B K : Type 0} {books : B → B → List Receipt → Type 0} {has : K �
         booked = f.booked;
         kept = f.kept;
         answers = f.answers;
+        known = f.known;
         tells = f.tells;
         missing = f.missing;
         replies = f.replies;
       }
 
   -- where handling stops between two events
-  pub stop_between : {handled all : List FramingEvent} {first old : Progress K} (left : List FramingEvent) → HandlesAll books has conn channel handled b b' first old → all ≡ handled ++ left → HandlesFront books has conn channel all b b' first old
+  pub stop_between : {handled all : List FramingEvent} {first old : Progress K} (left : List FramingEvent) → HandlesAll books knows has conn channel handled b b' first old → all ≡ handled ++ left → HandlesFront books knows has conn channel all b b' first old
   stop_between {handled} left all_handled is from before text s =
       let t = all_handled from before text s in
       record {
@@ -361,15 +368,16 @@ module _ {B K : Type 0} {books : B → B → List Receipt → Type 0} {has : K �
         booked = t.booked;
         kept = t.kept;
         answers = t.answers;
+        known = t.known;
         tells = t.tells;
         missing = [];
         replies = t.replies ∙ ap (λ l. text ++ l) (sym (append-nil _));
       }
 
-module _ {B K : Type 0} (books : B → B → List Receipt → Type 0) (has : K → List Receipt → Type 0) {conn channel : ℕ} {b b' : B} where
+module _ {B K : Type 0} (books : B → B → List Receipt → Type 0) (knows : B → ℕ → List ℕ → Type 0) (has : K → List Receipt → Type 0) {conn channel : ℕ} {b b' : B} where
   -- handled in whole or in part
-  pub either_way : {T E : Type 0} {events : List FramingEvent} {old new : Progress K} (r : Result T E) → OnOk r (HandlesAll books has conn channel events b b' old new) → OnErr r (HandlesFront books has conn channel events b b' old new)
-      → HandlesFront books has conn channel events b b' old new
+  pub either_way : {T E : Type 0} {events : List FramingEvent} {old new : Progress K} (r : Result T E) → OnOk r (HandlesAll books knows has conn channel events b b' old new) → OnErr r (HandlesFront books knows has conn channel events b b' old new)
+      → HandlesFront books knows has conn channel events b b' old new
   either_way {T} {E} {events} (Ok x) all front = stop_between [] all (sym (append-nil events))
   either_way (Err e) all front = front
 

@@ -1,14 +1,16 @@
 -- The arrivals at a seat of a shared book, one call after another, and what they add to the book's log.
-use Rattle.std.specs.Prelude.{◌≡◌, List, [], ◌∷◌, ◌++◌, map, ℕ, Ok, Err}
+use Rattle.std.specs.Prelude.{◌≡◌, ◌≤◌, Some, List, [], ◌∷◌, ◌++◌, map, ℕ, Ok, Err}
 use mathlib.Core.List.{IsPrefix}
 use Rattle.judge_core.specs.Judging.{Judgement}
-use Rattle.event_log.specs.History.{History}
+use Rattle.event_log.specs.History.{History, next_place}
+use Rattle.book_core.specs.Receiving.{repeat_of}
 use Rattle.book_core.specs.declared.receipt.NotBooked.{NotBooked}
 use Rattle.book_core.specs.declared.receipt.Receipt.{Receipt}
 use Rattle.ghost_log.specs.Seats.{entries_of}
 use Rattle.book_lock.specs.declared.log_entry.LogEntry.{LogEntry}
 use Rattle.book_lock.specs.declared.log_entry.LogEntry.TheVariants as log_entry
-use Rattle.book_lock.specs.Log.{Arrives, IsLegalLog, Looks, SeatView}
+use Rattle.book_lock.specs.Durable.{IsDurableBelow}
+use Rattle.book_lock.specs.Log.{Arrives, IsLegalLog, Log, Looks, SeatView, after_log}
 use Rattle.conn_core.specs.Booking.{arrival_by}
 
 -- the log's entry of the arrival that a receipt is of
@@ -43,3 +45,21 @@ pub record BooksInLog (opening : History) (old new : SeatView) (receipts : List 
   pub seen : IsPrefix old.seen new.seen
   pub legal : IsLegalLog opening old.seen → IsLegalLog opening new.seen
   pub in_turn : ArrivesInTurn opening old new receipts
+
+-- ---- repeats that are not booked
+
+-- A message of these bytes on this channel repeats one that the book had at a moment that a seat has seen: its key (the channel
+-- and MSH-10) was known with these very bytes, accepted or filtered.
+pub record IsKnownIn (opening : History) (seen : Log) (channel : ℕ) (raw : List ℕ) : Type 0 where
+  pub before : Log
+  pub since : Log
+  pub is_seen : seen ≡ before ++ since
+  pub first : ℕ
+  pub repeats : repeat_of (after_log opening before) channel raw ≡ Some first
+
+-- The same, and all that the book had at that moment is durable, by what the seat has seen since.
+pub record IsDurablyKnown (opening : History) (seen : Log) (channel : ℕ) (raw : List ℕ) : Type 0 where
+  pub known : IsKnownIn opening seen channel raw
+  pub below : ℕ
+  pub behind : next_place (after_log opening known.before) ≤ below
+  pub durable : IsDurableBelow opening seen below

@@ -12,7 +12,7 @@ use crate::report::{ServeEnd, ServeReport};
 use crate::session::serve_within;
 use book_core::{BookRows, NotBooked, Receipt};
 use book_lock::{Desk, Shared, Sharing};
-use conn_core::{Booking, ConnectionId, NotPersisted};
+use conn_core::{Booking, ConnectionId, NotPersisted, Unbooked};
 use fixed_numbers::TURNS_MAX;
 use judge_core::Judged;
 use log::Log;
@@ -67,23 +67,34 @@ impl<'a, A: Sharing, S: BookRows, H: Wait + Log> Booking for AtDesk<'a, A, S, H>
 
     ghost outcomes = { λ _ _ _. ⊤ };
 
+    /// Each message that isn't booked is refused.
+    ghost knows = { λ _ _ _. ⊥ };
+
     /// The book ends with its process.
     ghost survives = { λ _. ⊤ };
+
+    ghost outlives = { λ _ _ _. ⊤ };
 
     fn plan(&mut self) -> Result<Arc<Plan>, AllocError> {
         self.shared.plan_at(self.rt, self.desk)
     }
 
-    fn arrive(&mut self, conn: u32, judged: &Judged) -> Result<Receipt, NotBooked> {
+    fn arrive(&mut self, conn: u32, judged: &Judged) -> Result<Receipt, Unbooked> {
         let outcome = self.shared.arrive(self.rt, self.desk, conn, judged);
         self.log_outcome(conn, judged, &outcome);
-        outcome
+        match outcome {
+            Ok(receipt) => Ok(receipt),
+            Err(refusal) => Err(Unbooked::Refused(refusal)),
+        }
     }
 
-    fn arrive_judged(&mut self, conn: u32, judged: &Judged) -> Result<Receipt, NotBooked> {
+    fn arrive_judged(&mut self, conn: u32, judged: &Judged) -> Result<Receipt, Unbooked> {
         let outcome = self.shared.arrive_judged(self.rt, self.desk, conn, judged);
         self.log_outcome(conn, judged, &outcome);
-        outcome
+        match outcome {
+            Ok(receipt) => Ok(receipt),
+            Err(refusal) => Err(Unbooked::Refused(refusal)),
+        }
     }
 
     fn persist(&mut self) -> Result<(), NotPersisted> {
@@ -109,6 +120,8 @@ impl<'a, A: Sharing, S: BookRows, H: Wait + Log> Booking for AtDesk<'a, A, S, H>
     ghost same_channels = { λ _ _ _ _. refl };
 
     ghost same_outcomes = { λ _ _ _ _ _ may. may };
+
+    ghost still_knows = { λ _ _ _ _ _ _ known. known };
 }
 
 /// Serves a connection to its reader's end, or to a fault, or for [`TURNS_MAX`] reads or events, as connection `conn` of a
@@ -128,8 +141,8 @@ pub fn serve<A: Sharing, S: BookRows, R: Read, W: Write, C: Clock, H: Wait + Log
 ) -> ServeReport
     requires channel { channel < A.channels }
 
-    // The messages read, their answers, and what was written.
-    ensures served { Serves conn channel (R.remaining reader.old.inner) (R.remaining reader.new.inner)
+    // The messages read, their answers, and what was written. None is answered as a repeat without being booked.
+    ensures served { Serves (λ _. ⊥) conn channel (R.remaining reader.old.inner) (R.remaining reader.new.inner)
         (W.contents writer.old.inner) (W.contents writer.new.inner) result.receipts.items result }
 
     // What the desk added to the one history of the book is the arrivals of these receipts, in their order.

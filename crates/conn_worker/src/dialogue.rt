@@ -56,9 +56,9 @@ impl<K: ReceiptSink> Progress<K> {
         requires data { IsBlockData raw.items }
         requires fits { Fits self.old }
         requires few { self.old.events ≤ TURNS_MAX }
-        ensures ok { OnOk result (HandlesAll B.books K.has line.now.conn line.now.channel (block raw.items ∷ [])
+        ensures ok { OnOk result (HandlesAll B.books B.knows K.has line.now.conn line.now.channel (block raw.items ∷ [])
             book.old book.new self.old self.new) }
-        ensures err { OnErr result (HandlesFront B.books K.has line.now.conn line.now.channel (block raw.items ∷ [])
+        ensures err { OnErr result (HandlesFront B.books B.knows K.has line.now.conn line.now.channel (block raw.items ∷ [])
             book.old book.new self.old self.new) }
         ensures channels { B.channels book.new ≡ B.channels book.old }
         ensures made { OnOk result (self.new.replies.made ≤ self.old.replies.made + 2) }
@@ -87,9 +87,9 @@ impl<K: ReceiptSink> Progress<K> {
         requires data { HoldsData (event_of event) }
         requires fits { Fits self.old }
         requires few { self.old.events < TURNS_MAX }
-        ensures ok { OnOk result (HandlesAll B.books K.has line.now.conn line.now.channel (event_of event ∷ [])
+        ensures ok { OnOk result (HandlesAll B.books B.knows K.has line.now.conn line.now.channel (event_of event ∷ [])
             book.old book.new self.old self.new) }
-        ensures err { OnErr result (HandlesFront B.books K.has line.now.conn line.now.channel (event_of event ∷ [])
+        ensures err { OnErr result (HandlesFront B.books B.knows K.has line.now.conn line.now.channel (event_of event ∷ [])
             book.old book.new self.old self.new) }
         ensures channels { B.channels book.new ≡ B.channels book.old }
         ensures fits { OnOk result (Fits self.new) }
@@ -124,12 +124,12 @@ impl<K: ReceiptSink> Progress<K> {
         requires fits { Fits self.old }
         requires few { self.old.events ≤ events_max }
         requires bound { events_max ≤ TURNS_MAX }
-        ensures ok { OnOk result (HandlesAll B.books K.has line.now.conn line.now.channel framer.old.to_come
+        ensures ok { OnOk result (HandlesAll B.books B.knows K.has line.now.conn line.now.channel framer.old.to_come
             book.old book.new self.old self.new) }
         ensures left { OnOk result (framer.new ≡ record framer.old { to_come = [] }) }
         ensures fits { OnOk result (Fits self.new) }
         ensures few { OnOk result (self.new.events ≤ events_max) }
-        ensures err { OnErr result (HandlesFront B.books K.has line.now.conn line.now.channel framer.old.to_come
+        ensures err { OnErr result (HandlesFront B.books B.knows K.has line.now.conn line.now.channel framer.old.to_come
             book.old book.new self.old self.new) }
         ensures stop { IfErr result (λ end. StopsHandling end) }
         ensures bound { IfErr result (λ end. end ≡ ServeEnd.TurnBound → self.new.events ≡ events_max) }

@@ -17,6 +17,8 @@ pub use clock::{Clock, Running, Steady, Still, nearest};
 pub use counted::Counted;
 pub use fixed_numbers::TURNS_MAX;
 pub use keeping::{DiscardReceipts, ReceiptSink};
-pub use lines::{log_arrival, log_break, log_cut, log_end, log_fill, log_passed_over};
+pub use lines::{
+    log_arrival, log_break, log_cut, log_end, log_fill, log_passed_over, log_repeat, why_ended,
+};
 pub use report::{ServeEnd, ServeReport};
 pub use session::serve_within;

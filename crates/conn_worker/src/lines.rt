@@ -170,6 +170,12 @@ pub fn log_arrival<H: Log>(
     }
 }
 
+/// Logs a message that is answered as a repeat without being booked, since the book is full.
+pub fn log_repeat<H: Log>(rt: &H, conn: u32, judged: &Judged) {
+    let text = "message repeated, and not booked again: the book is full";
+    log_message(rt, Level::Info, conn, judged, text);
+}
+
 /// Logs a message that is not booked since its connection was reset before.
 pub fn log_cut<H: Log>(rt: &H, conn: u32, judged: &Judged) {
     let text = "message dropped: its connection was reset before it was booked";
@@ -225,9 +231,11 @@ pub fn log_fill<H: Log>(rt: &H, gauge: Gauge) {
     }
 }
 
-/// How serious it is that a connection ended so, and why it did, in words.
-fn why_ended(end: ServeEnd) -> (Level, &'static str) {
+/// How serious it is that a connection ended so, and why it did, in words. One that was read to its end ended since the service stops,
+/// where it does.
+pub fn why_ended(end: ServeEnd, stops: bool) -> (Level, &'static str) {
     match end {
+        ServeEnd::End if stops => (Level::Info, "the service stops"),
         ServeEnd::End => (Level::Info, "closed by the sender"),
         ServeEnd::ReadFault => (Level::Info, "reading from the sender failed"),
         ServeEnd::WriteFault => (Level::Info, "writing to the sender failed"),
@@ -250,10 +258,7 @@ pub fn log_end<H: Log, K>(
     report: &ServeReport<K>,
     stops: bool,
 ) {
-    let (level, why) = match report.end {
-        ServeEnd::End if stops => (Level::Info, "the service stops"),
-        end => why_ended(end),
-    };
+    let (level, why) = why_ended(report.end, stops);
     let ServeReport {
         unbooked,
         unreadable,

@@ -49,7 +49,8 @@ pub struct ServeReport<K = Vec<Receipt>> {
     pub strays: u64,
     /// How many blocks were broken.
     pub breaks: u64,
-    /// How many messages couldn't be booked. They were acknowledged as errors, where an acknowledgment was due.
+    /// How many messages were not booked. They were acknowledged as errors, or as the repeats that they are, where an
+    /// acknowledgment was due.
     pub unbooked: u64,
     pub end: ServeEnd,
 }

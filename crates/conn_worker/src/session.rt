@@ -63,15 +63,15 @@ impl<K: ReceiptSink> Session<K> {
         requires channel { line.now.channel < B.channels book.old }
         ensures ready { OnOk result (IsReady self.new) }
         ensures ok { OnOk result ((first : B) (to_read held : Option (List ℕ)) →
-            SoFar (B.books first) K.has line.now.conn line.now.channel to_read (R.remaining reader.old.inner)
+            SoFar (B.books first) B.knows K.has line.now.conn line.now.channel to_read (R.remaining reader.old.inner)
             held (W.contents writer.old.inner) book.old self.old →
-            SoFar (B.books first) K.has line.now.conn line.now.channel to_read (R.remaining reader.new.inner)
+            SoFar (B.books first) B.knows K.has line.now.conn line.now.channel to_read (R.remaining reader.new.inner)
             held (W.contents writer.new.inner) book.new self.new) }
         ensures progress { OnOk result (self.new.turns < self.old.turns) }
         ensures err { IfErr result (λ end. (first : B) (to_read held : Option (List ℕ)) →
-            SoFar (B.books first) K.has line.now.conn line.now.channel to_read (R.remaining reader.old.inner)
+            SoFar (B.books first) B.knows K.has line.now.conn line.now.channel to_read (R.remaining reader.old.inner)
             held (W.contents writer.old.inner) book.old self.old →
-            ServesAndBooks (B.books first book.new) K.has line.now.conn line.now.channel to_read (R.remaining reader.new.inner)
+            ServesAndBooks (B.books first book.new) (B.knows book.new line.now.channel) K.has line.now.conn line.now.channel to_read (R.remaining reader.new.inner)
             held (W.contents writer.new.inner) (record self.new.dialogue.report { end = end })) }
         ensures channels { B.channels book.new ≡ B.channels book.old }
         ensures reader { reader.old.faults ≤ reader.new.faults }
@@ -114,7 +114,7 @@ impl<K: ReceiptSink> Session<K> {
         requires ready { IsReady self.old }
         requires channel { line.now.channel < B.channels book.old }
         requires fresh { IsFresh K.has self.old }
-        ensures served { ServesAndBooks (B.books book.old book.new) K.has line.now.conn line.now.channel
+        ensures served { ServesAndBooks (B.books book.old book.new) (B.knows book.new line.now.channel) K.has line.now.conn line.now.channel
             (R.remaining reader.old.inner) (R.remaining reader.new.inner) (W.contents writer.old.inner) (W.contents writer.new.inner)
             (record self.new.dialogue.report { end = result }) }
         ensures read_fault { result ≡ ServeEnd.ReadFault → Rose reader.old.faults reader.new.faults }
@@ -147,7 +147,7 @@ pub fn serve_within<B: Booking, K: ReceiptSink, R: Read, W: Write, C: Clock>(
 
     // The messages read, their answers, and what was written. The receipts that were handed in are those of the
     // messages that were booked here.
-    ensures served { ServesAndBooks (B.books book.old book.new) K.has line.now.conn line.now.channel
+    ensures served { ServesAndBooks (B.books book.old book.new) (B.knows book.new line.now.channel) K.has line.now.conn line.now.channel
         (R.remaining reader.old.inner) (R.remaining reader.new.inner) (W.contents writer.old.inner) (W.contents writer.new.inner) result }
 
     // A fault is reported only where the device failed.

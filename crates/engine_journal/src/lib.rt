@@ -15,5 +15,6 @@ mod repeats;
 mod text;
 
 pub use journal::Journal;
-pub use outbox::{LINES_MAX, Outbox};
+pub use outbox::{LINES_MAX, Next, Outbox, Rank};
 pub use repeats::{KINDS_MAX, QUIET_SECONDS, Repeats};
+pub use text::{Line, Part};

@@ -25,7 +25,7 @@ const NAP: u64 = 250;
 
 /// What a line is worth where not all of them can be kept.
 #[derive(Clone, Copy, Debug, PartialEq, Eq)]
-pub(crate) enum Rank {
+pub enum Rank {
     /// It is of level info.
     Info,
     /// It counts repeated records.
@@ -65,7 +65,7 @@ pub struct Outbox {
 
 /// What is to be done next.
 #[derive(Clone, Copy)]
-enum Next {
+pub enum Next {
     /// A line is to be written, after the number of those that were dropped before it.
     Write(Line, u64),
     /// Nothing waits at this time.
@@ -191,7 +191,7 @@ impl Outbox {
     }
 
     /// Adds a line. Where too many wait already, a line that is worth less is dropped, or this one, and counted.
-    pub(crate) fn put<H: Wait>(&self, rt: &H, rank: Rank, line: Line) {
+    pub fn put<H: Wait>(&self, rt: &H, rank: Rank, line: Line) {
         self.waiting.lock(rt).put(rank, line);
         self.bell.notify_one();
     }
@@ -203,7 +203,7 @@ impl Outbox {
     }
 
     /// What is to be done next, after a short while at most.
-    fn next<H: Wait + Clock>(&self, rt: &H) -> Next {
+    pub fn next<H: Wait + Clock>(&self, rt: &H) -> Next {
         let mut waiting = self.waiting.lock(rt);
         match waiting.next() {
             Next::Nothing => {
@@ -257,67 +257,5 @@ impl Outbox {
                 Next::End => return,
             }
         }
-    }
-}
-
-#[cfg(test)]
-mod tests {
-    use super::{LINES_MAX, Next, Outbox, Rank};
-    use crate::text::Line;
-    use std::alloc::AllocError;
-    use std::fmt::Write;
-
-    /// A line with a number.
-    fn numbered(number: usize) -> Line {
-        let mut line = Line::new();
-        let _ = write!(line, "{number}");
-        line
-    }
-
-    #[test]
-    fn a_line_without_room_is_counted(rt: HostRuntime) -> Result<(), AllocError> {
-        let outbox = Outbox::new(rt.alloc())?;
-        for number in 0..LINES_MAX + 3 {
-            outbox.put(&rt, Rank::Warning, numbered(number));
-        }
-        let Next::Write(first, dropped) = outbox.next(&rt) else {
-            panic!(rt; "nothing waits");
-        };
-        assert_eq!(rt; (first.as_str(), dropped), ("0", 3));
-        let Next::Write(second, dropped) = outbox.next(&rt) else {
-            panic!(rt; "nothing waits");
-        };
-        assert_eq!(rt; (second.as_str(), dropped), ("1", 0));
-        outbox.end(&rt);
-        for _ in 2..LINES_MAX {
-            let _line = outbox.next(&rt);
-        }
-        assert!(rt; matches!(outbox.next(&rt), Next::End));
-        Ok(())
-    }
-
-    #[test]
-    fn warnings_are_kept_before_others(rt: HostRuntime) -> Result<(), AllocError> {
-        let outbox = Outbox::new(rt.alloc())?;
-        for number in 0..LINES_MAX {
-            let rank = match number {
-                0 => Rank::Warning,
-                1 => Rank::Repeats,
-                _ => Rank::Info,
-            };
-            outbox.put(&rt, rank, numbered(number));
-        }
-        for number in LINES_MAX..2 * LINES_MAX {
-            outbox.put(&rt, Rank::Warning, numbered(number));
-        }
-        let Next::Write(first, dropped) = outbox.next(&rt) else {
-            panic!(rt; "nothing waits");
-        };
-        assert_eq!(rt; (first.as_str(), dropped), ("0", LINES_MAX as u64));
-        let Next::Write(second, _) = outbox.next(&rt) else {
-            panic!(rt; "nothing waits");
-        };
-        assert_eq!(rt; second.as_str(), "1024");
-        Ok(())
     }
 }

@@ -3,7 +3,7 @@ use Rattle.std.proofs.Common.{◌≡◌, ℕ, ◌+◌, ◌<◌, true, false, Lis
 use Rattle.std.specs.List.{cons_option}
 use Rattle.std.proofs.lemmas.List.{map-append}
 use Rattle.std.proofs.lemmas.List.Elements.{filter_map-append}
-use Rattle.book_core.specs.declared.receipt.NotBooked.{NotBooked}
+use Rattle.conn_core.specs.declared.booking.Unbooked.{Unbooked}
 use Rattle.event_log.specs.declared.entry.Told.{Told}
 use Rattle.event_log.specs.History.{History}
 use Rattle.mllp_frame.specs.Event.{FramingEvent}
@@ -81,7 +81,7 @@ module _ (conn now : ℕ) (handled : List FramingEvent) (h h' : History) (c c' :
       }
 
   -- a message that is answered
-  module _ (e : FramingEvent) (raw : List ℕ) (outcome : Result Told NotBooked) (brings : message_of e ≡ Some raw) (may : IsAnswered conn c.channel h' raw outcome) where
+  module _ (e : FramingEvent) (raw : List ℕ) (outcome : Result Told Unbooked) (brings : message_of e ≡ Some raw) (may : IsAnswered conn c.channel h' raw outcome) where
     abbrev one : Answer
     one = record { raw = raw; outcome = outcome; moment = now }
 

@@ -3,7 +3,7 @@ use Rattle.std.proofs.Common.{◌≡◌, ℕ, true, false, cond, ◌==◌, List,
 use Rattle.std.specs.List.{cons_option}
 use Rattle.std.proofs.lemmas.Bool.{ne_eqb}
 use Rattle.std.proofs.lemmas.List.Elements.{filter_map-append}
-use Rattle.book_core.specs.declared.receipt.NotBooked.{NotBooked}
+use Rattle.conn_core.specs.declared.booking.Unbooked.{Unbooked}
 use Rattle.event_log.specs.declared.entry.Entry.{Entry}
 use Rattle.event_log.specs.declared.entry.Entry.TheVariants.{Arrival}
 use Rattle.event_log.specs.declared.entry.Told.{Told}
@@ -20,7 +20,7 @@ use Rattle.engine_model.specs.Steps.{AreAnswered, IsNoArrival, IsAnswered, after
 
 -- ---- answers
 
-legal-answer : (conn channel : ℕ) (h : History) (raw : List ℕ) (outcome : Result Told NotBooked) → IsLegal h → IsAnswered conn channel h raw outcome → IsLegal (history_with conn channel h raw outcome)
+legal-answer : (conn channel : ℕ) (h : History) (raw : List ℕ) (outcome : Result Told Unbooked) → IsLegal h → IsAnswered conn channel h raw outcome → IsLegal (history_with conn channel h raw outcome)
 legal-answer conn channel h raw (Ok told) legal may = legal-followed_by h (Arrival conn channel raw told) legal may
 legal-answer conn channel h raw (Err refusal) legal may = legal
 
@@ -38,7 +38,7 @@ cons-split : {A : Type 0} (o : Option A) (xs : List A) → cons_option o [] ++ x
 cons-split None xs = refl
 cons-split (Some x) xs = refl
 
-own_one : (conn channel : ℕ) (h : History) (raw : List ℕ) (outcome : Result Told NotBooked) → arrivals_on conn (history_with conn channel h raw outcome) ≡ arrivals_on conn h ++ cons_option (booked_with conn channel raw outcome) []
+own_one : (conn channel : ℕ) (h : History) (raw : List ℕ) (outcome : Result Told Unbooked) → arrivals_on conn (history_with conn channel h raw outcome) ≡ arrivals_on conn h ++ cons_option (booked_with conn channel raw outcome) []
 own_one conn channel h raw (Ok told) =
     let same : (conn == conn) ≡ true = eq-eqb conn conn refl in
     let one : BookedMessage = record { conn = conn; channel = channel; raw = raw; told = told } in
@@ -54,7 +54,7 @@ arrivals-own conn channel h (a ∷ answers) =
     ∙ append_assoc (arrivals_on conn h) (cons_option (booked_with conn channel a.raw a.outcome) []) (booked conn channel answers)
     ∙ ap (λ l. arrivals_on conn h ++ l) (cons-split (booked_with conn channel a.raw a.outcome) (booked conn channel answers))
 
-other_one : (other conn channel : ℕ) (h : History) (raw : List ℕ) (outcome : Result Told NotBooked) → (conn ≡ other → ⊥) → arrivals_on other (history_with conn channel h raw outcome) ≡ arrivals_on other h
+other_one : (other conn channel : ℕ) (h : History) (raw : List ℕ) (outcome : Result Told Unbooked) → (conn ≡ other → ⊥) → arrivals_on other (history_with conn channel h raw outcome) ≡ arrivals_on other h
 other_one other conn channel h raw (Ok told) apart =
     let test : (conn == other) ≡ false = ne_eqb conn other apart in
     let one : BookedMessage = record { conn = conn; channel = channel; raw = raw; told = told } in

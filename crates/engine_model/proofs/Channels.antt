@@ -3,7 +3,7 @@ use Rattle.std.proofs.Common.{◌≡◌, ℕ, zero, suc, cond, List, [], ◌∷�
 use Rattle.std.specs.List.{AllByRecursion, cons_option, filter_map}
 use Rattle.std.specs.Option.{option_map, option_map_or}
 use Rattle.std.proofs.lemmas.Option.{same_Some, slice_get-map}
-use Rattle.book_core.specs.declared.receipt.NotBooked.{NotBooked}
+use Rattle.conn_core.specs.declared.booking.Unbooked.{Unbooked}
 use Rattle.event_log.specs.declared.entry.Entry.{Entry}
 use Rattle.event_log.specs.declared.entry.Entry.TheVariants.{Arrival, Take, Settle, Cancel, Deploy}
 use Rattle.event_log.specs.declared.entry.Told.{Told}
@@ -31,7 +31,7 @@ each-kept f P (z ∷ xs) (suc place) x y all got is = each-kept f P xs place x y
 abbrev IsOn : ℕ → BookedMessage → Type 0
 IsOn channel m = m.channel ≡ channel
 
-one-on : (conn channel : ℕ) (raw : List ℕ) (o : Result Told NotBooked) (ms : List BookedMessage) → AllByRecursion (IsOn channel) ms → AllByRecursion (IsOn channel) (cons_option (booked_with conn channel raw o) ms)
+one-on : (conn channel : ℕ) (raw : List ℕ) (o : Result Told Unbooked) (ms : List BookedMessage) → AllByRecursion (IsOn channel) ms → AllByRecursion (IsOn channel) (cons_option (booked_with conn channel raw o) ms)
 one-on conn channel raw (Ok told) ms all = (refl, all)
 one-on conn channel raw (Err refusal) ms all = all
 

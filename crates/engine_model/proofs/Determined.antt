@@ -2,7 +2,8 @@
 use Rattle.std.proofs.Common.{◌≡◌, ◌≢◌, ℕ, ◌+◌, List, [], ◌∷◌, ◌++◌, length, map, Result, Ok, Err, refl, sym, ap, ◌∙◌, subst, append_assoc}
 use Rattle.std.proofs.lemmas.List.{append_cancel_left}
 use Rattle.std.proofs.lemmas.Option.{same_Some}
-use Rattle.book_core.specs.declared.receipt.NotBooked.{NotBooked}
+use Rattle.conn_core.specs.declared.booking.Unbooked.{Unbooked}
+use Rattle.conn_core.specs.declared.booking.Unbooked.TheVariants.{Refused, Repeat}
 use Rattle.book_core.specs.declared.receipt.NotBooked.TheVariants.{NoMemory, Full, PlanChanged}
 use Rattle.event_log.specs.declared.entry.Told.{Told}
 use Rattle.event_log.specs.History.{History}
@@ -18,17 +19,20 @@ use Rattle.engine_model.specs.Steps.{AreAnswered, IsAnswered, ReadsOn, RepliesFr
 abbrev raws : List Answer → List (List ℕ)
 raws answers = map (λ (a : Answer). a.raw) answers
 
-outcome-same : (conn : ℕ) (h : History) (channel : ℕ) (raw : List ℕ) (o p : Result Told NotBooked) → IsAnswered conn channel h raw o → IsAnswered conn channel h raw p → o ≢ Err NoMemory → p ≢ Err NoMemory → o ≡ p
+outcome-same : (conn : ℕ) (h : History) (channel : ℕ) (raw : List ℕ) (o p : Result Told Unbooked) → IsAnswered conn channel h raw o → IsAnswered conn channel h raw p → o ≢ Err (Refused NoMemory) → p ≢ Err (Refused NoMemory) → o ≡ p
 outcome-same conn h channel raw (Ok s) (Ok t) one two some some' = let same : s ≡ t = same_Some s t (sym (arrival-told h conn channel raw s one.replied) ∙ arrival-told h conn channel raw t two.replied) in ap (λ t. Ok t) same
-outcome-same conn h channel raw (Ok s) (Err NoMemory) one two some some' = absurd (some' refl)
-outcome-same conn h channel raw (Ok s) (Err Full) one two some some' = let room = arrival-room h conn channel raw s one.replied in absurd cc
-outcome-same conn h channel raw (Ok s) (Err PlanChanged) one two some some' = absurd two
-outcome-same conn h channel raw (Err NoMemory) p one two some some' = absurd (some refl)
-outcome-same conn h channel raw (Err Full) (Ok t) one two some some' = let room = arrival-room h conn channel raw t two.replied in absurd cc
-outcome-same conn h channel raw (Err Full) (Err NoMemory) one two some some' = absurd (some' refl)
-outcome-same conn h channel raw (Err Full) (Err Full) one two some some' = refl
-outcome-same conn h channel raw (Err Full) (Err PlanChanged) one two some some' = absurd two
-outcome-same conn h channel raw (Err PlanChanged) p one two some some' = absurd one
+outcome-same conn h channel raw (Ok s) (Err (Refused NoMemory)) one two some some' = absurd (some' refl)
+outcome-same conn h channel raw (Ok s) (Err (Refused Full)) one two some some' = let room = arrival-room h conn channel raw s one.replied in absurd cc
+outcome-same conn h channel raw (Ok s) (Err (Refused PlanChanged)) one two some some' = absurd two
+outcome-same conn h channel raw (Ok s) (Err (Repeat place)) one two some some' = absurd two
+outcome-same conn h channel raw (Err (Refused NoMemory)) p one two some some' = absurd (some refl)
+outcome-same conn h channel raw (Err (Refused Full)) (Ok t) one two some some' = let room = arrival-room h conn channel raw t two.replied in absurd cc
+outcome-same conn h channel raw (Err (Refused Full)) (Err (Refused NoMemory)) one two some some' = absurd (some' refl)
+outcome-same conn h channel raw (Err (Refused Full)) (Err (Refused Full)) one two some some' = refl
+outcome-same conn h channel raw (Err (Refused Full)) (Err (Refused PlanChanged)) one two some some' = absurd two
+outcome-same conn h channel raw (Err (Refused Full)) (Err (Repeat place)) one two some some' = absurd two
+outcome-same conn h channel raw (Err (Repeat place)) p one two some some' = absurd one
+outcome-same conn h channel raw (Err (Refused PlanChanged)) p one two some some' = absurd one
 
 answer-same : (a b : Answer) → a.raw ≡ b.raw → a.outcome ≡ b.outcome → a.moment ≡ b.moment → a ≡ b
 answer-same a b one two three =

@@ -2,7 +2,8 @@
 use Rattle.std.proofs.Common.{◌≡◌, ℕ, ◌+◌, Bool, true, false, List, [], ◌∷◌, ◌++◌, length, map, take, drop, take-append-drop, None, Some, Result, Ok, Err, OnOk, OnErr, IfOk, IfErr, refl, sym, ap, ◌∙◌, subst, append_assoc, append-nil, length-append, arith}
 use Rattle.std.specs.Prelude.{slice_get}
 use Rattle.std.proofs.lemmas.List.{map-append}
-use Rattle.book_core.specs.declared.receipt.NotBooked.{NotBooked}
+use Rattle.conn_core.specs.declared.booking.Unbooked.{Unbooked}
+use Rattle.conn_core.specs.declared.booking.Unbooked.TheVariants.{Refused, Repeat}
 use Rattle.book_core.specs.declared.receipt.NotBooked.TheVariants.{NoMemory, Full, PlanChanged}
 use Rattle.book_core.specs.declared.receipt.Receipt.{Receipt}
 use Rattle.event_log.specs.declared.entry.Entry.TheVariants.{Arrival}
@@ -44,7 +45,7 @@ brings raw is = rw is refl
 next_made : (w : Transcript) → IsCounted w → w.replies.made + 1 ≡ 1 + length (dues (map answer_of w.answers.items))
 next_made w counted = let made : w.replies.made ≡ length (dues (map answer_of w.answers.items)) = counted.made in omega arith
 
-module _ (conn channel now : ℕ) (raw : List ℕ) (outcome : Result Told NotBooked) (h h' : History) (w w' : Transcript)
+module _ (conn channel now : ℕ) (raw : List ℕ) (outcome : Result Told Unbooked) (h h' : History) (w w' : Transcript)
     (bookable : is_bookable raw ≡ true) (books : IsBooked conn channel now raw outcome h h' w.answers.items w'.answers.items) (counted : IsCounted w) where
   abbrev a : Answer
   a = answer_with raw outcome now
@@ -125,7 +126,7 @@ room_left h channel raw other = by (is_full h channel raw) other
 
 module _ (conn now : ℕ) (j : Judgement) (h h' : History) (old new : List Answered) (same : j.plan ≡ plan_in_force h) (data_is : IsBlockData j.raw) where
   -- a message that was judged by the plan in force is told what may be told, is booked so, and its answer is kept
-  pub is_booked : (o : Result Receipt NotBooked) → IfOk o (λ r. (r.conn ≡ conn) × (r.channel ≡ j.channel) × (r.raw ≡ j.raw))
+  pub is_booked : (o : Result Receipt Unbooked) → IfOk o (λ r. (r.conn ≡ conn) × (r.channel ≡ j.channel) × (r.raw ≡ j.raw))
       → IfOk o (λ r. Books h h' (r ∷ [])) → OnErr o (Books h h' []) → IfOk o (λ r. OutcomeAtBook h j (Ok r.told)) → IfErr o (λ e. OutcomeAtBook h j (Err e))
       → map answer_of new ≡ map answer_of old ++ answer_with j.raw (told_by o) now ∷ [] → IsBooked conn j.channel now j.raw (told_by o) h h' old new
   is_booked (Ok r) is more none told refused kept =
@@ -138,17 +139,18 @@ module _ (conn now : ℕ) (j : Judgement) (h h' : History) (old new : List Answe
             ∙ ap (λ l. followed_by h (Arrival conn j.channel l r.told)) is.2;
         kept = kept;
       }
-  is_booked (Err Full) is more none told refused kept = let full = refused.full.0 refl in record { may = full.1; booked = none_booked h h' none; kept = kept }
-  is_booked (Err NoMemory) is more none told refused kept =
+  is_booked (Err (Refused Full)) is more none told refused kept = let full = refused.full.0 refl in record { may = full.1; booked = none_booked h h' none; kept = kept }
+  is_booked (Err (Refused NoMemory)) is more none told refused kept =
       record {
         may = room_left h j.channel j.raw (λ f. let e = refused.full.1 (same, f) in absurd cc);
         booked = none_booked h h' none;
         kept = kept;
       }
-  is_booked (Err PlanChanged) is more none told refused kept = absurd (refused.plan.0 refl same)
+  is_booked (Err (Refused PlanChanged)) is more none told refused kept = absurd (refused.plan.0 refl same)
+  is_booked (Err (Repeat place)) is more none told refused kept = absurd (refused.booked place refl)
 
 -- the acknowledgments are counted on
-pub counted-on : (raw : List ℕ) (now : ℕ) (o : Result Receipt NotBooked) (w w' : Transcript) → IsCounted w → map answer_of w'.answers.items ≡ map answer_of w.answers.items ++ answer_with raw (told_by o) now ∷ []
+pub counted-on : (raw : List ℕ) (now : ℕ) (o : Result Receipt Unbooked) (w w' : Transcript) → IsCounted w → map answer_of w'.answers.items ≡ map answer_of w.answers.items ++ answer_with raw (told_by o) now ∷ []
     → w'.replies.made ≡ w.replies.made + length (dues_of (answer_to raw o now)) → IsCounted w'
 counted-on raw now o w w' counted kept made =
     let before : List Answer = map answer_of w.answers.items in
@@ -159,7 +161,7 @@ counted-on raw now o w w' counted kept made =
     record { made = omega (arith, made, sizes, counted.made) }
 
 -- one answer more is kept
-pub kept-on : (old reserved new : List Answered) (a : Answered) (raw : List ℕ) (outcome : Result Told NotBooked) (now : ℕ) → reserved ≡ old → new ≡ reserved ++ a ∷ [] → a.raw ≡ raw → a.outcome ≡ outcome → a.moment ≡ now
+pub kept-on : (old reserved new : List Answered) (a : Answered) (raw : List ℕ) (outcome : Result Told Unbooked) (now : ℕ) → reserved ≡ old → new ≡ reserved ++ a ∷ [] → a.raw ≡ raw → a.outcome ≡ outcome → a.moment ≡ now
     → map answer_of new ≡ map answer_of old ++ answer_with raw outcome now ∷ []
 kept-on old reserved new a raw outcome now same grown one two three =
     let is : answer_of a ≡ answer_with raw outcome now =
@@ -167,7 +169,7 @@ kept-on old reserved new a raw outcome now same grown one two three =
     ap (map answer_of) (grown ∙ ap (λ l. l ++ a ∷ []) same) ∙ map-append answer_of old (a ∷ []) ∙ ap (λ x. map answer_of old ++ x ∷ []) is
 
 -- the plan in force stays
-pub plan-kept : (h h' : History) (o : Result Receipt NotBooked) → IfOk o (λ r. Books h h' (r ∷ [])) → OnErr o (Books h h' []) → plan_in_force h' ≡ plan_in_force h
+pub plan-kept : (h h' : History) (o : Result Receipt Unbooked) → IfOk o (λ r. Books h h' (r ∷ [])) → OnErr o (Books h h' []) → plan_in_force h' ≡ plan_in_force h
 plan-kept h h' (Ok r) more none = ap plan_in_force more.history ∙ plan-kept_all h.opening.plan h.entries (arrival_by r ∷ []) refl
 plan-kept h h' (Err e) more none = ap plan_in_force (none_booked h h' none)
 

@@ -1,6 +1,7 @@
 -- Which run follows from which by a step.
 use Rattle.std.specs.Prelude.{◌≡◌, ◌<◌, ◌≤◌, ◌⊎◌, ◌+◌, ℕ, Bool, true, false, List, [], ◌∷◌, ◌++◌, length, map, set, slice_get, Option, None, Some, Result, Ok, Err, ⊤}
-use Rattle.book_core.specs.declared.receipt.NotBooked.{NotBooked}
+use Rattle.conn_core.specs.declared.booking.Unbooked.{Unbooked}
+use Rattle.conn_core.specs.declared.booking.Unbooked.TheVariants.{Refused, Repeat}
 use Rattle.book_core.specs.declared.receipt.NotBooked.TheVariants.{NoMemory, Full, PlanChanged}
 use Rattle.event_log.specs.declared.entry.Entry.TheVariants.{Arrival}
 use Rattle.event_log.specs.declared.entry.Told.{Told}
@@ -20,18 +21,19 @@ unfoldable pub frame_events_max : ℕ
 frame_events_max = 1_000_000_000
 
 -- What may become of a message that arrives over a connection on a channel: it is booked with the sequential engine's
--- reply; it is refused where there is no room; or, only where there is room, it is refused for lack of memory. It was
--- judged by the plan in force.
-abbrev pub IsAnswered : ℕ → ℕ → History → List ℕ → Result Told NotBooked → Type 0
+-- reply; it is refused where there is no room, also one that repeats a message; or, only where there is room, it is refused
+-- for lack of memory. It was judged by the plan in force.
+abbrev pub IsAnswered : ℕ → ℕ → History → List ℕ → Result Told Unbooked → Type 0
 IsAnswered conn channel h raw (Ok told) = MayFollow h (Arrival conn channel raw told)
-IsAnswered conn channel h raw (Err Full) = is_full h channel raw ≡ true
-IsAnswered conn channel h raw (Err NoMemory) = is_full h channel raw ≡ false
-IsAnswered conn channel h raw (Err PlanChanged) = ⊥
+IsAnswered conn channel h raw (Err (Refused Full)) = is_full h channel raw ≡ true
+IsAnswered conn channel h raw (Err (Refused NoMemory)) = is_full h channel raw ≡ false
+IsAnswered conn channel h raw (Err (Refused PlanChanged)) = ⊥
+IsAnswered conn channel h raw (Err (Repeat place)) = ⊥
 
 -- the history after a message with this outcome: with its arrival, if it was booked
-abbrev pub history_with : ℕ → ℕ → History → List ℕ → Result Told NotBooked → History
+abbrev pub history_with : ℕ → ℕ → History → List ℕ → Result Told Unbooked → History
 history_with conn channel h raw (Ok told) = followed_by h (Arrival conn channel raw told)
-history_with conn channel h raw (Err refusal) = h
+history_with conn channel h raw (Err unbooked) = h
 
 abbrev pub after_answer : ℕ → ℕ → History → Answer → History
 after_answer conn channel h a = history_with conn channel h a.raw a.outcome

@@ -12,8 +12,8 @@ ghost use Rattle.engine_model.specs.Run.{silent};
 ghost use Rattle.engine_model.specs.Steps.{EndsWithin, ReadsOn};
 ghost use Rattle.engine_model.specs.inner.View.{IsFit, IsOpen, connection_of};
 
-use book_core::{Book, BookRows, NotBooked, Receipt};
-use conn_core::{ConnectionId, Replies, book_and_reply};
+use book_core::{Book, BookRows, Receipt};
+use conn_core::{ConnectionId, Replies, Unbooked, book_and_reply};
 use event_log::Told;
 use fixed_numbers::FRAME_EVENTS_MAX;
 use hl7_head::Moment;
@@ -26,8 +26,8 @@ use std::alloc::{AllocError, Global};
 pub struct Answered {
     /// Its text.
     pub raw: Text,
-    /// Its answer, or why it was not booked.
-    pub outcome: Result<Told, NotBooked>,
+    /// Its answer, or what became of it where it was not booked.
+    pub outcome: Result<Told, Unbooked>,
     /// When it was received.
     pub moment: Moment,
 }
@@ -57,13 +57,13 @@ pub struct Connected {
     pub ended: bool,
 }
 
-/// The answer to a message, or why it was not booked.
-fn told_by(outcome: &Result<Receipt, NotBooked>) -> Result<Told, NotBooked>
+/// The answer to a message, or what became of it where it was not booked.
+fn told_by(outcome: &Result<Receipt, Unbooked>) -> Result<Told, Unbooked>
     ensures { result ≡ told_by outcome.now }
 {
     match outcome {
         Ok(receipt) => Ok(receipt.told),
-        Err(refusal) => Err(*refusal),
+        Err(unbooked) => Err(*unbooked),
     }
 }
 

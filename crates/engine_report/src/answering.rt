@@ -37,7 +37,7 @@ pub fn answer_stream<S: BookRows, R: Read, W: Write, C: Clock>(
     // The messages read, their answers, and what was written. Their receipts, which are not kept, are the book's new
     // entries.
     ensures served { (receipts : List Receipt) × Books book.old book.new receipts
-        × Serves CONNECTION CHANNEL (R.remaining reader.old.inner) (R.remaining reader.new.inner)
+        × Serves (λ _. ⊥) CONNECTION CHANNEL (R.remaining reader.old.inner) (R.remaining reader.new.inner)
         (W.contents writer.old.inner) (W.contents writer.new.inner) receipts result }
 
     // A fault is reported only where the device failed.

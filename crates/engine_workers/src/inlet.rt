@@ -38,7 +38,7 @@ fn serve_accepted<A: Sharing, S: BookRows, C: Clock + Copy, H: Wait + Log, R: In
     requires accepted { R.channel reader.old.inner ≡ channel }
 
     // The messages read, their answers, and what was written, all on the channel of the reader.
-    ensures served { Serves connection (R.channel reader.old.inner) (R.remaining reader.old.inner) (R.remaining reader.new.inner)
+    ensures served { Serves (λ _. ⊥) connection (R.channel reader.old.inner) (R.remaining reader.old.inner) (R.remaining reader.new.inner)
         (W.contents writer.old.inner) (W.contents writer.new.inner) result.receipts.items result }
     ensures booked { BooksInLog A.opening desk.old.seat desk.new.seat result.receipts.items }
     ensures counted { desk.new.made ≡ desk.old.made + vec_len result.receipts }

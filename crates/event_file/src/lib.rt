@@ -7,8 +7,6 @@
 mod error;
 mod file;
 mod path;
-#[cfg(test)]
-mod tests;
 
 pub use error::FileError;
 pub use file::{Failed, create, open, prepare};

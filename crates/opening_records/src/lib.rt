@@ -11,8 +11,6 @@ mod head;
 mod laws;
 mod parts;
 mod reading;
-#[cfg(test)]
-mod tests;
 mod writing;
 
 pub use fault::{OpeningFault, Reason};

@@ -6,6 +6,7 @@ use Rattle.std.specs.Option.{option_map_or}
 use Rattle.std.proofs.lemmas.Bool.Decides.{eqb_tells}
 use Rattle.plan_text.specs.Entries.{IsPlan, PlanEntry}
 use Rattle.judge_core.specs.Judging.{key_of, verdict as decided, deliveries_of}
+use mathlib.Core.List.{IsPrefix}
 use Rattle.event_log.specs.declared.entry.Entry.{Entry}
 use Rattle.event_log.specs.declared.entry.Entry.TheVariants as entry
 use Rattle.event_log.specs.declared.entry.Told.{Told}
@@ -20,12 +21,15 @@ use Rattle.event_log.proofs.Reading.{message-beyond}
 use Rattle.event_log.proofs.Replaying.{filtered-is, repeat-is}
 use Rattle.book_lock.specs.declared.log_entry.LogEntry.{LogEntry}
 use Rattle.book_lock.specs.declared.log_entry.LogEntry.TheVariants as log
+use Rattle.std.proofs.Math.Seq.{take-append_seam}
+use Rattle.book_core.specs.Receiving.{repeat_of}
+use Rattle.conn_worker.specs.Arriving.{IsKnownIn}
 use Rattle.book_lock.specs.Log.{IsLegalLog, Log, MayComeNext, after_log, with_entry}
 use Rattle.book_lock.specs.inner.Sound.{IsSoundBook}
 use Rattle.delivery_worker.specs.Sent.{book_before}
 use Rattle.promise.specs.Promise.{Arrival, IsAcceptedAs, IsHeld, IsPromised, IsSuccess, empty_book}
 use Rattle.promise.specs.Promise.IsHeld.{from_start, in_log}
-use Rattle.promise.specs.Promise.IsPromised.{accepted, filtered, repeated}
+use Rattle.promise.specs.Promise.IsPromised.{accepted, filtered, repeated, repeated_unbooked}
 use Rattle.promise.proofs.Kept.{accepted-kept, came, first-legal, kept-on, rest-legal, sound-next}
 
 -- ---- the book at an entry
@@ -51,6 +55,12 @@ legal-before h [] zero legal = legal
 legal-before h [] (suc k) legal = legal
 legal-before h (x ∷ xs) zero legal = record { each = λ j y got. absurd cc }
 legal-before h (x ∷ xs) (suc k) legal = one-more h x (take k xs) (first-legal h x xs legal) (legal-before (with_entry h x.1) xs k (rest-legal h x xs legal))
+
+-- and so is each beginning of it
+pub legal-prefix : (h : History) (durable entries : Log) → IsPrefix durable entries → IsLegalLog h entries → IsLegalLog h durable
+legal-prefix h durable entries begins legal =
+    subst (λ (w : Log). IsLegalLog h w) (ap (take (length durable)) (sym begins.1) ∙ take-append_seam durable begins.0)
+    (legal-before h entries (length durable) legal)
 
 -- an entry among the first of a log is one of the log
 pub got-before : {A : Type 0} (xs : List A) (k j : ℕ) (y : A) → slice_get (take k xs) j ≡ Some y → slice_get xs j ≡ Some y
@@ -138,4 +148,16 @@ module _ (h : History) (sound : IsSoundBook h) (xs : Log) (legal : IsLegalLog h 
         arrival = a;
         first = repeats (book_before h xs a.index) a.conn channel place raw (sound-at h xs a.index sound legal) may;
         kept = λ n m is same_channel same_raw. held-at a.index n m is;
+      })
+
+  -- what the book knew at some moment is kept
+  pub promised-unbooked : (channel : ℕ) (raw : List ℕ) → IsKnownIn h xs channel raw → IsPromised h xs (after_log h xs) channel raw
+  promised-unbooked channel raw known =
+      let index : ℕ = length known.before in
+      let cut : take index xs ≡ known.before = ap (take index) known.is_seen ∙ take-append_seam known.before known.since in
+      repeated_unbooked (record {
+        index = index;
+        place = known.first;
+        first = ap (λ (l : Log). repeat_of (after_log h l) channel raw) cut ∙ known.repeats;
+        kept = λ n m is same_channel same_raw. held-at index n m is;
       })

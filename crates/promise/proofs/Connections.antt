@@ -1,7 +1,7 @@
 -- What is promised of a message that was acknowledged on a connection.
 use Rattle.std.proofs.Common.{◌≡◌, inl, inr, ℕ, zero, suc, List, [], ◌∷◌, ◌++◌, map, Option, None, Some, Result, Ok, Err, refl, sym, ◌∙◌, ap, subst, arith, All}
-use Rattle.std.specs.Prelude.{slice_get}
-use Rattle.std.specs.List.{Contains, cons_option, filter_map}
+use Rattle.std.specs.Prelude.{slice_get, ◌⊎◌, IfErr}
+use Rattle.std.specs.List.{AllByRecursion, Contains, cons_option, filter_map}
 use Rattle.std.specs.Option.{option_map_or}
 use Rattle.std.proofs.lemmas.List.Elements.{All-contains, Contains-append_cases, Contains-append_right}
 use mathlib.Core.List.{IsPrefix}
@@ -15,7 +15,8 @@ use Rattle.event_log.specs.declared.entry.Entry.TheVariants as entry
 use Rattle.event_log.specs.declared.entry.Told.{Told}
 use Rattle.event_log.specs.declared.entry.Told.TheVariants as told
 use Rattle.event_log.specs.History.{History}
-use Rattle.book_core.specs.declared.receipt.NotBooked.{NotBooked}
+use Rattle.conn_core.specs.declared.booking.Unbooked.{Unbooked}
+use Rattle.conn_core.specs.declared.booking.Unbooked.TheVariants as unbooked
 use Rattle.book_core.specs.declared.receipt.NotBooked.TheVariants as not_booked
 use Rattle.book_core.specs.declared.receipt.Receipt.{Receipt}
 use Rattle.ghost_log.specs.Seats.{entries_of}
@@ -25,10 +26,13 @@ use Rattle.book_lock.specs.Log.{IsLegalLog, Log, SeatView, after_log}
 use Rattle.book_lock.specs.inner.Sound.{IsSoundBook}
 use Rattle.conn_core.specs.Messages.{BookedMessage, booked, booked_with, message_by}
 use Rattle.conn_core.specs.Replies.{Answer, Due, dues_by, dues_of, told_of}
-use Rattle.conn_worker.specs.Arriving.{BooksInLog, arrival_entry}
+use Rattle.conn_core.specs.Booking.{IfRepeat}
+use Rattle.conn_worker.specs.Arriving.{BooksInLog, IsKnownIn, arrival_entry}
+use Rattle.conn_worker.specs.Serving.{IsKnownIfRepeated}
+use Rattle.conn_worker.specs.inner.Arriving.{known_later}
 use Rattle.delivery_worker.proofs.Listed.{contains_any, contains_map, contains_mapped, contains_one}
 use Rattle.promise.specs.Promise.{Arrival, IsPositive, IsPromised, IsSuccess}
-use Rattle.promise.proofs.Answered.{promised}
+use Rattle.promise.proofs.Answered.{promised, promised-unbooked}
 use Rattle.promise.proofs.Positive.{in-error, rejected}
 
 -- ---- lists
@@ -99,10 +103,18 @@ arrived opening old new receipts entries conn channel answers a t books begins a
 -- ---- CA and AA
 
 -- a message that is due a positive acknowledgment was booked, with a success
-record IsBookedWell (outcome : Result Told NotBooked) : Type 0 where
+record IsBookedWell (outcome : Result Told Unbooked) : Type 0 where
   told : Told
   is : outcome ≡ Ok told
   success : IsSuccess told
+
+-- or is answered as a repeat without being booked
+record IsUnbookedRepeat (outcome : Result Told Unbooked) : Type 0 where
+  place : ℕ
+  is : outcome ≡ Err (unbooked.Repeat place)
+
+abbrev GoesWell : Result Told Unbooked → Type 0
+GoesWell outcome = IsBookedWell outcome ⊎ IsUnbookedRepeat outcome
 
 none-due : (mode : AckMode) (v : Cause) → All (λ (part : AckPart). IsPositive part.code → ⊥) (due mode (verdictum_of v))
 none-due mode cause.UnsupportedType = rejected mode cause.UnsupportedType
@@ -117,16 +129,17 @@ none-due mode cause.NoMemory = in-error mode cause.NoMemory
 none-due mode cause.Full = in-error mode cause.Full
 none-due mode cause.PlanChanged = in-error mode cause.PlanChanged
 
-booked-well : (mode : AckMode) (outcome : Result Told NotBooked) (part : AckPart) → Contains (due mode (told_of outcome)) part → IsPositive part.code → IsBookedWell outcome
-booked-well mode (Ok (told.Accepted number)) part has positive = record { told = told.Accepted number; is = refl; success = tt }
-booked-well mode (Ok told.Filtered) part has positive = record { told = told.Filtered; is = refl; success = tt }
-booked-well mode (Ok (told.Repeat place)) part has positive = record { told = told.Repeat place; is = refl; success = tt }
+booked-well : (mode : AckMode) (outcome : Result Told Unbooked) (part : AckPart) → Contains (due mode (told_of outcome)) part → IsPositive part.code → GoesWell outcome
+booked-well mode (Ok (told.Accepted number)) part has positive = inl (record { told = told.Accepted number; is = refl; success = tt })
+booked-well mode (Ok told.Filtered) part has positive = inl (record { told = told.Filtered; is = refl; success = tt })
+booked-well mode (Ok (told.Repeat place)) part has positive = inl (record { told = told.Repeat place; is = refl; success = tt })
+booked-well mode (Err (unbooked.Repeat place)) part has positive = inr (record { place = place; is = refl })
 booked-well mode (Ok (told.Refused v)) part has positive = absurd (All-contains (λ (p : AckPart). IsPositive p.code → ⊥) (due mode (verdictum_of v)) part (none-due mode v) has positive)
-booked-well mode (Err not_booked.NoMemory) part has positive = absurd (All-contains (λ (p : AckPart). IsPositive p.code → ⊥) (due mode (verdictum_of cause.NoMemory)) part (none-due mode cause.NoMemory) has positive)
-booked-well mode (Err not_booked.Full) part has positive = absurd (All-contains (λ (p : AckPart). IsPositive p.code → ⊥) (due mode (verdictum_of cause.Full)) part (none-due mode cause.Full) has positive)
-booked-well mode (Err not_booked.PlanChanged) part has positive = absurd (All-contains (λ (p : AckPart). IsPositive p.code → ⊥) (due mode (verdictum_of cause.PlanChanged)) part (none-due mode cause.PlanChanged) has positive)
+booked-well mode (Err (unbooked.Refused not_booked.NoMemory)) part has positive = absurd (All-contains (λ (p : AckPart). IsPositive p.code → ⊥) (due mode (verdictum_of cause.NoMemory)) part (none-due mode cause.NoMemory) has positive)
+booked-well mode (Err (unbooked.Refused not_booked.Full)) part has positive = absurd (All-contains (λ (p : AckPart). IsPositive p.code → ⊥) (due mode (verdictum_of cause.Full)) part (none-due mode cause.Full) has positive)
+booked-well mode (Err (unbooked.Refused not_booked.PlanChanged)) part has positive = absurd (All-contains (λ (p : AckPart). IsPositive p.code → ⊥) (due mode (verdictum_of cause.PlanChanged)) part (none-due mode cause.PlanChanged) has positive)
 
-well : (a : Answer) (o : Option Msh) (d : Due) → Contains (option_map_or (λ h. dues_by h a.outcome a.moment) o []) d → IsPositive d.part.code → IsBookedWell a.outcome
+well : (a : Answer) (o : Option Msh) (d : Due) → Contains (option_map_or (λ h. dues_by h a.outcome a.moment) o []) d → IsPositive d.part.code → GoesWell a.outcome
 well a None d has positive = let inside = has.1 in absurd (omega arith)
 well a (Some h) d has positive =
     let mode = ack_mode h.accept_type h.application_type in
@@ -134,14 +147,28 @@ well a (Some h) d has positive =
     let same : made.of ≡ d.part = ap (λ (x : Due). x.part) made.is in
     booked-well mode a.outcome made.of made.is_one (subst (λ (p : AckPart). IsPositive p.code) (sym same) positive)
 
+-- what holds of all answers holds of one
+one-of : (P : Answer → Type 0) (answers : List Answer) (a : Answer) → Contains answers a → AllByRecursion P answers → P a
+one-of P [] a h all = let inside = h.1 in absurd (omega arith)
+one-of P (x ∷ answers) a h all = elim (Contains-append_cases (x ∷ []) answers a h) [
+  | inl here ↦ subst P (contains_one x a here) all.0
+  | inr there ↦ one-of P answers a there all.1
+]
+
 -- ---- the promise
 
 pub acknowledged : (opening : History) (entries : Log) → IsSoundBook opening → IsLegalLog opening entries
     → (old new : SeatView) (receipts : List Receipt) → BooksInLog opening old new receipts → IsPrefix new.seen entries
     → (conn channel : ℕ) (answers : List Answer) → map message_by receipts ≡ booked conn channel answers
+    → AllByRecursion (IsKnownIfRepeated (IsKnownIn opening new.seen channel)) answers
     → (a : Answer) → Contains answers a → (d : Due) → Contains (dues_of a) d → IsPositive d.part.code
     → IsPromised opening entries (after_log opening entries) channel a.raw
-acknowledged opening entries sound legal old new receipts books begins conn channel answers are a one d has positive =
-    let b = well a (header_of a.raw) d has positive in
-    promised opening sound entries legal channel a.raw b.told b.success
-    (arrived opening old new receipts entries conn channel answers a b.told books begins are one b.is)
+acknowledged opening entries sound legal old new receipts books begins conn channel answers are known a one d has positive =
+    elim (well a (header_of a.raw) d has positive) [
+      | inl b ↦ promised opening sound entries legal channel a.raw b.told b.success
+          (arrived opening old new receipts entries conn channel answers a b.told books begins are one b.is)
+      | inr r ↦
+          let its : IsKnownIfRepeated (IsKnownIn opening new.seen channel) a = one-of (IsKnownIfRepeated (IsKnownIn opening new.seen channel)) answers a one known in
+          let here : IsKnownIn opening new.seen channel a.raw = subst (λ (o : Result Told Unbooked). IfErr o (IfRepeat (IsKnownIn opening new.seen channel a.raw))) r.is its in
+          promised-unbooked opening sound entries legal channel a.raw (known_later opening new.seen entries channel a.raw begins here)
+    ]

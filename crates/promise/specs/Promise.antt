@@ -11,6 +11,7 @@ use Rattle.event_log.specs.declared.entry.Told.{Told}
 use Rattle.event_log.specs.declared.entry.Told.TheVariants as told
 use Rattle.event_log.specs.Answers.{is_first}
 use Rattle.event_log.specs.History.{Accepted, History, begun, is_queued, message_at, names, plan_in_force, slot}
+use Rattle.book_core.specs.Receiving.{repeat_of}
 use Rattle.book_lock.specs.declared.log_entry.LogEntry.TheVariants as log
 use Rattle.book_lock.specs.Log.{Log}
 use Rattle.delivery_worker.specs.Sent.{book_before}
@@ -89,11 +90,22 @@ pub record IsRepeated (opening : History) (entries : Log) (book : History) (chan
   pub kept : (n : ℕ) (m : Accepted) → message_at (book_before opening entries arrival.index) n ≡ Some m
       → m.channel ≡ channel → m.raw ≡ raw → IsHeld opening entries book n m
 
+-- A message that is answered as a repeat without being booked, since there was no room for it: at some moment of the run the book
+-- had an arrival with its key (the channel and MSH-10) and its very bytes, accepted or filtered. Each message of these bytes and
+-- this channel that the book had then is kept.
+pub record IsRepeatedUnbooked (opening : History) (entries : Log) (book : History) (channel : ℕ) (raw : List ℕ) : Type 0 where
+  pub index : ℕ
+  pub place : ℕ
+  pub first : repeat_of (book_before opening entries index) channel raw ≡ Some place
+  pub kept : (n : ℕ) (m : Accepted) → message_at (book_before opening entries index) n ≡ Some m
+      → m.channel ≡ channel → m.raw ≡ raw → IsHeld opening entries book n m
+
 -- What a sender may rely on who reads that a message was acknowledged with CA, or with AA in original mode.
 pub data IsPromised (opening : History) (entries : Log) (book : History) (channel : ℕ) (raw : List ℕ) : Type 0 where
   accepted : (n : ℕ) → IsAcceptedAs opening entries book channel raw n → IsPromised opening entries book channel raw
   filtered : IsFilteredOut opening entries channel raw → IsPromised opening entries book channel raw
   repeated : IsRepeated opening entries book channel raw → IsPromised opening entries book channel raw
+  repeated_unbooked : IsRepeatedUnbooked opening entries book channel raw → IsPromised opening entries book channel raw
 
 -- a code that reports success: CA, or AA
 abbrev pub IsPositive : AckCode → Type 0

@@ -88,7 +88,7 @@ impl Books {
     /// # Errors
     ///
     /// Where memory is refused.
-    pub fn new(rt: &HostRuntime) -> Result<Books> {
+    pub(crate) fn new(rt: &HostRuntime) -> Result<Books> {
         let plan = Arc::new(rt.alloc(), Plan::built_in(rt.alloc())?)?;
         books_of(rt, plan, EVENTS_MAX)
     }

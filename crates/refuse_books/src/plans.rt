@@ -107,7 +107,7 @@ fn applied(alloc: Global, window: &Window, steps: &[Step], message: Message) -> 
 
 impl Plans {
     /// No plan yet.
-    pub fn new(alloc: Global) -> Plans {
+    pub(crate) fn new(alloc: Global) -> Plans {
         Plans { alloc, plan: None }
     }
 
@@ -160,7 +160,7 @@ impl Plans {
     ///
     /// Where the words are no such call, standard output can't be written, or memory is refused outside of the
     /// call's own requests.
-    pub fn answer(
+    pub(crate) fn answer(
         &mut self,
         rt: &HostRuntime,
         window: &Window,

@@ -51,7 +51,7 @@ fn drain(told: &mut String, rows: &mut RecordList<u64>, d: u32) -> Result<(), Al
 
 impl Rows {
     /// An empty store.
-    pub fn new(alloc: Global) -> Rows {
+    pub(crate) fn new(alloc: Global) -> Rows {
         Rows {
             alloc,
             rows: RowStore::make(alloc),

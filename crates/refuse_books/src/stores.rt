@@ -43,7 +43,7 @@ impl Stores {
     /// # Errors
     ///
     /// Where memory is refused.
-    pub fn new(rt: &HostRuntime) -> Result<Stores> {
+    pub(crate) fn new(rt: &HostRuntime) -> Result<Stores> {
         let alloc = rt.alloc();
         Ok(Stores {
             alloc,
@@ -58,7 +58,7 @@ impl Stores {
     /// # Errors
     ///
     /// Where memory is refused.
-    pub fn state(&self) -> Result<String, AllocError> {
+    pub(crate) fn state(&self) -> Result<String, AllocError> {
         format!(in self.alloc; "{} keys", self.added)
     }
 
@@ -118,7 +118,12 @@ impl Stores {
     ///
     /// Where the words are no such call, standard output can't be written, or memory is refused outside of the
     /// call's own requests.
-    pub fn answer(&mut self, window: &Window, name: &str, words: &str) -> Result<Option<String>> {
+    pub(crate) fn answer(
+        &mut self,
+        window: &Window,
+        name: &str,
+        words: &str,
+    ) -> Result<Option<String>> {
         Ok(match name {
             "feed" => Some(self.feed(window, words)?),
             "events" => Some(self.events()?),

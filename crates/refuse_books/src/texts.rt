@@ -40,7 +40,7 @@ impl Text {
     /// # Errors
     ///
     /// Where memory is refused.
-    pub fn new(alloc: Global) -> Result<Text> {
+    pub(crate) fn new(alloc: Global) -> Result<Text> {
         let message = Message::parse(alloc, b"MSH|^~\\&")?;
         Ok(Text { alloc, message })
     }
@@ -50,7 +50,7 @@ impl Text {
     /// # Errors
     ///
     /// Where memory is refused.
-    pub fn state(&self) -> Result<String, AllocError> {
+    pub(crate) fn state(&self) -> Result<String, AllocError> {
         shown(self.alloc, &self.message.print()?)
     }
 
@@ -175,7 +175,7 @@ impl Text {
     ///
     /// Where the words are no such call, standard output can't be written, or memory is refused outside of the
     /// call's own requests.
-    pub fn answer(&mut self, window: &Window, name: &str, words: &str) -> Result<String> {
+    pub(crate) fn answer(&mut self, window: &Window, name: &str, words: &str) -> Result<String> {
         match name {
             "message" => self.parse(window, words),
             "clone" => self.copy_all(window),

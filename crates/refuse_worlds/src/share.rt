@@ -53,6 +53,20 @@ fn tell_closed(host: &HostRuntime, closed: &Closed<Rows>, receipts: &[Receipt]) 
     Ok(())
 }
 
+/// Closes a shared book, and writes what it holds then.
+fn close_and_tell<A: Sharing>(
+    host: &HostRuntime,
+    shared: Shared<A, Rows>,
+    desks: Vec<Desk<A>>,
+    stations: Vec<Station<A>>,
+    receipts: &[Receipt],
+) -> Result<()> {
+    match shared.close(desks, stations) {
+        Ok(closed) => tell_closed(host, &closed, receipts),
+        Err(_) => bail!("a share is missing"),
+    }
+}
+
 /// The lines that are played.
 #[derive(Clone, Copy)]
 struct Script<'a> {
@@ -87,10 +101,7 @@ fn play_and_close<A: Sharing, H: Wait + Clock + Log>(
     };
     shared.finish(rt);
     let receipts = play_at(rt, host, &shared, &mut desks, &mut stations, script.lines)?;
-    let Ok(closed) = shared.close(desks, stations) else {
-        bail!("a share is missing");
-    };
-    tell_closed(host, &closed, &receipts)
+    close_and_tell(host, shared, desks, stations, &receipts)
 }
 
 /// Plays all lines on a shared book.

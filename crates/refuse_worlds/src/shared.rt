@@ -130,18 +130,31 @@ impl<'s, A: Sharing, H: Wait + Clock + Log> AtBook<'s, A, H> {
         Ok(answer)
     }
 
-    /// A text comes.
-    fn arrive(&mut self, window: &Window, words: &mut SplitWhitespace<'_>) -> Result<String> {
+    /// Keeps the receipt of a message that was booked.
+    fn keep(&mut self, receipt: Receipt) -> Result<String> {
+        let told = format!(in self.alloc; "entry {}, {:?}", receipt.entry, receipt.told)?;
+        self.receipts.push(receipt)?;
+        Ok(told)
+    }
+
+    /// A text, judged by the plan in force.
+    fn judge(&self, name: &str) -> Result<Judged> {
         let plan = self.shared.plan(self.rt)?;
-        let judged = judged(self.alloc, &plan, word(words)?)?;
-        match self.arrive_judged(window, &judged)? {
-            Ok(receipt) => {
-                let told = format!(in self.alloc; "entry {}, {:?}", receipt.entry, receipt.told)?;
-                self.receipts.push(receipt)?;
-                Ok(told)
-            }
+        judged(self.alloc, &plan, name)
+    }
+
+    /// Books what was judged, and says what the answer is.
+    fn book(&mut self, window: &Window, judged: &Judged) -> Result<String> {
+        match self.arrive_judged(window, judged)? {
+            Ok(receipt) => self.keep(receipt),
             Err(refusal) => Ok(arrived(self.alloc, Err(refusal))?),
         }
+    }
+
+    /// A text arrives.
+    fn arrive(&mut self, window: &Window, words: &mut SplitWhitespace<'_>) -> Result<String> {
+        let judged = self.judge(word(words)?)?;
+        self.book(window, &judged)
     }
 
     /// The front of a queue is taken.

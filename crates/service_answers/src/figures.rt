@@ -62,6 +62,8 @@ pub struct Figures {
     pub refused: u64,
     /// The arrivals that were not booked.
     pub unbooked: Unbooked,
+    /// How many arrivals were answered as repeats without being booked, since the book was full.
+    pub repeats_unbooked: u64,
     /// The blocks that were dropped without an answer.
     pub dropped: Dropped,
     /// The channels that are not read at this time, as a mask.
@@ -82,6 +84,8 @@ pub struct Figures {
     pub delivered: [u64; 32],
     /// How many messages were sent to each destination a second time within one attempt, by index.
     pub sent_again: [u64; 32],
+    /// Whether the plan in force is neither that of the command line nor one that was deployed since.
+    pub plan_differs: bool,
     /// What was written to the store, where the service has one.
     pub store: Option<StoreNumbers>,
 }

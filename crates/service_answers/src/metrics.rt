@@ -408,6 +408,17 @@ fn add_dropped(text: &mut String, dropped: Dropped) -> Result<(), AllocError> {
     writeln!(text, "{name}{{cause=\"broken\"}} {broken}")
 }
 
+/// Adds whether the plan in force is neither that of the command line nor one that was deployed since.
+fn add_plan(text: &mut String, figures: &Figures) -> Result<(), AllocError> {
+    add_one(
+        &mut *text,
+        "hl7_plan_differs",
+        Kind::Gauge,
+        "1 where the plan of the command line is not taken, and the one in the store stays in force.",
+        u64::from(figures.plan_differs),
+    )
+}
+
 /// Adds the connections of senders.
 fn add_connections(text: &mut String, admitted: u32, figures: &Figures) -> Result<(), AllocError> {
     add_one(
@@ -514,9 +525,17 @@ pub fn metrics_text(
     add_entries(&mut text, status.gauge)?;
     add_messages(&mut text, status.gauge, figures.keep)?;
     add_left(&mut text, status.gauge)?;
+    add_plan(&mut text, figures)?;
     add_store(&mut text, figures.store)?;
     add_connections(&mut text, status.gauge.admitted, figures)?;
     add_unbooked(&mut text, figures.unbooked)?;
+    add_one(
+        &mut text,
+        "hl7_repeats_unbooked_total",
+        Kind::Counter,
+        "Messages that were answered as repeats without being booked, since the book was full.",
+        figures.repeats_unbooked,
+    )?;
     add_dropped(&mut text, figures.dropped)?;
     writeln!(text, "")?;
     Ok(text)

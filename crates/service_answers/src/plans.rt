@@ -76,11 +76,11 @@ pub fn long_file_text(alloc: Global, path: &str, most: u64) -> Result<String, Al
     format!(in alloc; "refused: file {path}: it has more than {most} bytes\n\n")
 }
 
-/// The answer to a plan with a fault.
+/// Begins the answer to a plan with a fault.
 ///
 /// # Errors
 ///
 /// Where memory is refused.
 pub fn bad_plan_text(alloc: Global, fault: &PlanFault) -> Result<String, AllocError> {
-    format!(in alloc; "{}", Refused(fault))
+    format!(in alloc; "refused: {fault}\n")
 }

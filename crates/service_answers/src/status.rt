@@ -49,6 +49,14 @@ fn add_book(text: &mut String, gauge: Gauge, figures: &Figures) -> Result<(), Al
     writeln!(text, "deployments {deployments} left {deployments_left}")
 }
 
+/// Adds how many arrivals were answered as repeats without being booked, where there were any.
+fn add_repeats_unbooked(text: &mut String, count: u64) -> Result<(), AllocError> {
+    if count == 0 {
+        return Ok(());
+    }
+    writeln!(text, "repeats unbooked {count}")
+}
+
 /// Adds the lines of the connections, of the arrivals that were not booked, and of the blocks that were dropped.
 fn add_connections(text: &mut String, admitted: u32, figures: &Figures) -> Result<(), AllocError> {
     let Figures {
@@ -71,6 +79,7 @@ fn add_connections(text: &mut String, admitted: u32, figures: &Figures) -> Resul
         text,
         "unbooked full {full} plan_changed {plan_changed} no_memory {no_memory}"
     )?;
+    add_repeats_unbooked(&mut *text, figures.repeats_unbooked)?;
     let Dropped {
         unreadable,
         acknowledgments,

@@ -9,7 +9,9 @@ use er7_tree::{Message as Tree, Refusal};
 use hl7_head::Header;
 use log_text::ControlId;
 use plan_text::Plan;
-use service_answers::{Listed, ListedFailure, SHOWN_MAX, StoreNumbers, Utc, control_id_of};
+use service_answers::{
+    Figures, Listed, ListedFailure, SHOWN_MAX, StoreNumbers, Utc, control_id_of,
+};
 use service_http::Document;
 use std::alloc::{AllocError, Global};
 
@@ -90,6 +92,20 @@ fn phase_word(phase: Phase) -> &'static str {
     }
 }
 
+/// Adds the arrivals that were not booked: by cause, and those that were answered as repeats.
+fn add_unbooked(document: &mut Document, figures: &Figures) -> Result<(), AllocError> {
+    document.markup(",\"unbooked\":{")?;
+    add_first(&mut *document, "full", figures.unbooked.full)?;
+    add_number(
+        &mut *document,
+        "plan_changed",
+        figures.unbooked.plan_changed,
+    )?;
+    add_number(&mut *document, "no_memory", figures.unbooked.no_memory)?;
+    document.markup("}")?;
+    add_number(&mut *document, "repeats_unbooked", figures.repeats_unbooked)
+}
+
 /// Adds the members of the book, the connections and the arrivals.
 fn add_book(document: &mut Document, view: &View<'_>) -> Result<(), AllocError> {
     let gauge = view.status.gauge;
@@ -105,15 +121,9 @@ fn add_book(document: &mut Document, view: &View<'_>) -> Result<(), AllocError> 
     add_first(&mut *document, "open", u64::from(view.figures.open))?;
     add_number(&mut *document, "taken", u64::from(gauge.admitted))?;
     add_number(&mut *document, "refused", view.figures.refused)?;
-    document.markup("},\"unbooked\":{")?;
-    add_first(&mut *document, "full", view.figures.unbooked.full)?;
-    add_number(
-        &mut *document,
-        "plan_changed",
-        view.figures.unbooked.plan_changed,
-    )?;
-    add_number(&mut *document, "no_memory", view.figures.unbooked.no_memory)?;
-    document.markup("},\"dropped\":{")?;
+    document.markup("}")?;
+    add_unbooked(&mut *document, view.figures)?;
+    document.markup(",\"dropped\":{")?;
     add_first(
         &mut *document,
         "unreadable",

@@ -1,9 +1,27 @@
 //! How urgently the parts of a service need attention.
 
 ghost use Rattle.std.specs.Prelude.{◌≡◌, ◌<◌, ◌&&◌, ℕ, false, length, true};
-ghost use Rattle.service_pages.specs.inner.Levels.{is_calm, is_cut_off, is_queued};
+ghost use Rattle.service_pages.specs.inner.Attention.{
+  IsUndisturbed,
+  has_failed,
+  has_lost_some,
+  is_channel_troubled,
+  is_cut_off,
+  is_destination_troubled,
+  is_filling,
+  is_held,
+  is_paused,
+  is_queued,
+  is_refusing,
+  is_remembering,
+  is_service_troubled,
+  is_taken,
+  is_half,
+};
+ghost use Rattle.service_pages.specs.inner.Levels.{is_calm};
 
 use crate::view::{Phase, View};
+use book_lock::Gauge;
 use dest_queue::SlotState;
 use fixed_numbers::{DEPLOYMENTS_MAX, DESTINATIONS, PRUNINGS_MAX};
 
@@ -15,6 +33,9 @@ const STUCK_SECONDS: u64 = 60;
 
 /// After how many seconds a destination that refuses or doesn't answer is down.
 const DOWN_SECONDS: u64 = 30;
+
+/// After how many seconds a queue is behind in which a message waits that had been received before them.
+const BEHIND_SECONDS: u64 = 300;
 
 /// For how many seconds a failure is shown at the top of the page.
 const FRESH_SECONDS: u64 = 3_600;
@@ -98,12 +119,35 @@ fn cut_off_level(view: &View<'_>, destination: u32) -> Level
     }
 }
 
-/// How urgently a destination's queue needs attention: where messages wait and there is no connection, in any case.
+/// Whether a destination is held.
+fn is_held(view: &View<'_>, destination: u32) -> bool
+    requires { destination < 32 }
+    ensures { result ≡ is_held view.now destination }
+{
+    view.figures.held >> destination & 1 == 1
+}
+
+/// For how many seconds a message that had been received before them is in a destination's queue; 0 where the queue is empty.
+pub(crate) fn behind_of(view: &View<'_>, destination: u32) -> u64 {
+    match view.watch.behind_since(destination) {
+        0 => 0,
+        since => view.figures.now.saturating_sub(since),
+    }
+}
+
+/// Whether a destination's queue is behind: a message in it was received 300 seconds ago or earlier.
+pub(crate) fn is_behind(view: &View<'_>, destination: u32) -> bool {
+    behind_of(view, destination) >= BEHIND_SECONDS
+}
+
+/// How urgently a destination's queue needs attention: in any case where the destination is held, or where messages wait for it and
+/// there is no connection.
 pub(crate) fn queue_level(view: &View<'_>, destination: u32) -> Level
     requires { destination < 32 }
-    ensures { is_calm result ≡ true → is_cut_off view.now destination ≡ false }
+    ensures reachable { is_calm result ≡ true → is_cut_off view.now destination ≡ false }
+    ensures free { is_calm result ≡ true → is_held view.now destination ≡ false }
 {
-    if view.figures.is_held(destination) {
+    if is_held(view, destination) {
         return Level::Look;
     }
     if is_cut_off(view, destination) {
@@ -111,6 +155,7 @@ pub(crate) fn queue_level(view: &View<'_>, destination: u32) -> Level
     }
     match front_of(view, destination) {
         None => Level::Fine,
+        Some(_) if is_behind(view, destination) => Level::Act,
         Some((_, failed, waited)) => {
             if waited >= STUCK_SECONDS || failed > 0 && waited >= DOWN_SECONDS {
                 Level::Act
@@ -124,7 +169,9 @@ pub(crate) fn queue_level(view: &View<'_>, destination: u32) -> Level
 }
 
 /// Whether a message failed at a destination within the last hour.
-pub(crate) fn is_fresh(view: &View<'_>, destination: u32) -> bool {
+pub(crate) fn is_fresh(view: &View<'_>, destination: u32) -> bool
+    ensures { result ≡ has_failed view.now destination }
+{
     let at = view.watch.failed_at(destination);
     at > 0 && view.figures.now.saturating_sub(at) < FRESH_SECONDS
 }
@@ -132,7 +179,7 @@ pub(crate) fn is_fresh(view: &View<'_>, destination: u32) -> bool {
 /// How urgently a destination needs attention.
 pub(crate) fn destination_level(view: &View<'_>, destination: u32) -> Level
     requires { destination < 32 }
-    ensures { is_calm result ≡ true → is_cut_off view.now destination ≡ false }
+    ensures { is_calm result ≡ true → is_destination_troubled view.now destination ≡ false }
 {
     let failures = if is_fresh(view, destination) {
         Level::Look
@@ -142,11 +189,45 @@ pub(crate) fn destination_level(view: &View<'_>, destination: u32) -> Level
     worse(queue_level(view, destination), failures)
 }
 
+/// Whether a channel is not read at this time.
+pub(crate) fn is_paused(view: &View<'_>, channel: u32) -> bool
+    requires { channel < 64 }
+    ensures { result ≡ is_paused view.now channel }
+{
+    view.figures.paused >> channel & 1 == 1
+}
+
+/// Whether all connections of a channel are taken.
+pub(crate) fn is_taken(view: &View<'_>, channel: u32) -> bool
+    ensures { result ≡ is_taken view.now channel }
+{
+    let (Some(places), Some(open)) = (
+        view.figures.places.get(channel as usize),
+        view.figures.open_by_channel.get(channel as usize),
+    ) else {
+        return false;
+    };
+    *places > 0 && *open >= *places
+}
+
+/// Whether messages of a channel were refused by their content within the last 15 minutes.
+pub(crate) fn is_refusing(view: &View<'_>, channel: u32) -> bool
+    ensures { result ≡ is_refusing view.now channel }
+{
+    match view.watch.refused.get(channel as usize) {
+        Some(refused) => refused.is_recent(view.figures.now),
+        None => false,
+    }
+}
+
 /// How urgently a channel needs attention.
-pub(crate) fn channel_level(view: &View<'_>, channel: u32) -> Level {
-    if view.figures.is_paused(channel) {
+pub(crate) fn channel_level(view: &View<'_>, channel: u32) -> Level
+    requires { channel < 64 }
+    ensures { is_calm result ≡ true → is_channel_troubled view.now channel ≡ false }
+{
+    if is_paused(view, channel) {
         Level::Act
-    } else if view.phase != Phase::Open {
+    } else if view.phase != Phase::Open || is_taken(view, channel) || is_refusing(view, channel) {
         Level::Look
     } else {
         Level::Fine
@@ -173,6 +254,37 @@ pub(crate) fn remembered(view: &View<'_>) -> u64 {
         .min(100)
 }
 
+/// Whether the entries of the book and those that it owes are more than nine tenths of its bound.
+fn is_filling(view: &View<'_>) -> bool
+    ensures { result ≡ is_filling view.now }
+{
+    let gauge = view.status.gauge;
+    10 * (gauge.held as u128 + u128::from(gauge.owed)) > 9 * u128::from(gauge.events_max)
+}
+
+/// Whether more than half as many messages are remembered as may be, by the book and how many a pruning keeps.
+fn is_half(gauge: Gauge, keep: u32) -> bool
+    ensures { result ≡ is_half gauge keep }
+{
+    let remembered = gauge.messages.saturating_sub(gauge.first);
+    2 * u64::from(remembered) > u64::from(keep) + u64::from(gauge.events_max)
+}
+
+/// Whether more than half as many messages are remembered as may be.
+fn is_remembering(view: &View<'_>) -> bool
+    ensures { result ≡ is_remembering view.now }
+{
+    is_half(view.status.gauge, view.figures.keep)
+}
+
+/// Whether messages were not booked, or blocks dropped that were no acknowledgments, within the last 15 minutes.
+fn has_lost_some(view: &View<'_>) -> bool
+    ensures { result ≡ has_lost_some view.now }
+{
+    let now = view.figures.now;
+    view.watch.unbooked.is_recent(now) || view.watch.dropped.is_recent(now)
+}
+
 /// How urgently a use of this percentage needs attention.
 pub(crate) fn percent_level(percent: u64) -> Level {
     if percent >= 95 {
@@ -196,7 +308,10 @@ pub(crate) fn remembered_level(view: &View<'_>) -> Level {
 }
 
 /// How urgently the book needs attention.
-pub(crate) fn book_level(view: &View<'_>) -> Level {
+pub(crate) fn book_level(view: &View<'_>) -> Level
+    ensures filling { is_calm result ≡ true → is_filling view.now ≡ false }
+    ensures remembering { is_calm result ≡ true → is_remembering view.now ≡ false }
+{
     let gauge = view.status.gauge;
     let prunings = PRUNINGS_MAX.saturating_sub(gauge.prunings);
     let deployments = DEPLOYMENTS_MAX.saturating_sub(gauge.deployments);
@@ -208,23 +323,65 @@ pub(crate) fn book_level(view: &View<'_>) -> Level {
     } else {
         Level::Fine
     };
-    worse(
+    let level = worse(
         worse(percent_level(used(view)), remembered_level(view)),
         few,
-    )
+    );
+    if is_filling(view) || is_remembering(view) {
+        worse(level, Level::Look)
+    } else {
+        level
+    }
 }
 
 /// How urgently the store needs attention.
 pub(crate) fn store_level(view: &View<'_>) -> Level {
     match view.figures.store {
         Some(store) if store.has_no_room => Level::Act,
+        Some(_) if view.watch.has_slow_store(view.figures.now) => Level::Look,
         _ => Level::Fine,
     }
 }
 
-/// How urgently the channels, the book and the store need attention.
-fn inner_level(view: &View<'_>) -> Level {
-    let mut level = worse(book_level(view), store_level(view));
+/// How urgently messages and blocks that were not booked need attention.
+pub(crate) fn arrivals_level(view: &View<'_>) -> Level
+    ensures { is_calm result ≡ true → has_lost_some view.now ≡ false }
+{
+    if has_lost_some(view) {
+        Level::Look
+    } else {
+        Level::Fine
+    }
+}
+
+/// How urgently it needs attention which plan is in force.
+pub(crate) fn plan_level(view: &View<'_>) -> Level
+    ensures { is_calm result ≡ true → view.now.figures.now.plan_differs ≡ false }
+{
+    if view.figures.plan_differs {
+        Level::Look
+    } else {
+        Level::Fine
+    }
+}
+
+/// How urgently the book, the store, the plan and the arrivals need attention.
+fn inner_level(view: &View<'_>) -> Level
+    ensures { is_calm result ≡ true → is_service_troubled view.now ≡ false }
+{
+    worse(
+        worse(book_level(view), store_level(view)),
+        worse(arrivals_level(view), plan_level(view)),
+    )
+}
+
+/// How urgently the channels need attention.
+fn channels_level(view: &View<'_>) -> Level
+    ensures { is_calm result ≡ true → (c : ℕ) → c < length view.now.plan.now.channels
+        → is_channel_troubled view.now c ≡ false }
+{
+    view.plan.rules();
+    let mut level = Level::Fine;
     for index in 0..view.plan.channels() {
         level = worse(level, channel_level(view, index));
     }
@@ -234,7 +391,7 @@ fn inner_level(view: &View<'_>) -> Level {
 /// How urgently the destinations need attention.
 fn outer_level(view: &View<'_>) -> Level
     ensures { is_calm result ≡ true → (d : ℕ) → d < length view.now.plan.now.destinations
-        → is_cut_off view.now d ≡ false }
+        → is_destination_troubled view.now d ≡ false }
 {
     view.plan.rules();
     let mut level = Level::Fine;
@@ -244,11 +401,12 @@ fn outer_level(view: &View<'_>) -> Level
     level
 }
 
-/// How urgently the service needs attention. It never needs none while messages wait for a destination to which there is no connection
-/// since one failed or could not be opened.
+/// How urgently the service needs attention. It never needs none while something holds that an alert rule fires on.
 pub(crate) fn level_of(view: &View<'_>) -> Level
-    ensures { is_calm result ≡ true → (d : ℕ) → d < length view.now.plan.now.destinations
-        → is_cut_off view.now d ≡ false }
+    ensures { is_calm result ≡ true → IsUndisturbed view.now }
 {
-    worse(inner_level(view), outer_level(view))
+    worse(
+        inner_level(view),
+        worse(channels_level(view), outer_level(view)),
+    )
 }

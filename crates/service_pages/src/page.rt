@@ -4,8 +4,9 @@
 ghost use Rattle.std.specs.Prelude.{◌<◌};
 
 use crate::levels::{
-    Level, book_level, channel_level, destination_level, front_of, is_cut_off, is_fresh, level_of,
-    percent_level, queue_level, remembered, remembered_level, store_level, used,
+    Level, arrivals_level, behind_of, book_level, channel_level, destination_level, front_of,
+    is_behind, is_cut_off, is_fresh, is_paused, is_refusing, is_taken, level_of, percent_level,
+    plan_level, queue_level, remembered, remembered_level, store_level, used,
 };
 use crate::view::{Phase, View};
 use fixed_numbers::{DEPLOYMENTS_MAX, PRUNINGS_MAX};
@@ -125,6 +126,14 @@ fn add_destination_news(
         document.markup("</b> is held: what it would be sent waits until it is released.</li>")?;
     } else if is_cut_off(view, index) {
         add_cut_off(&mut *document, view, index, name, address)?;
+    } else if is_behind(view, index) {
+        document.markup("<li><b>")?;
+        document.text(name)?;
+        document.markup("</b> is behind: a message that was received ")?;
+        add_span(&mut *document, behind_of(view, index))?;
+        document.markup(" ago still waits. Does the receiver at ")?;
+        document.text(address)?;
+        document.markup(" answer, and fast enough?</li>")?;
     } else if let Some((number, failed, waited)) = front_of(view, index)
         && queue_level(view, index) > Level::Fine
     {
@@ -178,49 +187,100 @@ fn add_pause(document: &mut Document, view: &View<'_>) -> Result<(), AllocError>
     Ok(())
 }
 
+/// Adds the sentences about a channel at the top of the page.
+fn add_channel_news(
+    document: &mut Document,
+    view: &View<'_>,
+    index: u32,
+    name: &str,
+) -> Result<(), AllocError>
+    requires { index < 64 }
+{
+    if is_paused(view, index) {
+        document.markup("<li>Channel <b>")?;
+        document.text(name)?;
+        document.markup("</b> is paused, and its senders wait: ")?;
+        add_pause(&mut *document, view)?;
+        document.markup(".</li>")?;
+    }
+    if is_taken(view, index) {
+        document.markup("<li>All connections of channel <b>")?;
+        document.text(name)?;
+        document.markup("</b> are taken: further senders wait unanswered.</li>")?;
+    }
+    if is_refusing(view, index) {
+        document.markup("<li>Channel <b>")?;
+        document.text(name)?;
+        document.markup(
+            "</b> refused messages by their content in the last 15 minutes: the log says why.</li>",
+        )?;
+    }
+    Ok(())
+}
+
+/// Adds the sentences about the store, the book and the arrivals at the top of the page.
+fn add_inner_news(document: &mut Document, view: &View<'_>) -> Result<(), AllocError> {
+    match store_level(view) {
+        Level::Fine => {}
+        Level::Look => document.markup(
+            "<li>The store is slow: its commits took more than 0.1 seconds in the last 15 minutes.</li>",
+        )?,
+        Level::Act => document.markup(
+            "<li>The disk of the store has no room: nothing is acknowledged until it has.</li>",
+        )?,
+    }
+    if book_level(view) > Level::Fine {
+        document.markup(
+            "<li>The book runs full, or few prunings or plans are left: see below.</li>",
+        )?;
+    }
+    if plan_level(view) > Level::Fine {
+        document.markup(
+            "<li>The plan of the command line is not taken: the one in the store is in force. The log of the start says why.</li>",
+        )?;
+    }
+    if arrivals_level(view) > Level::Fine {
+        document.markup(
+            "<li>Messages were not booked, or blocks dropped, in the last 15 minutes: their senders have to send again. The log says why.</li>",
+        )?;
+    }
+    Ok(())
+}
+
+/// Adds a sentence for each thing that needs attention.
+fn add_news(document: &mut Document, view: &View<'_>) -> Result<(), AllocError> {
+    document.markup("<ul>")?;
+    if view.phase != Phase::Open {
+        document.markup("<li>The service is stopping: no channel is read.</li>")?;
+    }
+    view.plan.rules();
+    for index in 0..view.plan.channels() {
+        if let Some(channel) = view.plan.channel(index) {
+            add_channel_news(&mut *document, view, index, channel.name())?;
+        }
+    }
+    for index in 0..view.plan.destinations() {
+        if let Some(destination) = view.plan.destination(index) {
+            let (name, address) = (destination.name(), destination.address());
+            add_destination_news(&mut *document, view, index, name, address)?;
+        }
+    }
+    add_inner_news(&mut *document, view)?;
+    document.markup("</ul>")
+}
+
 /// Adds the top of the page: the verdict, and a sentence for each thing that needs attention.
 fn add_top(document: &mut Document, view: &View<'_>, level: Level) -> Result<(), AllocError> {
     document.markup("<div class=\"top ")?;
     document.markup(level.class())?;
     document.markup(match level {
         Level::Fine =>
-            "\"><h1>&#10003; All is well</h1><p>No channel is paused, each destination for which messages wait can be reached and keeps none waiting for 10 seconds, and nothing failed in the last hour.</p>",
-        Level::Look => "\"><h1>! Look at this</h1><ul>",
-        Level::Act => "\"><h1>&#10007; Act now</h1><ul>",
+            "\"><h1>&#10003; All is well</h1><p>Each channel takes messages, and each destination for which messages wait can be reached and keeps none waiting for 10 seconds. No message failed in the last hour, and none was refused or lost in the last 15 minutes.</p>",
+        Level::Look => "\"><h1>! Look at this</h1>",
+        Level::Act => "\"><h1>&#10007; Act now</h1>",
     })?;
     if level > Level::Fine {
-        if view.phase != Phase::Open {
-            document.markup("<li>The service is stopping: no channel is read.</li>")?;
-        }
-        for index in 0..view.plan.channels() {
-            if let Some(channel) = view.plan.channel(index)
-                && view.figures.is_paused(index)
-            {
-                document.markup("<li>Channel <b>")?;
-                document.text(channel.name())?;
-                document.markup("</b> is paused, and its senders wait: ")?;
-                add_pause(&mut *document, view)?;
-                document.markup(".</li>")?;
-            }
-        }
-        view.plan.rules();
-        for index in 0..view.plan.destinations() {
-            if let Some(destination) = view.plan.destination(index) {
-                let (name, address) = (destination.name(), destination.address());
-                add_destination_news(&mut *document, view, index, name, address)?;
-            }
-        }
-        if store_level(view) > Level::Fine {
-            document.markup(
-                "<li>The disk of the store has no room: nothing is acknowledged until it has.</li>",
-            )?;
-        }
-        if book_level(view) > Level::Fine {
-            document.markup(
-                "<li>The book runs full, or few prunings or plans are left: see below.</li>",
-            )?;
-        }
-        document.markup("</ul>")?;
+        add_news(&mut *document, view)?;
     }
     document.markup("</div>\n")
 }
@@ -243,6 +303,23 @@ fn add_count(document: &mut Document, label: &'static str, number: u64) -> Resul
     document.markup("</td>")
 }
 
+/// The word for how a channel does.
+fn channel_word(view: &View<'_>, index: u32) -> &'static str
+    requires { index < 64 }
+{
+    if is_paused(view, index) {
+        "paused"
+    } else if view.phase != Phase::Open {
+        "stopping"
+    } else if is_taken(view, index) {
+        "all connections taken"
+    } else if is_refusing(view, index) {
+        "refused some"
+    } else {
+        "takes messages"
+    }
+}
+
 /// Adds the channels.
 fn add_channels(alloc: Global, document: &mut Document, view: &View<'_>) -> Result<(), AllocError> {
     document.markup(
@@ -260,11 +337,7 @@ fn add_channels(alloc: Global, document: &mut Document, view: &View<'_>) -> Resu
         document.text(channel.listen())?;
         document.markup("</small></th><td data-l=\"State\">")?;
         let level = channel_level(view, index);
-        let word = match level {
-            Level::Fine => "takes messages",
-            Level::Look => "stopping",
-            Level::Act => "paused",
-        };
+        let word = channel_word(view, index);
         add_pill(&mut *document, level, word)?;
         document.markup("</td><td data-l=\"Last message\">")?;
         add_ago(

@@ -34,7 +34,26 @@ module _ (A H : RattleType) (o : Sharing.Ghosts A.Denot) (n : Naming.Ghosts A.De
           search (sendable, crosses) depth 20,
           (
             shr_sync _ _ _ (shared_sync A _ o n (record { rows = λ s. s.rows; room = λ s. 0 }) rows_send),
-            search (sendable, crosses) depth 60 fits 30000,
+            -- (the numbers first, one by one: a search for all of the fields at once is too long)
+            (
+              search (sendable, crosses) depth 20,
+              (
+                search (sendable, crosses) depth 20,
+                (
+                  search (sendable, crosses) depth 20,
+                  (
+                    search (sendable, crosses) depth 20,
+                    (
+                      search (sendable, crosses) depth 20,
+                      (
+                        search (sendable, crosses) depth 20,
+                        search (sendable, crosses) depth 60 fits 30000,
+                      ),
+                    ),
+                  ),
+                ),
+              ),
+            ),
           ),
         ),
       ))

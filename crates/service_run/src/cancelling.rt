@@ -38,6 +38,17 @@ fn cancel_among<A: Sharing, H: Crew>(
     }
 }
 
+/// Says why a message was cancelled at no destination, by where it is now.
+fn uncancelled_text<A: Sharing, H: Crew>(
+    site: &Site<'_, A, H>,
+    plan: &Plan,
+    number: u32,
+    refusal: CancelRefusal,
+) -> Result<String, AllocError> {
+    let found = site.shared.message(site.rt, number)?;
+    not_cancelled_text(site.alloc, plan, number, &found, refusal)
+}
+
 /// Cancels a message where it waits at one of the destinations of a mask, and says at which it did, or why at none.
 fn cancel_in<A: Sharing, H: Crew>(
     site: &Site<'_, A, H>,
@@ -48,10 +59,7 @@ fn cancel_in<A: Sharing, H: Crew>(
 ) -> Result<String, AllocError> {
     match cancel_among(site, plan, number, found, among)? {
         Ok(mask) => cancelled_text(site.alloc, plan, mask, live_of(found).in_flight),
-        Err(refusal) => {
-            let found = site.shared.message(site.rt, number)?;
-            not_cancelled_text(site.alloc, plan, number, &found, refusal)
-        }
+        Err(refusal) => uncancelled_text(site, plan, number, refusal),
     }
 }
 
@@ -87,6 +95,17 @@ pub(crate) fn do_cancel_all<A: Sharing, H: Crew>(
     cancel_in(site, &plan, number, &found, u32::MAX)
 }
 
+/// Says that a message doesn't wait at a destination, and in which state it is there.
+fn not_waiting_text<A: Sharing, H: Crew>(
+    site: &Site<'_, A, H>,
+    number: u32,
+    destination: u32,
+    name: &str,
+) -> Result<String, AllocError> {
+    let found = site.shared.message(site.rt, number)?;
+    not_cancelled_at_text(site.alloc, name, number, state_at(&found, destination))
+}
+
 /// Cancels a message at a destination.
 fn cancel_at<A: Sharing, H: Crew>(
     site: &Site<'_, A, H>,
@@ -100,10 +119,7 @@ fn cancel_at<A: Sharing, H: Crew>(
     let found = site.shared.message(site.rt, number)?;
     match cancel_among(site, plan, number, &found, 1 << destination)? {
         Ok(mask) => cancelled_text(site.alloc, plan, mask, live_of(&found).in_flight),
-        Err(CancelRefusal::NothingWaiting) => {
-            let found = site.shared.message(site.rt, number)?;
-            not_cancelled_at_text(site.alloc, name, number, state_at(&found, destination))
-        }
+        Err(CancelRefusal::NothingWaiting) => not_waiting_text(site, number, destination, name),
         Err(refusal) => format!(in site.alloc; "{}", Refused(refusal)),
     }
 }
@@ -180,6 +196,27 @@ fn waits_at<A: Sharing, H: Crew>(
     Ok(waits)
 }
 
+/// The control id of a message.
+fn id_of<A: Sharing, H: Crew>(site: &Site<'_, A, H>, number: u32) -> Result<Vec<u8>, AllocError> {
+    let found = site.shared.message(site.rt, number)?;
+    control_id_of(site.alloc, &found)
+}
+
+/// What waits at a destination, by its first and its last message.
+fn waiting_series<A: Sharing, H: Crew>(
+    site: &Site<'_, A, H>,
+    waits: Waits,
+) -> Result<Series, AllocError> {
+    let first_id = id_of(site, waits.first)?;
+    Ok(Series {
+        count: waits.count,
+        first: waits.first,
+        first_id,
+        last: waits.last,
+        last_id: id_of(site, waits.last)?,
+    })
+}
+
 /// Says how many messages wait at the destination of a name, from which to which, and with which command they are cancelled. It
 /// changes nothing.
 ///
@@ -195,15 +232,7 @@ pub(crate) fn ask_cancel_waiting<A: Sharing, H: Crew>(
         && let Some(destination) = plan.destination(index)
     {
         let waits = waits_at(site, index)?;
-        let first = site.shared.message(site.rt, waits.first)?;
-        let last = site.shared.message(site.rt, waits.last)?;
-        let series = Series {
-            count: waits.count,
-            first: waits.first,
-            first_id: control_id_of(site.alloc, &first)?,
-            last: waits.last,
-            last_id: control_id_of(site.alloc, &last)?,
-        };
+        let series = waiting_series(site, waits)?;
         return cancellable_text(site.alloc, destination.name(), &series, waits.in_flight);
     }
     no_destination_text(site.alloc)

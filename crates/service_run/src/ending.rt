@@ -2,8 +2,8 @@
 
 use crate::output::{tell, tell_text, write_text};
 use crate::service::RunEnd;
-use crate::workers::Returned;
-use book_lock::{Shared, Sharing};
+use crate::workers::{Returned, Workers};
+use book_lock::{Desk, Shared, Sharing};
 use engine_report::{Fault, Finding, statistics_text};
 use plan_text::Plan;
 use service_answers::{Listed, left_behind};
@@ -99,13 +99,9 @@ fn print_counts<'f>(
     }
 }
 
-/// Closes the book, and prints the statistics, on standard error where standard output can't be written.
-///
-/// # Errors
-///
-/// `Audit` where the shares of the workers don't add up, `Write` where standard output can't be written or nobody reads it for
-/// five seconds and no message is left undelivered, `Memory`.
-pub(crate) fn conclude<'f, A: Sharing>(
+/// Closes the book with what its workers returned, and prints the statistics, on standard error where standard output can't be
+/// written.
+fn conclude<'f, A: Sharing>(
     rt: &HostRuntime,
     alloc: Global,
     plan: &Plan,
@@ -119,4 +115,24 @@ pub(crate) fn conclude<'f, A: Sharing>(
     let (_rows, counts) = closed.promise();
     let text = statistics_text(alloc, plan, counts)?;
     print_counts(rt, plan, counts, &text)
+}
+
+/// Closes the book once all workers have ended, with their desks and that of the journal, where there is one, and prints the
+/// statistics.
+///
+/// # Errors
+///
+/// `Audit` where the shares of the workers don't add up, `Write` where standard output can't be written or nobody reads it for
+/// five seconds and no message is left undelivered, `Memory`.
+pub(crate) fn end<'f, A: Sharing, H: Crew>(
+    rt: &HostRuntime,
+    handle: &H,
+    shared: Shared<A, ServiceRows>,
+    workers: Workers<A>,
+    journal: Option<Desk<A>>,
+) -> Result<RunEnd, Fault<'f>> {
+    let alloc = rt.alloc();
+    let returned = workers.into_returned(alloc, journal)?;
+    let plan = shared.plan(handle)?;
+    conclude(rt, alloc, &plan, shared, returned)
 }

@@ -12,9 +12,11 @@ use crate::questions::{
 };
 use crate::settings::Settings;
 use crate::showing::{ask_show, ask_show_at, do_export};
+use crate::supervision::say_notices;
 use crate::workers::Workers;
 use book_lock::Sharing;
 use log::{Log, info};
+use notify_socket::Notice;
 use service_answers::echo_text;
 use service_commands::{Command, HELP, Input, UNKNOWN, read_command, read_line};
 use service_store::HoldsFile;
@@ -61,6 +63,13 @@ fn answer_durable<A: Sharing, H: Crew>(
     }
 }
 
+/// Says something to the service manager, where there is one.
+fn notify<A: Sharing, H: Crew>(site: &Site<'_, A, H>, workers: &Workers<A>, notice: Notice<'_>) {
+    if let Some(manager) = &workers.manager {
+        say_notices(site.alloc, manager, &[notice]);
+    }
+}
+
 /// Puts the plan in a file in force, where the path is text, and prints the result.
 fn deploy<A: Sharing, H: Crew>(
     rt: &HostRuntime,
@@ -71,7 +80,9 @@ fn deploy<A: Sharing, H: Crew>(
 ) {
     match str::from_utf8(path) {
         Ok(path) => {
+            notify(site, workers, Notice::Reloading);
             let deployed = do_deploy(rt, site, &workers.gates, origin, path);
+            notify(site, workers, Notice::Ready);
             answer_durable(rt, site, workers, deployed);
         }
         Err(_) => say(rt, NO_TEXT),

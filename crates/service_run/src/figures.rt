@@ -75,6 +75,7 @@ pub(crate) fn figures_of<A: Sharing, H: Crew>(site: &Site<'_, A, H>, watch: Watc
             plan_changed: unbooked.plan_changed,
             no_memory: unbooked.no_memory,
         },
+        repeats_unbooked: site.repeats_unbooked(),
         dropped: Dropped {
             unreadable: dropped.unreadable,
             acknowledgments: dropped.acknowledgments,
@@ -89,6 +90,7 @@ pub(crate) fn figures_of<A: Sharing, H: Crew>(site: &Site<'_, A, H>, watch: Watc
         received,
         delivered,
         sent_again,
+        plan_differs: site.plan_differs(),
         store: watch.store.map(numbers_of),
     }
 }

@@ -15,6 +15,7 @@ mod service;
 mod settings;
 mod showing;
 mod stored;
+mod supervision;
 mod threads;
 mod workers;
 
@@ -22,3 +23,4 @@ pub use questions::PLAN_BYTES;
 pub use service::{RunEnd, run};
 pub use service_web::HttpSettings;
 pub use settings::Settings;
+pub use supervision::Progress;

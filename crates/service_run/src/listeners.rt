@@ -1,8 +1,10 @@
-//! The listeners of the channels, and that of the HTTP address.
+//! The listeners of the channels, that of the HTTP address, and the socket to the service manager.
 
 use crate::settings::Settings;
+use crate::supervision::notify_socket;
 use engine_report::{Fault, tell_lines};
 use log::{Log, warn};
+use notify_socket::NotifySocket;
 use plan_notes::listen_note;
 use plan_text::Plan;
 use service_web::Door;
@@ -16,6 +18,8 @@ pub struct Listeners {
     pub gates: Vec<Gate>,
     /// That of the HTTP address, where there is one.
     pub door: Option<Door>,
+    /// The socket to the service manager, where the environment names one.
+    pub manager: Option<NotifySocket>,
 }
 
 /// Says on standard error where a channel listens.
@@ -87,7 +91,8 @@ fn open_door<'f, H: Crew>(
     }
 }
 
-/// Listens at the addresses of all channels of a plan, and at the HTTP address where there is one, and says where.
+/// Listens at the addresses of all channels of a plan, and at the HTTP address where there is one, and says where. The socket to the
+/// service manager is opened, too.
 ///
 /// # Errors
 ///
@@ -106,5 +111,9 @@ pub(crate) fn open_listeners<'f, H: Crew>(
     if let Some(door) = &door {
         tell_door(rt, handle, door);
     }
-    Ok(Listeners { gates, door })
+    Ok(Listeners {
+        gates,
+        door,
+        manager: notify_socket(rt),
+    })
 }

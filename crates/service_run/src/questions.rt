@@ -1,13 +1,16 @@
 //! The commands that ask the book something, and those that change it.
 
+ghost use Rattle.std.specs.Prelude.{◌<◌};
+
 use crate::figures::{Watch, figures_of};
 use crate::holding::add_held_gone;
 use crate::origin::PlanOrigin;
+use book_core::Failure;
 use book_lock::{Gauge, Sharing, Status};
 use log::{Log, info, warn};
 use log_text::Escaped;
-use plan_notes::{Line, warnings};
-use plan_text::Plan;
+use plan_notes::{Line, fault_notes, warnings};
+use plan_text::{Plan, PlanFault};
 use service_answers::{
     Listed, ListedFailure, Rename, SHOWN_MAX, add_listener, bad_plan_text, deployed_text,
     failed_text, few_prunings_text, found_text, frees_little_text, long_file_text, message_text,
@@ -87,6 +90,20 @@ pub(crate) fn no_destination_text(alloc: Global) -> Result<String, AllocError> {
     format!(in alloc; "{}", Refused("the plan has no destination of that name"))
 }
 
+/// The first messages that wait for a destination, as they are listed.
+fn listed_at<A: Sharing, H: Crew>(
+    site: &Site<'_, A, H>,
+    destination: u32,
+) -> Result<Vec<Listed>, AllocError> {
+    let mut listed = Vec::new(site.alloc);
+    for front in queued(site, destination, SHOWN_MAX)? {
+        let found = site.shared.message(site.rt, front.number)?;
+        let note = site.note(front.number)?;
+        listed.push(Listed { front, found, note })?;
+    }
+    Ok(listed)
+}
+
 /// What waits for the destination of a name.
 ///
 /// # Errors
@@ -109,14 +126,38 @@ pub(crate) fn ask_waiting<A: Sharing, H: Crew>(
         inflight,
         ..
     } = status.counts.destination(destination);
-    let mut listed = Vec::new(site.alloc);
-    for front in queued(site, destination, SHOWN_MAX)? {
-        let found = site.shared.message(site.rt, front.number)?;
-        let note = site.note(front.number)?;
-        listed.push(Listed { front, found, note })?;
-    }
     let all = waiting.saturating_add(inflight);
+    let listed = listed_at(site, destination)?;
     waiting_text(site.alloc, held, destination, &listed, all)
+}
+
+/// Messages that failed at a destination, as they are listed.
+fn listed_failures<A: Sharing, H: Crew>(
+    site: &Site<'_, A, H>,
+    failures: Vec<Failure>,
+) -> Result<Vec<ListedFailure>, AllocError> {
+    let mut listed = Vec::new(site.alloc);
+    for failure in failures {
+        let found = site.shared.message(site.rt, failure.number)?;
+        let note = site.note(failure.number)?;
+        listed.push(ListedFailure {
+            failure,
+            found,
+            note,
+        })?;
+    }
+    Ok(listed)
+}
+
+/// How many messages have failed at a destination.
+fn failed_at<A: Sharing, H: Crew>(
+    site: &Site<'_, A, H>,
+    destination: u32,
+) -> Result<u64, AllocError>
+    requires { destination < 32 }
+{
+    let (status, _plan) = site.shared.status(site.rt)?;
+    Ok(status.counts.destination(destination).failed)
 }
 
 /// What failed at the destination of a name: the last messages that are remembered, newest first, and how many there are. They are
@@ -134,18 +175,8 @@ pub(crate) fn ask_failed<A: Sharing, H: Crew>(
         return no_destination_text(site.alloc);
     };
     let Failures { newest, remembered } = failures_at(site, destination)?;
-    let mut listed = Vec::new(site.alloc);
-    for failure in newest {
-        let found = site.shared.message(site.rt, failure.number)?;
-        let note = site.note(failure.number)?;
-        listed.push(ListedFailure {
-            failure,
-            found,
-            note,
-        })?;
-    }
-    let (status, _plan) = site.shared.status(site.rt)?;
-    let all = status.counts.destination(destination).failed;
+    let listed = listed_failures(site, newest)?;
+    let all = failed_at(site, destination)?;
     failed_text(site.alloc, destination, &listed, remembered, all)
 }
 
@@ -230,6 +261,20 @@ struct Proposal {
     warnings: Vec<Line>,
 }
 
+/// The answer to a text that is no plan: its first fault, and where `check` finds it.
+///
+/// # Errors
+///
+/// Where memory is refused.
+fn no_plan_text(alloc: Global, text: &[u8], fault: &PlanFault) -> Result<String, AllocError> {
+    let mut answer = bad_plan_text(alloc, fault)?;
+    for note in &fault_notes(alloc, text, fault)? {
+        writeln!(answer, "{note}")?;
+    }
+    writeln!(answer, "")?;
+    Ok(answer)
+}
+
 /// The plan in a file, or the answer that says why there is none.
 fn read_plan<A: Sharing, H: Crew>(
     rt: &HostRuntime,
@@ -242,7 +287,7 @@ fn read_plan<A: Sharing, H: Crew>(
     };
     let plan = match Plan::read(site.alloc, &text) {
         Ok(plan) => plan,
-        Err(fault) => return Ok(Err(bad_plan_text(site.alloc, &fault)?)),
+        Err(fault) => return Ok(Err(no_plan_text(site.alloc, &text, &fault)?)),
     };
     let warned = warnings(site.alloc, &text, &plan)?;
     let plan = Arc::new(site.alloc, plan).map_err(AllocError::from)?;
@@ -309,6 +354,50 @@ fn log_deployed<A: Sharing, H: Crew>(
     }
 }
 
+/// Replaces the plan in force, and logs the result. Returns the answer to a plan that was refused.
+fn put_in_force<A: Sharing, H: Crew>(
+    site: &Site<'_, A, H>,
+    origin: &mut PlanOrigin<'_>,
+    path: &str,
+    before: &Plan,
+    now: &Arc<Plan>,
+    counts: &Counts,
+) -> Result<Option<String>, AllocError> {
+    let name = String::from_str(site.alloc, path)?;
+    let path = Escaped(path);
+    let shared = Arc::try_clone(now)?;
+    site.hold_by_either(before, now);
+    match site.shared.deploy(site.rt, shared) {
+        Ok(()) => {
+            site.note_deployed(before, now);
+            origin.note(name, site.seconds());
+            log_deployed(site, path, before, now, counts);
+            Ok(None)
+        }
+        Err(refusal) => {
+            site.hold_by(before);
+            warn!(site.rt; target: "always", path:% = path; "plan not deployed: {refusal}");
+            Ok(Some(refused_plan_text(site.alloc, before, refusal)?))
+        }
+    }
+}
+
+/// Replaces the plan in force by another one, and says what the result is.
+fn deploy<A: Sharing, H: Crew>(
+    site: &Site<'_, A, H>,
+    gates: &[Gate],
+    origin: &mut PlanOrigin<'_>,
+    path: &str,
+    proposal: &Proposal,
+) -> Result<String, AllocError> {
+    let (status, before) = site.shared.status(site.rt)?;
+    let text = deployed(site, gates, &before, proposal, &status.counts)?;
+    match put_in_force(site, origin, path, &before, &proposal.plan, &status.counts)? {
+        Some(refused) => Ok(refused),
+        None => Ok(text),
+    }
+}
+
 /// Replaces the plan in force by the plan in a file, and says what the result is.
 ///
 /// # Errors
@@ -321,27 +410,8 @@ pub(crate) fn do_deploy<A: Sharing, H: Crew>(
     origin: &mut PlanOrigin<'_>,
     path: &str,
 ) -> Result<String, AllocError> {
-    let proposal = match read_plan(rt, site, path)? {
-        Ok(proposal) => proposal,
-        Err(refused) => return Ok(refused),
-    };
-    let (status, before) = site.shared.status(site.rt)?;
-    let text = deployed(site, gates, &before, &proposal, &status.counts)?;
-    let name = String::from_str(site.alloc, path)?;
-    let path = Escaped(path);
-    let shared = Arc::try_clone(&proposal.plan)?;
-    site.hold_by_either(&before, &proposal.plan);
-    match site.shared.deploy(site.rt, shared) {
-        Ok(()) => {
-            site.note_deployed(&before, &proposal.plan);
-            origin.note(name, site.seconds());
-            log_deployed(site, path, &before, &proposal.plan, &status.counts);
-            Ok(text)
-        }
-        Err(refusal) => {
-            site.hold_by(&before);
-            warn!(site.rt; target: "always", path:% = path; "plan not deployed: {refusal}");
-            refused_plan_text(site.alloc, &before, refusal)
-        }
+    match read_plan(rt, site, path)? {
+        Ok(proposal) => deploy(site, gates, origin, path, &proposal),
+        Err(refused) => Ok(refused),
     }
 }

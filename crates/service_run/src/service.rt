@@ -4,7 +4,7 @@ ghost use Rattle.std.specs.Prelude.{◌≡◌, ◌+◌, length};
 ghost use Rattle.event_log.specs.History.{next_place, plan_in_force};
 ghost use Rattle.event_log.specs.Counting.{counted};
 
-use crate::ending::{conclude, name_left};
+use crate::ending::{end, name_left};
 use crate::figures::Watch;
 use crate::listeners::{Listeners, open_listeners};
 use crate::settings::Settings;
@@ -122,9 +122,7 @@ fn serve<'f, A: Sharing + Send + Sync, H: Crew + Threads + Sync>(
     };
     let workers = Workers::new(alloc, listeners, desks, stations)?;
     let worked = run_workers(rt, handle, settings, &shared, &workers);
-    let plan = shared.plan(handle)?;
-    let returned = workers.into_returned(alloc)?;
-    let ended = conclude(rt, alloc, &plan, shared, returned)?;
+    let ended = end(rt, handle, shared, workers, None)?;
     if !worked.is_staffed {
         Err(Fault::Memory)
     } else if worked.cut > 0 {
@@ -199,12 +197,12 @@ fn run_in_memory<'f, H: Crew + Threads + Sync>(
     // One desk more is the operator's.
     let desks = connections.saturating_add(1);
     let hasher = hasher(rt)?;
-    let shared_plan = Arc::try_clone(plan)?;
     let listeners = open_listeners(rt, handle, plan, settings)?;
+    let log = BlankLog::new(alloc)?;
+    let shared_plan = Arc::try_clone(plan)?;
     // The words of the command line have these bounds already.
     let events = settings.events.clamp(1, EVENTS_MAX);
     let book = Book::<ServiceRows>::new(alloc, shared_plan, events, hasher);
-    let log = BlankLog::new(alloc)?;
     serve::<Brand, _>(rt, handle, settings, listeners, book, desks, log)
 }
 

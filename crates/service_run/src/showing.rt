@@ -6,13 +6,14 @@ use crate::settings::Settings;
 use book_lock::{Found, Sharing};
 use log::{Log, info};
 use log_text::{ControlId, Escaped};
+use plan_text::Plan;
 use service_answers::{
     contents_text, control_id_of, elsewhere_text, exported_text, message_text, no_file_text,
 };
 use service_commands::Refused;
 use service_web::destination_named;
 use service_workers::{Crew, Site};
-use std::alloc::AllocError;
+use std::alloc::{AllocError, Global};
 use std::fs::OpenOptions;
 use std::io::{ErrorKind, Write};
 use std::os::unix::fs::OpenOptionsExt;
@@ -23,6 +24,32 @@ const FILE_MODE: u32 = 0o600;
 
 /// Why no text of a message is given.
 const OFF: &str = "the service was started with --show off";
+
+/// What is said where no text of a message is given.
+fn off_text(alloc: Global) -> Result<String, AllocError> {
+    format!(in alloc; "{}", Refused(OFF))
+}
+
+/// What is said of a message whose text is not kept.
+fn missing_text<A: Sharing, H: Crew>(
+    site: &Site<'_, A, H>,
+    found: &Found,
+) -> Result<String, AllocError> {
+    message_text(site.alloc, &*site.shared.plan(site.rt)?, found, &None)
+}
+
+/// The text of a message that is kept, as it was received. What is shown is logged.
+fn shown_text<A: Sharing, H: Crew>(
+    site: &Site<'_, A, H>,
+    number: u32,
+    found: &Found,
+    raw: &[u8],
+) -> Result<String, AllocError> {
+    let id = control_id_of(site.alloc, found)?;
+    let text = contents_text(site.alloc, raw)?;
+    info!(site.rt; target: "always", message = number, control_id:% = ControlId(&id); "message shown");
+    Ok(text)
+}
 
 /// The text of a message, as it was received. What is shown of which message is logged.
 ///
@@ -35,16 +62,45 @@ pub(crate) fn ask_show<A: Sharing, H: Crew>(
     number: u32,
 ) -> Result<String, AllocError> {
     if !settings.show {
-        return format!(in site.alloc; "{}", Refused(OFF));
+        return off_text(site.alloc);
     }
     let found = site.shared.message(site.rt, number)?;
-    let Found::Kept(message) = &found else {
-        return message_text(site.alloc, &*site.shared.plan(site.rt)?, &found, &None);
-    };
-    let id = control_id_of(site.alloc, &found)?;
-    let text = contents_text(site.alloc, message.raw.as_slice())?;
-    info!(site.rt; target: "always", message = number, control_id:% = ControlId(&id); "message shown");
+    match &found {
+        Found::Kept(message) => shown_text(site, number, &found, message.raw.as_slice()),
+        _ => missing_text(site, &found),
+    }
+}
+
+/// The text of a message for the destination of a name. What is shown is logged.
+fn sent_text<A: Sharing, H: Crew>(
+    site: &Site<'_, A, H>,
+    number: u32,
+    found: &Found,
+    sent: &[u8],
+    destination: &str,
+) -> Result<String, AllocError> {
+    let id = control_id_of(site.alloc, found)?;
+    let text = contents_text(site.alloc, sent)?;
+    info!(site.rt; target: "always", message = number, control_id:% = ControlId(&id), destination; "message shown");
     Ok(text)
+}
+
+/// The text of a message for a destination and its name.
+fn show_at<A: Sharing, H: Crew>(
+    site: &Site<'_, A, H>,
+    plan: &Plan,
+    number: u32,
+    index: u32,
+    name: &str,
+) -> Result<String, AllocError> {
+    let found = site.shared.message(site.rt, number)?;
+    if !matches!(found, Found::Kept(_)) {
+        return message_text(site.alloc, plan, &found, &None);
+    }
+    match site.shared.text_for(site.rt, number, index)? {
+        Some(sent) => sent_text(site, number, &found, sent.as_slice(), name),
+        None => elsewhere_text(site.alloc, number, name),
+    }
 }
 
 /// The text of a message for the destination of a name, as the steps of its route left it: it is or was sent so. What is shown of which
@@ -60,25 +116,20 @@ pub(crate) fn ask_show_at<A: Sharing, H: Crew>(
     name: &[u8],
 ) -> Result<String, AllocError> {
     if !settings.show {
-        return format!(in site.alloc; "{}", Refused(OFF));
+        return off_text(site.alloc);
     }
     let plan = site.shared.plan(site.rt)?;
-    let Some(index) = destination_named(&plan, name) else {
-        return no_destination_text(site.alloc);
-    };
-    let found = site.shared.message(site.rt, number)?;
-    if !matches!(found, Found::Kept(_)) {
-        return message_text(site.alloc, &plan, &found, &None);
+    match destination_named(&plan, name) {
+        // The names of a plan are text.
+        Some(index) => show_at(
+            site,
+            &plan,
+            number,
+            index,
+            str::from_utf8(name).unwrap_or(""),
+        ),
+        None => no_destination_text(site.alloc),
     }
-    // The names of a plan are text.
-    let name = str::from_utf8(name).unwrap_or("");
-    let Some(sent) = site.shared.text_for(site.rt, number, index)? else {
-        return elsewhere_text(site.alloc, number, name);
-    };
-    let id = control_id_of(site.alloc, &found)?;
-    let text = contents_text(site.alloc, sent.as_slice())?;
-    info!(site.rt; target: "always", message = number, control_id:% = ControlId(&id), destination = name; "message shown");
-    Ok(text)
 }
 
 /// Writes bytes to a new file, which only its owner may read. Where something is at the path already nothing is written, and where
@@ -96,6 +147,26 @@ fn write_new(rt: &HostRuntime, path: &str, bytes: &[u8]) -> io::Result<()> {
     written
 }
 
+/// Writes the bytes of a message that is kept to a new file. What is written is logged.
+fn export<A: Sharing, H: Crew>(
+    rt: &HostRuntime,
+    site: &Site<'_, A, H>,
+    number: u32,
+    found: &Found,
+    raw: &[u8],
+    path: &str,
+) -> Result<String, AllocError> {
+    let id = control_id_of(site.alloc, found)?;
+    match write_new(rt, path, raw) {
+        Ok(()) => {
+            info!(site.rt; target: "always", message = number, control_id:% = ControlId(&id), path:% = Escaped(path); "message exported");
+            exported_text(site.alloc, raw.len(), path)
+        }
+        Err(error) if error.kind() == ErrorKind::OutOfMemory => Err(AllocError),
+        Err(error) => no_file_text(site.alloc, path, &error),
+    }
+}
+
 /// Writes the bytes of a message, as they were received, to a new file. What is written of which message is logged.
 ///
 /// # Errors
@@ -109,20 +180,11 @@ pub(crate) fn do_export<A: Sharing, H: Crew>(
     path: &str,
 ) -> Result<String, AllocError> {
     if !settings.show {
-        return format!(in site.alloc; "{}", Refused(OFF));
+        return off_text(site.alloc);
     }
     let found = site.shared.message(site.rt, number)?;
-    let Found::Kept(message) = &found else {
-        return message_text(site.alloc, &*site.shared.plan(site.rt)?, &found, &None);
-    };
-    let id = control_id_of(site.alloc, &found)?;
-    let raw = message.raw.as_slice();
-    match write_new(rt, path, raw) {
-        Ok(()) => {
-            info!(site.rt; target: "always", message = number, control_id:% = ControlId(&id), path:% = Escaped(path); "message exported");
-            exported_text(site.alloc, raw.len(), path)
-        }
-        Err(error) if error.kind() == ErrorKind::OutOfMemory => Err(AllocError),
-        Err(error) => no_file_text(site.alloc, path, &error),
+    match &found {
+        Found::Kept(message) => export(rt, site, number, &found, message.raw.as_slice(), path),
+        _ => missing_text(site, &found),
     }
 }

@@ -10,14 +10,14 @@ ghost use Rattle.book_journal.specs.inner.Held.{AreHeld};
 ghost use Rattle.book_lock.specs.declared.log_entry.LogEntry.{LogEntry as Change};
 ghost use Rattle.book_lock.specs.inner.Log.{new_seats};
 
-use crate::ending::conclude;
+use crate::ending::end;
 use crate::holding::log_held;
 use crate::journaling::{Ending, operation_of, work_journaled};
 use crate::listeners::{Listeners, open_listeners};
 use crate::service::{POSTS, RunEnd, VERSION, log_descriptors, log_start, seconds_now};
 use crate::settings::Settings;
 use crate::workers::Workers;
-use book_core::{Book, EVENTS_MAX};
+use book_core::{Book, DeployRefusal, EVENTS_MAX, Ticket};
 use book_journal::{Journal, Journaling};
 use book_lock::{Desk, JournalReader, LogEntry, Opened, Shared, Sharing};
 use conn_worker::nearest;
@@ -29,8 +29,8 @@ use log_text::Escaped;
 use plan_text::Plan;
 use service_answers::Origin;
 use service_store::{
-    ConnectionNumbers, NextFile, ServiceStore, StartError, StartRequest, Started, StoredHolds,
-    Witness, close_store, start_in_folder,
+    ConnectionNumbers, Flights, NextFile, ServiceStore, StartError, StartRequest, Started,
+    StoredHolds, Witness, close_store, start_in_folder,
 };
 use service_workers::{Crew, HeldNames, History, ServiceRows, Site};
 use sqlite_std_file::File;
@@ -130,6 +130,9 @@ fn run_journaled<A: Journaling + Send + Sync, S: Store, H: Crew + Threads + Sync
     let names = HeldNames::new(names);
     log_held(handle, plan, &names);
     site.set_held(names, plan);
+    if settings.plan == Origin::Store {
+        site.keep_plan();
+    }
     let operation = operation_of(rt, workers, settings, seconds_now(handle), file);
     let ending = work_journaled(handle, &site, &operation, numbers, witness, journal);
     Journaled {
@@ -163,6 +166,85 @@ fn outcome<'f>(
     }
 }
 
+/// A book that is shared among workers and a journal.
+#[derive(Drop)]
+struct Stage<A: Journaling, S: Store> {
+    shared: Shared<A, ServiceRows>,
+    workers: Workers<A>,
+    journal: Journal<A, S>,
+}
+
+/// The journal of a book that was shared among new desks just now, at the last of these. `next` is the index of the book's next
+/// entry, and `prunings` the number of prunings that were made before.
+///
+/// # Errors
+///
+/// Where there is no desk, or the plan has more owners than can be counted.
+fn journal_at<A: Journaling, S: Store + Drop>(
+    alloc: Global,
+    seated: &mut Vec<Desk<A>>,
+    desks: usize,
+    next: usize,
+    prunings: u32,
+    plan: &Arc<Plan>,
+    store: EventStore<S>,
+) -> Result<Journal<A, S>, AllocError>
+    requires seats { map (λ d. d.seat) seated.old.items ≡ new_seats 0 desks }
+    requires next { next ≡ next_place A.opening }
+    requires prunings { prunings ≡ A.opening.opening.prunings }
+    requires durable { AreDurable (S.Store.view store.store) (S.Store.recovers store.store) A.before }
+    requires sees { IsClean (S.Store.view store.store)
+        → records_in (S.Store.view store.store).trees ≡ A.before }
+{
+    let plan = Arc::try_clone(plan)?;
+    let reader = JournalReader::new(journal_desk(seated, desks)?, next, prunings);
+    Ok(Journal::new(alloc, reader, store, plan))
+}
+
+/// Shares a book among this number of desks, of which the last is the journal's.
+///
+/// # Errors
+///
+/// Where memory is refused, or the plan has more owners than can be counted.
+fn stage_of<A: Journaling, S: Store + Drop>(
+    alloc: Global,
+    listeners: Listeners,
+    book: Book<ServiceRows>,
+    store: EventStore<S>,
+    plan: &Arc<Plan>,
+    desks: usize,
+    log: BlankLog<LogEntry>,
+) -> Result<Stage<A, S>, AllocError>
+    requires opening { book ≡ A.opening }
+    requires log { log.table.shared.table_id ≡ A.table }
+    requires counts { counted book ≡ A.counts }
+    requires first { next_place book ≡ A.first }
+    requires channels { length (plan_in_force book).channels ≡ A.channels }
+    requires seats { (A.desks ≡ desks) × (A.stations ≡ 32) }
+    requires durable { AreDurable (S.Store.view store.store) (S.Store.recovers store.store) A.before }
+    requires sees { IsClean (S.Store.view store.store)
+        → records_in (S.Store.view store.store).trees ≡ A.before }
+{
+    let (next, prunings) = (book.len(), book.prunings());
+    let opened = Shared::<A, ServiceRows>::new(alloc, book, desks, POSTS as usize, log);
+    let Ok(
+        Opened {
+            shared,
+            desks: mut seated,
+            stations,
+        },
+    ) = opened
+    else {
+        return Err(AllocError);
+    };
+    let journal = journal_at(alloc, &mut seated, desks, next, prunings, plan, store)?;
+    Ok(Stage {
+        shared,
+        workers: Workers::new(alloc, listeners, seated, stations)?,
+        journal,
+    })
+}
+
 /// Shares the book, runs all workers over it and the journal beside them, closes it, and prints the statistics. Returns how the
 /// service ended, and the store.
 fn serve_stored<'f, A: Journaling + Send + Sync, S: Store + Drop, H: Crew + Threads + Sync>(
@@ -194,22 +276,12 @@ fn serve_stored<'f, A: Journaling + Send + Sync, S: Store + Drop, H: Crew + Thre
         store,
         connections,
     } = beginning;
-    let (next, prunings) = (book.len(), book.prunings());
     let plan = Arc::try_clone(book.plan())?;
-    let opened = Shared::<A, ServiceRows>::new(alloc, book, desks, POSTS as usize, log);
-    let Ok(
-        Opened {
-            shared,
-            desks: mut seated,
-            stations,
-        },
-    ) = opened
-    else {
-        return Err(Trouble::Engine(Fault::Memory));
-    };
-    let reader = JournalReader::new(journal_desk(&mut seated, desks)?, next, prunings);
-    let mut journal = Journal::new(alloc, reader, store, Arc::try_clone(&plan)?);
-    let workers = Workers::new(alloc, listeners, seated, stations)?;
+    let Stage {
+        shared,
+        workers,
+        mut journal,
+    } = stage_of::<A, S>(alloc, listeners, book, store, &plan, desks, log)?;
     let worked = run_journaled(
         rt,
         handle,
@@ -220,11 +292,8 @@ fn serve_stored<'f, A: Journaling + Send + Sync, S: Store + Drop, H: Crew + Thre
         &plan,
         &mut journal,
     );
-    let plan = shared.plan(handle)?;
-    let mut returned = workers.into_returned(alloc)?;
     let (own, store) = journal.into_parts();
-    returned.desks.push(own).map_err(AllocError::from)?;
-    let closed = conclude(rt, alloc, &plan, shared, returned);
+    let closed = end(rt, handle, shared, workers, Some(own));
     Ok((outcome(alloc, worked, closed), store))
 }
 
@@ -250,6 +319,22 @@ fn log_waiting<H: Log>(handle: &H, book: &Book<ServiceRows>) {
     }
 }
 
+/// Logs that the plan of the command line is not taken, and why.
+fn log_kept_plan<H: Log>(handle: &H, deployments: u32, refusal: &DeployRefusal) {
+    warn!(handle; target: "always", deployments; "the plan of the command line is not taken, and the one in the store stays in force: {refusal}");
+}
+
+/// Logs what the end of the last process interrupted: how many attempts, and each message that failed by that.
+fn log_interrupted<H: Log>(handle: &H, interrupted: usize, failed: &[Ticket]) {
+    if interrupted > 0 {
+        warn!(handle; target: "always", interrupted; "attempts to deliver were interrupted by the end of the last process: they are counted and made again, so a destination may get a message twice");
+    }
+    for ticket in failed {
+        let (message, queue) = (ticket.number, ticket.destination);
+        warn!(handle; target: "always", message, queue; "message failed: its last attempt was interrupted, so it may or may not have been delivered");
+    }
+}
+
 /// Logs what was found in the store, which was opened in this many seconds: how much was recovered, which messages wait, which plan
 /// is in force, and what the end of the last process interrupted.
 fn log_found<S: Store, H: Log>(
@@ -258,29 +343,14 @@ fn log_found<S: Store, H: Log>(
     seconds: u64,
     found: &Started<S, ServiceRows>,
 ) {
-    let Started {
-        book,
-        records,
-        interrupted,
-        failed,
-        kept_plan,
-        ..
-    } = found;
-    let (store, records, messages) = (Escaped(folder), *records, book.message_count());
+    let book = &found.book;
+    let (store, records, messages) = (Escaped(folder), found.records, book.message_count());
     info!(handle; store:% = store, records, messages, seconds; "the store is open");
     log_waiting(handle, book);
-    if let Some(refusal) = kept_plan {
-        let deployments = book.deployments();
-        warn!(handle; target: "always", deployments; "the plan of the command line is not taken, and the one in the store stays in force: {refusal}");
+    if let Some(refusal) = &found.kept_plan {
+        log_kept_plan(handle, book.deployments(), refusal);
     }
-    let interrupted = *interrupted;
-    if interrupted > 0 {
-        warn!(handle; target: "always", interrupted; "attempts to deliver were interrupted by the end of the last process: they are made again, so a destination may get a message twice");
-    }
-    for ticket in failed {
-        let (message, queue) = (ticket.number, ticket.destination);
-        warn!(handle; target: "always", message, queue; "message failed: its last attempt was interrupted, so it may or may not have been delivered");
-    }
+    log_interrupted(handle, found.interrupted, &found.failed);
 }
 
 /// The settings of a start, where the plan that it begins with may be that of the store.
@@ -357,6 +427,7 @@ fn serve_started<'f, S: Store + Drop, H: Crew + Threads + Sync>(
     numbers: ConnectionNumbers,
     mut witness: Witness,
     holds: StoredHolds,
+    log: BlankLog<LogEntry>,
 ) -> Result<(Result<RunEnd, Trouble<'f>>, EventStore<S>), Trouble<'f>>
     requires durable { AreDurable (S.Store.view started.store.store)
         (S.Store.recovers started.store.store) (records_in (S.Store.view started.store.store).trees) }
@@ -382,7 +453,6 @@ fn serve_started<'f, S: Store + Drop, H: Crew + Threads + Sync>(
             holds,
         },
     };
-    let log = BlankLog::new(rt.alloc())?;
     serve_stored::<Brand, S, H>(rt, handle, settings, beginning, desks, log)
 }
 
@@ -394,17 +464,28 @@ fn close<H: Log>(handle: &H, folder: &str, store: EventStore<FileStore<File>>) {
     }
 }
 
-/// Logs that a store goes on in a new file, or why it doesn't though it is long.
+/// Logs how many messages were in flight when the last process ended, and wait again.
+fn log_given_back<H: Log>(handle: &H, flights: Flights) {
+    match flights {
+        Flights::None => {}
+        Flights::GivenBack(messages) => {
+            warn!(handle; target: "always", messages; "messages were in flight at the end of the last process: they wait again, and that attempt is not counted, so a destination may get a message twice");
+        }
+    }
+}
+
+/// Logs that a store goes on in a new file, or why it doesn't though it is long or messages were in flight.
 fn log_next<H: Log>(handle: &H, folder: &str, next: NextFile) {
     let store = Escaped(folder);
     match next {
         NextFile::Kept => {}
-        NextFile::Begun { archived } => {
+        NextFile::Begun { archived, flights } => {
             let archived = Escaped(&archived);
             info!(handle; store:% = store, archived:% = archived; "the store goes on in a new file, and the one before it is kept");
+            log_given_back(handle, flights);
         }
         NextFile::Stayed(error) => {
-            warn!(handle; target: "always", store:% = store; "the store is long, and no new file was begun for it: {error}");
+            warn!(handle; target: "always", store:% = store; "the store goes on in its old file, since no new one was begun: {error}");
         }
     }
 }
@@ -417,6 +498,7 @@ fn serve_found<'f, H: Crew + Threads + Sync>(
     settings: &Settings,
     seconds: u64,
     found: ServiceStore<ServiceRows>,
+    log: BlankLog<LogEntry>,
 ) -> Result<RunEnd, Trouble<'f>>
     requires durable { AreDurable (view found.started.store.store)
         (recovers found.started.store.store) (records_in (view found.started.store.store).trees) }
@@ -430,7 +512,16 @@ fn serve_found<'f, H: Crew + Threads + Sync>(
     } = found;
     log_next(handle, folder, next);
     log_found(handle, folder, seconds, &started);
-    match serve_started(rt, handle, settings, started, connections, witness, holds) {
+    match serve_started(
+        rt,
+        handle,
+        settings,
+        started,
+        connections,
+        witness,
+        holds,
+        log,
+    ) {
         Ok((ended, store)) => {
             close(handle, folder, store);
             ended
@@ -453,11 +544,12 @@ pub(crate) fn run_stored<'f, H: Crew + Threads + Sync>(
     settings: &Settings,
 ) -> Result<RunEnd, Trouble<'f>> {
     log_start(handle, path, plan, settings);
+    let log = BlankLog::new(rt.alloc())?;
     let began = seconds_now(handle);
     match open_store(rt, handle, folder, plan, settings) {
         Ok(found) => {
             let seconds = seconds_now(handle).saturating_sub(began);
-            serve_found(rt, handle, folder, settings, seconds, found)
+            serve_found(rt, handle, folder, settings, seconds, found, log)
         }
         Err(trouble) => Err(trouble),
     }

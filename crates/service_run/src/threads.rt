@@ -3,9 +3,11 @@
 use crate::execution::execute_all;
 use crate::figures::{Counted, Watch};
 use crate::settings::Settings;
+use crate::supervision::supervise;
 use crate::workers::Workers;
 use book_lock::Sharing;
 use log::{Log, info, warn};
+use notify_socket::NotifySocket;
 use service_web::{Door, answer_requests};
 use service_workers::{
     Crew, Gate, Place, Post, Site, StopMode, stop, work_place, work_post, work_warden,
@@ -93,8 +95,22 @@ fn start_answers<'s, 'x: 's, E: 's, A: Sharing + Send + Sync + 's, H: Crew + Syn
         .is_ok()
 }
 
+/// Starts the thread that says to the service manager how the service is. Returns whether it was started.
+fn start_supervision<'s, 'x: 's, E: 's, A: Sharing + Send + Sync + 's, H: Crew + Sync + 's>(
+    scope: &Scope<'s, E>,
+    site: &'s Site<'x, A, H>,
+    manager: &'s NotifySocket,
+    watch: Watch<'s>,
+) -> bool {
+    Builder::new()
+        .stack_size(STACK_BYTES)
+        .spawn_scoped(scope, move || supervise(site, manager, watch))
+        .is_ok()
+}
+
 /// Starts all workers. Returns whether enough threads could be started: that of each post, the warden's, that of the first
-/// place of each channel, and the one that answers requests over HTTP, where there is an address for it.
+/// place of each channel, the one that answers requests over HTTP, where there is an address for it, and the one that says to the
+/// service manager how the service is, where there is one.
 pub(crate) fn start_all<'s, 'x: 's, E: 's, A: Sharing + Send + Sync + 's, H: Crew + Sync + 's>(
     scope: &Scope<'s, E>,
     site: &'s Site<'x, A, H>,
@@ -120,7 +136,10 @@ pub(crate) fn start_all<'s, 'x: 's, E: 's, A: Sharing + Send + Sync + 's, H: Cre
         let started = site.places();
         warn!(site.rt; refused, started; "not all threads could be started, fewer connections are served at once");
     }
-    true
+    match &workers.manager {
+        Some(manager) => start_supervision(scope, site, manager, watch),
+        None => true,
+    }
 }
 
 /// Ends all workers at once.

@@ -5,6 +5,7 @@ ghost use Rattle.delivery_worker.specs.Sent.{IsUnused};
 
 use crate::listeners::Listeners;
 use book_lock::{Desk, Sharing, Station};
+use notify_socket::NotifySocket;
 use service_web::Door;
 use service_workers::{Gate, OperatorDesk, Place, Post, PostWork};
 use std::alloc::{AllocError, Global};
@@ -16,6 +17,8 @@ pub struct Workers<A: Sharing> {
     pub gates: Vec<Gate>,
     /// The listener of the HTTP address, where there is one.
     pub door: Option<Door>,
+    /// The socket to the service manager, where there is one.
+    pub manager: Option<NotifySocket>,
     /// The place at index `k` is one of channel `k` modulo the number of channels.
     pub places: Vec<Place<A>>,
     /// The posts, by destination.
@@ -83,6 +86,19 @@ fn works_of<A: Sharing>(
     Ok(works)
 }
 
+/// Adds the operator's desk, and the journal's, where there is one.
+fn add_desks<A: Sharing>(
+    desks: &mut Vec<Desk<A>>,
+    operator: Desk<A>,
+    journal: Option<Desk<A>>,
+) -> Result<(), AllocError> {
+    desks.push(operator)?;
+    if let Some(journal) = journal {
+        desks.push(journal)?;
+    }
+    Ok(())
+}
+
 impl<A: Sharing> Workers<A> {
     /// An operator with the last desk, a place for each other desk, and a post for each station, which has made no call.
     ///
@@ -98,33 +114,40 @@ impl<A: Sharing> Workers<A> {
         requires { All (λ s. IsUnused s.seat) stations.items }
     {
         let operator = OperatorDesk::new(desks.pop().ok_or(AllocError)?);
-        let Listeners { gates, door } = listeners;
+        let Listeners {
+            gates,
+            door,
+            manager,
+        } = listeners;
         Ok(Workers {
             gates,
             door,
+            manager,
             places: places_of(alloc, desks)?,
             posts: posts_of(alloc, stations)?,
             operator,
         })
     }
 
-    /// The desks, and what delivered, once all workers have ended.
+    /// The desks, with that of the journal, where there is one, and what delivered, once all workers have ended.
     ///
     /// # Errors
     ///
     /// Where memory is refused.
-    pub fn into_returned(self, alloc: Global) -> Result<Returned<A>, AllocError> {
+    pub fn into_returned(
+        self,
+        alloc: Global,
+        journal: Option<Desk<A>>,
+    ) -> Result<Returned<A>, AllocError> {
         let Workers {
             places,
             posts,
             operator,
             ..
         } = self;
+        let posts = works_of(alloc, posts)?;
         let mut desks = desks_of(alloc, places)?;
-        desks.push(operator.into_desk())?;
-        Ok(Returned {
-            desks,
-            posts: works_of(alloc, posts)?,
-        })
+        add_desks(&mut desks, operator.into_desk(), journal)?;
+        Ok(Returned { desks, posts })
     }
 }

@@ -19,7 +19,9 @@ use Rattle.event_records.specs.declared.record.Record.{Record}
 use Rattle.event_records.specs.declared.record.Record.TheVariants.{Arrival, Take, Settle, Cancel, Deploy, Prune}
 use Rattle.book_replay.specs.Replay.{after_reading, after_record, after_records}
 use Rattle.book_replay.specs.inner.Flights.{flights, settled_again}
-use Rattle.service_store.specs.inner.Starting.{IsCaughtUp, IsPlanned}
+use Rattle.service_store.specs.declared.start.OnFlights.{OnFlights}
+use Rattle.service_store.specs.declared.start.OnFlights.TheVariants.{Leave, Settle as SettleAll}
+use Rattle.service_store.specs.inner.Starting.{IsCaughtUp, IsPlanned, settlements}
 
 -- ---- settlements leave the plan
 
@@ -41,10 +43,14 @@ planned_kept plan old planned None is = (λ _. is.0, λ _. refl)
 planned_kept plan old planned (Some refusal) is =
     (λ (e : Some refusal ≡ None). absurd cc, λ (e : plan_in_force planned ≡ plan). absurd (is.1 (sym (ap plan_in_force is.0) ∙ e)))
 
-pub plan_where : (plan : PlanEntry) (asked : ℕ) (old new : History) (kept : Option DeployRefusal) (interrupted : ℕ) (failed : List Ticket)
-    → IsCaughtUp plan asked old new kept interrupted failed → (kept ≡ None) ↔ (plan_in_force new ≡ plan)
-plan_where plan asked old new kept interrupted failed is =
-    let same : plan_in_force new ≡ plan_in_force is.planned = ap plan_in_force is.settled ∙ plan_settled is.planned is.now (flights is.planned) in
+plan_stays : (how : OnFlights) (h : History) (now : ℕ) → plan_in_force (after_records h (settlements how now h)) ≡ plan_in_force h
+plan_stays Leave h now = refl
+plan_stays SettleAll h now = plan_settled h now (flights h)
+
+pub plan_where : (how : OnFlights) (plan : PlanEntry) (asked : ℕ) (old new : History) (kept : Option DeployRefusal) (interrupted : ℕ) (failed : List Ticket)
+    → IsCaughtUp how plan asked old new kept interrupted failed → (kept ≡ None) ↔ (plan_in_force new ≡ plan)
+plan_where how plan asked old new kept interrupted failed is =
+    let same : plan_in_force new ≡ plan_in_force is.planned = ap plan_in_force is.settled ∙ plan_stays how is.planned is.now in
     subst (λ (x : PlanEntry). (kept ≡ None) ↔ (x ≡ plan)) (sym same) (planned_kept plan old is.planned kept is.deployed)
 
 -- ---- records leave the bound
@@ -77,16 +83,16 @@ records_bound h (r ∷ rs) = records_bound (after_record h r) rs ∙ record_boun
 
 -- ---- what a start is caught up with
 
-pub caught_up_since : (plan : PlanEntry) (asked at : ℕ) (h old new : History) (kept : Option DeployRefusal) (interrupted : ℕ) (failed : List Ticket) → asked ≤ at → h ≡ old
-    → IsCaughtUp plan at old new kept interrupted failed → IsCaughtUp plan asked h new kept interrupted failed
-caught_up_since plan asked at h old new kept interrupted failed le same is =
-    subst (λ (x : History). IsCaughtUp plan asked x new kept interrupted failed) (sym same) (record {
+pub caught_up_since : (how : OnFlights) (plan : PlanEntry) (asked at : ℕ) (h old new : History) (kept : Option DeployRefusal) (interrupted : ℕ) (failed : List Ticket) → asked ≤ at → h ≡ old
+    → IsCaughtUp how plan at old new kept interrupted failed → IsCaughtUp how plan asked h new kept interrupted failed
+caught_up_since how plan asked at h old new kept interrupted failed le same is =
+    subst (λ (x : History). IsCaughtUp how plan asked x new kept interrupted failed) (sym same) (record {
       planned = is.planned;
       deployed = is.deployed;
       now = is.now;
       not_before = omega (arith, le, is.not_before);
       settled = is.settled;
-      settlements = is.settlements;
+      booked = is.booked;
       history = is.history;
       count = is.count;
       named = is.named;

@@ -11,6 +11,7 @@ write_failure bodies book.NoOpening is = absurd is
 write_failure bodies book.NoPlan is = absurd is
 write_failure bodies (book.Stopped index problem version) is = absurd is
 write_failure bodies (book.OtherBound bound other) is = absurd is
+write_failure bodies (book.MoreOwed asked enough) is = absurd is
 write_failure bodies (book.Write error) is = tt
 
 pub no_memory : (bodies : List (List ℕ)) (e : BookFault) → e ≡ book.NoMemory → IsBookFailure bodies e

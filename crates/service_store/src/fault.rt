@@ -46,6 +46,14 @@ pub enum BookFault {
         /// Those that the command line asks for.
         asked: u32,
     },
+    /// What was in flight is to be sent again, for which the bound that the command line asks for leaves no room.
+    #[error("what was in flight is to be sent again, and --events {asked} leaves no room for that: start with --events {enough}")]
+    MoreOwed {
+        /// The bound that the command line asks for.
+        asked: u32,
+        /// One that is enough.
+        enough: u32,
+    },
     /// The store failed at a write or a sync.
     #[error("not written: {0}; see to the disk and its room, and start again")]
     Write(StoreError),
@@ -155,8 +163,8 @@ pub enum StartFault {
     /// The book of the store isn't started.
     #[error("{0}")]
     Book(BookFault),
-    /// No new file, with the bound that the command line asks for, goes on from the store.
-    #[error("no new file goes on from it with the --events of the command line: {0}")]
+    /// No new file goes on from the store, as the bound that the command line asks for needs, or what was in flight.
+    #[error("no new file goes on from it, as another --events needs, or what was in flight: {0}")]
     Next(NextError),
     /// No number of a connection is reserved.
     #[error("{0}")]
@@ -243,7 +251,8 @@ impl BookFault {
             | BookFault::NoOpening
             | BookFault::NoPlan
             | BookFault::Stopped { .. }
-            | BookFault::OtherBound { .. } => 7,
+            | BookFault::OtherBound { .. }
+            | BookFault::MoreOwed { .. } => 7,
             BookFault::Write(_) => 6,
         }
     }

@@ -4,7 +4,7 @@ ghost use Rattle.std.specs.Prelude.{◌≡◌, ◌≤◌, ◌⊎◌, [], IfOk, l
 ghost use Rattle.sqlite_trees.specs.View.{IsClean, doubt};
 ghost use Rattle.event_log.specs.Folding.{pruned};
 ghost use Rattle.event_store.specs.Records.{AreDurable, records_in};
-ghost use Rattle.book_recovery.specs.inner.File.{IsRecovered, rebound};
+ghost use Rattle.book_recovery.specs.inner.File.{IsRecovered, going_on};
 ghost use Rattle.service_store.specs.inner.Starting.{bodies_in};
 
 use crate::fault::{BookFault, NextError};
@@ -87,7 +87,8 @@ pub(crate) fn fold_book<S: Store + Drop, B: BookRows + Drop>(
     }
 }
 
-/// Begins a store that has no record, and goes on from a book whose entries are folded. What it holds is committed.
+/// Begins a store that has no record, and goes on from a book whose entries are folded; what is in flight in the book waits again.
+/// What the store holds is committed.
 ///
 /// # Errors
 ///
@@ -104,10 +105,11 @@ pub(crate) fn begin_next<S: Store + Drop, B: BookRows + Drop>(
     requires few { request.events_max ≤ 1000000 }
     requires version { length request.version.now ≤ VERSION_MAX }
 
-    // What is recovered from the new store is the book, but for the bound, and a crash leaves just that.
+    // What is recovered from the new store is the book, with what was in flight given back, but for the bound, and a crash leaves
+    // just that.
     ensures recovered { IfOk result (λ e. IsClean (S.Store.view e.store)
         → bodies_in (S.Store.view events.store).trees ≡ []
-        → IsRecovered (bodies_in (S.Store.view e.store).trees) (rebound request.entry.events_max book.now)) }
+        → IsRecovered (bodies_in (S.Store.view e.store).trees) (going_on request.entry.events_max book.now)) }
     ensures durable { IfOk result (λ e. AreDurable (S.Store.view e.store)
         (S.Store.recovers e.store) (records_in (S.Store.view e.store).trees)) }
     ensures clean { IfOk result (λ e. doubt (S.Store.view events.store).is_clean

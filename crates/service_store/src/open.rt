@@ -1,13 +1,13 @@
 //! The folder of a service's store is opened.
 
-ghost use Rattle.std.specs.Prelude.{◌≡◌, ◌≤◌, ◌<◌, ◌↔◌, [], None, IfOk, IfSome, length};
+ghost use Rattle.std.specs.Prelude.{◌≡◌, ◌≢◌, ◌≤◌, ◌<◌, ◌+◌, ◌↔◌, [], None, IfOk, IfSome, length, true};
 ghost use Rattle.std.specs.Arc.{arc_value};
 ghost use Rattle.sqlite_store.specs.FileStore.{recovers, view};
 ghost use Rattle.event_log.specs.History.{plan_in_force};
 ghost use Rattle.sqlite_trees.specs.View.{IsClean};
 ghost use Rattle.event_store.specs.Records.{AreDurable, records_in};
 ghost use Rattle.book_recovery.specs.inner.File.{IsRecovered};
-ghost use Rattle.service_store.specs.inner.Starting.{AreReadOf, bodies_in, is_followed};
+ghost use Rattle.service_store.specs.inner.Starting.{AreReadOf, bodies_in, is_followed, is_never_followed, may_be_next, may_stay};
 
 use crate::close::{close_store, settled};
 use crate::fault::{BookFault, NextError, StartError, StartFault};
@@ -17,11 +17,11 @@ use crate::next::{
     FoldError, Folded, NextRequest, PRUNINGS_FEW, RECORDS_LONG, begin_next, fold_book,
 };
 use crate::numbers::ConnectionNumbers;
-use crate::start::{StartRequest, Started, found, later, millis, of_bound, start_book};
+use crate::start::{OnFlights, StartRequest, Started, found, later, millis, of_bound, start_book};
 use crate::swap::{NEXT_NAME, finish_next, finish_swap, locked, swap};
 use crate::witness::Witness;
-use book_core::{Book, BookRows};
-use book_recovery::{NextFault, VERSION_MAX};
+use book_core::{Book, BookRows, EVENTS_MAX};
+use book_recovery::{NextFault, VERSION_MAX, flying};
 use event_file::{FileError, create_at, open_at};
 use event_store::{EventStore, Opened};
 use sqlite_std_file::{File, Unknown};
@@ -35,17 +35,29 @@ use std::sync::Arc;
 /// The number of the first record.
 pub(crate) const FIRST_RECORD: u64 = 1;
 
+/// What became of the attempts that were in flight when the last process ended, in a new file.
+#[derive(Clone, Copy, Debug, PartialEq, Eq)]
+pub enum Flights {
+    /// None was in flight.
+    None,
+    /// This many messages wait again, and the attempts are not counted.
+    GivenBack(usize),
+}
+
 /// Whether the file of a store is followed by a new one at a start.
 #[derive(Debug, Drop)]
 pub enum NextFile {
-    /// It isn't: it is not long, and its book may hold as many entries as the command line asks for.
+    /// It isn't: it is not long, nothing was in flight, and its book may hold as many entries as the command line asks for.
     Kept,
     /// It is, and was moved to this path.
     Begun {
         /// The path.
         archived: String,
+        /// What became of the attempts that were in flight.
+        flights: Flights,
     },
-    /// It is long, and goes on all the same: this is why no new file was begun.
+    /// It is long, or attempts were in flight, and it goes on all the same: this is why no new file was begun. The attempts were
+    /// settled as ones to be made again then.
     Stayed(NextError),
 }
 
@@ -204,6 +216,7 @@ fn open_book<B: BookRows + Drop>(
     rt: &HostRuntime,
     folder: &str,
     request: StartRequest<'_>,
+    on_flights: OnFlights,
 ) -> Result<Opening<B>, StartFault>
     requires some { 1 ≤ request.events_max }
     requires few { request.events_max ≤ 1000000 }
@@ -214,6 +227,7 @@ fn open_book<B: BookRows + Drop>(
         (recovers s.started.store.store) (records_in (view s.started.store.store).trees)) }
     ensures plan { IfOk result (λ s. (s.started.kept_plan ≡ None)
         ↔ (plan_in_force s.started.book ≡ arc_value request.entry.plan)) }
+    ensures left { IfOk result (λ s. on_flights ≡ OnFlights.Leave → s.started.interrupted ≡ 0) }
 {
     let (Ok(seeder), Ok(hasher)) = (RandomState::new(rt), RandomState::new(rt)) else {
         return Err(StartFault::NoRandom);
@@ -221,7 +235,7 @@ fn open_book<B: BookRows + Drop>(
     let opened = open_events(rt, folder, &seeder)?;
     let found = found(&opened);
     let witness = Witness::open(rt, folder, found)?;
-    match start_book(rt.alloc(), opened, request, hasher) {
+    match start_book(rt.alloc(), opened, request, on_flights, hasher) {
         Ok(started) => Ok(Opening {
             started,
             witness,
@@ -292,19 +306,31 @@ fn close_and_swap(
     folder: &str,
     second: u64,
     store: EventStore<FileStore<File>>,
-) -> Result<NextFile, StartFault> {
+    flights: Flights,
+) -> Result<NextFile, StartFault>
+    ensures { IfOk result (λ next. next ≢ NextFile.Kept) }
+{
     let _files = match settled(store) {
         Ok(files) => files,
         Err(error) => return Err(StartFault::Disk(error)),
     };
     match swap(rt, folder, second) {
-        Ok(archived) => Ok(NextFile::Begun { archived }),
+        Ok(archived) => Ok(NextFile::Begun { archived, flights }),
         Err(error) => Ok(NextFile::Stayed(NextError::of_io(error))),
     }
 }
 
-/// Puts a new file, with this bound, in the place of a store's file: folds the entries of its book, makes the new file, and moves the
-/// old one. The store is closed.
+/// What becomes of messages that are in flight at so many destinations, in a new file.
+fn given_back(flying: usize) -> Flights {
+    if flying == 0 {
+        Flights::None
+    } else {
+        Flights::GivenBack(flying)
+    }
+}
+
+/// Puts a new file, with this bound, in the place of a store's file: folds the entries of its book, makes the new file, in which what
+/// is in flight waits again, and moves the old one. The store is closed.
 ///
 /// # Errors
 ///
@@ -320,7 +346,9 @@ fn follow<B: BookRows + Drop>(
     requires some { 1 ≤ request.events_max }
     requires few { request.events_max ≤ 1000000 }
     requires version { length request.version.now ≤ VERSION_MAX }
+    ensures { IfOk result (λ next. next ≢ NextFile.Kept) }
 {
+    let flights = given_back(flying(&book));
     let folded = match fold_book(rt.alloc(), events, book, request.at) {
         Ok(folded) => folded,
         Err(FoldError::Refused(refusal)) => {
@@ -329,7 +357,7 @@ fn follow<B: BookRows + Drop>(
         Err(FoldError::Store(fault)) => return Err(StartFault::Book(fault)),
     };
     match write_next(rt, folder, &folded.book, request) {
-        Ok(()) => close_and_swap(rt, folder, second, without_book(folded)),
+        Ok(()) => close_and_swap(rt, folder, second, without_book(folded), flights),
         Err(error) => {
             give_up(folded);
             Ok(NextFile::Stayed(error))
@@ -341,7 +369,9 @@ fn follow<B: BookRows + Drop>(
 fn is_followed<B: BookRows>(book: &Book<B>, found: u64, events_max: u32) -> bool
     ensures { result ≡ is_followed book.now found events_max }
 {
-    book.events_max() != events_max || (found >= RECORDS_LONG && book.prunings() < PRUNINGS_FEW)
+    book.events_max() != events_max
+        || flying(book) > 0
+        || (found >= RECORDS_LONG && book.prunings() < PRUNINGS_FEW)
 }
 
 /// The same request once more.
@@ -369,24 +399,62 @@ struct StartedFile<B: BookRows> {
     next: NextFile,
 }
 
-/// Why a store of this bound isn't started, where the command line asks for another and no new file was begun.
-fn not_followed(error: NextError, bound: u32, asked: u32) -> StartFault {
+/// The bound that is enough for a book of this one, with messages in flight at so many destinations: each of them owes one entry more
+/// when it waits again. None where no book may have it.
+fn enough(bound: u32, flying: usize) -> Option<u32>
+    ensures { IfSome result (λ enough. (enough ≡ bound + flying) × (enough ≤ EVENTS_MAX)) }
+{
+    let flying = u32::try_from(flying).ok()?;
+    let enough = bound.checked_add(flying)?;
+    if enough <= EVENTS_MAX {
+        Some(enough)
+    } else {
+        None
+    }
+}
+
+/// Why a store of this bound, with messages in flight at so many destinations, isn't started, where no new file was begun.
+fn not_followed(error: NextError, bound: u32, asked: u32, flying: usize) -> StartFault {
     match error {
-        NextError::Book(NextFault::NotGood) | NextError::Prune(_) => {
-            StartFault::Book(BookFault::OtherBound { bound, asked })
-        }
+        NextError::Book(NextFault::NotGood) => match enough(bound, flying) {
+            Some(enough) if flying > 0 => StartFault::Book(BookFault::MoreOwed { asked, enough }),
+            _ => StartFault::Book(BookFault::OtherBound { bound, asked }),
+        },
+        NextError::Prune(_) => StartFault::Book(BookFault::OtherBound { bound, asked }),
         error => StartFault::Next(error),
     }
 }
 
-/// What became of a store of this bound, where the command line asks for one. It goes on without a new file where that is the same.
-fn followed(next: NextFile, bound: u32, asked: u32) -> Result<NextFile, StartFault> {
+/// Whether no start can begin a new file for it, where messages of a book of this bound are in flight at so many destinations.
+fn is_never_followed(error: &NextError, bound: u32, flying: usize) -> bool
+    ensures { result ≡ is_never_followed error.now bound flying }
+{
+    match error {
+        NextError::Book(NextFault::NotGood) => (EVENTS_MAX.saturating_sub(bound) as usize) < flying,
+        NextError::Prune(_) => true,
+        _ => false,
+    }
+}
+
+/// Whether a store goes on without a new file, for this reason.
+fn may_stay(error: &NextError, bound: u32, asked: u32, flying: usize) -> bool
+    ensures { result ≡ may_stay error.now bound asked flying }
+{
+    bound == asked && (flying == 0 || is_never_followed(error, bound, flying))
+}
+
+/// What became of a store of this bound, with messages in flight at so many destinations, where the command line asks for a bound. It
+/// goes on without a new file where that is the same, and nothing is in flight or no start can begin one for it.
+fn followed(next: NextFile, bound: u32, asked: u32, flying: usize) -> Result<NextFile, StartFault>
+    ensures next { IfOk result (λ next. may_be_next next bound asked flying ≡ true) }
+    ensures same { IfOk result (λ after. after ≡ next) }
+{
     match next {
         NextFile::Stayed(error) => {
-            if bound == asked {
+            if may_stay(&error, bound, asked, flying) {
                 Ok(NextFile::Stayed(error))
             } else {
-                Err(not_followed(error, bound, asked))
+                Err(not_followed(error, bound, asked, flying))
             }
         }
         next => Ok(next),
@@ -410,6 +478,7 @@ fn go_on<B: BookRows + Drop>(
     ensures plan { IfOk result (λ s. (s.started.kept_plan ≡ None)
         ↔ (plan_in_force s.started.book ≡ arc_value request.entry.plan)) }
     ensures bound { IfOk result (λ s. s.started.book.opening.events_max ≡ request.entry.events_max) }
+    ensures followed { IfOk result (λ s. s.next ≢ NextFile.Kept) }
 {
     let Started {
         book,
@@ -417,11 +486,9 @@ fn go_on<B: BookRows + Drop>(
         last_second,
         records,
         last_connection,
-        interrupted,
-        failed,
         ..
     } = started;
-    let (bound, asked) = (book.events_max(), request.events_max);
+    let (bound, asked, flying) = (book.events_max(), request.events_max, flying(&book));
     let new_request = NextRequest {
         events_max: asked,
         version: request.version,
@@ -429,16 +496,16 @@ fn go_on<B: BookRows + Drop>(
         at: millis(later(request.now, last_second)),
     };
     let next = follow(rt, folder, store, book, last_second, new_request)?;
-    let next = followed(next, bound, asked)?;
+    let next = followed(next, bound, asked, flying)?;
     let Opening {
         started,
         witness,
         ..
-    } = match open_book::<B>(rt, folder, request) {
+    } = match open_book::<B>(rt, folder, request, OnFlights::Settle) {
         Ok(opening) => opening,
         Err(fault) => return Err(fault),
     };
-    match of_bound(started, records, interrupted, failed, asked) {
+    match of_bound(started, records, asked) {
         Ok(started) => Ok(StartedFile {
             started,
             witness,
@@ -448,7 +515,8 @@ fn go_on<B: BookRows + Drop>(
     }
 }
 
-/// Starts the store in a folder, in a new file where the old one is long or of another bound than the command line asks for.
+/// Starts the store in a folder, in a new file where the old one is long or of another bound than the command line asks for, or where
+/// a message was in flight.
 fn start_file<B: BookRows + Drop>(
     rt: &HostRuntime,
     folder: &str,
@@ -464,6 +532,7 @@ fn start_file<B: BookRows + Drop>(
     ensures plan { IfOk result (λ s. (s.started.kept_plan ≡ None)
         ↔ (plan_in_force s.started.book ≡ arc_value request.entry.plan)) }
     ensures bound { IfOk result (λ s. s.started.book.opening.events_max ≡ request.entry.events_max) }
+    ensures left { IfOk result (λ s. s.next ≡ NextFile.Kept → s.started.interrupted ≡ 0) }
 {
     let once_more = match again(&request) {
         Ok(request) => request,
@@ -473,7 +542,7 @@ fn start_file<B: BookRows + Drop>(
         started,
         witness,
         found,
-    } = match open_book::<B>(rt, folder, request) {
+    } = match open_book::<B>(rt, folder, request, OnFlights::Leave) {
         Ok(opening) => opening,
         Err(fault) => return Err(fault),
     };
@@ -494,6 +563,7 @@ fn with_numbers<B: BookRows + Drop>(
     file: StartedFile<B>,
 ) -> Result<ServiceStore<B>, StartFault>
     ensures started { IfOk result (λ s. s.started ≡ file.started) }
+    ensures next { IfOk result (λ s. s.next ≡ file.next) }
     ensures reserved { IfOk result (λ s. s.connections.first < s.connections.end) }
     ensures unused { IfOk result (λ s. IfSome file.started.last_connection (λ last. last < s.connections.first)) }
 {
@@ -532,6 +602,7 @@ fn start<B: BookRows + Drop>(
     ensures plan { IfOk result (λ s. (s.started.kept_plan ≡ None)
         ↔ (plan_in_force s.started.book ≡ arc_value request.entry.plan)) }
     ensures bound { IfOk result (λ s. s.started.book.opening.events_max ≡ request.entry.events_max) }
+    ensures left { IfOk result (λ s. s.next ≡ NextFile.Kept → s.started.interrupted ≡ 0) }
     ensures reserved { IfOk result (λ s. s.connections.first < s.connections.end) }
     ensures unused { IfOk result (λ s. IfSome s.started.last_connection (λ last. last < s.connections.first)) }
 {
@@ -570,6 +641,9 @@ pub fn start_in_folder<'a, B: BookRows + Drop>(
     ensures plan { IfOk result (λ s. (s.started.kept_plan ≡ None)
         ↔ (plan_in_force s.started.book ≡ arc_value request.entry.plan)) }
     ensures bound { IfOk result (λ s. s.started.book.opening.events_max ≡ request.entry.events_max) }
+
+    // Where it goes on in its file, no attempt that was in flight is settled.
+    ensures left { IfOk result (λ s. s.next ≡ NextFile.Kept → s.started.interrupted ≡ 0) }
 
     // Some numbers of connections are reserved, none of which a message came over.
     ensures reserved { IfOk result (λ s. s.connections.first < s.connections.end) }

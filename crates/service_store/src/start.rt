@@ -3,11 +3,14 @@
 ghost use Rattle.std.specs.Prelude.{◌≡◌, ◌≢◌, ◌≤◌, ◌-◌, ◌+◌, ◌↔◌, [], None, Some, Err, IfOk, IfErr, IfSome, IsNone, OnOk, length};
 ghost use Rattle.std.specs.Arc.{arc_value};
 ghost use Rattle.sqlite_trees.specs.View.{IsClean, doubt};
+ghost use Rattle.std.specs.List.{filter_map};
 ghost use Rattle.event_log.specs.History.{History, plan_in_force};
 ghost use Rattle.event_store.specs.Records.{AreDurable, records_in};
+ghost use Rattle.book_replay.specs.Replay.{AreReplayed, after_records};
+ghost use Rattle.book_recovery.specs.Interrupting.{failed_in};
 ghost use Rattle.book_recovery.specs.inner.File.{IsRecovered, bodies_of, last_connection_in, last_second_in};
 ghost use Rattle.service_store.specs.inner.Faults.{IsBookFailure};
-ghost use Rattle.service_store.specs.inner.Starting.{AreBooked, AreReadOf, IsCaughtUp, IsPlanned, bodies_in};
+ghost use Rattle.service_store.specs.inner.Starting.{AreBooked, AreReadOf, IsCaughtUp, IsPlanned, bodies_in, settlements};
 
 use crate::fault::BookFault;
 use crate::keep::{keep_first, keep_records};
@@ -38,6 +41,15 @@ pub struct StartRequest<'a> {
     pub now: Moment,
 }
 
+/// What a start does with the attempts that were in flight when the last process ended.
+#[derive(Clone, Copy, Debug, PartialEq, Eq)]
+pub enum OnFlights {
+    /// They stay in flight: where there are any, the book is to go on in a new file, in which they wait again.
+    Leave,
+    /// They are settled as ones to be made again, so that each of them counts.
+    Settle,
+}
+
 /// A book that was started, and its store.
 #[derive(Drop)]
 pub struct Started<S: Store, B: BookRows> {
@@ -53,7 +65,7 @@ pub struct Started<S: Store, B: BookRows> {
     pub appended: usize,
     /// The highest number of a connection that a message can have come over, if one came.
     pub last_connection: Option<u32>,
-    /// How many attempts were in flight when the last process ended.
+    /// How many attempts that were in flight were settled as ones to be made again.
     pub interrupted: usize,
     /// Those of them that were the last: their messages have failed, though they may never have been delivered.
     pub failed: Vec<Ticket>,
@@ -111,22 +123,46 @@ fn adopt<B: BookRows>(
     }
 }
 
-/// Puts the plan of the command line in force, unless the book refuses it, and settles the attempts that are in flight.
+/// Leaves the attempts that are in flight, or settles them as ones to be made again.
+fn settle<B: BookRows>(
+    alloc: Global,
+    book: &mut Book<B>,
+    now: Moment,
+    on_flights: OnFlights,
+) -> Result<SettledFlights, AllocError>
+    ensures flights { OnOk result (book.new ≡ after_records book.old (settlements on_flights now book.old)) }
+    ensures history { IfOk result (λ found. book.new ≡ after_records book.old found.records.items) }
+    ensures replayed { IfOk result (λ found. AreReplayed book.old found.records.items) }
+    ensures failed { IfOk result (λ found. found.failed.items ≡ filter_map (failed_in book.new) found.records.items) }
+    ensures left { IfOk result (λ found. on_flights ≡ OnFlights.Leave → found.records.items ≡ []) }
+{
+    match on_flights {
+        OnFlights::Leave => Ok(SettledFlights {
+            records: Vec::new(alloc),
+            failed: Vec::new(alloc),
+        }),
+        OnFlights::Settle => settle_interrupted(alloc, book, now),
+    }
+}
+
+/// Puts the plan of the command line in force, unless the book refuses it, and leaves or settles the attempts that are in flight.
 fn catch_up<B: BookRows>(
     alloc: Global,
     book: &mut Book<B>,
     plan: Arc<Plan>,
     now: Moment,
+    on_flights: OnFlights,
 ) -> Result<CaughtUp, AllocError>
     ensures booked { IfOk result (λ c. AreBooked book.old book.new c.records.items) }
-    ensures caught_up { IfOk result (λ c. IsCaughtUp (arc_value plan) now book.old book.new
+    ensures caught_up { IfOk result (λ c. IsCaughtUp on_flights (arc_value plan) now book.old book.new
         c.kept_plan c.interrupted c.failed.items) }
+    ensures left { IfOk result (λ c. on_flights ≡ OnFlights.Leave → c.interrupted ≡ 0) }
 {
     let (mut records, kept_plan) = adopt(alloc, book, plan)?;
     let SettledFlights {
         records: mut settlements,
         failed,
-    } = settle_interrupted(alloc, book, now)?;
+    } = settle(alloc, book, now, on_flights)?;
     let interrupted = settlements.len();
     records.append(&mut settlements)?;
     Ok(CaughtUp {
@@ -154,6 +190,7 @@ fn begin<S: Store + Drop, B: BookRows + Drop>(
         (S.Store.recovers s.store.store) (records_in (S.Store.view s.store.store).trees)) }
     ensures plan { IfOk result (λ s. plan_in_force s.book ≡ arc_value request.entry.plan) }
     ensures kept { IfOk result (λ s. s.kept_plan ≡ None) }
+    ensures none { IfOk result (λ s. s.interrupted ≡ 0) }
     ensures bound { IfOk result (λ s. s.book.opening.events_max ≡ request.entry.events_max) }
     ensures records { IfOk result (λ s. s.records ≡ 0) }
     ensures connection { IfOk result (λ s. s.last_connection ≡ None) }
@@ -207,6 +244,7 @@ fn resume<S: Store + Drop, B: BookRows + Drop>(
     mut events: EventStore<S>,
     rows: &[StoredRecord],
     request: StartRequest<'_>,
+    on_flights: OnFlights,
     hasher: RandomState,
 ) -> Result<Started<S, B>, BookFault>
     ensures recovered { IfOk result (λ s. IsClean (S.Store.view s.store.store)
@@ -215,7 +253,8 @@ fn resume<S: Store + Drop, B: BookRows + Drop>(
     ensures durable { IfOk result (λ s. AreDurable (S.Store.view s.store.store)
         (S.Store.recovers s.store.store) (records_in (S.Store.view s.store.store).trees)) }
     ensures caught_up { IfOk result (λ s. (h : History) → IsRecovered (bodies_of rows.now) h
-        → IsCaughtUp (arc_value request.entry.plan) request.entry.now h s.book s.kept_plan s.interrupted s.failed.items) }
+        → IsCaughtUp on_flights (arc_value request.entry.plan) request.entry.now h s.book s.kept_plan s.interrupted s.failed.items) }
+    ensures left { IfOk result (λ s. on_flights ≡ OnFlights.Leave → s.interrupted ≡ 0) }
     ensures plan { IfOk result (λ s. (s.kept_plan ≡ None) ↔ (plan_in_force s.book ≡ arc_value request.entry.plan)) }
     ensures bound { IfOk result (λ s. (h : History) → IsRecovered (bodies_of rows.now) h
         → s.book.opening.events_max ≡ h.opening.events_max) }
@@ -235,7 +274,7 @@ fn resume<S: Store + Drop, B: BookRows + Drop>(
         last_second,
     } = recover_rows::<B>(alloc, rows, hasher)?;
     let now = later(now, last_second);
-    let caught_up = catch_up(alloc, &mut book, plan, now)?;
+    let caught_up = catch_up(alloc, &mut book, plan, now, on_flights)?;
     let records_kept = caught_up.records.as_slice();
     match keep_records(alloc, &mut events, &book, records_kept, millis(now)) {
         Ok(()) => {}
@@ -262,7 +301,7 @@ fn resume<S: Store + Drop, B: BookRows + Drop>(
 
 /// Starts the book of a store that was opened just now. A store with no record is begun: its header becomes its first record. From
 /// any other the book is recovered; then the plan of the command line is put in force, unless the book refuses it, the attempts that
-/// were in flight are settled, and the records of that are appended. What the store holds is committed.
+/// were in flight are left or settled, and the records of that are appended. What the store holds is committed.
 ///
 /// # Errors
 ///
@@ -272,6 +311,7 @@ pub fn start_book<S: Store + Drop, B: BookRows + Drop>(
     alloc: Global,
     opened: Opened<S>,
     request: StartRequest<'_>,
+    on_flights: OnFlights,
     hasher: RandomState,
 ) -> Result<Started<S, B>, BookFault>
     requires some { 1 ≤ request.events_max }
@@ -285,9 +325,10 @@ pub fn start_book<S: Store + Drop, B: BookRows + Drop>(
     ensures durable { IfOk result (λ s. AreDurable (S.Store.view s.store.store)
         (S.Store.recovers s.store.store) (records_in (S.Store.view s.store.store).trees)) }
 
-    // From the book of the rows, the plan is put in force or kept, and all attempts in flight are settled.
+    // From the book of the rows, the plan is put in force or kept, and all attempts in flight are left or settled.
     ensures caught_up { IfOk result (λ s. (h : History) → IsRecovered (bodies_of opened.1.items) h
-        → IsCaughtUp (arc_value request.entry.plan) request.entry.now h s.book s.kept_plan s.interrupted s.failed.items) }
+        → IsCaughtUp on_flights (arc_value request.entry.plan) request.entry.now h s.book s.kept_plan s.interrupted s.failed.items) }
+    ensures left { IfOk result (λ s. on_flights ≡ OnFlights.Leave → s.interrupted ≡ 0) }
     ensures plan { IfOk result (λ s. (s.kept_plan ≡ None) ↔ (plan_in_force s.book ≡ arc_value request.entry.plan)) }
     ensures bound { IfOk result (λ s. (h : History) → IsRecovered (bodies_of opened.1.items) h
         → s.book.opening.events_max ≡ h.opening.events_max) }
@@ -309,7 +350,7 @@ pub fn start_book<S: Store + Drop, B: BookRows + Drop>(
             Err(fault) => return Err(fault),
         }
     }
-    match resume(alloc, events, rows.as_slice(), request, hasher) {
+    match resume(alloc, events, rows.as_slice(), request, on_flights, hasher) {
         Ok(started) => Ok(started),
         Err(fault) => Err(fault),
     }
@@ -326,8 +367,8 @@ fn other_bound(bound: u32, asked: u32) -> Option<BookFault>
     Some(BookFault::OtherBound { bound, asked })
 }
 
-/// A book that was started from a new file, with what was found in the old one, where it may hold as many entries as the command line
-/// asks for.
+/// A book that was started from a new file, with the number of records that were found in the old one, where it may hold as many
+/// entries as the command line asks for.
 ///
 /// # Errors
 ///
@@ -335,15 +376,9 @@ fn other_bound(bound: u32, asked: u32) -> Option<BookFault>
 pub(crate) fn of_bound<S: Store + Drop, B: BookRows + Drop>(
     started: Started<S, B>,
     records: usize,
-    interrupted: usize,
-    failed: Vec<Ticket>,
     asked: u32,
 ) -> Result<Started<S, B>, BookFault>
-    ensures same { IfOk result (λ s. s ≡ record started {
-      records = records;
-      interrupted = interrupted;
-      failed = failed;
-    }) }
+    ensures same { IfOk result (λ s. s ≡ record started { records = records }) }
     ensures bound { OnOk result (started.book.opening.events_max ≡ asked) }
     ensures other { IfErr result (λ fault.
         fault ≡ BookFault.OtherBound started.book.opening.events_max asked) }
@@ -357,6 +392,8 @@ pub(crate) fn of_bound<S: Store + Drop, B: BookRows + Drop>(
         last_second,
         appended,
         last_connection,
+        interrupted,
+        failed,
         kept_plan,
         ..
     } = started;

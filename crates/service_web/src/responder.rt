@@ -103,7 +103,7 @@ impl<'s, 'x, A: Sharing, H: Crew, C: Counting> Responder<'s, 'x, A, H, C> {
             return;
         };
         let figures = self.counting.figures();
-        self.watch.look(&status, figures.now);
+        self.watch.look(&status, &figures);
         self.seen = Some(Seen {
             at,
             status,

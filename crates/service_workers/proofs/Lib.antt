@@ -1,3 +1,4 @@
 pub mod Masks
 pub mod Closed
 pub mod HeldMask
+pub mod Answering

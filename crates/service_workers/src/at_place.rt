@@ -1,16 +1,17 @@
 //! A desk of a shared book that prunes itself, at which the messages of a channel are booked.
 
-ghost use Rattle.std.specs.Prelude.{◌≡◌, ◌↔◌, Err, IfErr, IfOk, IfSome, IsErrOf, IsNone, IsTrue, OnErr};
+ghost use Rattle.std.specs.Prelude.{◌≡◌, ◌↔◌, Err, IfOk, IfSome, IsErrOf, IsNone, IsTrue, OnErr};
 ghost use Rattle.judge_core.specs.Judging.{is_bookable};
-ghost use Rattle.book_lock.specs.inner.Arriving.{ArrivesAtDesk};
 ghost use Rattle.book_lock.specs.inner.Planning.{WasInForce};
+ghost use Rattle.book_lock.specs.inner.Tidies.{ArrivesAtTidied};
+ghost use Rattle.service_workers.specs.inner.Answering.{outcome_of};
 
 use crate::pauses::paused_by;
 use crate::site::{Crew, Site};
 use book_core::{NotBooked, Receipt};
 use book_lock::{Crowded, Desk, NotDurable, Sharing, Tidied, Tidying};
-use conn_core::{Booking, NotPersisted};
-use conn_worker::{log_arrival, log_break, log_cut, log_fill, log_passed_over};
+use conn_core::{Booking, NotPersisted, Unbooked};
+use conn_worker::{log_arrival, log_break, log_cut, log_fill, log_passed_over, log_repeat};
 use event_log::Told;
 use judge_core::{Judged, judge};
 use log::{Log, info, warn};
@@ -26,7 +27,8 @@ const FILL_STEP: usize = 16;
 
 /// A desk of a shared book. An arrival that finds the book tight, or without room for it, first forgets what is settled, but
 /// for the last messages that the site keeps. One whose channel has a route to a crowded destination waits, and what its sender
-/// sends next isn't read meanwhile. A call holds the book's lock for a moment; one that forgets messages holds it in proportion
+/// sends next isn't read meanwhile. One for which there is no room, and which repeats a message that the book has, is answered as a
+/// repeat, and not booked. A call holds the book's lock for a moment; one that forgets messages holds it in proportion
 /// to what is remembered. What is not booked is counted at once.
 #[derive(Drop)]
 pub struct AtPlace<'a, 'x, A: Sharing, H> {
@@ -34,7 +36,7 @@ pub struct AtPlace<'a, 'x, A: Sharing, H> {
     pub desk: &'a mut Desk<A>,
     /// The connection over which the messages are received.
     pub stream: &'a TcpStream,
-    /// The address that the connection came from.
+    /// The address of the connection's peer.
     pub peer: SocketAddr,
 }
 
@@ -66,8 +68,7 @@ fn book_tidied<A: Sharing, H: Crew>(
     requires bookable { IsTrue (is_bookable judged.now.raw) }
     requires by_plan { IsTrue by_desk → WasInForce A.opening
         desk.old.seat.seen desk.old.deployed judged.now.plan }
-    ensures at_desk { IfOk result (λ tidied.
-        ArrivesAtDesk A.opening conn judged.now desk.old desk.new tidied.receipt) }
+    ensures arrives { IfOk result (ArrivesAtTidied A.opening conn judged.now desk.old desk.new) }
     ensures same { OnErr result (desk.new ≡ desk.old) }
 {
     if by_desk {
@@ -92,8 +93,7 @@ fn book_when_free<A: Sharing, H: Crew>(
     requires bookable { IsTrue (is_bookable judged.now.raw) }
     requires by_plan { IsTrue by_desk → WasInForce A.opening
         desk.old.seat.seen desk.old.deployed judged.now.plan }
-    ensures at_desk { IfSome result (λ tidied.
-        ArrivesAtDesk A.opening conn judged.now desk.old desk.new tidied.receipt) }
+    ensures arrives { IfSome result (ArrivesAtTidied A.opening conn judged.now desk.old desk.new) }
     ensures same { IsNone result → desk.new ≡ desk.old }
 {
     let channel = judged.channel();
@@ -137,31 +137,56 @@ impl<'a, 'x, A: Sharing, H: Crew> AtPlace<'a, 'x, A, H> {
         }
     }
 
+    /// Logs and counts a message that is answered as a repeat without being booked.
+    fn note_repeat(&self, conn: u32, judged: &Judged) {
+        log_repeat(self.site.rt, conn, judged);
+        self.site.count_repeat_unbooked();
+    }
+
     /// Logs what became of an arrival, and counts one that was not booked.
-    fn note_arrival(&self, conn: u32, judged: &Judged, tidied: Tidied) -> Result<Receipt, NotBooked>
-        ensures { result ≡ tidied.receipt }
+    fn note_arrival(&self, conn: u32, judged: &Judged, tidied: Tidied) -> Result<Receipt, Unbooked>
+        ensures { result ≡ outcome_of tidied.receipt tidied.repeats }
     {
-        let Tidied { receipt, tidying } = tidied;
+        let Tidied {
+            receipt,
+            repeats,
+            tidying,
+        } = tidied;
         log_tidying(self.site.rt, tidying);
-        log_arrival(self.site.rt, self.site.alloc, conn, judged, &receipt);
-        match &receipt {
-            Ok(receipt) => self.note_receipt(receipt),
-            Err(cause) => self.site.count_unbooked(*cause),
+        if let Some(first) = repeats {
+            self.note_repeat(conn, judged);
+            return Err(Unbooked::Repeat(first));
         }
-        receipt
+        log_arrival(self.site.rt, self.site.alloc, conn, judged, &receipt);
+        match receipt {
+            Ok(receipt) => {
+                self.note_receipt(&receipt);
+                Ok(receipt)
+            }
+            Err(cause) => {
+                self.site.count_unbooked(cause);
+                Err(Unbooked::Refused(cause))
+            }
+        }
     }
 
     /// Logs and counts an arrival that is not booked: the service stops while a destination of its channel is crowded, or the
     /// connection was reset. It is answered as one for which there is no room; over a connection that was reset nobody reads that.
-    fn note_stop(&self, conn: u32, judged: &Judged) -> Result<Receipt, NotBooked>
-        ensures { result ≡ Err NotBooked.Full }
+    fn note_stop(&self, conn: u32, judged: &Judged) -> Result<Receipt, Unbooked>
+        ensures { result ≡ Err (Unbooked.Refused NotBooked.Full) }
     {
-        let refused = Err(NotBooked::Full);
+        let refused = Err(Unbooked::Refused(NotBooked::Full));
         if is_broken(self.stream) {
             log_cut(self.site.rt, conn, judged);
             return refused;
         }
-        log_arrival(self.site.rt, self.site.alloc, conn, judged, &refused);
+        log_arrival(
+            self.site.rt,
+            self.site.alloc,
+            conn,
+            judged,
+            &Err(NotBooked::Full),
+        );
         self.site.count_unbooked(NotBooked::Full);
         refused
     }
@@ -186,7 +211,8 @@ impl<'a, 'x, A: Sharing, H: Crew> AtPlace<'a, 'x, A, H> {
 impl<'a, 'x, A: Sharing, H: Crew> Booking for AtPlace<'a, 'x, A, H> {
     ghost use Rattle.std.specs.Prelude.{refl, ⊤, IsTrue};
     ghost use Rattle.book_lock.specs.Durable.{AreArrivalsDurable, AreCommitted};
-    ghost use Rattle.conn_worker.specs.inner.Arriving.{BooksAtDesk, desk_after, desk_nothing};
+    ghost use Rattle.conn_worker.specs.Arriving.{IsDurablyKnown, IsKnownIn};
+    ghost use Rattle.conn_worker.specs.inner.Arriving.{BooksAtDesk, desk_after, desk_nothing, desk_still_knows};
 
     /// The arrivals of these receipts were booked at the desk, in this order, and nothing else was. It is the same desk.
     ghost books = { λ old new receipts.
@@ -203,17 +229,24 @@ impl<'a, 'x, A: Sharing, H: Crew> Booking for AtPlace<'a, 'x, A, H> {
 
     ghost outcomes = { λ _ _ _. ⊤ };
 
+    /// The book had the message at a moment that the seat has seen.
+    ghost knows = { λ x. IsKnownIn A.opening x.desk.now.seat.seen };
+
     /// Where the history is written to a store, each arrival that was booked at the desk is durable, and what is durable follows
     /// its commit.
     ghost survives = { λ x. IsTrue x.site.now.is_stored →
         AreArrivalsDurable A.opening x.desk.now.seat
         × AreCommitted A.opening A.committed x.desk.now.seat.seen };
 
+    /// Where the history is written to a store, all that the book had at that moment is durable.
+    ghost outlives = { λ x channel raw. IsTrue x.site.now.is_stored →
+        IsDurablyKnown A.opening x.desk.now.seat.seen channel raw };
+
     fn plan(&mut self) -> Result<Arc<Plan>, AllocError> {
         self.site.shared.plan_at(self.site.rt, self.desk)
     }
 
-    fn arrive(&mut self, conn: u32, judged: &Judged) -> Result<Receipt, NotBooked> {
+    fn arrive(&mut self, conn: u32, judged: &Judged) -> Result<Receipt, Unbooked> {
         match book_when_free(self.site, self.stream, self.desk, conn, judged, false) {
             Some(tidied) => self.note_arrival(conn, judged, tidied),
             None => self.note_stop(conn, judged),
@@ -222,7 +255,7 @@ impl<'a, 'x, A: Sharing, H: Crew> Booking for AtPlace<'a, 'x, A, H> {
 
     /// A message for which another plan was deployed since it was judged is judged once more. Where another one is
     /// deployed at that moment too, or memory is refused, it is not booked.
-    fn arrive_judged(&mut self, conn: u32, judged: &Judged) -> Result<Receipt, NotBooked> {
+    fn arrive_judged(&mut self, conn: u32, judged: &Judged) -> Result<Receipt, Unbooked> {
         let booked = book_when_free(self.site, self.stream, self.desk, conn, judged, true);
         let Some(tidied) = booked else {
             return self.note_stop(conn, judged);
@@ -267,4 +300,7 @@ impl<'a, 'x, A: Sharing, H: Crew> Booking for AtPlace<'a, 'x, A, H> {
     ghost same_channels = { λ _ _ _ _. refl };
 
     ghost same_outcomes = { λ _ _ _ _ _ may. may };
+
+    ghost still_knows = { λ x y rs.
+        desk_still_knows A.opening x.desk.now y.desk.now rs x.desk.ghost_name y.desk.ghost_name };
 }

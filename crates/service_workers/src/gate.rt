@@ -14,7 +14,7 @@ use std::sync::atomic::{AtomicU32, Ordering};
 /// How often one call may be interrupted before that is a fault.
 const INTERRUPTIONS_MAX: u32 = 1_000;
 
-/// A connection that was accepted: its stream, and the index of the channel whose gate it came by.
+/// A connection that was accepted: its stream, and the index of the channel whose gate accepted it.
 #[derive(Drop)]
 pub struct Accepted {
     pub(crate) stream: TcpStream,

@@ -16,6 +16,7 @@ mod half;
 mod held;
 mod hold;
 mod holding;
+mod kinds;
 mod links;
 mod noted_link;
 mod noting;

@@ -1,4 +1,4 @@
-//! A link that notes when each attempt was made and what came of it.
+//! A link that notes when each attempt was made and how it went.
 
 ghost use Rattle.std.specs.Prelude.{◌≡◌};
 

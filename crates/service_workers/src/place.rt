@@ -2,20 +2,20 @@
 
 ghost use Rattle.std.specs.Prelude.{◌≡◌, ◌<◌, IsTrue, List, None};
 ghost use Rattle.book_core.specs.declared.receipt.Receipt.{Receipt};
+ghost use Rattle.conn_worker.specs.Arriving.{IsKnownIn};
 ghost use Rattle.conn_worker.specs.Serving.{Serves};
 
 use crate::at_place::AtPlace;
 use crate::gate::{Accepted, ChannelStream, Gate};
 use crate::half::{Half, Label, bound_writes};
 use crate::hold::Hold;
+use crate::kinds::KindCounts;
 use crate::site::{Crew, Site};
 use crate::stage::Stage;
 use book_lock::{Desk, Sharing};
 use conn_core::ConnectionId;
-use conn_worker::{
-    Counted, DiscardReceipts, Running, ServeEnd, ServeReport, TURNS_MAX, log_end, serve_within,
-};
-use log::{Log, info, warn};
+use conn_worker::{Counted, Running, ServeEnd, ServeReport, TURNS_MAX, serve_within, why_ended};
+use log::{Log, info, log, warn};
 use socket_options::keep_alive;
 use std::alloc::AllocError;
 use std::net::{Shutdown, SocketAddr, TcpStream};
@@ -68,24 +68,24 @@ fn prepare(stream: &TcpStream, idle: u32) {
 /// The outcome of serving a connection.
 #[derive(Drop)]
 struct Served {
-    report: ServeReport<DiscardReceipts>,
-    /// How many of its messages were booked.
-    booked: u64,
+    report: ServeReport<KindCounts>,
     /// How many bytes were received.
     bytes: u64,
 }
 
-/// Serves a connection by its halves, on the channel of the gate that it came by.
+/// Serves a connection by its halves, on the channel of the gate that accepted it.
 fn serve_halves<A: Sharing, H: Crew>(
     line: &ConnectionId,
     book: &mut AtPlace<'_, '_, A, H>,
     reader: &mut Counted<Half<'_, H>>,
     writer: &mut Counted<Half<'_, H>>,
     clock: &mut Running<'_, H>,
-) -> ServeReport<DiscardReceipts>
+) -> ServeReport<KindCounts>
     requires known { line.now.channel < A.channels }
     requires accepted { reader.old.inner.channel ≡ line.now.channel }
-    ensures { (receipts : List Receipt) × Serves line.now.conn reader.old.inner.channel
+    ensures { (receipts : List Receipt)
+        × Serves (IsKnownIn A.opening book.new.desk.now.seat.seen reader.old.inner.channel)
+        line.now.conn reader.old.inner.channel
         None None None None receipts result }
 {
     serve_within(line, book, reader, writer, clock, TURNS_MAX)
@@ -116,7 +116,6 @@ fn serve_stream<A: Sharing, H: Crew>(
     if site.stage() != Stage::Open {
         hold.shut(site.rt, Shutdown::Read);
     }
-    let before = desk.made();
     let line = ConnectionId {
         alloc: site.alloc,
         conn: label.connection,
@@ -139,20 +138,15 @@ fn serve_stream<A: Sharing, H: Crew>(
     hold.put(site.rt, None);
     Ok(Served {
         report,
-        booked: desk.made().saturating_sub(before),
         bytes: reader.into_inner().received(),
     })
 }
 
 /// Logs that bytes were received over a connection, and no whole block among them.
 fn log_unframed<H: Log>(rt: &H, label: Label<'_>, served: &Served) {
-    let Served {
-        report,
-        booked,
-        bytes,
-    } = served;
+    let Served { report, bytes } = served;
     let blocks = [
-        *booked,
+        report.receipts.total(),
         report.unbooked,
         report.unreadable,
         report.strays,
@@ -167,6 +161,43 @@ fn log_unframed<H: Log>(rt: &H, label: Label<'_>, served: &Served) {
         let bytes = *bytes;
         warn!(rt; channel, connection, peer:% = peer, bytes; "no whole block was received: a block is 0x0B, the message, 0x1C and 0x0D");
     }
+}
+
+/// Logs how many blocks without a message were received over a connection that ended, where there were any.
+fn log_blocks<H: Log>(rt: &H, label: Label<'_>, report: &ServeReport<KindCounts>) {
+    let ServeReport {
+        unreadable,
+        strays,
+        breaks,
+        ..
+    } = *report;
+    if unreadable > 0 || strays > 0 || breaks > 0 {
+        let Label {
+            channel,
+            connection,
+            ..
+        } = label;
+        info!(rt; channel, connection, unreadable, strays, breaks; "blocks without a message were received");
+    }
+}
+
+/// Logs that a connection ended, why, and what became of the messages that were received over it. One that was read to its end ended
+/// since the service stops, where it does.
+fn log_end<H: Log>(rt: &H, label: Label<'_>, report: &ServeReport<KindCounts>, stops: bool) {
+    let Label {
+        channel,
+        connection,
+        ..
+    } = label;
+    let (level, why) = why_ended(report.end, stops);
+    let KindCounts {
+        accepted,
+        filtered,
+        refused,
+        repeats,
+    } = report.receipts;
+    let unbooked = report.unbooked;
+    log!(rt; level, channel, connection, accepted, filtered, refused, repeats, unbooked; "connection ended: {why}");
 }
 
 /// Logs that a connection ended, why, and what it brought. Returns whether it ended because memory was refused.
@@ -186,10 +217,9 @@ fn note_end<A: Sharing, H: Crew>(
         return true;
     };
     log_unframed(rt, label, &served);
-    let Served { report, booked, .. } = served;
-    let stops = site.stage() != Stage::Open;
-    log_end(rt, channel, connection, booked, &report, stops);
-    report.end == ServeEnd::NoMemory
+    log_blocks(rt, label, &served.report);
+    log_end(rt, label, &served.report, site.stage() != Stage::Open);
+    served.report.end == ServeEnd::NoMemory
 }
 
 /// Serves a connection that was accepted, under a number of its own. Where no number is left, the connection is closed.

@@ -22,7 +22,7 @@ use record_list::RecordList;
 use socket_options::is_broken;
 use std::alloc::{AllocError, Global};
 use std::net::{Net, TcpListener, TcpStream};
-use std::sync::atomic::{AtomicU32, AtomicU64, Ordering};
+use std::sync::atomic::{AtomicBool, AtomicU32, AtomicU64, Ordering};
 use std::sync::{Arc, Mutex, Wait};
 use std::thread;
 use std::time::{Clock, Duration};
@@ -64,6 +64,8 @@ pub struct Site<'x, A: Sharing, H> {
     places: AtomicU32,
     /// How many posts work.
     posts: AtomicU32,
+    /// How often the warden has looked at the book.
+    looks: AtomicU64,
     /// The number of the stage.
     stage: AtomicU32,
     /// The channels whose reading pauses, one bit each.
@@ -73,6 +75,8 @@ pub struct Site<'x, A: Sharing, H> {
     /// The destinations that are held.
     pub(crate) holding: Holding,
     links: Links,
+    /// Whether the plan in force is neither that of the command line nor one that was deployed since.
+    plan_differs: AtomicBool,
     /// What is noted about the messages that the book remembers.
     pub(crate) notes: Mutex<MessageNotes>,
     tallies: Tallies,
@@ -148,11 +152,13 @@ impl<'x, A: Sharing, H: Crew> Site<'x, A, H> {
             open: AtomicU32::new(0),
             places: AtomicU32::new(0),
             posts: AtomicU32::new(0),
+            looks: AtomicU64::new(0),
             stage: AtomicU32::new(0),
             paused: AtomicU64::new(0),
             held_back: AtomicU64::new(0),
             holding: Holding::new(alloc),
             links: Links::new(),
+            plan_differs: AtomicBool::new(false),
             notes: Mutex::new(notes),
             tallies: Tallies::new(),
         }
@@ -337,6 +343,16 @@ impl<'x, A: Sharing, H: Crew> Site<'x, A, H> {
         self.tallies.unbooked()
     }
 
+    /// Counts a message that was answered as a repeat without being booked, since the book is full.
+    pub(crate) fn count_repeat_unbooked(&self) {
+        self.tallies.count_repeat_unbooked();
+    }
+
+    /// How many messages were answered as repeats without being booked, since the book was full.
+    pub fn repeats_unbooked(&self) -> u64 {
+        self.tallies.repeats_unbooked()
+    }
+
     /// Counts a block that was passed over: one that is no message, or an acknowledgment.
     pub(crate) fn count_passed_over(&self, judged: &Judged) {
         match judged.header() {
@@ -416,9 +432,20 @@ impl<'x, A: Sharing, H: Crew> Site<'x, A, H> {
         self.links.forget(self.rt, destination);
     }
 
+    /// Notes that the store's plan stays in force, since that of the command line is not taken.
+    pub fn keep_plan(&self) {
+        self.plan_differs.store(true, Ordering::SeqCst);
+    }
+
+    /// Whether the plan in force is neither that of the command line nor one that was deployed since.
+    pub fn plan_differs(&self) -> bool {
+        self.plan_differs.load(Ordering::SeqCst)
+    }
+
     /// Notes that a plan has replaced another one: which destinations are held by it, and which are other ones than before.
     pub fn note_deployed(&self, before: &Plan, now: &Plan) {
         self.hold_by(now);
+        self.plan_differs.store(false, Ordering::SeqCst);
         for destination in 0..DESTINATIONS {
             if is_other(before, now, destination) {
                 self.note_moved(destination);
@@ -460,6 +487,16 @@ impl<'x, A: Sharing, H: Crew> Site<'x, A, H> {
     /// Counts a place that ended.
     pub fn end_place(&self) {
         self.places.fetch_sub(1, Ordering::SeqCst);
+    }
+
+    /// Notes that the warden has looked at the book.
+    pub(crate) fn note_look(&self) {
+        self.looks.fetch_add(1, Ordering::SeqCst);
+    }
+
+    /// How often the warden has looked at the book: it looks 20 times a second, and has to take the book's lock for that.
+    pub fn looks(&self) -> u64 {
+        self.looks.load(Ordering::SeqCst)
     }
 
     /// How many posts work.

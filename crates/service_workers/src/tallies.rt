@@ -46,6 +46,7 @@ pub struct Tallies {
     full: AtomicU64,
     plan_changed: AtomicU64,
     no_memory: AtomicU64,
+    repeats_unbooked: AtomicU64,
     unreadable: AtomicU64,
     acknowledgments: AtomicU64,
     broken: AtomicU64,
@@ -99,6 +100,7 @@ impl Tallies {
             full: AtomicU64::new(0),
             plan_changed: AtomicU64::new(0),
             no_memory: AtomicU64::new(0),
+            repeats_unbooked: AtomicU64::new(0),
             unreadable: AtomicU64::new(0),
             acknowledgments: AtomicU64::new(0),
             broken: AtomicU64::new(0),
@@ -129,6 +131,16 @@ impl Tallies {
             plan_changed: self.plan_changed.load(Ordering::SeqCst),
             no_memory: self.no_memory.load(Ordering::SeqCst),
         }
+    }
+
+    /// Counts a message that was answered as a repeat without being booked.
+    pub fn count_repeat_unbooked(&self) {
+        self.repeats_unbooked.fetch_add(1, Ordering::SeqCst);
+    }
+
+    /// How many messages were answered as repeats without being booked.
+    pub fn repeats_unbooked(&self) -> u64 {
+        self.repeats_unbooked.load(Ordering::SeqCst)
     }
 
     /// Counts a block that was no message.

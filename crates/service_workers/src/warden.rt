@@ -274,6 +274,7 @@ fn look<A: Sharing, H: Crew>(site: &Site<'_, A, H>, watch: &mut Watch) {
     make_room(site, &status);
     site.forget_notes(status.gauge.first);
     watch.drain.log(site, &plan, &status.counts);
+    site.note_look();
     site.rt.flush();
 }
 

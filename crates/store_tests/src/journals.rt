@@ -19,6 +19,7 @@ use book_recovery::{NewFile, recover};
 use event_store::{EventStore, StoredRecord};
 use ghost_log::BlankLog;
 use hl7_head::Moment;
+use plan_text::Plan;
 use sqlite_trees::store::Store;
 use std::alloc::Global;
 use std::hash::RandomState;
@@ -94,6 +95,46 @@ fn own_desk<A: Journaling>(desks: &mut Vec<Desk<A>>) -> Option<Desk<A>>
     desks.pop()
 }
 
+/// The journal of a book that was shared among new desks just now, at the last of these. None where there is no desk.
+fn journal_of<A: Journaling, S: Store + Drop>(
+    alloc: Global,
+    desks: &mut Vec<Desk<A>>,
+    next: usize,
+    prunings: u32,
+    plan: Arc<Plan>,
+    events: EventStore<S>,
+) -> Option<Journal<A, S>>
+    requires seats { map (λ d. d.seat) desks.old.items ≡ new_seats 0 2 }
+    requires next { next ≡ next_place A.opening }
+    requires prunings { prunings ≡ A.opening.opening.prunings }
+    requires durable { AreDurable (S.Store.view events.store) (S.Store.recovers events.store) A.before }
+    requires sees { IsClean (S.Store.view events.store)
+        → records_in (S.Store.view events.store).trees ≡ A.before }
+{
+    let reader = JournalReader::new(own_desk(desks)?, next, prunings);
+    Some(Journal::new(alloc, reader, events, plan))
+}
+
+/// The day of a book that is closed with its desks, that of its journal and its stations. None where the close is refused.
+fn day_of<A: Journaling, S: Store + Drop>(
+    is_right: bool,
+    shared: Shared<A, Rows>,
+    mut desks: Vec<Desk<A>>,
+    stations: Vec<Station<A>>,
+    journal: Journal<A, S>,
+) -> Option<Day<S>> {
+    let (own, events) = journal.into_parts();
+    desks.push(own).ok()?;
+    match shared.close(desks, stations) {
+        Ok(closed) => Some(Day {
+            is_right,
+            events,
+            closed,
+        }),
+        Err(_) => None,
+    }
+}
+
 /// Shares a book between a desk and a station, with a journal, and closes it once a message was taken.
 fn journaled<A: Journaling, S: Store + Drop, H: Wait + Clock>(
     rt: &H,
@@ -126,22 +167,12 @@ fn journaled<A: Journaling, S: Store + Drop, H: Wait + Clock>(
     else {
         return None;
     };
-    let reader = JournalReader::new(own_desk(&mut desks)?, next, prunings);
-    let mut journal = Journal::new(alloc, reader, events, plan);
+    let mut journal = journal_of(alloc, &mut desks, next, prunings, plan, events)?;
     let is_right = match (desks.last_mut(), stations.last_mut()) {
         (Some(desk), Some(station)) => is_kept(rt, alloc, &shared, desk, station, &mut journal),
         _ => false,
     };
-    let (own, events) = journal.into_parts();
-    desks.push(own).ok()?;
-    match shared.close(desks, stations) {
-        Ok(closed) => Some(Day {
-            is_right,
-            events,
-            closed,
-        }),
-        Err(_) => None,
-    }
+    day_of(is_right, shared, desks, stations, journal)
 }
 
 /// A day of a new file's book, with a journal over a store that its header was written to.
@@ -181,19 +212,24 @@ fn is_recovered(rt: &HostRuntime, rows: &[StoredRecord]) -> Result<bool, Fail> {
     }
 }
 
-/// What is booked is durable once it is written, a message is taken only then, and the store has what the book had.
-#[test]
-fn what_is_written_is_durable(rt: HostRuntime) -> Result<(), Fail> {
-    let alloc = rt.alloc();
-    let file = new_file(&rt)?;
+/// Whether each call of a day answered as it is to and the closed book has two entries, and the rows of its store.
+fn rows_of<S: Store + Drop>(alloc: Global, day: Day<S>) -> Result<(bool, Vec<StoredRecord>), Fail> {
     let Day {
         is_right,
         events,
         closed,
-    } = kept_for_a_day(&rt, alloc, file, store_in_memory(alloc)?)?;
-    let same = closed.book().len() == 2;
-    let rows = held(alloc, events)?;
+    } = day;
+    let has_two = closed.book().len() == 2;
+    Ok((is_right && has_two, held(alloc, events)?))
+}
+
+/// What is booked is durable once it is written, a message is taken only then, and the store has what the book had.
+#[test]
+fn what_is_written_is_durable(rt: HostRuntime) -> Result<(), Fail> {
+    let alloc = rt.alloc();
+    let day = kept_for_a_day(&rt, alloc, new_file(&rt)?, store_in_memory(alloc)?)?;
+    let (is_right, rows) = rows_of(alloc, day)?;
     let recovered = is_recovered(&rt, &rows)?;
-    assert!(rt; is_right && same && recovered);
+    assert!(rt; is_right && recovered);
     Ok(())
 }

@@ -1,7 +1,11 @@
 //! Tests of what keeps a book across a stop of its process: a journal over a store, the recovery of what it wrote, the
-//! replay of records, and the maps of an opening.
+//! replay of records, the encoding and the maps of an opening, a book that goes on from one, and the file of the records.
 #![tactic(auto)]
 
+#[cfg(test)]
+mod encodings;
+#[cfg(test)]
+mod files;
 #[cfg(test)]
 mod journals;
 #[cfg(test)]
@@ -12,5 +16,7 @@ mod openings;
 mod recoveries;
 #[cfg(test)]
 mod replays;
+#[cfg(test)]
+mod resumes;
 #[cfg(test)]
 mod stage;

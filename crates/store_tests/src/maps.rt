@@ -8,7 +8,7 @@ use book_resume::{ResumeFault, resume};
 use dest_queue::{FailCause, Queued, Slot, SlotState, Slots};
 use event_log::{Remembered, Snapshot, Told};
 use judge_core::{Deliveries, Text, fits_block};
-use opening_maps::{Lowered, given_back, rebased, uncounted};
+use opening_maps::{CountsAside, Lowered, RebasedOpening, given_back, rebased, uncounted};
 use opening_records::{put_opening, read_opening};
 use plan_text::Plan;
 use record_list::RecordList;
@@ -19,17 +19,20 @@ use std::sync::Arc;
 use std::test::Fail;
 
 /// The rows of the tests' books.
-type Rows = RecordList<Queued<Outbound>>;
+pub(crate) type Rows = RecordList<Queued<Outbound>>;
 
 /// A plan of one channel and one destination, which is sent each message once.
-const PLAN: &str = "[[destination]]\nname = \"LAB\"\naddress = \"127.0.0.1:6661\"\nattempts = 1\n\n\
+pub(crate) const PLAN: &str =
+    "[[destination]]\nname = \"LAB\"\naddress = \"127.0.0.1:6661\"\nattempts = 1\n\n\
     [[channel]]\nname = \"ADT\"\nlisten = \"127.0.0.1:6660\"\ntypes = [\"ADT\"]\nprocessing = [\"P\"]\n\
     versions = [\"2.5.1\"]\n[[channel.route]]\nto = \"LAB\"\n";
 
 /// The bytes received of the first arrival, and of the second.
-const FIRST: &[u8] = b"MSH|^~\\&|REG|HOSP|ENG|HUB|20231114221300||ADT^A01^ADT_A01|M1|P|2.5.1\r";
+pub(crate) const FIRST: &[u8] =
+    b"MSH|^~\\&|REG|HOSP|ENG|HUB|20231114221300||ADT^A01^ADT_A01|M1|P|2.5.1\r";
 
-const SECOND: &[u8] = b"MSH|^~\\&|REG|HOSP|ENG|HUB|20231114221300||ADT^A01^ADT_A01|M2|P|2.5.1\r";
+pub(crate) const SECOND: &[u8] =
+    b"MSH|^~\\&|REG|HOSP|ENG|HUB|20231114221300||ADT^A01^ADT_A01|M2|P|2.5.1\r";
 
 /// A slot whose only attempt is under way.
 const IN_FLIGHT: SlotState = SlotState::InFlight { attempt: 1 };
@@ -68,12 +71,12 @@ const SMALL: Numbers = Numbers {
     attempts: 2,
 };
 
-fn text(alloc: Global, bytes: &[u8]) -> Result<Text, Fail> {
+pub(crate) fn text(alloc: Global, bytes: &[u8]) -> Result<Text, Fail> {
     Ok(Text::new(alloc, Vec::from_slice(alloc, bytes)?)?)
 }
 
 /// A delivery of a text to the destination.
-fn delivery(raw: &Text) -> Result<Deliveries, Fail> {
+pub(crate) fn delivery(raw: &Text) -> Result<Deliveries, Fail> {
     if !fits_block(raw.as_slice()) {
         return Err(Fail::from("no block"));
     }
@@ -107,8 +110,12 @@ fn counters(received: u64, delivered: u64, attempts: u64) -> Result<Counts, Fail
 }
 
 /// Two arrivals, the first of which has the lower index.
-#[tactic(auto, using(book_resume::proofs::TwoArrivals::rising_two))]
-fn in_order(alloc: Global, first: Remembered, second: Remembered) -> Result<Vec<Remembered>, Fail>
+#[tactic(auto, using(crate::proofs::TwoArrivals::rising_two))]
+pub(crate) fn in_order(
+    alloc: Global,
+    first: Remembered,
+    second: Remembered,
+) -> Result<Vec<Remembered>, Fail>
     requires { first.place < second.place }
     ensures { IfOk result (λ arrivals. IsStrictlyIncreasing (map (λ r. r.place) arrivals.items)) }
 {
@@ -206,9 +213,37 @@ fn resumed(rt: &HostRuntime, opening: &Snapshot) -> Result<Result<Book<Rows>, Re
     Ok(resume::<Rows>(rt.alloc(), again, RandomState::new(rt)?))
 }
 
+/// What is kept of an opening in one that is made of it.
+#[derive(Clone, Copy, Debug, PartialEq, Eq)]
+struct Kept {
+    same_texts: bool,
+    same_counters: bool,
+    /// The indices of its arrivals, and the answer to the second.
+    indices: Option<(usize, usize, Told)>,
+    /// The state of the slot of the second.
+    state: Option<SlotState>,
+}
+
+/// What is kept of an opening in one that is made of it.
+fn kept_in(before: &Snapshot, after: &Snapshot) -> Kept {
+    Kept {
+        same_texts: have_same_texts(before, after),
+        same_counters: after.forgotten() == before.forgotten(),
+        indices: indices_of(after),
+        state: state_of(after),
+    }
+}
+
+/// What is left of an opening that is given back, and the numbers of its entries, messages and prunings.
+fn left_given_back(alloc: Global, state: SlotState) -> Result<(Kept, (usize, u32, u32)), Fail> {
+    let opening = opening(alloc, SMALL, state)?;
+    let back = given_back(alloc, &opening)?;
+    let numbers = (back.places(), back.messages(), back.prunings());
+    Ok((kept_in(&opening, &back), numbers))
+}
+
 #[test]
 fn each_state_is_given_back(rt: HostRuntime) -> Result<(), Fail> {
-    let alloc = rt.alloc();
     let waits = SlotState::Waiting {
         attempts: 2,
         due: 1_700_000_000,
@@ -225,16 +260,14 @@ fn each_state_is_given_back(rt: HostRuntime) -> Result<(), Fail> {
         (SlotState::Delivered, SlotState::Delivered),
         (failed, failed),
     ] {
-        let opening = opening(alloc, SMALL, before)?;
-        let back = given_back(alloc, &opening)?;
-        assert_eq!(rt; state_of(&back), Some(after));
-        assert!(rt; have_same_texts(&opening, &back));
-        assert_eq!(rt; indices_of(&back), Some((30, 37, Told::Accepted(2))));
-        assert!(rt; back.forgotten() == opening.forgotten());
-        assert_eq!(rt;
-            (back.places(), back.messages(), back.prunings()),
-            (40, 3, 2)
-        );
+        let wanted = Kept {
+            same_texts: true,
+            same_counters: true,
+            indices: Some((30, 37, Told::Accepted(2))),
+            state: Some(after),
+        };
+        let found = left_given_back(rt.alloc(), before)?;
+        assert_eq!(rt; found, (wanted, (40, 3, 2)));
     }
     Ok(())
 }
@@ -252,34 +285,95 @@ fn a_message_in_flight_is_sent_again(rt: HostRuntime) -> Result<(), Fail> {
     Ok(())
 }
 
+/// What a book says of itself that goes on from an opening: how many entries and messages it has had, the first message that
+/// waits, and the attempts that it counts.
+#[derive(Clone, Copy, Debug, PartialEq, Eq)]
+struct BookState {
+    entries: usize,
+    messages: u32,
+    first: Option<u32>,
+    attempts: u64,
+}
+
+/// The first message that waits for the destination.
+fn first_waiting(book: &mut Book<Rows>) -> Option<u32> {
+    match book.front(0) {
+        Some(first) => Some(first.number),
+        None => None,
+    }
+}
+
+/// How many attempts a book counts at the destination.
+fn attempts_of(book: &Book<Rows>) -> u64 {
+    book.counts().destination(0).attempts
+}
+
+/// What a book says of itself.
+fn begun_by(book: &mut Book<Rows>) -> BookState {
+    BookState {
+        entries: book.len(),
+        messages: book.message_count(),
+        first: first_waiting(book),
+        attempts: attempts_of(book),
+    }
+}
+
+/// What the book says of itself that goes on from an opening.
+fn begun(rt: &HostRuntime, opening: &Snapshot) -> Result<BookState, Fail> {
+    let mut book = resumed(rt, opening)??;
+    Ok(begun_by(&mut book))
+}
+
+/// By how much the numbers of the small book's opening are lowered, what is left of it, and the book that goes on from it.
+fn small_rebased(rt: &HostRuntime) -> Result<(Lowered, Kept, BookState), Fail> {
+    let opening = opening(rt.alloc(), SMALL, WAITING)?;
+    let it = rebased(rt.alloc(), &opening)?;
+    let begun = begun(rt, &it.opening)?;
+    Ok((it.lowered, kept_in(&opening, &it.opening), begun))
+}
+
 #[test]
 fn numbers_go_on_from_what_is_remembered(rt: HostRuntime) -> Result<(), Fail> {
-    let alloc = rt.alloc();
-    let opening = opening(alloc, SMALL, WAITING)?;
-    let it = rebased(alloc, &opening)?;
-    let lowered = Lowered {
-        places: 30,
-        messages: 1,
-        deployments: 7,
-        prunings: 1,
-    };
-    assert_eq!(rt; it.lowered, lowered);
-    assert_eq!(rt; indices_of(&it.opening), Some((0, 7, Told::Accepted(1))));
-    assert!(rt; have_same_texts(&opening, &it.opening));
-    assert_eq!(rt; state_of(&it.opening), Some(WAITING));
-    assert!(rt; it.opening.forgotten() == opening.forgotten());
-
-    let mut book = resumed(&rt, &it.opening)??;
-    assert_eq!(rt; book.len(), 10);
-    assert_eq!(rt; book.message_count(), 2);
-    assert_eq!(rt; book.front(0).map(|front| front.number), Some(1));
+    let (lowered, left, begun) = small_rebased(&rt)?;
+    assert_eq!(rt;
+        lowered,
+        Lowered {
+            places: 30,
+            messages: 1,
+            deployments: 7,
+            prunings: 1,
+        }
+    );
+    assert_eq!(rt;
+        left,
+        Kept {
+            same_texts: true,
+            same_counters: true,
+            indices: Some((0, 7, Told::Accepted(1))),
+            state: Some(WAITING),
+        }
+    );
+    assert_eq!(rt;
+        (begun.entries, begun.messages, begun.first),
+        (10, 2, Some(1))
+    );
     Ok(())
+}
+
+/// By how much the numbers of an opening are lowered, and how many deployments and prunings are left.
+type Change = (Lowered, u32, u32);
+
+/// What is lowered of an opening, where a book goes on from what is left.
+fn lowered(rt: &HostRuntime, numbers: Numbers) -> Result<Option<Change>, Fail> {
+    let opening = opening(rt.alloc(), numbers, WAITING)?;
+    let it = rebased(rt.alloc(), &opening)?;
+    let goes_on = resumed(rt, &it.opening)?.is_ok();
+    let change = (it.lowered, it.opening.deployments(), it.opening.prunings());
+    Ok(goes_on.then_some(change))
 }
 
 #[test]
 fn numbers_are_no_lower_than_what_is_counted(rt: HostRuntime) -> Result<(), Fail> {
-    let alloc = rt.alloc();
-
     // Two messages were delivered that are forgotten, 24 were received, and 26 attempts were begun.
     for (numbers, places, messages) in [
         (SMALL, 30, 1),
@@ -308,21 +402,14 @@ fn numbers_are_no_lower_than_what_is_counted(rt: HostRuntime) -> Result<(), Fail
             1,
         ),
     ] {
-        let opening = opening(alloc, numbers, WAITING)?;
-        let it = rebased(alloc, &opening)?;
-        assert_eq!(rt;
-            (it.lowered.places, it.lowered.messages),
-            (places, messages)
-        );
-        assert!(rt; resumed(&rt, &it.opening)?.is_ok());
+        let found = lowered(&rt, numbers)?.map(|(lowered, ..)| (lowered.places, lowered.messages));
+        assert_eq!(rt; found, Some((places, messages)));
     }
     Ok(())
 }
 
 #[test]
 fn as_few_prunings_are_left_as_entries_take(rt: HostRuntime) -> Result<(), Fail> {
-    let alloc = rt.alloc();
-
     // The first arrival is remembered from 1,000,000 entries before the end, or from one more.
     for (first, prunings) in [(8_000_000, 1), (7_999_999, 2)] {
         let numbers = Numbers {
@@ -332,29 +419,40 @@ fn as_few_prunings_are_left_as_entries_take(rt: HostRuntime) -> Result<(), Fail>
             second: 8_500_000,
             ..SMALL
         };
-        let opening = opening(alloc, numbers, WAITING)?;
-        let it = rebased(alloc, &opening)?;
-        assert_eq!(rt; it.opening.prunings(), prunings);
-        assert_eq!(rt; it.lowered.prunings, 1000 - prunings);
-        assert_eq!(rt; it.lowered.places, first);
-        assert_eq!(rt; it.opening.deployments(), 0);
-        assert!(rt; resumed(&rt, &it.opening)?.is_ok());
+        let found = lowered(&rt, numbers)?.map(|(lowered, deployments, left)| {
+            (lowered.places, lowered.prunings, deployments, left)
+        });
+        assert_eq!(rt; found, Some((first, 1000 - prunings, 0, prunings)));
     }
     Ok(())
 }
 
+/// The numbers of a book of which 24 messages were received, two of them were delivered, and 26 attempts were begun.
+const COUNTED: Numbers = Numbers {
+    received: 24,
+    delivered: 2,
+    attempts: 26,
+    ..SMALL
+};
+
+/// Whether the counters of an opening's channels were set aside whole, of how many destinations there are some, and those of the
+/// first.
+fn aside_of(before: &Snapshot, aside: &CountsAside) -> (bool, usize, Option<DestinationCounts>) {
+    (
+        aside.channels.as_slice() == before.forgotten().channels(),
+        aside.destinations.len(),
+        aside.destinations.first().copied(),
+    )
+}
+
 #[test]
 fn counters_are_set_aside(rt: HostRuntime) -> Result<(), Fail> {
-    let alloc = rt.alloc();
-    let numbers = Numbers {
-        received: 24,
-        delivered: 2,
-        attempts: 26,
-        ..SMALL
-    };
-    let opening = opening(alloc, numbers, WAITING)?;
-    let it = uncounted(alloc, &opening)?;
-    assert!(rt; it.aside.channels.as_slice() == opening.forgotten().channels());
+    let opening = opening(rt.alloc(), COUNTED, WAITING)?;
+    let it = uncounted(rt.alloc(), &opening)?;
+    let found = (
+        aside_of(&opening, &it.aside),
+        have_same_texts(&opening, &it.opening),
+    );
     let first = DestinationCounts {
         waiting: 0,
         inflight: 0,
@@ -362,16 +460,35 @@ fn counters_are_set_aside(rt: HostRuntime) -> Result<(), Fail> {
         failed: 0,
         attempts: 24,
     };
-    assert_eq!(rt; it.aside.destinations.first().copied(), Some(first));
-    assert_eq!(rt; it.aside.destinations.len(), DESTINATIONS as usize);
-    assert!(rt; have_same_texts(&opening, &it.opening));
+    assert_eq!(rt; found, ((true, DESTINATIONS as usize, Some(first)), true));
+    Ok(())
+}
+
+/// What is left of the opening once its counters are set aside, with lower numbers.
+fn low_uncounted(alloc: Global) -> Result<RebasedOpening, Fail> {
+    let opening = opening(alloc, COUNTED, WAITING)?;
+    let it = uncounted(alloc, &opening)?;
+    Ok(rebased(alloc, &it.opening)?)
+}
+
+#[test]
+fn numbers_go_on_where_counters_are_set_aside(rt: HostRuntime) -> Result<(), Fail> {
+    let low = low_uncounted(rt.alloc())?;
+    let begun = begun(&rt, &low.opening)?;
 
     // Numbers go on from the first message, and indices from the first arrival.
-    let low = rebased(alloc, &it.opening)?;
-    assert_eq!(rt; (low.lowered.places, low.lowered.messages), (30, 2));
-    let mut book = resumed(&rt, &low.opening)??;
-    assert_eq!(rt; book.message_count(), 1);
-    assert_eq!(rt; book.front(0).map(|front| front.number), Some(0));
-    assert_eq!(rt; book.counts().destination(0).attempts, 2);
+    assert_eq!(rt;
+        (low.lowered.places, low.lowered.messages, begun),
+        (
+            30,
+            2,
+            BookState {
+                entries: 10,
+                messages: 1,
+                first: Some(0),
+                attempts: 2,
+            }
+        )
+    );
     Ok(())
 }

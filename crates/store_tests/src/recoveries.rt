@@ -31,6 +31,12 @@ const MOVED: &str =
 const MESSAGE: &str =
     "MSH|^~\\&|REG|HOSP|ENG|HUB|20231114221300||ADT^A01^ADT_A01|M1|P|2.5.1\rPID|1||77^^^H\r";
 
+/// Why a file without a header isn't recovered, and one of another format.
+const HEADLESS: &str = "the file doesn't begin with the header of a message store";
+
+pub(crate) const OTHER_FORMAT: &str =
+    "the file has format 3, and this program reads formats 1 and 2";
+
 /// The plan of a document.
 fn plan(alloc: Global, document: &str) -> Result<Arc<Plan>, Fail> {
     let Ok(plan) = Plan::read(alloc, document.as_bytes()) else {
@@ -140,7 +146,7 @@ fn file_is_recovered(rt: HostRuntime) -> Result<(), Fail> {
 }
 
 /// Why rows aren't recovered, as a text.
-pub(crate) fn failure(rt: &HostRuntime, rows: &[StoredRecord]) -> Result<String, Fail> {
+fn failure(rt: &HostRuntime, rows: &[StoredRecord]) -> Result<String, Fail> {
     let alloc = rt.alloc();
     match recover::<Rows>(alloc, rows, RandomState::new(rt)?) {
         Ok(_) => Err("recovered".into()),
@@ -148,15 +154,25 @@ pub(crate) fn failure(rt: &HostRuntime, rows: &[StoredRecord]) -> Result<String,
     }
 }
 
+/// Whether rows aren't recovered for the reason with this text.
+pub(crate) fn fails_with(
+    rt: &HostRuntime,
+    rows: &[StoredRecord],
+    text: &str,
+) -> Result<bool, Fail> {
+    Ok(failure(rt, rows)?.as_str() == text)
+}
+
 /// The error names the record, and the version that began the file.
 #[test]
 fn stop_names_its_record(rt: HostRuntime) -> Result<(), Fail> {
     let rows = in_flight(&rt, Told::Filtered)?;
-    let text = failure(&rt, rows.as_slice())?;
-    assert!(rt;
-        text.as_str()
-            == "record 2: the book answers a message otherwise than its sender was answered; version 1.2.3 began the file"
-    );
+    let is_named = fails_with(
+        &rt,
+        &rows,
+        "record 2: the book answers a message otherwise than its sender was answered; version 1.2.3 began the file",
+    )?;
+    assert!(rt; is_named);
     Ok(())
 }
 
@@ -195,18 +211,16 @@ fn behind_first(rows: &[StoredRecord]) -> &[StoredRecord] {
 fn other_bytes_are_refused(rt: HostRuntime) -> Result<(), Fail> {
     let mut rows = in_flight(&rt, Told::Accepted(0))?;
     add_byte(&mut rows, 2)?;
-    let trailing = failure(&rt, rows.as_slice())?;
-    let headless = failure(&rt, behind_first(rows.as_slice()))?;
+    let trailing = fails_with(
+        &rt,
+        &rows,
+        "record 3: the record is damaged: bytes follow it; version 1.2.3 began the file",
+    )?;
+    let headless = fails_with(&rt, behind_first(&rows), HEADLESS)?;
     set_byte(&mut rows, 7, 3)?;
-    let other = failure(&rt, rows.as_slice())?;
-    let empty = failure(&rt, &[])?;
-    assert!(rt;
-        trailing.as_str()
-            == "record 3: the record is damaged: bytes follow it; version 1.2.3 began the file"
-    );
-    assert!(rt; headless.as_str() == "the file doesn't begin with the header of a message store");
-    assert!(rt; other.as_str() == "the file has format 3, and this program reads formats 1 and 2");
-    assert!(rt; empty.as_str() == headless.as_str());
+    let other = fails_with(&rt, &rows, OTHER_FORMAT)?;
+    let empty = fails_with(&rt, &[], HEADLESS)?;
+    assert!(rt; trailing && headless && other && empty);
     Ok(())
 }
 

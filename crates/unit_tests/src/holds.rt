@@ -63,38 +63,43 @@ fn held_destinations_are_those_of_the_names(rt: HostRuntime) -> Result<(), Fail>
     Ok(())
 }
 
+/// Adds an answer.
+fn add_answer(text: &mut String, answer: Result<String, AllocError>) -> Result<(), AllocError> {
+    text.push_str(answer?.as_str())
+}
+
+/// The answers to commands about a destination's hold, one behind another.
+fn hold_answers(alloc: Global) -> Result<String, AllocError> {
+    let mut text = String::new(alloc);
+    add_answer(&mut text, held_text(alloc, "LAB"))?;
+    add_answer(&mut text, held_already_text(alloc, "LAB"))?;
+    add_answer(&mut text, not_held_text(alloc, "LAB"))?;
+    add_answer(&mut text, released_text(alloc, "LAB", false))?;
+    add_answer(&mut text, released_text(alloc, "LAB", true))?;
+    add_answer(&mut text, waiting_text(alloc, Some("LAB"), 0, &[], 0))?;
+    add_answer(&mut text, elsewhere_text(alloc, 7, "LAB"))?;
+    Ok(text)
+}
+
 #[test]
 fn a_hold_is_answered(rt: HostRuntime) -> Result<(), Fail> {
-    let alloc = rt.alloc();
-    assert_eq!(rt; held_text(alloc, "LAB")?.as_str(), "held LAB\n\n");
-    assert_eq!(rt;
-        held_already_text(alloc, "LAB")?.as_str(),
-        "LAB is held already\n\n"
-    );
-    assert_eq!(rt;
-        not_held_text(alloc, "LAB")?.as_str(),
-        "LAB is not held\n\n"
-    );
-    assert_eq!(rt;
-        released_text(alloc, "LAB", false)?.as_str(),
-        "released LAB\n\n"
-    );
-    assert_eq!(rt;
-        released_text(alloc, "LAB", true)?.as_str(),
-        "released LAB\nthe service is stopping: what waits there may be left undelivered\n\n"
-    );
-    assert_eq!(rt;
-        waiting_text(alloc, Some("LAB"), 0, &[], 0)?.as_str(),
-        "held LAB\nwaiting 0\n\n"
-    );
-    let mut text = String::new(alloc);
+    let text = hold_answers(rt.alloc())?;
+    let wanted = "held LAB\n\n\
+LAB is held already\n\n\
+LAB is not held\n\n\
+released LAB\n\n\
+released LAB\nthe service is stopping: what waits there may be left undelivered\n\n\
+held LAB\nwaiting 0\n\n\
+refused: message 7 does not go to LAB\n\n";
+    assert_eq!(rt; text.as_str(), wanted);
+    Ok(())
+}
+
+#[test]
+fn a_held_name_without_a_destination_is_shown(rt: HostRuntime) -> Result<(), Fail> {
+    let mut text = String::new(rt.alloc());
     add_held_without(&mut text, "LAB")?;
     assert!(rt; text.starts_with("held LAB, which the plan doesn't have: "));
-    let elsewhere = elsewhere_text(alloc, 7, "LAB")?;
-    assert_eq!(rt;
-        elsewhere.as_str(),
-        "refused: message 7 does not go to LAB\n\n"
-    );
     Ok(())
 }
 

@@ -222,31 +222,50 @@ versions = []
 to = \"LAB\"
 ";
 
+/// Checks what is warned of in the plan.
+fn check_warned(rt: &impl Abort, alloc: Global, plan: &Plan) -> Result<(), AllocError> {
+    let wanted = [
+        "warning: channel ADT has no versions: it refuses every message",
+        "warning: destination LAB: address = \"localhost:6660\" is channel ADT of this plan",
+    ];
+    let warned = warnings(alloc, ITSELF, plan)?;
+    assert_eq!(rt; warned.len(), wanted.len());
+    for (line, text) in warned.as_slice().iter().zip(wanted) {
+        assert_eq!(rt; line.as_str(), text);
+    }
+    Ok(())
+}
+
+/// Checks what a book with this number of entries takes of channel ADT.
+fn check_room(
+    rt: &impl Abort,
+    alloc: Global,
+    plan: &Plan,
+    events: u32,
+    down: u32,
+    up: u32,
+) -> Result<(), AllocError> {
+    let text = format!(in alloc;
+        "note: channel ADT: a book of {events} entries takes {down} messages while all its destinations are down, {up} while all are up"
+    )?;
+    let room = room_notes(alloc, plan, events)?;
+    assert_eq!(rt; room.len(), 1);
+    for line in &room {
+        assert_eq!(rt; line.as_str(), text.as_str());
+    }
+    Ok(())
+}
+
 #[test]
 fn a_doubtful_plan_is_warned_of(rt: HostRuntime) -> Result<(), AllocError> {
     let alloc = rt.alloc();
     let Ok(plan) = Plan::read(alloc, ITSELF) else {
         panic!(rt; "it wasn't read");
     };
-    let told = warnings(alloc, ITSELF, &plan)?;
-    let wanted = [
-        "warning: channel ADT has no versions: it refuses every message",
-        "warning: destination LAB: address = \"localhost:6660\" is channel ADT of this plan",
-    ];
-    assert_eq!(rt; told.len(), wanted.len());
-    for (line, text) in told.as_slice().iter().zip(wanted) {
-        assert_eq!(rt; line.as_str(), text);
-    }
+    check_warned(&rt, alloc, &plan)?;
     // A message takes 3 entries where it is delivered at once, and reserves 8.
     for (events, down, up) in [(7, 0, 0), (8, 1, 1), (16, 2, 3), (20, 2, 5)] {
-        let text = format!(in alloc;
-            "note: channel ADT: a book of {events} entries takes {down} messages while all its destinations are down, {up} while all are up"
-        )?;
-        let room = room_notes(alloc, &plan, events)?;
-        assert_eq!(rt; room.len(), 1);
-        for line in &room {
-            assert_eq!(rt; line.as_str(), text.as_str());
-        }
+        check_room(&rt, alloc, &plan, events, down, up)?;
     }
     Ok(())
 }

@@ -15,9 +15,12 @@ use std::str;
 #[test]
 fn json_has_all(rt: HostRuntime) -> Result<(), Fail> {
     let plan = Plan::built_in(rt.alloc())?;
-    let (status, figures) = state();
+    let (status, mut figures) = state();
     let mut watch = Watch::new();
-    watch.look(&status, 100);
+    let now = figures.now;
+    figures.now = 100;
+    watch.look(&status, &figures);
+    figures.now = now;
     let view = View {
         plan: &plan,
         status: &status,
@@ -32,7 +35,7 @@ fn json_has_all(rt: HostRuntime) -> Result<(), Fail> {
         "\"book\":{\"held\":12,\"owed\":3,\"max\":400,\"messages\":9,\"remembered\":4,",
         "\"store\":{\"commits\":4,\"changes\":10,",
         "\"has_room\":false}",
-        "\"unbooked\":{\"full\":8,\"plan_changed\":0,\"no_memory\":1}",
+        "\"unbooked\":{\"full\":8,\"plan_changed\":0,\"no_memory\":1},\"repeats_unbooked\":5,\"dropped\":",
         "{\"name\":\"ADT\",\"listen\":",
         "\"paused\":true,\"open\":3,\"places\":8,",
         "\"last_received\":\"1970-01-02T00:00:00Z\"}",
@@ -103,14 +106,33 @@ fn lists_are_json(rt: HostRuntime) -> Result<(), Fail> {
 
 #[test]
 fn a_failure_is_noticed_once(rt: HostRuntime) {
-    let (status, _figures) = state();
+    let (status, mut figures) = state();
     let mut watch = Watch::new();
     assert_eq!(rt; watch.since(0), 0);
-    watch.look(&status, 50);
-    watch.look(&status, 60);
+    figures.now = 50;
+    watch.look(&status, &figures);
+    figures.now = 60;
+    watch.look(&status, &figures);
     assert_eq!(rt; watch.since(0), 50);
+    assert_eq!(rt; watch.behind_since(0), 50);
     assert_eq!(rt; watch.since(1), 0);
     assert_eq!(rt; watch.failed_at(0), 0);
+}
+
+#[test]
+fn what_was_not_booked_is_noticed(rt: HostRuntime) {
+    let (status, mut figures) = state();
+    let mut watch = Watch::new();
+    figures.now = 50;
+    watch.look(&status, &figures);
+    assert!(rt; !watch.unbooked.is_recent(50));
+    figures.unbooked.full = 9;
+    figures.now = 60;
+    watch.look(&status, &figures);
+    assert!(rt; watch.unbooked.is_recent(60));
+    assert!(rt; watch.unbooked.is_recent(959));
+    assert!(rt; !watch.unbooked.is_recent(960));
+    assert!(rt; !watch.dropped.is_recent(60));
 }
 
 #[test]

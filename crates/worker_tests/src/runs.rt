@@ -199,7 +199,7 @@ fn is_right(alloc: Global, ended: Ended, each: u64) -> bool {
         && delivers_all(&delivered, each)
 }
 
-/// Closes the book that workers have worked at, and judges what came of it.
+/// Closes the book that workers have worked at, and judges the result.
 fn close_and_judge<A: Sharing, H: Wait>(
     rt: &H,
     alloc: Global,
@@ -237,7 +237,7 @@ fn work<
     }
 }
 
-/// Has the workers of a shared book work to their end, closes it, and judges what came of it.
+/// Has the workers of a shared book work to their end, closes it, and judges the result.
 fn work_and_close<
     A: Sharing + Send + Sync,
     H: Wait + Threads + time::Clock + Log + Sync,

@@ -1,19 +1,23 @@
 -- What an arrival does about a book that is tight or has no room for it.
-use Rattle.std.specs.Prelude.{◌≡◌, ◌≤◌, ◌<◌, ◌⊎◌, ◌*◌, ◌&&◌, ℕ, Bool, Result, Ok, Err, None, Some, IsErrOf, true, false, length, nat_le, nat_lt}
+use Rattle.std.specs.Prelude.{◌≡◌, ◌≤◌, ◌<◌, ◌⊎◌, ◌*◌, ◌&&◌, ℕ, Bool, Option, Result, Ok, Err, None, Some, IsErrOf, true, false, length, nat_le, nat_lt}
 use Rattle.event_log.specs.History.{History}
 use Rattle.event_log.specs.Room.{is_full}
 use Rattle.event_log.specs.declared.refusal.PruneRefusal.{PruneRefusal}
 use Rattle.event_log.specs.declared.refusal.PruneRefusal.TheVariants.{NoMemory, TooMany}
 use Rattle.event_log.specs.Folding.{prune_answer, pruned}
 use Rattle.judge_core.specs.declared.judged.Judged.{Judged}
-use Rattle.book_core.specs.declared.receipt.NotBooked.TheVariants.{Full}
+use Rattle.book_core.specs.Receiving.{repeat_of}
+use Rattle.book_core.specs.declared.receipt.NotBooked.{NotBooked}
+use Rattle.book_core.specs.declared.receipt.NotBooked.TheVariants.{Full, PlanChanged}
+use Rattle.book_core.specs.declared.receipt.NotBooked.TheVariants.{NoMemory as OutOfMemory}
+use Rattle.book_core.specs.declared.receipt.Receipt.{Receipt}
 use Rattle.book_core.specs.inner.Questions.{is_tight, settled_before}
 use Rattle.book_lock.specs.declared.crowding.Crowded.{Crowded}
 use Rattle.book_lock.specs.declared.tidying.Tidied.{Tidied}
 use Rattle.book_lock.specs.declared.tidying.Tidying.{Tidying}
 use Rattle.book_lock.specs.declared.tidying.Tidying.TheVariants.{NotTight, Pruned, Refused}
 use Rattle.book_lock.specs.Crowding.{crowded_route}
-use Rattle.book_lock.specs.Log.{IsTidiedInLog, book_at, IsReadOf}
+use Rattle.book_lock.specs.Log.{IsTidiedInLog, after_log, book_at, IsReadOf}
 use Rattle.book_lock.specs.Rises.{SharedBook}
 use Rattle.book_lock.specs.Shares.{DeskView}
 use Rattle.book_lock.specs.inner.Arriving.{ArrivesAtBook, ArrivesAtDesk}
@@ -73,11 +77,21 @@ abbrev pub IsOutOfRoom : History → Tidying → Type 0
 IsOutOfRoom h tidying =
     (is_worth_pruning h ≡ false) ⊎ (1000 ≤ h.opening.prunings) ⊎ (tidying ≡ Refused NoMemory)
 
+-- ---- where it is refused for lack of room
+
+-- The index of the arrival that a message repeats which was refused since the book is full: the book has its key (the channel
+-- and MSH-10) with these very bytes. Any other message has none.
+abbrev pub unbooked_repeat : History → Judged → Result Receipt NotBooked → Option ℕ
+unbooked_repeat h judged (Err Full) = repeat_of h judged.channel judged.raw
+unbooked_repeat h judged (Err OutOfMemory) = None
+unbooked_repeat h judged (Err PlanChanged) = None
+unbooked_repeat h judged (Ok receipt) = None
+
 -- ---- what an arrival comes to
 
 -- An arrival that was booked, or refused as a book does, after what was done about the book. No route of its channel leads to
--- a crowded destination of the book that this left. It is refused as Full only where no room can be made. The call of its
--- desk is made at the moment of that book.
+-- a crowded destination of the book that this left. It is refused as Full only where no room can be made, and then it is said
+-- which arrival it repeats, if it does. The call of its desk is made at the moment of that book.
 pub record ArrivesTidied (opening : History) (keep conn : ℕ) (judged : Judged) (old new : SharedBook) (desk desk' : DeskView)
     (tidied : Tidied) : Type 0 where
   pub tidying : IsTidyingFor keep judged old tidied.tidying
@@ -85,6 +99,7 @@ pub record ArrivesTidied (opening : History) (keep conn : ℕ) (judged : Judged)
   pub free : crowded_route (left_by old tidied.tidying).book judged.channel ≡ None
   pub booked : ArrivesAtBook conn judged (left_by old tidied.tidying) new tidied.receipt
   pub full : IsErrOf tidied.receipt Full → IsOutOfRoom (left_by old tidied.tidying).book tidied.tidying
+  pub repeats : tidied.repeats ≡ unbooked_repeat new.book judged tidied.receipt
   pub at_desk : ArrivesAtDesk opening conn judged desk desk' tidied.receipt
   pub moment : book_at opening desk.seat at_desk.call.call.others ≡ (left_by old tidied.tidying).book
 
@@ -99,12 +114,15 @@ pub record IsHeldBack (opening : History) (keep : ℕ) (judged : Judged) (old ne
 -- ---- the same, as those see it who share the book
 
 -- At the moment of the call no route of the channel leads to a crowded destination; and it is refused as Full only where no
--- room can be made.
+-- room can be made. Where it is, it is said which arrival it repeats, if it does: one that the book then has, and so one of what
+-- the desk has seen after the call.
 pub record ArrivesAtTidied (opening : History) (conn : ℕ) (judged : Judged) (desk desk' : DeskView) (tidied : Tidied) : Type 0 where
   pub in_log : IsTidiedInLog opening tidied.tidying
   pub at_desk : ArrivesAtDesk opening conn judged desk desk' tidied.receipt
   pub free : crowded_route (book_at opening desk.seat at_desk.call.call.others) judged.channel ≡ None
   pub full : IsErrOf tidied.receipt Full → IsOutOfRoom (book_at opening desk.seat at_desk.call.call.others) tidied.tidying
+  pub repeats : tidied.repeats ≡ unbooked_repeat (book_at opening desk.seat at_desk.call.call.others) judged tidied.receipt
+  pub in_seen : tidied.repeats ≡ unbooked_repeat (after_log opening desk'.seat.seen) judged tidied.receipt
 
 -- the first crowded destination of a channel's routes is named, as the book has it at some moment
 pub record IsHeldBackAt (opening : History) (channel : ℕ) (crowded : Crowded) : Type 0 where

@@ -12,7 +12,7 @@ ghost use Rattle.book_lock.specs.inner.Rises.{with_book};
 ghost use Rattle.book_lock.specs.Log.{Arrives, IsTidiedInLog};
 ghost use Rattle.book_lock.specs.inner.Arriving.{ArrivesAtBook, ArrivesAtDesk, ArrivesHere};
 ghost use Rattle.book_lock.specs.inner.Planning.{WasInForce};
-ghost use Rattle.book_lock.specs.inner.Tidies.{ArrivesTidied, IsHeldBack, IsPruning, IsTidying, is_worth_pruning, left_by};
+ghost use Rattle.book_lock.specs.inner.Tidies.{ArrivesTidied, IsHeldBack, IsPruning, IsTidying, is_worth_pruning, left_by, unbooked_repeat};
 
 use crate::arrival::book_arrival;
 use crate::crowding::{Crowded, crowded_route};
@@ -161,6 +161,18 @@ impl<A: Sharing, S: BookRows> Locked<A, S> {
         is_full(receipt) && self.is_worth_pruning()
     }
 
+    /// The index of the arrival that a message repeats which was refused since the book is full.
+    fn repeats(&self, judged: &Judged, receipt: &Result<Receipt, NotBooked>) -> Option<u32>
+        requires { IsTrue (is_bookable judged.now.raw) }
+        ensures { result ≡ unbooked_repeat self.now.book judged.now receipt.now }
+    {
+        if is_full(receipt) {
+            self.book.repeat_of(judged)
+        } else {
+            None
+        }
+    }
+
     /// Books an arrival at a book that is not tight. Where there is no room for it and a pruning frees enough, the book is
     /// pruned, and it is booked then.
     ///
@@ -187,13 +199,18 @@ impl<A: Sharing, S: BookRows> Locked<A, S> {
         let first = self.book_arrival(desk, conn, judged, by_desk);
         if !self.lacks_room(&first) {
             return Tidied {
+                repeats: self.repeats(judged, &first),
                 receipt: first,
                 tidying: Tidying::NotTight,
             };
         }
         let tidying = self.prune_for_room(keep);
         let receipt = self.book_arrival(desk, conn, judged, false);
-        Tidied { receipt, tidying }
+        Tidied {
+            repeats: self.repeats(judged, &receipt),
+            receipt,
+            tidying,
+        }
     }
 
     /// Books an arrival as `book_arrival` does, unless its channel has a route to a crowded destination. A book that is tight is
@@ -229,13 +246,18 @@ impl<A: Sharing, S: BookRows> Locked<A, S> {
             return Ok(self.arrive_making_room(desk, conn, judged, keep, by_desk));
         }
         let receipt = self.book_arrival(desk, conn, judged, by_desk);
-        Ok(Tidied { receipt, tidying })
+        Ok(Tidied {
+            repeats: self.repeats(judged, &receipt),
+            receipt,
+            tidying,
+        })
     }
 
     /// Books an arrival as `arrive` does, and counts it for the desk, unless its channel has a route to a crowded destination.
     /// A book that is tight is pruned before that as `prune_settled` does, and so is one that has no room for the arrival, where
     /// at least a sixty-fourth of its bound is entries; where memory is refused for that, once more with `keep` 0. What was done
-    /// is returned beside the answer, which is that of `arrive` on the book that this left.
+    /// is returned beside the answer, which is that of `arrive` on the book that this left. Beside `Full` it is returned which
+    /// arrival the message repeats, if it does.
     ///
     /// # Errors
     ///

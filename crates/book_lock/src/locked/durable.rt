@@ -4,7 +4,7 @@ ghost use Rattle.std.specs.Prelude.{◌≡◌, false, Ok, Some, IfOk, IfErr, IsT
 ghost use Rattle.event_log.specs.History.{next_place};
 ghost use Rattle.book_core.specs.inner.Questions.{front_at};
 ghost use Rattle.book_core.specs.declared.questions.Front.{Front};
-ghost use Rattle.book_lock.specs.Durable.{AreArrivalsDurable, AreCommitted, ArrivedBelow, IsDurableMessage, IsNotTaken, changes_of};
+ghost use Rattle.book_lock.specs.Durable.{AreArrivalsDurable, AreCommitted, ArrivedBelow, IsAllDurable, IsDurableMessage, IsNotTaken, changes_of};
 ghost use Rattle.book_lock.specs.Log.{Looks, SeatView, Takes, after_log};
 ghost use Rattle.book_lock.specs.inner.Shares.{with_take};
 
@@ -79,6 +79,7 @@ impl<A: Sharing, S: BookRows> Locked<A, S> {
         requires { until ≡ next_place (after_log A.opening desk.old.seat.seen) }
         ensures looks { IsTrue result → Looks A.opening desk.old.seat desk.new.seat }
         ensures durable { IsTrue result → AreArrivalsDurable A.opening desk.new.seat }
+        ensures all { IsTrue result → IsAllDurable A.opening desk.old.seat.seen desk.new.seat.seen }
         ensures committed { IsTrue result → AreCommitted A.opening A.committed desk.new.seat.seen }
         ensures waits { result ≡ false → desk.new ≡ desk.old }
         ensures made { desk.new.made ≡ desk.old.made }

@@ -1,7 +1,7 @@
 //! The journal of a shared book: copies of its history, and the wait until they are durable.
 
 ghost use Rattle.std.specs.Prelude.{◌≡◌, Ok, IfOk, IfErr, OnErr, OnOk};
-ghost use Rattle.book_lock.specs.Durable.{AreArrivalsDurable, AreCommitted, IsDurableMessage, IsNotTaken, changes_of};
+ghost use Rattle.book_lock.specs.Durable.{AreArrivalsDurable, AreCommitted, IsAllDurable, IsDurableMessage, IsNotTaken, changes_of};
 ghost use Rattle.book_lock.specs.Journal.{Copies};
 ghost use Rattle.book_lock.specs.Log.{Looks, SeatView, Takes, IsReadOf};
 ghost use Rattle.book_lock.specs.inner.Shares.{with_take};
@@ -61,7 +61,8 @@ impl<A: Sharing, S: BookRows> Shared<A, S> {
         self.became_durable.notify_all();
     }
 
-    /// Waits until all that was booked at the desk is durable. Entries that others booked before the call are waited for too.
+    /// Waits until all that was booked at the desk is durable, and all that its seat has seen. Entries that others booked before
+    /// the call are waited for too.
     ///
     /// # Errors
     ///
@@ -69,6 +70,7 @@ impl<A: Sharing, S: BookRows> Shared<A, S> {
     #[tactic(auto, using(crate::proofs::Durability::looked_twice))]
     pub fn wait_durable<H: Wait>(&self, rt: &H, desk: &mut Desk<A>) -> Result<(), NotDurable>
         ensures durable { OnOk result (AreArrivalsDurable A.opening desk.new.seat) }
+        ensures all { OnOk result (IsAllDurable A.opening desk.old.seat.seen desk.new.seat.seen) }
         ensures committed { OnOk result (AreCommitted A.opening A.committed desk.new.seat.seen) }
         ensures looks { Looks A.opening desk.old.seat desk.new.seat }
         ensures made { desk.new.made ≡ desk.old.made }

@@ -1,9 +1,10 @@
 -- What is recovered from the bodies of a file's records.
-use Rattle.std.specs.Prelude.{◌≡◌, ◌≢◌, ◌⊎◌, ◌+◌, ◌==◌, if◌then◌else◌, ℕ, max, List, [], ◌∷◌, map, take, drop, slice_get, Option, None, Some, option_and_then, Result, Ok, Err, IsErr, IsUtf8}
+use Rattle.std.specs.Prelude.{◌≡◌, ◌≢◌, ◌⊎◌, ◌+◌, ◌==◌, if◌then◌else◌, ℕ, max, List, [], ◌∷◌, map, take, drop, slice_get, Option, None, Some, option_and_then, Result, Ok, Err, IsErr, IsUtf8, All, false}
 use Rattle.std.specs.List.{AllByRecursion, filter_map}
 use Rattle.plan_text.specs.Entries.{PlanEntry}
 use Rattle.plan_text.specs.Document.{plan_in}
 use Rattle.event_log.specs.History.{History, Snapshot, begun, of_snapshot}
+use Rattle.event_log.specs.Room.{is_in_flight}
 use Rattle.event_log.specs.inner.History.{snapshot_after}
 use Rattle.event_store.specs.declared.columns.StoredRecord.{StoredRecord}
 use Rattle.event_records.specs.declared.fault.RecordFault.{RecordFault}
@@ -22,6 +23,7 @@ use Rattle.book_recovery.specs.declared.fault.RecoveryError.TheVariants as error
 use Rattle.book_recovery.specs.declared.fault.Stop.{Stop}
 use Rattle.book_resume.specs.inner.Resuming.{IsResumable}
 use Rattle.opening_records.specs.inner.Openings.{IsEncoding, with_bound}
+use Rattle.opening_maps.specs.inner.GivenBack.{given_back}
 use Rattle.book_recovery.specs.Seen.{last_connection, last_moment, last_second}
 use Rattle.book_recovery.specs.inner.Header.{Contents, Fits, header_bytes, header_in}
 use Rattle.book_recovery.specs.inner.Preface.{Preface, PrefaceFits, last_before, later_of, preface_bytes, preface_in}
@@ -255,3 +257,11 @@ IsExcused (errors.Stopped stop) = (stop.problem ≡ Replay NoMemory) ⊎ (stop.p
 -- a history with another bound of its entries
 abbrev pub rebound : ℕ → History → History
 rebound events_max h = of_snapshot (with_bound events_max h.opening) h.entries
+
+-- the same, where what was in flight waits again
+abbrev pub going_on : ℕ → History → History
+going_on events_max h = of_snapshot (with_bound events_max (given_back h.opening)) h.entries
+
+-- no message that an opening remembers is in flight
+abbrev pub AreAtRest : Snapshot → Type 0
+AreAtRest o = All (λ r. All (λ s. is_in_flight s.state ≡ false) r.slots) o.remembered

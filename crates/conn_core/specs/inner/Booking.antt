@@ -3,7 +3,7 @@ use Rattle.std.specs.Prelude.{◌≡◌, ℕ, ◌+◌, zero, suc, List, [], ◌�
 use Rattle.std.specs.List.{filter_map, range_with_len}
 use Rattle.std.proofs.Common.{sym, ap, ◌∙◌, subst, append_assoc, append-nil, length-append, arith}
 use Rattle.std.proofs.lemmas.List.{map-append}
-use Rattle.book_core.specs.declared.receipt.NotBooked.{NotBooked}
+use Rattle.conn_core.specs.declared.booking.Unbooked.{Unbooked}
 use Rattle.book_core.specs.declared.receipt.Receipt.{Receipt}
 use Rattle.event_log.specs.History.{History, deployed_by, next_place, plan_in_force}
 use Rattle.event_log.specs.declared.entry.Entry.{Entry}
@@ -14,9 +14,9 @@ use Rattle.plan_text.specs.Entries.{PlanEntry}
 use Rattle.conn_core.specs.Booking.{arrival_by, Books, OutcomeAtBook}
 
 -- the receipt that an outcome brings, if it brings one
-abbrev pub receipts_of : Result Receipt NotBooked → List Receipt
+abbrev pub receipts_of : Result Receipt Unbooked → List Receipt
 receipts_of (Ok r) = r ∷ []
-receipts_of (Err refusal) = []
+receipts_of (Err unbooked) = []
 
 range-append : (a m n : ℕ) → range_with_len a (m + n) ≡ range_with_len a m ++ range_with_len (a + m) n
 range-append a zero n = ap (range_with_len a) (omega arith) ∙ ap (λ b. range_with_len b n) (omega arith)
@@ -69,7 +69,7 @@ books_same_channels old new rs more =
     ∙ ap (λ (p : PlanEntry). length p.channels) (plan-kept_all old.opening.plan old.entries (map arrival_by rs) (books_deploy_none rs))
 
 -- where nothing was booked the same may become of a message
-pub books_same_outcomes : (old new : History) (judged : Judgement) (outcome : Result Told NotBooked) → Books old new [] → OutcomeAtBook new judged outcome → OutcomeAtBook old judged outcome
+pub books_same_outcomes : (old new : History) (judged : Judgement) (outcome : Result Told Unbooked) → Books old new [] → OutcomeAtBook new judged outcome → OutcomeAtBook old judged outcome
 books_same_outcomes old new judged outcome none at =
     let same : new ≡ old = none.history ∙ ap (with_entries old) (append-nil old.entries) in
     subst (λ (h : History). OutcomeAtBook h judged outcome) same at

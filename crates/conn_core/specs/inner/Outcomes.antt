@@ -1,6 +1,6 @@
 -- What becomes of a block.
 use Rattle.std.specs.Prelude.{◌≡◌, ℕ, ◌+◌, ◌<◌, Bool, true, List, [], ◌∷◌, ◌++◌, Some, Result, Ok, Err, IfOk, IfErr, OnErr, IsTrue, IsFalse, ⊤, length, take}
-use Rattle.book_core.specs.declared.receipt.NotBooked.{NotBooked}
+use Rattle.conn_core.specs.declared.booking.Unbooked.{Unbooked}
 use Rattle.book_core.specs.declared.receipt.Receipt.{Receipt}
 use Rattle.event_log.specs.declared.entry.Told.{Told}
 use Rattle.hl7_head.specs.Header.{Msh, header_of}
@@ -9,6 +9,7 @@ use Rattle.mllp_frame.specs.Framing.{IsData}
 use Rattle.conn_core.specs.declared.block_outcome.BlockOutcome.{BlockOutcome}
 use Rattle.conn_core.specs.declared.block_outcome.Booked.{Booked}
 use Rattle.conn_core.specs.declared.block_outcome.BlockOutcome.TheVariants.{Unreadable, Stray, Message}
+use Rattle.conn_core.specs.Booking.{IfRepeat}
 use Rattle.conn_core.specs.inner.Booking.{receipts_of}
 use Rattle.plan_text.specs.Entries.{PlanEntry}
 use Rattle.conn_core.specs.Replies.{Due, dues_of, numbered}
@@ -35,16 +36,19 @@ pub record AppendsReplies (conn : ℕ) (dues : List Due) (whole : Bool) (old new
   pub in_part : IsFalse whole → AppendsInPart conn dues old new
 
 -- A message was answered. It was booked, and its receipt has the connection, the channel and the bytes; or nothing was
--- booked. The answer is one that it may get. The replies that it is due were appended.
+-- booked. The answer is one that it may get: one that is answered as a repeat without being booked is known. The replies that it
+-- is due were appended.
 pub record BooksAndReplies {B : Type 0} (books : B → B → List Receipt → Type 0)
-    (outcomes : B → Judgement → Result Told NotBooked → Type 0) (conn : ℕ) (judged : Judgement) (moment : ℕ)
+    (outcomes : B → Judgement → Result Told Unbooked → Type 0) (knows : B → ℕ → List ℕ → Type 0)
+    (conn : ℕ) (judged : Judgement) (moment : ℕ)
     (old new : B) (old_replies new_replies : RepliesView) (o : Booked) : Type 0 where
   pub receipt : IfOk o.outcome (λ r.
       (r.conn ≡ conn) × (r.channel ≡ judged.channel) × (r.raw ≡ judged.raw))
   pub booked : IfOk o.outcome (λ r. books old new (r ∷ []))
   pub unbooked : OnErr o.outcome (books old new [])
   pub told : IfOk o.outcome (λ r. outcomes old judged (Ok r.told))
-  pub refused : IfErr o.outcome (λ refusal. outcomes old judged (Err refusal))
+  pub refused : IfErr o.outcome (λ unbooked. outcomes old judged (Err unbooked))
+  pub known : IfErr o.outcome (IfRepeat (knows new judged.channel judged.raw))
   pub replies : AppendsReplies conn (dues_of (answer_to judged.raw o.outcome moment)) o.whole
       old_replies new_replies
 
@@ -56,8 +60,8 @@ IsOutcome conn channel raw (Message booked) =
     IsTrue (is_bookable raw) × IfOk booked.outcome (λ r. (r.conn ≡ conn) × (r.channel ≡ channel) × (r.raw ≡ raw))
 
 -- The message was judged for the channel by a plan to judge by, and its outcome is one that it may have.
-pub record IsJudgedSo (judges : PlanEntry → Type 0) (outcomes : Judgement → Result Told NotBooked → Type 0) (channel : ℕ)
-    (raw : List ℕ) (outcome : Result Told NotBooked) : Type 0 where
+pub record IsJudgedSo (judges : PlanEntry → Type 0) (outcomes : Judgement → Result Told Unbooked → Type 0) (channel : ℕ)
+    (raw : List ℕ) (outcome : Result Told Unbooked) : Type 0 where
   pub judged : Judgement
   pub by_plan : judges judged.plan
   pub for_channel : judged.channel ≡ channel
@@ -65,14 +69,19 @@ pub record IsJudgedSo (judges : PlanEntry → Type 0) (outcomes : Judgement → 
   pub may : outcomes judged outcome
 
 -- The outcome of a message is one that it may have; another block has none.
-abbrev pub MayBecome : (PlanEntry → Type 0) → (Judgement → Result Told NotBooked → Type 0) → ℕ → List ℕ → BlockOutcome → Type 0
+abbrev pub MayBecome : (PlanEntry → Type 0) → (Judgement → Result Told Unbooked → Type 0) → ℕ → List ℕ → BlockOutcome → Type 0
 MayBecome judges outcomes channel raw (Message booked) = IsJudgedSo judges outcomes channel raw (told_by booked.outcome)
 MayBecome judges outcomes channel raw _ = ⊤
 
 -- Of a message that was judged so, the outcome is one that it may have; another block has none.
-abbrev pub MayHave : (Result Told NotBooked → Type 0) → BlockOutcome → Type 0
+abbrev pub MayHave : (Result Told Unbooked → Type 0) → BlockOutcome → Type 0
 MayHave may (Message booked) = may (told_by booked.outcome)
 MayHave may _ = ⊤
+
+-- A message that is answered as a repeat without being booked is known.
+abbrev pub KnowsRepeat : Type 0 → BlockOutcome → Type 0
+KnowsRepeat Known (Message booked) = IfErr booked.outcome (IfRepeat Known)
+KnowsRepeat Known _ = ⊤
 
 -- whether all replies to the block were made
 abbrev pub is_whole : BlockOutcome → Bool

@@ -1,22 +1,28 @@
 -- What proofs use beside the page Arriving.
-use Rattle.std.proofs.Common.{◌≡◌, ℕ, ◌+◌, List, [], ◌∷◌, ◌++◌, map, length, Result, Ok, Err, IfOk, OnOk, OnErr, refl, ap, sym, ◌∙◌, subst, arith, length-append, append_assoc}
+use Rattle.std.proofs.Common.{◌≡◌, ℕ, ◌+◌, ◌≤◌, Some, List, [], ◌∷◌, ◌++◌, map, length, Result, Ok, Err, IfOk, OnOk, OnErr, refl, ap, sym, ◌∙◌, subst, arith, length-append, append_assoc}
 use Rattle.std.proofs.lemmas.List.{append-nil, map-append}
 use mathlib.Core.List.{IsPrefix}
 use Rattle.judge_core.specs.Judging.{Judgement}
 use Rattle.event_log.specs.History.{History, next_place}
 use Rattle.event_log.specs.Event.{Event, Refusal, Reply, arrive, entry_of}
 use Rattle.event_log.specs.declared.entry.Entry.TheVariants as entry
-use Rattle.book_core.specs.Receiving.{IsReceipt}
+use Rattle.book_core.specs.Receiving.{IsReceipt, repeat_of}
 use Rattle.book_core.specs.Refusing.{arrive_refusal}
 use Rattle.book_core.specs.declared.receipt.NotBooked.{NotBooked}
+use Rattle.book_core.specs.declared.receipt.NotBooked.TheVariants.{Full, NoMemory, PlanChanged}
 use Rattle.book_core.specs.declared.receipt.Receipt.{Receipt}
 use Rattle.ghost_log.specs.Seats.{entries_of}
 use Rattle.ghost_log.proofs.Seats.{entries-append, entries_more}
 use Rattle.book_lock.specs.declared.log_entry.LogEntry.{LogEntry}
 use Rattle.book_lock.specs.declared.log_entry.LogEntry.TheVariants as log_entry
-use Rattle.book_lock.specs.Log.{Arrives, Calls, Log, Looks, SeatView, book_at, own_entry}
+use Rattle.book_lock.specs.declared.tidying.Tidied.{Tidied}
+use Rattle.book_lock.specs.Durable.{IsAllDurable}
+use Rattle.book_lock.specs.Log.{Arrives, Calls, Log, Looks, SeatView, after_log, book_at, own_entry}
+use Rattle.book_lock.specs.inner.Tidies.{ArrivesAtTidied, unbooked_repeat}
+use Rattle.book_lock.proofs.Durability.{grows}
+use Rattle.book_lock.proofs.Planning.{after_both}
 use Rattle.book_lock.specs.Shares.{DeskView}
-use Rattle.conn_worker.specs.Arriving.{ArrivesInTurn, BooksInLog, arrival_entry, no_arrival, booked_first, refused_first, looked_first}
+use Rattle.conn_worker.specs.Arriving.{ArrivesInTurn, BooksInLog, IsDurablyKnown, IsKnownIn, arrival_entry, no_arrival, booked_first, refused_first, looked_first}
 
 in_turn_after : (h : History) (x y z : SeatView) (rs ss : List Receipt) → ArrivesInTurn h x y rs → ArrivesInTurn h y z ss → ArrivesInTurn h x z (rs ++ ss)
 in_turn_after h x y z rs ss (no_arrival seat) k = k
@@ -147,3 +153,51 @@ desk_refused h conn judged old new name name' (Err refusal) arrives made same = 
 
 pub desk_looked : (h : History) (old new : DeskView) (name name' : ℕ) → Looks h old.seat new.seat → new.made ≡ old.made → name' ≡ name → BooksAtDesk h old new [] name name'
 desk_looked h old new name name' looks made same = record { log = looked h old.seat new.seat looks; made = made ∙ omega arith; same = same }
+
+-- ---- repeats that are not booked
+
+-- what a seat knows, it knows later
+abbrev pub known_later : (h : History) (seen seen' : Log) (channel : ℕ) (raw : List ℕ) → IsPrefix seen seen' → IsKnownIn h seen channel raw → IsKnownIn h seen' channel raw
+known_later h seen seen' channel raw more known = record {
+  before = known.before;
+  since = known.since ++ more.0;
+  is_seen = sym more.1 ∙ (ap (λ (l : Log). l ++ more.0) known.is_seen ∙ append_assoc known.before known.since more.0);
+  first = known.first;
+  repeats = known.repeats;
+}
+
+pub desk_still_knows : (h : History) (old new : DeskView) (rs : List Receipt) (name name' channel : ℕ) (raw : List ℕ)
+    → BooksAtDesk h old new rs name name' → IsKnownIn h old.seat.seen channel raw → IsKnownIn h new.seat.seen channel raw
+desk_still_knows h old new rs name name' channel raw books known = known_later h old.seat.seen new.seat.seen channel raw books.log.seen known
+
+-- and what it knew before all was durable that it had seen, is durable
+pub known_durably : (h : History) (old new : SeatView) (channel : ℕ) (raw : List ℕ) → Looks h old new → IsAllDurable h old.seen new.seen
+    → IsKnownIn h old.seen channel raw → IsDurablyKnown h new.seen channel raw
+known_durably h old new channel raw looks all known =
+    let more : next_place (after_log h old.seen) ≡ next_place (after_log (after_log h known.before) known.since) =
+    ap (λ (l : Log). next_place (after_log h l)) known.is_seen ∙ ap next_place (after_both h known.before known.since) in
+    let behind : next_place (after_log h known.before) ≤ all.below =
+    omega (arith, more, grows (after_log h known.before) known.since, all.behind) in
+    record {
+      known = known_later h old.seen new.seen channel raw (looks.others, sym looks.seen) known;
+      below = all.below;
+      behind = behind;
+      durable = all.durable;
+    }
+
+-- an arrival that was refused since the book is full, and repeats one that the book has
+pub refused_known : (h : History) (conn : ℕ) (judged : Judgement) (old new : DeskView) (tidied : Tidied) (first : ℕ)
+    → ArrivesAtTidied h conn judged old new tidied → tidied.repeats ≡ Some first → IsKnownIn h new.seat.seen judged.channel judged.raw
+refused_known h conn judged old new tidied first arrives repeats = record {
+  before = new.seat.seen;
+  since = [];
+  is_seen = sym (append-nil new.seat.seen);
+  first = first;
+  repeats = is_repeat (after_log h new.seat.seen) tidied.receipt (sym arrives.in_seen ∙ repeats);
+}
+  where
+    is_repeat : (book : History) (r : Result Receipt NotBooked) → unbooked_repeat book judged r ≡ Some first → repeat_of book judged.channel judged.raw ≡ Some first
+    is_repeat book (Ok receipt) is = absurd cc
+    is_repeat book (Err NoMemory) is = absurd cc
+    is_repeat book (Err PlanChanged) is = absurd cc
+    is_repeat book (Err Full) is = is

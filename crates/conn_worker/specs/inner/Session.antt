@@ -33,7 +33,7 @@ pub record IsFresh {K : Type 0} (has : K → List Receipt → Type 0) (s : Sessi
   pub dialogue : IsNew has s.dialogue
 
 -- Between two pieces: all events of the bytes read were handled, and all their replies written.
-pub record SoFar {B K : Type 0} (books : B → List Receipt → Type 0) (has : K → List Receipt → Type 0) (conn channel : ℕ)
+pub record SoFar {B K : Type 0} (books : B → List Receipt → Type 0) (knows : B → ℕ → List ℕ → Type 0) (has : K → List Receipt → Type 0) (conn channel : ℕ)
     (to_read left held holds : Option (List ℕ)) (book : B) (s : Session K) : Type 0 where
   pub read : List ℕ
   pub reads : Consumes to_read left read
@@ -41,5 +41,5 @@ pub record SoFar {B K : Type 0} (books : B → List Receipt → Type 0) (has : K
   pub left_open : s.framer.open_end ≡ open_end read
   pub written : List ℕ
   pub wrote : Appends held holds written
-  pub stands : Stands books has conn channel (blocks read) written book s.dialogue
+  pub stands : Stands books knows has conn channel (blocks read) written book s.dialogue
   pub all_written : s.dialogue.replies.bytes ≡ []

@@ -5,15 +5,15 @@ use Rattle.event_log.specs.inner.Coding.{history_code}
 use Rattle.event_log.specs.History.{History}
 use Rattle.event_log.specs.declared.entry.Told.{Told}
 use Rattle.event_log.specs.contracts.entry.Told as told
-use Rattle.book_core.specs.declared.receipt.NotBooked.{NotBooked}
-use Rattle.book_core.specs.contracts.receipt.NotBooked as not_booked
+use Rattle.conn_core.specs.declared.booking.Unbooked.{Unbooked}
+use Rattle.conn_core.specs.contracts.booking.Unbooked as unbooked
 use Rattle.conn_core.specs.Replies.{Answer}
 use Rattle.engine_model.specs.Run.{Connection, Run}
 
 abbrev pub answer_code : Coded Answer
 answer_code =
-    code_by (List ℕ × (Result Told NotBooked × ℕ))
-    (coded× (coded_list coded_ℕ) (coded× (coded_result told.the_row.coded not_booked.the_row.coded) coded_ℕ))
+    code_by (List ℕ × (Result Told Unbooked × ℕ))
+    (coded× (coded_list coded_ℕ) (coded× (coded_result told.the_row.coded unbooked.the_row.coded) coded_ℕ))
     (λ a. (a.raw, (a.outcome, a.moment))) (λ p. record { raw = p.0; outcome = p.1.0; moment = p.1.1 }) (λ _. refl)
 
 abbrev pub connection_code : Coded Connection

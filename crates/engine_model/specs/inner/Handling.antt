@@ -1,6 +1,6 @@
 -- What handling the events of a piece does.
 use Rattle.std.specs.Prelude.{◌≡◌, ◌⊎◌, ℕ, Bool, true, false, List, [], ◌∷◌, ◌++◌, length, map, Result}
-use Rattle.book_core.specs.declared.receipt.NotBooked.{NotBooked}
+use Rattle.conn_core.specs.declared.booking.Unbooked.{Unbooked}
 use Rattle.event_log.specs.History.{History}
 use Rattle.event_log.specs.declared.entry.Told.{Told}
 use Rattle.mllp_frame.specs.Event.{FramingEvent}
@@ -15,11 +15,11 @@ use Rattle.engine_model.specs.inner.Amid.{Amid}
 abbrev pub answer_of : Answered → Answer
 answer_of a = record { raw = a.raw; outcome = a.outcome; moment = a.moment }
 
-abbrev pub answer_with : List ℕ → Result Told NotBooked → ℕ → Answer
+abbrev pub answer_with : List ℕ → Result Told Unbooked → ℕ → Answer
 answer_with raw outcome now = record { raw = raw; outcome = outcome; moment = now }
 
 -- a message has this outcome, is booked so, and its answer is kept
-pub record IsBooked (conn channel now : ℕ) (raw : List ℕ) (outcome : Result Told NotBooked) (h h' : History)
+pub record IsBooked (conn channel now : ℕ) (raw : List ℕ) (outcome : Result Told Unbooked) (h h' : History)
     (old new : List Answered) : Type 0 where
   pub may : IsAnswered conn channel h raw outcome
   pub booked : h' ≡ history_with conn channel h raw outcome

@@ -333,7 +333,7 @@ fn showing<'a>(name: &str, words: &mut SplitWhitespace<'a>) -> Option<Call<'a>> 
 
 impl<'a> Call<'a> {
     /// The call that a line says, if it says one.
-    pub fn read(line: &'a str) -> Option<Call<'a>> {
+    pub(crate) fn read(line: &'a str) -> Option<Call<'a>> {
         let mut words = line.split_whitespace();
         let name = words.next()?;
         changing(name, &mut words)

@@ -57,7 +57,7 @@ impl Stage {
     /// # Errors
     ///
     /// Where there is no such plan, or memory is refused.
-    pub fn open(rt: &HostRuntime, plan: &str, events_max: u32) -> Result<Stage> {
+    pub(crate) fn open(rt: &HostRuntime, plan: &str, events_max: u32) -> Result<Stage> {
         if events_max == 0 || events_max > EVENTS_MAX {
             bail!("no book has {events_max} entries");
         }
@@ -73,7 +73,7 @@ impl Stage {
     /// # Errors
     ///
     /// Where the line is no call, or memory is refused.
-    pub fn play(&mut self, rt: &HostRuntime, line: &str) -> Result<String> {
+    pub(crate) fn play(&mut self, rt: &HostRuntime, line: &str) -> Result<String> {
         match Call::read(line) {
             Some(call) => self.answer(rt, call),
             None => bail!("no call: {line}"),

@@ -52,7 +52,7 @@ impl Exchange {
     /// # Errors
     ///
     /// Where there is no such plan, or memory is refused.
-    pub fn new(rt: &HostRuntime, name: &str) -> Result<Exchange> {
+    pub(crate) fn new(rt: &HostRuntime, name: &str) -> Result<Exchange> {
         let alloc = rt.alloc();
         let plan = plan_named(rt, name)?;
         let book = empty_book(rt, &plan, EVENTS_MAX)?;
@@ -90,7 +90,7 @@ impl Exchange {
     /// # Errors
     ///
     /// Where the call can't be made, or memory is refused.
-    pub fn play(&mut self, rt: &HostRuntime, call: Call<'_>) -> Result<String> {
+    pub(crate) fn play(&mut self, rt: &HostRuntime, call: Call<'_>) -> Result<String> {
         match call {
             Call::Serve(cut) => Ok(self.serve(cut)?),
             Call::Exchange => self.exchange(rt),

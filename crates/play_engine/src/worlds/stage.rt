@@ -82,7 +82,7 @@ impl Stage {
     /// # Errors
     ///
     /// Where memory is refused.
-    pub fn new(rt: &HostRuntime) -> Result<Stage> {
+    pub(crate) fn new(rt: &HostRuntime) -> Result<Stage> {
         Stage::on(rt, "built-in", EVENTS_MAX, &[])
     }
 
@@ -112,7 +112,7 @@ impl Stage {
     /// # Errors
     ///
     /// Where the line is no call, or memory is refused.
-    pub fn play(&mut self, rt: &HostRuntime, line: &str) -> Result<String> {
+    pub(crate) fn play(&mut self, rt: &HostRuntime, line: &str) -> Result<String> {
         let mut words = line.split_whitespace();
         match word(&mut words)? {
             "world" => self.open(rt, &mut words),

@@ -153,7 +153,7 @@ impl Rules {
     /// # Errors
     ///
     /// Where memory is refused.
-    pub fn new(alloc: Global) -> Result<Rules> {
+    pub(crate) fn new(alloc: Global) -> Result<Rules> {
         Ok(Rules {
             alloc,
             text: Text::new(alloc)?,
@@ -245,7 +245,7 @@ impl Rules {
     /// # Errors
     ///
     /// Where there is no such call, its words can't be read, or memory is refused.
-    pub fn play(&mut self, line: &str) -> Result<String> {
+    pub(crate) fn play(&mut self, line: &str) -> Result<String> {
         let (call, words) = first_word(line);
         match call {
             "cond" => self.cond(words),

@@ -101,7 +101,7 @@ impl Text {
     /// # Errors
     ///
     /// Where memory is refused.
-    pub fn new(alloc: Global) -> Result<Text> {
+    pub(crate) fn new(alloc: Global) -> Result<Text> {
         let message = Message::parse(alloc, b"MSH|^~\\&")?;
         Ok(Text { alloc, message })
     }
@@ -232,7 +232,7 @@ impl Text {
     /// # Errors
     ///
     /// Where there is no such call, its words can't be read, or memory is refused.
-    pub fn answer(&mut self, call: &str, words: &str) -> Result<String> {
+    pub(crate) fn answer(&mut self, call: &str, words: &str) -> Result<String> {
         match call {
             "parse" => self.parse(words),
             "clone" => self.copy_all(),

@@ -31,6 +31,7 @@ IsBookFailure bodies book.NoOpening = HasNoOpening bodies
 IsBookFailure bodies book.NoPlan = HasNoPlan bodies
 IsBookFailure bodies (book.Stopped index problem version) = StopsWith index problem (string_bytes version) bodies
 IsBookFailure bodies (book.OtherBound bound other) = ⊥
+IsBookFailure bodies (book.MoreOwed asked enough) = ⊥
 IsBookFailure bodies (book.Write error) = Unit {0}
 
 -- why records aren't written
@@ -41,6 +42,7 @@ IsWriteFailure book.NoOpening = ⊥
 IsWriteFailure book.NoPlan = ⊥
 IsWriteFailure (book.Stopped index problem version) = ⊥
 IsWriteFailure (book.OtherBound bound other) = ⊥
+IsWriteFailure (book.MoreOwed asked enough) = ⊥
 IsWriteFailure (book.Write error) = Unit {0}
 
 -- 6 where a write failed, 7 where the file is not what it is to be, else 3
@@ -51,6 +53,7 @@ book_status book.NoOpening = 7
 book_status book.NoPlan = 7
 book_status (book.Stopped index problem version) = 7
 book_status (book.OtherBound bound other) = 7
+book_status (book.MoreOwed asked enough) = 7
 book_status (book.Write error) = 6
 
 abbrev pub numbers_status : NumbersFault → ℕ

@@ -8,11 +8,11 @@ pub returns-clause-booked : goal.returns-clause-booked
 returns-clause-booked g c =
     let first = c.in_ok-records.records.items in
     let settled = c.in_ok-settlements.field-0.records.items in
-    let second : AreBooked c.adopt.new.book c.settle_interrupted.new.book settled =
+    let second : AreBooked c.adopt.new.book c.settle.new.book settled =
     record { history = c.in_ok-settlements.ensures.history; replayed = c.in_ok-settlements.ensures.replayed } in
     let all : c.append.new.self.items ≡ first ++ settled = c.in_ok-append.ensures.items in
-    subst (AreBooked c.args.book.now c.settle_interrupted.new.book) (sym all)
-    (booked_both c.args.book.now c.adopt.new.book c.settle_interrupted.new.book first settled c.in_ok-records.ensures.booked second)
+    subst (AreBooked c.args.book.now c.settle.new.book) (sym all)
+    (booked_both c.args.book.now c.adopt.new.book c.settle.new.book first settled c.in_ok-records.ensures.booked second)
 
 pub returns-clause-caught_up : goal.returns-clause-caught_up
 returns-clause-caught_up g c =
@@ -24,7 +24,7 @@ returns-clause-caught_up g c =
       now = c.args.now;
       not_before = omega arith;
       settled = c.in_ok-settlements.ensures.flights;
-      settlements = settled;
+      booked = settled;
       history = c.in_ok-settlements.ensures.history;
       count = rw (sym same) (search rules);
       named = c.in_ok-settlements.ensures.failed;

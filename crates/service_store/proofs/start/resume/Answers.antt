@@ -31,7 +31,7 @@ returns-clause-recovered g c clean whole =
 
 pub returns-clause-caught_up : goal.returns-clause-caught_up
 returns-clause-caught_up g c h r =
-    caught_up_since (arc_value c.args.request.plan) c.args.request.now c.later-now.result h c.in_ok-book.field-0.book c.catch_up.new.book
+    caught_up_since c.args.on_flights (arc_value c.args.request.plan) c.args.request.now c.later-now.result h c.in_ok-book.field-0.book c.catch_up.new.book
     c.in_ok-caught_up.caught_up.kept_plan c.in_ok-caught_up.caught_up.interrupted c.in_ok-caught_up.caught_up.failed.items c.later-now.ensures
     (one (bodies_of c.args.rows.now) h c.in_ok-book.field-0.book r c.in_ok-book.ensures.recovered) c.in_ok-caught_up.ensures.caught_up
 
@@ -43,5 +43,5 @@ returns-clause-bound g c h r =
 
 pub returns-clause-plan : goal.returns-clause-plan
 returns-clause-plan g c =
-    plan_where (arc_value c.args.request.plan) c.later-now.result c.in_ok-book.field-0.book c.catch_up.new.book c.in_ok-caught_up.caught_up.kept_plan
+    plan_where c.args.on_flights (arc_value c.args.request.plan) c.later-now.result c.in_ok-book.field-0.book c.catch_up.new.book c.in_ok-caught_up.caught_up.kept_plan
     c.in_ok-caught_up.caught_up.interrupted c.in_ok-caught_up.caught_up.failed.items c.in_ok-caught_up.ensures.caught_up

@@ -12,9 +12,9 @@ returns-then-is_nothing-clause-arrives g c =
 pub returns-clause-arrives : goal.returns-clause-arrives
 returns-clause-arrives g c =
     let then = c.book_arrival-receipt in
-    after_tidying g.A.Sharing.opening c.args.keep c.args.conn c.args.judged.now c.args.self.now c.tidy-tidying.new.self then.new.self c.args.desk.now then.new.desk then.result c.tidy-tidying.result
+    after_tidying g.A.Sharing.opening c.args.keep c.args.conn c.args.judged.now c.args.self.now c.tidy-tidying.new.self then.new.self c.args.desk.now then.new.desk then.result c.tidy-tidying.result c.repeats.result
     c.tidy-tidying.ensures.tidying c.tidy-tidying.ensures.in_log c.tidy-tidying.ensures.left
     (λ is. let yes = c.is_nothing.ensures.1 is in let no = c.if-is_nothing.false in absurd cc)
     (ap (λ (h : SharedBook). crowded_route h.book c.args.judged.now.channel) (sym c.self.view_is) ∙ (ap (crowded_route c.self.inside.book) (sym c.channel.ensures.value) ∙ (sym c.crowded_route.ensures ∙ c.in_default.is)))
     (record { does = then.ensures.does; memory = then.ensures.memory; book = then.ensures.book; receipt = then.ensures.receipt; plan = then.ensures.plan; same_plan = then.ensures.same_plan })
-    then.ensures.call then.ensures.counted then.ensures.err
+    then.ensures.call then.ensures.counted then.ensures.err c.repeats.ensures

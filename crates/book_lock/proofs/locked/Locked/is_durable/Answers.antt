@@ -1,5 +1,5 @@
 use Rattle.std.proofs.Common.{ap, sym, subst, ◌≤◌, arith}
-use Rattle.book_lock.specs.Durable.{AreCommitted}
+use Rattle.book_lock.specs.Durable.{AreCommitted, IsDurableBelow}
 use Rattle.book_lock.specs.Log.{SeatView}
 use Rattle.book_lock.proofs.Planning.{looked}
 use Rattle.book_lock.proofs.Durability.{arrivals_durable}
@@ -19,3 +19,10 @@ returns-clause-durable g c = λ _.
 pub returns-clause-committed : goal.returns-clause-committed
 returns-clause-committed g c = λ _.
     subst (λ (s : SeatView). AreCommitted g.A.Sharing.opening g.A.Sharing.committed s.seen) (sym c.observe.ensures.seat) c.self.invariant.6.committed
+
+pub returns-clause-all : goal.returns-clause-all
+returns-clause-all g c = λ _. record {
+  below = c.self.inside.durable;
+  behind = omega (arith, c.if-self-until.false, c.requires);
+  durable = subst (λ (s : SeatView). IsDurableBelow g.A.Sharing.opening s.seen c.self.inside.durable) (sym c.observe.ensures.seat) c.self.invariant.6.durable;
+}

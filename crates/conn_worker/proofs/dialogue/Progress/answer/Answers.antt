@@ -12,6 +12,7 @@ returns-in_err-reserve-clause-err g c =
     on_err_always c.from_residual.result (λ first before text s. none_handled {t = same} (same_dialogue c.args.self.now same s
     (record {
       booked = λ rs h. g.met.B.Booking.after _ _ _ rs [] h (g.met.B.Booking.nothing _);
+      known = λ channel raw k. k;
       kept = keeps_none g.K.ReceiptSink.has _ _ c.reserve.ensures.same;
     })
     (record {
@@ -29,6 +30,7 @@ returns-in_err-outcome-clause-err g c =
     on_err_always c.from_residual-in_err-outcome.result (λ first before text s. none_handled {t = same} (same_dialogue c.args.self.now same s
     (record {
       booked = λ rs h. g.met.B.Booking.after _ _ _ rs [] h c.in_err-outcome.ensures.unbooked;
+      known = λ channel raw k. g.met.B.Booking.still_knows _ _ [] channel raw c.in_err-outcome.ensures.unbooked k;
       kept = keeps_none g.K.ReceiptSink.has _ _ c.reserve.ensures.same;
     })
     (record {
@@ -46,6 +48,7 @@ returns-then-whole-clause-ok g c first before text s =
     block_answered c.args.raw.items c.args.now c.args.self.now _ s c.in_ok-outcome.outcome c.in_ok-outcome.ensures.kind
     (record {
       booked = λ rs h. g.met.B.Booking.after _ _ _ rs _ h c.in_ok-outcome.ensures.booked;
+      known = λ channel raw k. g.met.B.Booking.still_knows _ _ _ channel raw c.in_ok-outcome.ensures.booked k;
       kept = λ rs h. c.count.ensures.receipts rs (c.reserve.ensures.same rs h);
     })
     (record {
@@ -54,6 +57,7 @@ returns-then-whole-clause-ok g c first before text s =
       strays = c.count.ensures.stray_ones;
       breaks = c.count.ensures.broken_ones;
     })
+    c.in_ok-outcome.ensures.known
     (c.in_ok-outcome.ensures.replies.made whole) (c.in_ok-outcome.ensures.replies.bytes whole)
 
 pub returns-else-whole-clause-err : goal.returns-else-whole-clause-err
@@ -62,6 +66,7 @@ returns-else-whole-clause-err g c first before text s =
     block_answered_in_part c.args.raw.items c.args.now c.args.self.now _ s c.in_ok-outcome.outcome c.in_ok-outcome.ensures.kind
     (record {
       booked = λ rs h. g.met.B.Booking.after _ _ _ rs _ h c.in_ok-outcome.ensures.booked;
+      known = λ channel raw k. g.met.B.Booking.still_knows _ _ _ channel raw c.in_ok-outcome.ensures.booked k;
       kept = λ rs h. c.count.ensures.receipts rs (c.reserve.ensures.same rs h);
     })
     (record {
@@ -70,4 +75,5 @@ returns-else-whole-clause-err g c first before text s =
       strays = c.count.ensures.stray_ones;
       breaks = c.count.ensures.broken_ones;
     })
+    c.in_ok-outcome.ensures.known
     part (c.in_ok-outcome.ensures.replies.in_part part)

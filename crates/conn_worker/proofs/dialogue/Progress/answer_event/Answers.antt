@@ -7,6 +7,7 @@ returns-in-Broken-clause-ok g c first before text s =
     rw c.in-Broken.is (passed_break c.in-Broken.cause c.args.self.now _ s
     (record {
       booked = λ rs h. g.met.B.Booking.after _ _ _ rs [] h c.note_break.ensures;
+      known = λ channel raw k. g.met.B.Booking.still_knows _ _ [] channel raw c.note_break.ensures k;
       kept = λ rs h. rw append-nil h;
     })
     (record {

@@ -11,7 +11,7 @@ invariant-loop-event g l =
     record {
       handled : List FramingEvent;
       whole : l.fn.framer.to_come ≡ handled ++ l.framer.to_come;
-      stands : HandlesAll g.B.Booking.books g.K.ReceiptSink.has l.line.conn l.line.channel handled l.fn.book l.book l.fn.self l.self;
+      stands : HandlesAll g.B.Booking.books g.B.Booking.knows g.K.ReceiptSink.has l.line.conn l.line.channel handled l.fn.book l.book l.fn.self l.self;
       rest : emptied l.framer ≡ emptied l.fn.framer;
       channels : g.B.Booking.channels l.book ≡ g.B.Booking.channels l.fn.book;
       fits : Fits l.self;

@@ -6,7 +6,7 @@ use Rattle.conn_worker.proofs.session.Session.serve_pieces.Given as goal
 abbrev pub invariant-pieces : goal.invariant-pieces
 invariant-pieces g l =
     record {
-      so_far : SoFar (g.B.Booking.books l.fn.book) g.K.ReceiptSink.has l.line.conn l.line.channel (g.R.Read.remaining l.fn.reader.inner) (g.R.Read.remaining l.reader.inner) (g.W.Write.contents l.fn.writer.inner) (g.W.Write.contents l.writer.inner) l.book l.self;
+      so_far : SoFar (g.B.Booking.books l.fn.book) g.B.Booking.knows g.K.ReceiptSink.has l.line.conn l.line.channel (g.R.Read.remaining l.fn.reader.inner) (g.R.Read.remaining l.reader.inner) (g.W.Write.contents l.fn.writer.inner) (g.W.Write.contents l.writer.inner) l.book l.self;
       ready : IsReady l.self;
       channels : g.B.Booking.channels l.book ≡ g.B.Booking.channels l.fn.book;
       reader : l.fn.reader.faults ≤ l.reader.faults;

@@ -1,7 +1,9 @@
+//! A file of records over a disk in memory: what was committed is read again, and damage is found.
+
 ghost use Rattle.std.specs.Prelude.{IfOk};
 ghost use Rattle.sqlite_store.specs.Unopened.{AreUsable};
 
-use crate::{FileError, create, open, prepare};
+use event_file::{FileError, create, open, prepare};
 use event_store::{Columns, EventStore, Opened, StoredRecord};
 use sqlite_disk::{Disk, Files, Fuse, Memory, Rot};
 use sqlite_store::{FileStore, OpenError, Unopened};
@@ -118,10 +120,7 @@ fn crashed(
 ) -> Result<Opened<FileStore<Memory>>, Fail> {
     match events.crash_and_reopen(alloc) {
         Ok(opened) => Ok(opened),
-        Err((error, store)) => {
-            let _ = store.close();
-            Err(Fail::from(error))
-        }
+        Err((error, _store)) => Err(Fail::from(error)),
     }
 }
 

@@ -1,0 +1,2 @@
+-- What proofs alone use: no claim rests on these pages.
+pub mod Progress

@@ -1,0 +1,2 @@
+pub mod ThreeDeliveries
+pub mod TwoArrivals
